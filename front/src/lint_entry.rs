@@ -1,6 +1,6 @@
 //! For each warning of a style an entry of a database that shows it. It is searched for, and tried by a run before it is shown.
 
-use crate::btx::{self, Answer, Options, Rooms};
+use crate::btx::{self, Answer, MemoryRefused, Options, Rooms};
 use crate::database::Folded;
 use crate::hints::{names_of_fields, types_meant};
 use crate::job::{File, Files};
@@ -266,12 +266,14 @@ struct Search<'a> {
     /// The work that was done, and how much may be done.
     done: Cell<u64>,
     most: u64,
+    /// Whether memory was refused to a run.
+    is_refused: Cell<bool>,
 }
 
 impl Search<'_> {
     /// Whether there is work left for the search; a quarter is kept for what makes its entries smaller.
     fn may_search(&self) -> bool {
-        self.done.get() < self.most / 4 * 3
+        self.done.get() < self.most / 4 * 3 && !self.is_refused.get()
     }
 
     /// Adds the work of `runs` runs of a job, of `steps` steps each.
@@ -284,6 +286,7 @@ impl Search<'_> {
     fn run(&self, files: &Files, options: &Options) -> (Vec<u8>, u64) {
         let ran = btx::run(&files.top, &files.all, options, &ROOMS);
         let steps = if let Answer::Done(report) = ran.answer { report.steps } else { options.budget };
+        self.is_refused.set(self.is_refused.get() || ran.answer == Answer::Memory);
         self.add_work(files, 1, steps);
         (ran.log, steps)
     }
@@ -311,11 +314,12 @@ impl Search<'_> {
         if !errors.iter().flatten().any(can_be) {
             return Vec::new();
         }
-        let noted = btx::notes(&files.top, &files.all, &options, MOST_EVENTS).unwrap_or_default();
+        let noted = btx::notes(&files.top, &files.all, &options, MOST_EVENTS);
+        self.is_refused.set(self.is_refused.get() || noted.is_none());
         let events = errors.len().min(MOST_EVENTS as usize) as u64;
         self.add_work(&files, events + 2, WORK_OF_NOTED_STEP * steps);
         let mut found = Vec::new();
-        for note in notes::read(&noted, &self.style.name) {
+        for note in notes::read(&noted.unwrap_or_default(), &self.style.name) {
             let of_note: Vec<&Logged<'_>> =
                 note.errors.clone().filter_map(|number| errors.get(number)?.as_ref()).collect();
             for (number, warning) in warnings.iter().enumerate() {
@@ -353,7 +357,7 @@ impl Search<'_> {
         loop {
             let mut lesser = least.0.lesser().into_iter();
             let next = lesser.find_map(|less| {
-                if self.done.get() >= self.most {
+                if self.done.get() >= self.most || self.is_refused.get() {
                     return None;
                 }
                 let (_, proof) = self.shown(&less, &[warning]).into_iter().next()?;
@@ -397,21 +401,22 @@ fn is_at(warning: &Warning, note: &Note) -> bool {
     }
 }
 
-/// Tries to show each of these warnings of a style by an entry.
-pub fn entries(style: &File, warnings: &[&Warning]) -> Vec<Shown> {
+/// Tries to show each of these warnings of a style by an entry. Where memory is refused to a run, nothing is said of any.
+pub fn entries(style: &File, warnings: &[&Warning]) -> Result<Vec<Shown>, MemoryRefused> {
     entries_by(style, warnings, WORK)
 }
 
 /// Tries to show each of these warnings by at most this much work.
-fn entries_by(style: &File, warnings: &[&Warning], most: u64) -> Vec<Shown> {
-    let search = Search { style, done: Cell::new(0), most };
+fn entries_by(style: &File, warnings: &[&Warning], most: u64) -> Result<Vec<Shown>, MemoryRefused> {
+    let search = Search { style, done: Cell::new(0), most, is_refused: Cell::new(false) };
     let found = search.find(warnings);
     let shown = |(number, found): (usize, Found)| {
         let Some((case, proof)) = found else { return Shown::Nowhere };
         let (least, Proof { message, since }) = search.shrunk(case, proof, warnings[number]);
         Shown::By { database: least.text("key"), message, since }
     };
-    found.into_iter().enumerate().map(shown).collect()
+    let all = found.into_iter().enumerate().map(shown).collect();
+    if search.is_refused.get() { Err(MemoryRefused) } else { Ok(all) }
 }
 
 impl Search<'_> {
@@ -484,7 +489,7 @@ mod tests {
 
     fn shown(notes: &str) -> Vec<Shown> {
         let read = read(notes.as_bytes(), b"s.bst");
-        entries_by(&style(STYLE), &read.shown(), 2_000_000)
+        entries_by(&style(STYLE), &read.shown(), 2_000_000).unwrap()
     }
 
     #[test]

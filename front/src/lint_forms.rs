@@ -69,7 +69,7 @@ fn write_verdict(path: &str, check: &StyleCheck, out: &mut impl Write) -> io::Re
         Some(Verdict::Warnings(_)) => writeln!(out, "{path}: warnings: {}", verdict(&check.found)),
         _ => writeln!(
             out,
-            "{path}: incomplete: the check didn't come to its end: it took too long (--steps=N), the style goes too deep or leaves too many literals, or there was too little memory"
+            "{path}: incomplete: the check didn't come to its end: it took too long (--steps=N), the style goes too deep, or it leaves too many literals"
         ),
     }
 }

@@ -1,13 +1,13 @@
 //! `bibtex-lint`: what can be said of styles before any document uses them. `bibtex-search` is this program where it is called so.
 
 use crate::exit::{Failure, Name, Status};
-use crate::job::{File, read_file};
-use crate::kpathsea::Format;
+use crate::job::{File, find_style};
 use crate::lint_forms::{json_of, line_of, write_for_people};
 use crate::search::Search;
 use crate::style_check::StyleCheck;
 use crate::terminal::{Terminal, plain};
 use std::ffi::OsString;
+use std::fmt;
 use std::io::{self, Write};
 use std::os::unix::ffi::OsStringExt;
 use std::process::ExitCode;
@@ -30,7 +30,7 @@ const HELP: &str = "\
 
 Exit status: 0 all are clean; 1 the words are refused, or a style isn't found;
 2 there are messages or warnings; 3 a check didn't come to its end; 5 memory
-was refused; 6 what is found couldn't be printed.
+was refused; 6 a style couldn't be read, or what is found not be printed.
 ";
 
 /// How many steps a check may take.
@@ -148,12 +148,14 @@ fn check_all(name: &Name, how: How, styles: &[Vec<u8>]) -> Status {
     let mut statuses = Vec::new();
     let mut shown = Vec::new();
     for style in styles {
-        let Some(file) = find(&search, style) else {
-            name.say(format_args!("there is no style {} that can be read", plain(style)));
-            statuses.push(Status::Refused);
-            continue;
+        let check = match check(&search, how, style) {
+            Ok(check) => check,
+            Err(unchecked) => {
+                name.say(&unchecked);
+                statuses.push(unchecked.status());
+                continue;
+            }
         };
-        let check = StyleCheck::new(file, how.steps, how.has_entries);
         statuses.push(status_of(&check));
         let written = match how.form {
             Form::People => write_for_people(&check, &terminal, &mut out),
@@ -171,17 +173,47 @@ fn check_all(name: &Name, how: How, styles: &[Vec<u8>]) -> Status {
     if let Err(fault) = written.and_then(|()| out.flush()) {
         return name.unprinted(&fault);
     }
-    let order = [Status::Refused, Status::Errors, Status::Limit];
+    let order = [Status::Memory, Status::Device, Status::Refused, Status::Errors, Status::Limit];
     order.into_iter().find(|status| statuses.contains(status)).unwrap_or(Status::Finished)
 }
 
-/// Finds and reads a style; its ending may be left out.
-fn find(search: &Search, name: &[u8]) -> Option<File> {
+/// Finds, reads and checks a style; its ending may be left out.
+fn check<'a>(search: &Search, how: How, name: &'a [u8]) -> Result<StyleCheck, Unchecked<'a>> {
+    let failed = |failure| Unchecked::Failed(name, failure);
     let whole = if name.ends_with(b".bst") { name.to_vec() } else { [name, b".bst"].concat() };
-    let path = search.find(&whole, Format::Style)?;
-    let bytes = read_file(&path)?;
+    let file = find_style(search, &whole).map_err(failed)?.map_err(|reason| Unchecked::Missing(name, reason))?;
     let last = whole.rsplit(|byte| *byte == b'/').next().unwrap_or_default().to_vec();
-    Some(File { name: last, bytes: Some(bytes), path })
+    StyleCheck::new(File { name: last, ..file }, how.steps, how.has_entries).map_err(failed)
+}
+
+/// Why a style of this name isn't checked.
+#[derive(Debug)]
+enum Unchecked<'a> {
+    /// There is none. Where something stands in its place, that is why.
+    Missing(&'a [u8], Option<&'static str>),
+    /// The machine fails, which says nothing of the style.
+    Failed(&'a [u8], Failure),
+}
+
+impl Unchecked<'_> {
+    fn status(&self) -> Status {
+        match self {
+            Unchecked::Missing(..) => Status::Refused,
+            Unchecked::Failed(_, failure) => failure.status(),
+        }
+    }
+}
+
+impl fmt::Display for Unchecked<'_> {
+    fn fmt(&self, out: &mut fmt::Formatter<'_>) -> fmt::Result {
+        match self {
+            Unchecked::Missing(style, None) => write!(out, "there is no style {}", plain(style)),
+            Unchecked::Missing(style, Some(reason)) => write!(out, "there is no style {}: {reason}", plain(style)),
+            // (of anything else the failure names the file)
+            Unchecked::Failed(style, Failure::Memory) => write!(out, "{}: out of memory", plain(style)),
+            Unchecked::Failed(_, failure) => failure.fmt(out),
+        }
+    }
 }
 
 fn status_of(check: &StyleCheck) -> Status {

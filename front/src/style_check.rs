@@ -1,14 +1,17 @@
 //! What can be said of a style before any document uses it: what is wrong in its text, whether the proved checker calls it clean, and hints.
 
-use crate::btx::{self, Answer, Options, Rooms, Verdict};
+use crate::btx::{self, Answer, MemoryRefused, Options, Rooms, Verdict};
 use crate::code_places::{Code, Declared};
+use crate::exit::{Failure, words_of};
 use crate::hints::{Hint, hints};
 use crate::job::{File, Files};
 use crate::lint_entry::{Shown, entries};
 use crate::lint_warnings::{Warnings, read};
 use crate::log::{Content, Log, Place};
 use crate::style_text::{Kind, Token, Tokens, commands};
+use crate::system::trying;
 use std::fs;
+use std::io;
 use std::path::Path;
 use std::sync::mpsc::{self, RecvTimeoutError};
 use std::thread;
@@ -37,7 +40,7 @@ pub struct StyleCheck {
     pub messages: usize,
     /// Whether its text was read to its end: a long log may stand before a mistake.
     pub is_read: bool,
-    /// None where memory was refused, or the style is too long.
+    /// None where the check took too long, or the style is too long.
     pub verdict: Option<Verdict>,
     /// Where it may go wrong, if it isn't clean.
     pub found: Warnings,
@@ -47,20 +50,20 @@ pub struct StyleCheck {
 }
 
 impl StyleCheck {
-    /// Checks a style in at most `steps` steps of the check. Where `has_entries`, an entry is searched for that shows each warning.
-    pub fn new(style: File, steps: u64, has_entries: bool) -> StyleCheck {
+    /// Checks a style in at most `steps` steps of the check. Where `has_entries`, an entry is searched for that shows each warning. A failure is the machine's: nothing is said of
+    /// the style then.
+    pub fn new(style: File, steps: u64, has_entries: bool) -> Result<StyleCheck, Failure> {
         let style = File { name: name_in_job(&style.name), ..style };
         let bytes = style.bytes.clone().unwrap_or_default();
-        let verdict = check_within(&style, steps);
+        let verdict = check_within(&style, steps)?;
         let found = match &verdict {
             Some(Verdict::Warnings(notes) | Verdict::Incomplete(notes)) => read(notes, &style.name),
             _ => Warnings::default(),
         };
-        let entries = has_entries.then(|| entries(&style, &found.shown()));
+        let entries = if has_entries { Some(entries(&style, &found.shown())?) } else { None };
         let files = job_of(style);
-        let text = messages_of(&files);
-        let Messages { log, count: messages, is_whole: is_read } = text;
-        StyleCheck { files, log, messages, is_read, verdict, found, entries, hints: hints(&bytes) }
+        let Messages { log, count: messages, is_whole: is_read } = messages_of(&files)?;
+        Ok(StyleCheck { files, log, messages, is_read, verdict, found, entries, hints: hints(&bytes) })
     }
 
     /// The verdict, in a word. A style whose text has mistakes isn't called clean, whatever is said of what could be read of it.
@@ -80,8 +83,22 @@ impl StyleCheck {
     }
 }
 
+/// A stack that there is room for where there is any.
+const LEAST_STACK: usize = 1 << 14;
+
+/// Why no thread could be begun to check a style. The system has one answer for a stack without room and for too many threads: where a thread with a small stack can be begun, or memory
+/// is refused for the large one, it is the room.
+fn unbegun(style: &File, fault: &io::Error) -> Failure {
+    let mut stack: Vec<u8> = Vec::new();
+    let is_small_begun = thread::Builder::new().stack_size(LEAST_STACK).spawn(|| ()).is_ok();
+    if is_small_begun || trying(|| stack.try_reserve_exact(STACK)).is_err() {
+        return Failure::Memory;
+    }
+    Failure::Device(style.path.clone(), "can't be checked, since no thread can be begun", words_of(fault))
+}
+
 /// Checks a style in a thread of its own. A check that takes too many seconds of the processor is given up: its thread goes on until the program ends.
-fn check_within(style: &File, steps: u64) -> Option<Verdict> {
+fn check_within(style: &File, steps: u64) -> Result<Option<Verdict>, Failure> {
     let (begins, begun) = mpsc::channel();
     let (sender, receiver) = mpsc::channel();
     let (name, bytes) = (style.name.clone(), style.bytes.clone().unwrap_or_default());
@@ -89,13 +106,13 @@ fn check_within(style: &File, steps: u64) -> Option<Verdict> {
         drop(begins.send(fs::read_link("/proc/thread-self").unwrap_or_default()));
         drop(sender.send(btx::check(&name, &bytes, steps)));
     };
-    thread::Builder::new().stack_size(STACK).spawn(check).ok()?;
-    let thread = begun.recv().ok()?;
+    thread::Builder::new().stack_size(STACK).spawn(check).map_err(|fault| unbegun(style, &fault))?;
+    let thread = begun.recv().unwrap_or_default();
     loop {
         match receiver.recv_timeout(TURN) {
-            Ok(verdict) => return verdict,
+            Ok(verdict) => return Ok(verdict?),
             Err(RecvTimeoutError::Timeout) if processor_time(&thread) < MOST_TIME => {}
-            Err(_) => return None,
+            Err(_) => return Ok(None),
         }
     }
 }
@@ -153,10 +170,10 @@ fn without_executions(text: &[u8]) -> Vec<u8> {
 }
 
 /// The messages on a style's text, by a run without an entry; where what it executes doesn't come to its end, by another run without that.
-fn messages_of(files: &Files) -> Messages {
-    let messages = messages_by(files);
+fn messages_of(files: &Files) -> Result<Messages, MemoryRefused> {
+    let messages = messages_by(files)?;
     if messages.is_whole {
-        return messages;
+        return Ok(messages);
     }
     let mut files = files.clone();
     for file in files.all.iter_mut().filter(|file| file.name.ends_with(b".bst")) {
@@ -166,7 +183,7 @@ fn messages_of(files: &Files) -> Messages {
 }
 
 /// The messages on a style's text by a run of this job.
-fn messages_by(files: &Files) -> Messages {
+fn messages_by(files: &Files) -> Result<Messages, MemoryRefused> {
     let options = Options {
         budget: STEPS_OF_READING,
         min_crossrefs: 2,
@@ -181,10 +198,11 @@ fn messages_by(files: &Files) -> Messages {
     // (a text that the style warns of may look like such a line, and isn't counted as an error)
     let (is_whole, errors) = match ran.answer {
         Answer::Done(report) => (report.has_finished(), usize::try_from(report.errors).unwrap_or(usize::MAX)),
-        _ => (false, usize::MAX),
+        Answer::ListFull | Answer::LogFull => (false, usize::MAX),
+        Answer::Memory => return Err(MemoryRefused),
     };
     let lines = log.lines().filter(|line| is_of_text(&line.content)).map(|line| line.bytes).take(errors);
     let lines: Vec<&[u8]> = lines.collect();
     let log = lines.iter().flat_map(|line| [line, &b"\n"[..]]).collect::<Vec<_>>().concat();
-    Messages { log, count: lines.len(), is_whole }
+    Ok(Messages { log, count: lines.len(), is_whole })
 }

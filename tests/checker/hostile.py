@@ -1,4 +1,4 @@
-"""Hostile styles: bibtex-lint answers within ten seconds of a processor and 1 GB, and is incomplete where it can't come to an end.
+"""Hostile styles: bibtex-lint answers within forty seconds of a processor and 1 GB, and is incomplete where it can't come to an end.
 
     python3 hostile.py [--only TEXT] LINT
 
@@ -12,7 +12,8 @@ import resource
 import subprocess
 import tempfile
 
-MOST_SECONDS = 10
+# (a million functions take five seconds on a machine that is quiet, and were seen to take fourteen)
+MOST_SECONDS = 40
 MOST_MEMORY = 1_000_000
 LONGEST = 300
 HEAD = b"ENTRY {title author}{n}{t} INTEGERS {i j} STRINGS {s}\nFUNCTION {and} {'skip$ {pop$ #0} if$}\n"

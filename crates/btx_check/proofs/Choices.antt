@@ -38,28 +38,36 @@ use Rattle.btx_check.proofs.Covering.{loop_good, one_of}
 
 -- the execution of a function that answers so, where a step is left
 abbrev pub after : Job → ℕ → Callee → Answer → State → ℕ → ℕ → ℕ → Outcome
-after job n f a s bodies running left = follow job (act job n) n a.next (state a.store (said_on job (executed_by job.style.names (token.Run f)) a.store.current a.said s.out)) bodies running left
+after job n f a s bodies running left =
+    follow job (act job n) n a.next (state a.store (said_on job (executed_by job.style.names (token.Run f)) a.store.current a.said s.out)) bodies running left
 
-pub act_is : (job : Job) (n : ℕ) (f : Callee) (bodies running left : ℕ) (s : State) → act job (suc n) (token.Run f) bodies running (suc left) s ≡ after job n f (function_run job f s.store) s bodies running left
+pub act_is : (job : Job) (n : ℕ) (f : Callee) (bodies running left : ℕ) (s : State) → act job (suc n) (token.Run f) bodies running (suc left) s
+    ≡ after job n f (function_run job f s.store) s bodies running left
 unfolding token_effect step_of
 act_is job n f bodies running left s = refl
 
 -- a row's answer, where these literals stand on the stack
-row_is : (job : Job) (f : BuiltIn) (s : Store) (ls : List Literal) (a : Answer) → built_in_run job f s ≡ on_operands (row f).operands (row f).default ((row f).does job) s.literals s → s.literals ≡ ls
+row_is : (job : Job) (f : BuiltIn) (s : Store) (ls : List Literal) (a : Answer) → built_in_run job f s ≡ on_operands (row f).operands (row f).default
+    ((row f).does job) s.literals s → s.literals ≡ ls
     → on_operands (row f).operands (row f).default ((row f).does job) ls s ≡ a → function_run job (callee.BuiltIn f) s ≡ a
 unfolding function_run
 row_is job f s ls a b e h = b ∙ (ap (λ (k : List Literal). on_operands (row f).operands (row f).default ((row f).does job) k s) e ∙ h)
 
-pub said_nothing : (job : Job) (n : ℕ) (f : Callee) (next : Next) (store : Store) (s : State) (bodies running left : ℕ) → after job n f (quiet next store) s bodies running left ≡ follow job (act job n) n next (record s { store = store }) bodies running left
+pub said_nothing : (job : Job) (n : ℕ) (f : Callee) (next : Next) (store : Store) (s : State) (bodies running left : ℕ)
+    → after job n f (quiet next store) s bodies running left ≡ follow job (act job n) n next (record s { store = store }) bodies running left
 unfolding said_on
 said_nothing job n f next store s bodies running left = refl
 
-quiet_good : (job : Job) (start : Out) (n m : ℕ) (to : List Abstract) (f : BuiltIn) (ls : List Literal) (next : Next) (store : Store) (bodies running left : ℕ) (s : State)
+quiet_good : (job : Job) (start : Out) (n m : ℕ) (to : List Abstract) (f : BuiltIn) (ls : List Literal) (next : Next) (store : Store) (bodies running left : ℕ)
+    (s : State)
     → built_in_run job f s.store ≡ on_operands (row f).operands (row f).default ((row f).does job) s.store.literals s.store → s.store.literals ≡ ls
-    → on_operands (row f).operands (row f).default ((row f).does job) ls s.store ≡ quiet next store → Good job start m to (follow job (act job n) n next (record s { store = store }) bodies running left)
+    → on_operands (row f).operands (row f).default ((row f).does job) ls s.store ≡ quiet next store
+    → Good job start m to (follow job (act job n) n next (record s { store = store }) bodies running left)
     → Good job start m to (act job (suc n) (token.Run (callee.BuiltIn f)) bodies running (suc left) s)
 quiet_good job start n m to f ls next store bodies running left s b e h g =
-    subst (Good job start m to) (sym (act_is job n (callee.BuiltIn f) bodies running left s ∙ (ap (λ a. after job n (callee.BuiltIn f) a s bodies running left) (row_is job f s.store ls (quiet next store) b e h) ∙ said_nothing job n (callee.BuiltIn f) next store s bodies running left))) g
+    subst (Good job start m to) (sym (act_is job n (callee.BuiltIn f) bodies running left s
+    ∙ (ap (λ a. after job n (callee.BuiltIn f) a s bodies running left) (row_is job f s.store ls (quiet next store) b e h)
+    ∙ said_nothing job n (callee.BuiltIn f) next store s bodies running left))) g
 
 -- ---- what a description says of a literal
 
@@ -84,7 +92,8 @@ record Tops (left : ℕ) (v : List Literal) (a : Abstract) (d : Value) (i : ℕ)
   below : Stack v is xs
   is_so : Is left d x
 
-tops : (job : Job) (left : ℕ) (a : Abstract) (s : Store) (h : In job left a s) (i : ℕ) (is : List ℕ) (d : Value) (ls : List Literal) → Stack h.0 (i ∷ is) ls → get_or a.values i value.Any ≡ d → Tops left h.0 a d i is ls
+tops : (job : Job) (left : ℕ) (a : Abstract) (s : Store) (h : In job left a s) (i : ℕ) (is : List ℕ) (d : Value) (ls : List Literal) → Stack h.0 (i ∷ is) ls
+    → get_or a.values i value.Any ≡ d → Tops left h.0 a d i is ls
 tops job left a s h i is d ls k e =
     let t = top_of left a.values h.0 i is ls h.1.values k in
     record { x = t.x; xs = t.xs; literals_are = t.literals_are; stands = t.stands; below = t.below; is_so = subst (λ (c : Value). Is left c t.x) e t.is_so }
@@ -98,8 +107,10 @@ record Three (left : ℕ) (v : List Literal) (i : ℕ) (is : List ℕ) (d : Valu
   below : Stack v is xs
   is_so : Is left d (Integer n)
 
-three : (job : Job) (left : ℕ) (a : Abstract) (s : Store) (h : In job left a s) (k j i : ℕ) (is : List ℕ) (f g : Callee) (lo : Option ℤ) (hi : Upper) → a.stack ≡ k ∷ j ∷ i ∷ is → get_or a.values k value.Any ≡ value.Function g
-    → get_or a.values j value.Any ≡ value.Function f → get_or a.values i value.Any ≡ value.Integer lo hi → Three left h.0 i is (value.Integer lo hi) f g s.literals
+three : (job : Job) (left : ℕ) (a : Abstract) (s : Store) (h : In job left a s) (k j i : ℕ) (is : List ℕ) (f g : Callee) (lo : Option ℤ) (hi : Upper)
+    → a.stack ≡ k ∷ j ∷ i ∷ is → get_or a.values k value.Any ≡ value.Function g
+    → get_or a.values j value.Any ≡ value.Function f → get_or a.values i value.Any ≡ value.Integer lo hi
+    → Three left h.0 i is (value.Integer lo hi) f g s.literals
 three job left a s h k j i is f g lo hi e dk dj di =
     let t = tops job left a s h k (j ∷ i ∷ is) (value.Function g) s.literals (stack_at a h.0 s.literals k (j ∷ i ∷ is) e h.1.stack) dk in
     let u = tops job left a s h j (i ∷ is) (value.Function f) t.xs t.below dj in
@@ -111,22 +122,36 @@ three job left a s h k j i is f g lo hi e dk dj di =
     let e1 = t.literals_are in
     let e2 = u.literals_are in
     let e3 = w.literals_are in
-    record { n = p.0; xs = w.xs; literals_are = cc; stands = subst (λ (x : Literal). at h.0 i ≡ Some x) q w.stands; below = w.below; is_so = subst (λ (x : Literal). Is left (value.Integer lo hi) x) q w.is_so }
+    record {
+      n = p.0;
+      xs = w.xs;
+      literals_are = cc;
+      stands = subst (λ (x : Literal). at h.0 i ≡ Some x) q w.stands;
+      below = w.below;
+      is_so =
+          subst (λ (x : Literal). Is left (value.Integer lo hi) x) q w.is_so;
+    }
 
-known_in : (job : Job) (left : ℕ) (a : Abstract) (s : Store) (i : ℕ) (is : List ℕ) (v xs : List Literal) (x : Literal) (d : Value) → Stack v is xs → Holds job left a (values_in s) s.literals v
+known_in : (job : Job) (left : ℕ) (a : Abstract) (s : Store) (i : ℕ) (is : List ℕ) (v xs : List Literal) (x : Literal) (d : Value) → Stack v is xs
+    → Holds job left a (values_in s) s.literals v
     → at v i ≡ Some x → Is left d x → In job left (knowing i d (with_stack is a)) (with_literals xs s)
-known_in job left a s i is v xs x d k h e p = (v, known job left (with_stack is a) (values_in s) v xs i d x e p (restack job left a (values_in s) v is s.literals xs k h))
+known_in job left a s i is v xs x d k h e p =
+    (v, known job left (with_stack is a) (values_in s) v xs i d x e p (restack job left a (values_in s) v is s.literals xs k h))
 
 -- ---- `if$`
 
-pub if_runs : (style : Style) (allowed : List ℕ) (a : Abstract) (k j i : ℕ) (is : List ℕ) (f g : Callee) (lo : Option ℤ) (hi : Upper) (c d : Value) (r w : ℕ) (to : List Abstract) → a.stack ≡ k ∷ j ∷ i ∷ is → get_or a.values k value.Any ≡ value.Function g
-    → get_or a.values j value.Any ≡ value.Function f → get_or a.values i value.Any ≡ value.Integer lo hi → Splits (value.Integer lo hi) c d → RunsFrom style allowed (token.Run f) (knowing i c (with_stack is a) ∷ []) r w to
-    → RunsFrom style allowed (token.Run g) (knowing i d (with_stack is a) ∷ []) r w to → RunsFrom style allowed (token.Run (callee.BuiltIn built_in.If)) (a ∷ []) r w to
+pub if_runs : (style : Style) (allowed : List ℕ) (a : Abstract) (k j i : ℕ) (is : List ℕ) (f g : Callee) (lo : Option ℤ) (hi : Upper) (c d : Value) (r w : ℕ)
+    (to : List Abstract) → a.stack ≡ k ∷ j ∷ i ∷ is → get_or a.values k value.Any ≡ value.Function g
+    → get_or a.values j value.Any ≡ value.Function f → get_or a.values i value.Any ≡ value.Integer lo hi → Splits (value.Integer lo hi) c d
+    → RunsFrom style allowed (token.Run f) (knowing i c (with_stack is a) ∷ []) r w to
+    → RunsFrom style allowed (token.Run g) (knowing i d (with_stack is a) ∷ []) r w to
+    → RunsFrom style allowed (token.Run (callee.BuiltIn built_in.If)) (a ∷ []) r w to
 unfolding built_in_run
 if_runs style allowed a k j i is f g lo hi c d r w to e dk dj di splits p q job of zero start m bodies running left s hs fine l1 l2 l3 = fine
 if_runs style allowed a k j i is f g lo hi c d r w to e dk dj di splits p q job of (suc n) start m bodies running zero s hs fine l1 l2 l3 = fine
 if_runs style allowed a k j i is f g lo hi c d r w to e dk dj di splits p q job of (suc n) start m bodies running (suc left) s hs fine l1 l2 l3 =
-    quiet_good job start n m to built_in.If (Function g ∷ Function f ∷ Integer t.n ∷ t.xs) (Run (if is_positive t.n then f else g)) (with_literals t.xs s.store) bodies running left s refl t.literals_are refl
+    quiet_good job start n m to built_in.If (Function g ∷ Function f ∷ Integer t.n ∷ t.xs) (Run (if is_positive t.n then f else g)) (with_literals t.xs s.store)
+    bodies running left s refl t.literals_are refl
     (goes (is_positive t.n) (splits left t.n t.is_so))
   where
     h : In job left a s.store
@@ -135,14 +160,19 @@ if_runs style allowed a k j i is f g lo hi c d r w to e dk dj di splits p q job 
     t : Three left h.0 i is (value.Integer lo hi) f g s.store.literals
     t = three job left a s.store h k j i is f g lo hi e dk dj di
 
-    goes : (b : Bool) → Is left (cond b c d) (Integer t.n) → Good job start m to (act job n (token.Run (cond b f g)) bodies running left (record s { store = with_literals t.xs s.store }))
-    goes true o = p job of n start m bodies running left (record s { store = with_literals t.xs s.store }) (inl (known_in job left a s.store i is h.0 t.xs (Integer t.n) c t.below h.1 t.stands o)) fine l1 l2 l3
-    goes false o = q job of n start m bodies running left (record s { store = with_literals t.xs s.store }) (inl (known_in job left a s.store i is h.0 t.xs (Integer t.n) d t.below h.1 t.stands o)) fine l1 l2 l3
+    goes : (b : Bool) → Is left (cond b c d) (Integer t.n)
+        → Good job start m to (act job n (token.Run (cond b f g)) bodies running left (record s { store = with_literals t.xs s.store }))
+    goes true o = p job of n start m bodies running left (record s { store = with_literals t.xs s.store })
+        (inl (known_in job left a s.store i is h.0 t.xs (Integer t.n) c t.below h.1 t.stands o)) fine l1 l2 l3
+    goes false o = q job of n start m bodies running left (record s { store = with_literals t.xs s.store })
+        (inl (known_in job left a s.store i is h.0 t.xs (Integer t.n) d t.below h.1 t.stands o)) fine l1 l2 l3
 
 -- ---- `while$`
 
-pub while_runs : (style : Style) (allowed : List ℕ) (a : Abstract) (j i : ℕ) (is : List ℕ) (f g : Callee) (r w : ℕ) (heads tests again ends : List Abstract) → a.stack ≡ j ∷ i ∷ is → get_or a.values j value.Any ≡ value.Function g
-    → get_or a.values i value.Any ≡ value.Function f → Into (with_stack is a) heads → Closed style allowed heads f g r w tests again ends → RunsFrom style allowed (token.Run (callee.BuiltIn built_in.While)) (a ∷ []) r (suc w) ends
+pub while_runs : (style : Style) (allowed : List ℕ) (a : Abstract) (j i : ℕ) (is : List ℕ) (f g : Callee) (r w : ℕ) (heads tests again ends : List Abstract)
+    → a.stack ≡ j ∷ i ∷ is → get_or a.values j value.Any ≡ value.Function g
+    → get_or a.values i value.Any ≡ value.Function f → Into (with_stack is a) heads → Closed style allowed heads f g r w tests again ends
+    → RunsFrom style allowed (token.Run (callee.BuiltIn built_in.While)) (a ∷ []) r (suc w) ends
 unfolding built_in_run
 while_runs style allowed a j i is f g r w heads tests again ends e dj di go c job of zero start m bodies running left s hs fine l1 l2 l3 = fine
 while_runs style allowed a j i is f g r w heads tests again ends e dj di go c job of (suc n) start m bodies running zero s hs fine l1 l2 l3 = fine
@@ -157,19 +187,33 @@ while_runs style allowed a j i is f g r w heads tests again ends e dj di go c jo
     let ls : s.store.literals ≡ Function g ∷ Function f ∷ u.xs = cc in
     quiet_good job start n m ends built_in.While (Function g ∷ Function f ∷ u.xs) (Loop f g) (with_literals u.xs s.store) bodies running left s refl ls refl
     (loop_good style allowed heads f g r w tests again ends c job of start n n m bodies running left (record s { store = with_literals u.xs s.store })
-    (go.into job left (with_literals u.xs s.store) (h.0, restack job left a (values_in s.store) h.0 is s.store.literals u.xs u.below h.1)) fine l1 l2 l3 (nat_lt running 4096) refl)
+    (go.into job left (with_literals u.xs s.store) (h.0, restack job left a (values_in s.store) h.0 is s.store.literals u.xs u.below h.1)) fine l1 l2 l3
+    (nat_lt running 4096) refl)
 
-pub turned : (a : Abstract) (i : ℕ) (is : List ℕ) (lo : Option ℤ) (hi : Upper) (c d : Value) (again ends : List Abstract) → a.stack ≡ i ∷ is → get_or a.values i value.Any ≡ value.Integer lo hi → Splits (value.Integer lo hi) c d
+pub turned : (a : Abstract) (i : ℕ) (is : List ℕ) (lo : Option ℤ) (hi : Upper) (c d : Value) (again ends : List Abstract) → a.stack ≡ i ∷ is
+    → get_or a.values i value.Any ≡ value.Integer lo hi → Splits (value.Integer lo hi) c d
     → Into (knowing i c (with_stack is a)) again → Into (knowing i d (with_stack is a)) ends → Turned (a ∷ []) again ends
-turned a i is lo hi c d again ends e di splits go stop = record { calm = λ job left s h. calm job left s (one_of job left a s h); deepest = λ job left s h. deepest job left s (one_of job left a s h); sized = λ job left s h. sized job left s (one_of job left a s h); goes = λ job left s h. goes job left s (one_of job left a s h) }
+turned a i is lo hi c d again ends e di splits go stop =
+    record {
+      calm = λ job left s h. calm job left s (one_of job left a s h);
+      deepest = λ job left s h. deepest job left s (one_of job left a s h);
+      sized =
+          λ job left s h. sized job left s (one_of job left a s h);
+      goes = λ job left s h. goes job left s (one_of job left a s h);
+    }
   where
     t : (job : Job) (left : ℕ) (s : Store) (h : In job left a s) → Tops left h.0 a (value.Integer lo hi) i is s.literals
     t job left s h = tops job left a s h i is (value.Integer lo hi) s.literals (stack_at a h.0 s.literals i is e h.1.stack) di
 
-    are : (job : Job) (left : ℕ) (s : Store) (h : In job left a s) → (n : ℤ) × (s.literals ≡ Integer n ∷ (t job left s h).xs) × (at h.0 i ≡ Some (Integer n)) × Is left (value.Integer lo hi) (Integer n)
+    are : (job : Job) (left : ℕ) (s : Store) (h : In job left a s) → (n : ℤ) × (s.literals ≡ Integer n ∷ (t job left s h).xs) × (at h.0 i ≡ Some (Integer n))
+        × Is left (value.Integer lo hi) (Integer n)
     are job left s h =
-        let p = integer_is left lo hi (t job left s h).x (t job left s h).is_so in
-        (p.0, (t job left s h).literals_are ∙ ap (λ (x : Literal). x ∷ (t job left s h).xs) p.1, subst (λ (x : Literal). at h.0 i ≡ Some x) p.1 (t job left s h).stands, subst (λ (x : Literal). Is left (value.Integer lo hi) x) p.1 (t job left s h).is_so)
+        let p = integer_is left lo hi (t job left s h).x (t job left s h).is_so in (
+          p.0,
+          (t job left s h).literals_are ∙ ap (λ (x : Literal). x ∷ (t job left s h).xs) p.1,
+          subst (λ (x : Literal). at h.0 i ≡ Some x) p.1 (t job left s h).stands,
+          subst (λ (x : Literal). Is left (value.Integer lo hi) x) p.1 (t job left s h).is_so,
+        )
 
     calm : (job : Job) (left : ℕ) (s : Store) → In job left a s → Calm (tested s.literals s).said
     calm job left s h = subst (λ (ls : List Literal). Calm (tested ls s).said) (sym (are job left s h).1) tt
@@ -180,10 +224,12 @@ turned a i is lo hi c d again ends e di splits go stop = record { calm = λ job 
     sized : (job : Job) (left : ℕ) (s : Store) → In job left a s → Sized job (values_in s) → Sized job (values_in (tested s.literals s).store)
     sized job left s h = subst (λ (ls : List Literal). Sized job (values_in s) → Sized job (values_in (tested ls s).store)) (sym (are job left s h).1) (λ z. z)
 
-    split : (job : Job) (left : ℕ) (s : Store) (h : In job left a s) (n : ℤ) (xs : List Literal) → Stack h.0 is xs → at h.0 i ≡ Some (Integer n) → (b : Bool) → Is left (cond b c d) (Integer n) → TurnsTo job left again ends b (with_literals xs s)
+    split : (job : Job) (left : ℕ) (s : Store) (h : In job left a s) (n : ℤ) (xs : List Literal) → Stack h.0 is xs → at h.0 i ≡ Some (Integer n) → (b : Bool)
+        → Is left (cond b c d) (Integer n) → TurnsTo job left again ends b (with_literals xs s)
     split job left s h n xs k st true o = go.into job left (with_literals xs s) (known_in job left a s i is h.0 xs (Integer n) c k h.1 st o)
     split job left s h n xs k st false o = stop.into job left (with_literals xs s) (known_in job left a s i is h.0 xs (Integer n) d k h.1 st o)
 
     goes : (job : Job) (left : ℕ) (s : Store) → In job left a s → TurnsTo job left again ends (tested s.literals s).again (tested s.literals s).store
     goes job left s h = subst (λ (ls : List Literal). TurnsTo job left again ends (tested ls s).again (tested ls s).store) (sym (are job left s h).1)
-        (split job left s h (are job left s h).0 (t job left s h).xs (t job left s h).below (are job left s h).2 (is_positive (are job left s h).0) (splits left (are job left s h).0 (are job left s h).3))
+        (split job left s h (are job left s h).0 (t job left s h).xs (t job left s h).below (are job left s h).2 (is_positive (are job left s h).0)
+        (splits left (are job left s h).0 (are job left s h).3))

@@ -17,20 +17,22 @@ use Rattle.std.proofs.lemmas.Bool.Decides.{Decides-int_eq, Decides-like, same_fr
 use Rattle.btx_step.specs.language.Operands.{Any}
 use Rattle.btx_check.specs.declared.description.Upper.{Upper}
 use Rattle.btx_check.specs.declared.description.Upper.TheVariants as upper
-use Rattle.btx_check.specs.Descriptions.{Is, exactly, blank, filled, gone, nothing, open_end, present, something, Above, Below}
+use Rattle.btx_check.specs.Descriptions.{Is, exactly, blank, filled, followed, gone, nothing, open_end, present, something, Above, Below}
 use Rattle.btx_check.specs.States.{Abstract, slot, putting, pushing, pushing_new, knowing, with_stack, putting_text}
 use Rattle.btx_check.specs.Names.{IsName, NeedsEntry, kind_of, IsIntegerOf, IsStringOf}
 use Rattle.btx_check.specs.Bounds.{Narrows, SumIs, Matches}
+use Rattle.btx_check.specs.Inclusion.{Into}
 use Rattle.btx_check.specs.Answers.{Ruled, Added, TopIs, TwoAre, Stepped, Comparable, TopsFit, Pushed}
 use Rattle.btx_check.proofs.AddLemmas.{sub_then, into_sub}
 use Rattle.btx_check.proofs.RunLemmas.{rest_into, ruled}
 use Rattle.btx_check.proofs.RowLemmas.{rule_duplicate, rule_pop, rule_skip, rule_swap, rule_write, rule_empty}
 use Rattle.btx_check.proofs.Names.{rule_field_known, rule_field_new, rule_global_integer_known, rule_global_string_known}
 use Rattle.btx_check.proofs.PlainRows.{rule_top}
-use Rattle.btx_check.proofs.Refined.{rule_num_names_known, rule_greater_known, rule_less_known, rule_plus_known, rule_equals_integers, rule_minus_known}
+use Rattle.btx_check.proofs.Refined.{rule_num_names_known, rule_greater_known, rule_less_known, rule_plus_known, rule_equals_integers, rule_minus_known, rule_concatenate_known}
 use Rattle.btx_check.proofs.Assign.{rule_assign_global_integer, rule_assign_entry_integer, rule_assign_global_string, rule_assign_entry_string}
 use Rattle.btx_check.proofs.Covering.{style_rule_runs}
-use Rattle.btx_check.proofs.LastRows.{rule_stack, rule_missing, rule_equals, rule_global_integer_new, rule_global_string_new, rule_entry_integer_new, rule_entry_string_new, rule_entry_integer_known, rule_entry_string_known, text_runs, integer_runs, quote_runs}
+use Rattle.btx_check.proofs.LastRows.{rule_stack, rule_missing, rule_equals, rule_global_integer_new, rule_global_string_new, rule_entry_integer_new}
+use Rattle.btx_check.proofs.LastRows.{rule_entry_string_new, rule_entry_integer_known, rule_entry_string_known, text_runs, integer_runs, quote_runs}
 
 pub room_one : (a b : Abstract) (i : ℕ) (d : Value) → TopIs a i d b → length b.stack < 1000
 room_one a b i d t = let n = ap {B = ℕ} length t.stack in let l = t.room in omega (arith, n, l)
@@ -38,7 +40,8 @@ room_one a b i d t = let n = ap {B = ℕ} length t.stack in let l = t.room in om
 pub room_two : (a b : Abstract) (j i : ℕ) (d c : Value) → TwoAre a j i d c b → length b.stack < 1000
 room_two a b j i d c t = let n = ap {B = ℕ} length t.stack in let l = t.room in omega (arith, n, l)
 
-pub code_duplicate : (a b : Abstract) (i : ℕ) (d : Value) (old new : List Abstract) → TopIs a i d b → Added (pushing i a) old new → Ruled (callee.BuiltIn built_in.Duplicate) a old new
+pub code_duplicate : (a b : Abstract) (i : ℕ) (d : Value) (old new : List Abstract) → TopIs a i d b → Added (pushing i a) old new
+    → Ruled (callee.BuiltIn built_in.Duplicate) a old new
 code_duplicate a b i d old new t x = ruled _ _ _ _ (rule_duplicate a i b.stack new t.stack t.room x.into) (x.sub)
 
 pub code_pop : (a b : Abstract) (i : ℕ) (d : Value) (old new : List Abstract) → TopIs a i d b → Added b old new → Ruled (callee.BuiltIn built_in.Pop) a old new
@@ -47,8 +50,10 @@ code_pop a b i d old new t x = ruled _ _ _ _ (rule_pop a i b.stack new t.stack (
 pub code_skip : (a : Abstract) (old new : List Abstract) → Added a old new → Ruled (callee.BuiltIn built_in.Skip) a old new
 code_skip a old new x = ruled _ _ _ _ (rule_skip a new x.into) (x.sub)
 
-pub code_swap : (a b : Abstract) (j i : ℕ) (d c : Value) (old new : List Abstract) → TwoAre a j i d c b → Added (pushing i (pushing j b)) old new → Ruled (callee.BuiltIn built_in.Swap) a old new
-code_swap a b j i d c old new w x = ruled _ _ _ _ (rule_swap a j i b.stack new w.stack (rest_into a b (λ x. with_stack (i ∷ j ∷ b.stack) x) new w.rest x.into)) (x.sub)
+pub code_swap : (a b : Abstract) (j i : ℕ) (d c : Value) (old new : List Abstract) → TwoAre a j i d c b → Added (pushing i (pushing j b)) old new
+    → Ruled (callee.BuiltIn built_in.Swap) a old new
+code_swap a b j i d c old new w x = ruled _ _ _ _ (rule_swap a j i b.stack new w.stack (rest_into a b (λ x. with_stack (i ∷ j ∷ b.stack) x) new w.rest x.into))
+    (x.sub)
 
 pub top_at : (a b : Abstract) (i : ℕ) (d d' : Value) → TopIs a i d b → d ≡ d' → TopIs a i d' b
 top_at a b i d d' t e = record { stack = t.stack; rest = t.rest; known = t.known ∙ e; room = t.room }
@@ -74,20 +79,25 @@ above_more : (low : Option ℤ) (x y : ℤ) → int_lt y x ≡ false → Above l
 above_more None x y e h = tt
 above_more (Some n) x y e h = grind (arith, ints)
 
-pub narrows_up : (lo : Option ℤ) (hi : Upper) (lo2 : Option ℤ) (hi2 : Upper) (n r : Option ℤ) (p l : Upper) → ((x y : ℤ) → Above lo2 y → int_lt y x ≡ true → Above n x) → ((m : ℤ) → Above lo m → Above n m → Above r m)
-    → ((left : ℕ) (x y : ℤ) → Below left hi x → int_lt y x ≡ true → Below left p y) → ((left : ℕ) (m : ℤ) → Below left hi2 m → Below left p m → Below left l m) → Narrows true (value.Integer lo hi) (value.Integer lo2 hi2) (value.Integer r hi) (value.Integer lo2 l)
+pub narrows_up : (lo : Option ℤ) (hi : Upper) (lo2 : Option ℤ) (hi2 : Upper) (n r : Option ℤ) (p l : Upper)
+    → ((x y : ℤ) → Above lo2 y → int_lt y x ≡ true → Above n x) → ((m : ℤ) → Above lo m → Above n m → Above r m)
+    → ((left : ℕ) (x y : ℤ) → Below left hi x → int_lt y x ≡ true → Below left p y) → ((left : ℕ) (m : ℤ) → Below left hi2 m → Below left p m → Below left l m)
+    → Narrows true (value.Integer lo hi) (value.Integer lo2 hi2) (value.Integer r hi) (value.Integer lo2 l)
 narrows_up lo hi lo2 hi2 n r p l f g h k left x y o q e = ((g x o.0 (f x y q.0 e), o.1), (q.0, k left y q.1 (h left x y o.1 e)))
 
-pub narrows_down : (lo : Option ℤ) (hi : Upper) (lo2 : Option ℤ) (hi2 : Upper) (r : Option ℤ) (l : Upper) → ((left : ℕ) (m : ℤ) → Below left hi m → Below left hi2 m → Below left l m) → ((m : ℤ) → Above lo2 m → Above lo m → Above r m)
+pub narrows_down : (lo : Option ℤ) (hi : Upper) (lo2 : Option ℤ) (hi2 : Upper) (r : Option ℤ) (l : Upper)
+    → ((left : ℕ) (m : ℤ) → Below left hi m → Below left hi2 m → Below left l m) → ((m : ℤ) → Above lo2 m → Above lo m → Above r m)
     → Narrows false (value.Integer lo hi) (value.Integer lo2 hi2) (value.Integer lo l) (value.Integer r hi2)
 narrows_down lo hi lo2 hi2 r l f g left x y o q e = ((o.0, f left x o.1 (below_less left hi2 x y e q.1)), (g y q.0 (above_more lo x y e o.0), q.1))
 
-pub code_write : (a b : Abstract) (i : ℕ) (m : Mask) (old new : List Abstract) → TopIs a i (value.Text m) b → m.missing ≡ false → Added b old new → Ruled (callee.BuiltIn built_in.Write) a old new
+pub code_write : (a b : Abstract) (i : ℕ) (m : Mask) (old new : List Abstract) → TopIs a i (value.Text m) b → m.missing ≡ false → Added b old new
+    → Ruled (callee.BuiltIn built_in.Write) a old new
 code_write a b i m old new t there x = ruled _ _ _ _ (rule_write a i b.stack m new t.stack t.known there (rest_into a b (λ x. x) new t.rest x.into)) (x.sub)
 
 pub code_top : (a b : Abstract) (i : ℕ) (d : Value) (old new : List Abstract) → TopIs a i d b → Added b old new → Ruled (callee.BuiltIn built_in.Top) a old new
 code_top a b i d old new t x =
-    ruled _ _ _ _ (rule_top a b.stack new (room_one a b i d t) (rest_into a b (λ x. x) new t.rest x.into) (subst (λ (is : List ℕ). TopsFit a.values (Any ∷ []) is b.stack) (sym t.stack) (tt, refl))) (x.sub)
+    ruled _ _ _ _ (rule_top a b.stack new (room_one a b i d t) (rest_into a b (λ x. x) new t.rest x.into)
+    (subst (λ (is : List ℕ). TopsFit a.values (Any ∷ []) is b.stack) (sym t.stack) (tt, refl))) (x.sub)
 
 pub code_stack : (a : Abstract) (old new : List Abstract) → Added (with_stack [] a) old new → Ruled (callee.BuiltIn built_in.Stack) a old new
 code_stack a old new x = ruled _ _ _ _ (rule_stack a new x.into) (x.sub)
@@ -98,15 +108,19 @@ pub added_at : (x y : Abstract) (old new : List Abstract) → x ≡ y → Added 
 added_at x y old new e h = subst (λ (z : Abstract). Added z old new) e h
 
 -- a literal, where a number is known better
-pub found_at : (b b' : Abstract) (i : ℕ) (d d' r r' : Value) (old new : List Abstract) → b' ≡ b → d' ≡ d → r' ≡ r → Added (pushing_new r' (knowing i d' b')) old new → Added (pushing_new r (knowing i d b)) old new
+pub found_at : (b b' : Abstract) (i : ℕ) (d d' r r' : Value) (old new : List Abstract) → b' ≡ b → d' ≡ d → r' ≡ r
+    → Added (pushing_new r' (knowing i d' b')) old new → Added (pushing_new r (knowing i d b)) old new
 found_at b b' i d d' r r' old new e f g h =
     added_at _ _ old new
-    (ap (λ (x : Abstract). pushing_new r' (knowing i d' x)) e ∙ (ap (λ (x : Value). pushing_new r' (knowing i x b)) f ∙ ap (λ (x : Value). pushing_new x (knowing i d b)) g)) h
+    (ap (λ (x : Abstract). pushing_new r' (knowing i d' x)) e
+    ∙ (ap (λ (x : Value). pushing_new r' (knowing i x b)) f ∙ ap (λ (x : Value). pushing_new x (knowing i d b)) g)) h
 
 -- a literal, where two numbers are known better
-pub tested_at : (b b' : Abstract) (j i : ℕ) (d c r r' : Value) (old new : List Abstract) → b' ≡ b → r' ≡ r → Added (pushing_new r' (knowing j d (knowing i c b'))) old new → Added (pushing_new r (knowing j d (knowing i c b))) old new
+pub tested_at : (b b' : Abstract) (j i : ℕ) (d c r r' : Value) (old new : List Abstract) → b' ≡ b → r' ≡ r
+    → Added (pushing_new r' (knowing j d (knowing i c b'))) old new → Added (pushing_new r (knowing j d (knowing i c b))) old new
 tested_at b b' j i d c r r' old new e g h =
-    added_at _ _ old new (ap (λ (x : Abstract). pushing_new r' (knowing j d (knowing i c x))) e ∙ ap (λ (x : Value). pushing_new x (knowing j d (knowing i c b))) g) h
+    added_at _ _ old new (ap (λ (x : Abstract). pushing_new r' (knowing j d (knowing i c x))) e
+    ∙ ap (λ (x : Value). pushing_new x (knowing j d (knowing i c b))) g) h
 
 -- a literal
 pub new_at : (b b' : Abstract) (r r' : Value) (old new : List Abstract) → b' ≡ b → r' ≡ r → Added (pushing_new r' b') old new → Added (pushing_new r b) old new
@@ -115,31 +129,41 @@ new_at b b' r r' old new e g h = added_at _ _ old new (ap (λ (x : Abstract). pu
 pub text_at : (m n : Mask) → m ≡ n → value.Text m ≡ value.Text n
 text_at m n e = ap value.Text e
 
-pub code_empty : (a b : Abstract) (i : ℕ) (m : Mask) (old mid new : List Abstract) → TopIs a i (value.Text m) b → Added (pushing_new (exactly (pos 1)) (knowing i (value.Text (blank m)) b)) old mid
+pub code_empty : (a b : Abstract) (i : ℕ) (m : Mask) (old mid new : List Abstract) → TopIs a i (value.Text m) b
+    → Added (pushing_new (exactly (pos 1)) (knowing i (value.Text (blank m)) b)) old mid
     → Added (pushing_new (exactly (pos 0)) (knowing i (value.Text (filled m)) b)) mid new → Ruled (callee.BuiltIn built_in.Empty) a old new
 code_empty a b i m old mid new t x y = ruled _ _ _ _
-    (rule_empty a i b.stack m new t.stack t.known t.room (rest_into a b (λ x. pushing_new (exactly (pos 1)) (knowing i (value.Text (blank m)) x)) new t.rest (into_sub _ mid new x.into y.sub))
+    (rule_empty a i b.stack m new t.stack t.known t.room
+    (rest_into a b (λ x. pushing_new (exactly (pos 1)) (knowing i (value.Text (blank m)) x)) new t.rest (into_sub _ mid new x.into y.sub))
     (rest_into a b (λ x. pushing_new (exactly (pos 0)) (knowing i (value.Text (filled m)) x)) new t.rest y.into))
     (sub_then old mid new x.sub y.sub)
 
-pub code_missing : (a b : Abstract) (i : ℕ) (m : Mask) (old mid new : List Abstract) → a.entry ≡ true → TopIs a i (value.Text m) b → Added (pushing_new (exactly (pos 1)) (knowing i (value.Text (gone m)) b)) old mid
+pub code_missing : (a b : Abstract) (i : ℕ) (m : Mask) (old mid new : List Abstract) → a.entry ≡ true → TopIs a i (value.Text m) b
+    → Added (pushing_new (exactly (pos 1)) (knowing i (value.Text (gone m)) b)) old mid
     → Added (pushing_new (exactly (pos 0)) (knowing i (value.Text (present m)) b)) mid new → Ruled (callee.BuiltIn built_in.Missing) a old new
 code_missing a b i m old mid new en t x y = ruled _ _ _ _
-    (rule_missing a i b.stack m new t.stack t.known (room_one a b i (value.Text m) t) (rest_into a b (λ x. pushing_new (exactly (pos 1)) (knowing i (value.Text (gone m)) x)) new t.rest (into_sub _ mid new x.into y.sub))
+    (rule_missing a i b.stack m new t.stack t.known (room_one a b i (value.Text m) t)
+    (rest_into a b (λ x. pushing_new (exactly (pos 1)) (knowing i (value.Text (gone m)) x)) new t.rest (into_sub _ mid new x.into y.sub))
     (rest_into a b (λ x. pushing_new (exactly (pos 0)) (knowing i (value.Text (present m)) x)) new t.rest y.into) en)
     (sub_then old mid new x.sub y.sub)
 
-pub code_num_names : (a b : Abstract) (i : ℕ) (m : Mask) (old mid new : List Abstract) → TopIs a i (value.Text m) b → m.missing ≡ false → Added (pushing_new (exactly (pos 0)) (knowing i (value.Text (nothing m)) b)) old mid
-    → Added (pushing_new (value.Integer (Some (pos 1)) open_end) (knowing i (value.Text (something m)) b)) mid new → Ruled (callee.BuiltIn built_in.NumNames) a old new
+pub code_num_names : (a b : Abstract) (i : ℕ) (m : Mask) (old mid new : List Abstract) → TopIs a i (value.Text m) b → m.missing ≡ false
+    → Added (pushing_new (exactly (pos 0)) (knowing i (value.Text (nothing m)) b)) old mid
+    → Added (pushing_new (value.Integer (Some (pos 1)) open_end) (knowing i (value.Text (something m)) b)) mid new
+    → Ruled (callee.BuiltIn built_in.NumNames) a old new
 code_num_names a b i m old mid new t there x y = ruled _ _ _ _
-    (rule_num_names_known a i b.stack m new t.stack (room_one a b i (value.Text m) t) t.known there (rest_into a b (λ x. pushing_new (exactly (pos 0)) (knowing i (value.Text (nothing m)) x)) new t.rest (into_sub _ mid new x.into y.sub))
+    (rule_num_names_known a i b.stack m new t.stack (room_one a b i (value.Text m) t) t.known there
+    (rest_into a b (λ x. pushing_new (exactly (pos 0)) (knowing i (value.Text (nothing m)) x)) new t.rest (into_sub _ mid new x.into y.sub))
     (rest_into a b (λ x. pushing_new (value.Integer (Some (pos 1)) open_end) (knowing i (value.Text (something m)) x)) new t.rest y.into))
     (sub_then old mid new x.sub y.sub)
 
-pub code_equals : (a b : Abstract) (j i : ℕ) (d c : Value) (old mid new : List Abstract) → TwoAre a j i d c b → Comparable d c → Added (pushing_new (exactly (pos 1)) b) old mid → Added (pushing_new (exactly (pos 0)) b) mid new
+pub code_equals : (a b : Abstract) (j i : ℕ) (d c : Value) (old mid new : List Abstract) → TwoAre a j i d c b → Comparable d c
+    → Added (pushing_new (exactly (pos 1)) b) old mid → Added (pushing_new (exactly (pos 0)) b) mid new
     → Ruled (callee.BuiltIn built_in.Equals) a old new
 code_equals a b j i d c old mid new t k x y = ruled _ _ _ _
-    (rule_equals a j i b.stack new t.stack (room_two a b j i d c t) (rest_into a b (λ x. pushing_new (exactly (pos 1)) x) new t.rest (into_sub _ mid new x.into y.sub)) (rest_into a b (λ x. pushing_new (exactly (pos 0)) x) new t.rest y.into)
+    (rule_equals a j i b.stack new t.stack (room_two a b j i d c t)
+    (rest_into a b (λ x. pushing_new (exactly (pos 1)) x) new t.rest (into_sub _ mid new x.into y.sub))
+    (rest_into a b (λ x. pushing_new (exactly (pos 0)) x) new t.rest y.into)
     (subst (λ (e : Value). Comparable e (get_or a.values i value.Any)) (sym t.first) (subst (λ (e : Value). Comparable d e) (sym t.second) k)))
     (sub_then old mid new x.sub y.sub)
 
@@ -147,14 +171,18 @@ int_eq_is : (x y : ℤ) → int_eq x y ≡ true → x ≡ y
 int_eq_is x y e = (Decides-int_eq x y).0 e
 
 int_eq_back : (x y : ℤ) → int_eq x y ≡ false → int_eq y x ≡ false
-int_eq_back x y e = same_from_decides (int_eq y x) (int_eq x y) (Decides-like (int_eq y x) (λ q. sym q) (λ q. sym q) (Decides-int_eq y x)) (Decides-int_eq x y) ∙ e
+int_eq_back x y e = same_from_decides (int_eq y x) (int_eq x y) (Decides-like (int_eq y x) (λ q. sym q) (λ q. sym q) (Decides-int_eq y x)) (Decides-int_eq x y)
+    ∙ e
 
-pub code_equals_integers : (a b : Abstract) (j i : ℕ) (lo : Option ℤ) (hi : Upper) (lo2 : Option ℤ) (hi2 : Upper) (c d c' d' : Value) (old mid new : List Abstract) → TwoAre a j i (value.Integer lo hi) (value.Integer lo2 hi2) b
-    → Matches true (value.Integer lo2 hi2) (value.Integer lo hi) c d → Matches false (value.Integer lo2 hi2) (value.Integer lo hi) c' d' → Added (pushing_new (exactly (pos 1)) (knowing j d (knowing i c b))) old mid
+pub code_equals_integers : (a b : Abstract) (j i : ℕ) (lo : Option ℤ) (hi : Upper) (lo2 : Option ℤ) (hi2 : Upper) (c d c' d' : Value)
+    (old mid new : List Abstract) → TwoAre a j i (value.Integer lo hi) (value.Integer lo2 hi2) b
+    → Matches true (value.Integer lo2 hi2) (value.Integer lo hi) c d → Matches false (value.Integer lo2 hi2) (value.Integer lo hi) c' d'
+    → Added (pushing_new (exactly (pos 1)) (knowing j d (knowing i c b))) old mid
     → Added (pushing_new (exactly (pos 0)) (knowing j d' (knowing i c' b))) mid new → Ruled (callee.BuiltIn built_in.Equals) a old new
 code_equals_integers a b j i lo hi lo2 hi2 c d c' d' old mid new t same other x y = ruled _ _ _ _
     (rule_equals_integers a j i b.stack lo hi lo2 hi2 c d c' d' new t.stack (room_two a b j i (value.Integer lo hi) (value.Integer lo2 hi2) t) t.first t.second
-    (rest_into a b (λ x. pushing_new (exactly (pos 1)) (knowing j d (knowing i c x))) new t.rest (into_sub _ mid new x.into y.sub)) (rest_into a b (λ x. pushing_new (exactly (pos 0)) (knowing j d' (knowing i c' x))) new t.rest y.into) same other)
+    (rest_into a b (λ x. pushing_new (exactly (pos 1)) (knowing j d (knowing i c x))) new t.rest (into_sub _ mid new x.into y.sub))
+    (rest_into a b (λ x. pushing_new (exactly (pos 0)) (knowing j d' (knowing i c' x))) new t.rest y.into) same other)
     (sub_then old mid new x.sub y.sub)
 
 -- both are what both say
@@ -165,52 +193,74 @@ matches_same c d r f left x y o p e =
     (k, subst (λ (n : ℤ). Is left r (Integer n)) q k)
 
 -- each is what it is where the other is not the same
-pub matches_other : (c d c' d' : Value) → ((left : ℕ) (x y : ℤ) → Is left c (Integer x) → Is left d (Integer y) → int_eq x y ≡ false → Is left c' (Integer x)) → ((left : ℕ) (x y : ℤ) → Is left d (Integer x) → Is left c (Integer y) → int_eq x y ≡ false → Is left d' (Integer x))
+pub matches_other : (c d c' d' : Value) → ((left : ℕ) (x y : ℤ) → Is left c (Integer x) → Is left d (Integer y) → int_eq x y ≡ false → Is left c' (Integer x))
+    → ((left : ℕ) (x y : ℤ) → Is left d (Integer x) → Is left c (Integer y) → int_eq x y ≡ false → Is left d' (Integer x))
     → Matches false c d c' d'
 matches_other c d c' d' f g left x y o p e = (f left x y o p e, g left y x p o (int_eq_back x y e))
 
-pub code_greater : (a b : Abstract) (j i : ℕ) (lo : Option ℤ) (hi : Upper) (lo2 : Option ℤ) (hi2 : Upper) (c d c' d' : Value) (old mid new : List Abstract) → TwoAre a j i (value.Integer lo hi) (value.Integer lo2 hi2) b
-    → Narrows true (value.Integer lo2 hi2) (value.Integer lo hi) c d → Narrows false (value.Integer lo2 hi2) (value.Integer lo hi) c' d' → Added (pushing_new (exactly (pos 1)) (knowing j d (knowing i c b))) old mid
+pub code_greater : (a b : Abstract) (j i : ℕ) (lo : Option ℤ) (hi : Upper) (lo2 : Option ℤ) (hi2 : Upper) (c d c' d' : Value) (old mid new : List Abstract)
+    → TwoAre a j i (value.Integer lo hi) (value.Integer lo2 hi2) b
+    → Narrows true (value.Integer lo2 hi2) (value.Integer lo hi) c d → Narrows false (value.Integer lo2 hi2) (value.Integer lo hi) c' d'
+    → Added (pushing_new (exactly (pos 1)) (knowing j d (knowing i c b))) old mid
     → Added (pushing_new (exactly (pos 0)) (knowing j d' (knowing i c' b))) mid new → Ruled (callee.BuiltIn built_in.Greater) a old new
 code_greater a b j i lo hi lo2 hi2 c d c' d' old mid new t up down x y = ruled _ _ _ _
     (rule_greater_known a j i b.stack lo hi lo2 hi2 c d c' d' new t.stack (room_two a b j i (value.Integer lo hi) (value.Integer lo2 hi2) t) t.first t.second
-    (rest_into a b (λ x. pushing_new (exactly (pos 1)) (knowing j d (knowing i c x))) new t.rest (into_sub _ mid new x.into y.sub)) (rest_into a b (λ x. pushing_new (exactly (pos 0)) (knowing j d' (knowing i c' x))) new t.rest y.into) up down)
+    (rest_into a b (λ x. pushing_new (exactly (pos 1)) (knowing j d (knowing i c x))) new t.rest (into_sub _ mid new x.into y.sub))
+    (rest_into a b (λ x. pushing_new (exactly (pos 0)) (knowing j d' (knowing i c' x))) new t.rest y.into) up down)
     (sub_then old mid new x.sub y.sub)
 
-pub code_less : (a b : Abstract) (j i : ℕ) (lo : Option ℤ) (hi : Upper) (lo2 : Option ℤ) (hi2 : Upper) (c d c' d' : Value) (old mid new : List Abstract) → TwoAre a j i (value.Integer lo hi) (value.Integer lo2 hi2) b
-    → Narrows true (value.Integer lo hi) (value.Integer lo2 hi2) d c → Narrows false (value.Integer lo hi) (value.Integer lo2 hi2) d' c' → Added (pushing_new (exactly (pos 1)) (knowing j d (knowing i c b))) old mid
+pub code_less : (a b : Abstract) (j i : ℕ) (lo : Option ℤ) (hi : Upper) (lo2 : Option ℤ) (hi2 : Upper) (c d c' d' : Value) (old mid new : List Abstract)
+    → TwoAre a j i (value.Integer lo hi) (value.Integer lo2 hi2) b
+    → Narrows true (value.Integer lo hi) (value.Integer lo2 hi2) d c → Narrows false (value.Integer lo hi) (value.Integer lo2 hi2) d' c'
+    → Added (pushing_new (exactly (pos 1)) (knowing j d (knowing i c b))) old mid
     → Added (pushing_new (exactly (pos 0)) (knowing j d' (knowing i c' b))) mid new → Ruled (callee.BuiltIn built_in.Less) a old new
 code_less a b j i lo hi lo2 hi2 c d c' d' old mid new t up down x y = ruled _ _ _ _
     (rule_less_known a j i b.stack lo hi lo2 hi2 c d c' d' new t.stack (room_two a b j i (value.Integer lo hi) (value.Integer lo2 hi2) t) t.first t.second
-    (rest_into a b (λ x. pushing_new (exactly (pos 1)) (knowing j d (knowing i c x))) new t.rest (into_sub _ mid new x.into y.sub)) (rest_into a b (λ x. pushing_new (exactly (pos 0)) (knowing j d' (knowing i c' x))) new t.rest y.into) up down)
+    (rest_into a b (λ x. pushing_new (exactly (pos 1)) (knowing j d (knowing i c x))) new t.rest (into_sub _ mid new x.into y.sub))
+    (rest_into a b (λ x. pushing_new (exactly (pos 0)) (knowing j d' (knowing i c' x))) new t.rest y.into) up down)
     (sub_then old mid new x.sub y.sub)
 
-pub code_plus : (a b : Abstract) (j i : ℕ) (lo : Option ℤ) (hi : Upper) (lo2 : Option ℤ) (hi2 : Upper) (r : Value) (old new : List Abstract) → TwoAre a j i (value.Integer lo hi) (value.Integer lo2 hi2) b
+pub code_plus : (a b : Abstract) (j i : ℕ) (lo : Option ℤ) (hi : Upper) (lo2 : Option ℤ) (hi2 : Upper) (r : Value) (old new : List Abstract)
+    → TwoAre a j i (value.Integer lo hi) (value.Integer lo2 hi2) b
     → SumIs (λ x y. x +ℤ y) (value.Integer lo2 hi2) (value.Integer lo hi) r → Added (pushing_new r b) old new → Ruled (callee.BuiltIn built_in.Plus) a old new
 code_plus a b j i lo hi lo2 hi2 r old new t sum x = record {
-  rule = rule_plus_known a j i b.stack lo hi lo2 hi2 r new t.stack (room_two a b j i (value.Integer lo hi) (value.Integer lo2 hi2) t) t.first t.second (rest_into a b (λ x. pushing_new r x) new t.rest x.into) sum;
+  rule = rule_plus_known a j i b.stack lo hi lo2 hi2 r new t.stack (room_two a b j i (value.Integer lo hi) (value.Integer lo2 hi2) t) t.first t.second
+      (rest_into a b (λ x. pushing_new r x) new t.rest x.into) sum;
   sub = x.sub;
 }
 
-pub code_minus : (a b : Abstract) (j i : ℕ) (lo : Option ℤ) (hi : Upper) (lo2 : Option ℤ) (hi2 : Upper) (r : Value) (old new : List Abstract) → TwoAre a j i (value.Integer lo hi) (value.Integer lo2 hi2) b
+pub code_concatenate : (a b : Abstract) (j i : ℕ) (m n : Mask) (r : Value) (old new : List Abstract) → TwoAre a j i (value.Text m) (value.Text n) b
+    → m.missing ≡ false → n.missing ≡ false → r ≡ value.Text (followed n m) → Added (pushing_new r b) old new
+    → Ruled (callee.BuiltIn built_in.Concatenate) a old new
+code_concatenate a b j i m n r old new t mj ni e x = ruled _ _ _ _
+    (rule_concatenate_known a j i b.stack m n new t.stack (room_two a b j i (value.Text m) (value.Text n) t) t.first t.second mj ni
+    (rest_into a b (λ x. pushing_new (value.Text (followed n m)) x) new t.rest (subst (λ (c : Value). Into (pushing_new c b) new) e x.into)))
+    x.sub
+
+pub code_minus : (a b : Abstract) (j i : ℕ) (lo : Option ℤ) (hi : Upper) (lo2 : Option ℤ) (hi2 : Upper) (r : Value) (old new : List Abstract)
+    → TwoAre a j i (value.Integer lo hi) (value.Integer lo2 hi2) b
     → SumIs (λ x y. x -ℤ y) (value.Integer lo2 hi2) (value.Integer lo hi) r → Added (pushing_new r b) old new → Ruled (callee.BuiltIn built_in.Minus) a old new
 code_minus a b j i lo hi lo2 hi2 r old new t sum x = record {
-  rule = rule_minus_known a j i b.stack lo hi lo2 hi2 r new t.stack (room_two a b j i (value.Integer lo hi) (value.Integer lo2 hi2) t) t.first t.second (rest_into a b (λ x. pushing_new r x) new t.rest x.into) sum;
+  rule = rule_minus_known a j i b.stack lo hi lo2 hi2 r new t.stack (room_two a b j i (value.Integer lo hi) (value.Integer lo2 hi2) t) t.first t.second
+      (rest_into a b (λ x. pushing_new r x) new t.rest x.into) sum;
   sub = x.sub;
 }
 
 -- ---- `:=`
 
-pub code_assign_integer : (style : Style) (allowed : List ℕ) (deep loops : ℕ) (a b : Abstract) (j i : ℕ) (f : Callee) (lo : Option ℤ) (hi : Upper) (old new : List Abstract) → TwoAre a j i (value.Function f) (value.Integer lo hi) b → IsIntegerOf style f a
+pub code_assign_integer : (style : Style) (allowed : List ℕ) (deep loops : ℕ) (a b : Abstract) (j i : ℕ) (f : Callee) (lo : Option ℤ) (hi : Upper)
+    (old new : List Abstract) → TwoAre a j i (value.Function f) (value.Integer lo hi) b → IsIntegerOf style f a
     → Added (putting f i b) old new → Stepped style allowed (token.Run (callee.BuiltIn built_in.Assign)) (a ∷ []) deep loops old new
 code_assign_integer style allowed deep loops a b j i (callee.GlobalInteger k) lo hi old new t v x = record {
   steps = style_rule_runs style allowed (callee.BuiltIn built_in.Assign) a deep loops new
-      (rule_assign_global_integer style allowed k j i lo hi a b.stack new v t.stack t.first t.second (rest_into a b (λ x. putting (callee.GlobalInteger k) i x) new t.rest x.into));
+      (rule_assign_global_integer style allowed k j i lo hi a b.stack new v t.stack t.first t.second
+      (rest_into a b (λ x. putting (callee.GlobalInteger k) i x) new t.rest x.into));
   sub = x.sub;
 }
 code_assign_integer style allowed deep loops a b j i (callee.EntryInteger k) lo hi old new t v x = record {
   steps = style_rule_runs style allowed (callee.BuiltIn built_in.Assign) a deep loops new
-      (rule_assign_entry_integer style allowed k j i lo hi a b.stack new v.1 v.0 t.stack t.first t.second (rest_into a b (λ x. putting (callee.EntryInteger k) i x) new t.rest x.into));
+      (rule_assign_entry_integer style allowed k j i lo hi a b.stack new v.1 v.0 t.stack t.first t.second
+      (rest_into a b (λ x. putting (callee.EntryInteger k) i x) new t.rest x.into));
   sub = x.sub;
 }
 code_assign_integer style allowed deep loops a b j i (callee.GlobalString k) lo hi old new t v x = absurd v
@@ -219,16 +269,19 @@ code_assign_integer style allowed deep loops a b j i (callee.Field k) lo hi old 
 code_assign_integer style allowed deep loops a b j i (callee.BuiltIn k) lo hi old new t v x = absurd v
 code_assign_integer style allowed deep loops a b j i (callee.User k) lo hi old new t v x = absurd v
 
-pub code_assign_text : (style : Style) (allowed : List ℕ) (deep loops : ℕ) (a b : Abstract) (j i : ℕ) (f : Callee) (m : Mask) (old new : List Abstract) → TwoAre a j i (value.Function f) (value.Text m) b → m.missing ≡ false → IsStringOf style f a
+pub code_assign_text : (style : Style) (allowed : List ℕ) (deep loops : ℕ) (a b : Abstract) (j i : ℕ) (f : Callee) (m : Mask) (old new : List Abstract)
+    → TwoAre a j i (value.Function f) (value.Text m) b → m.missing ≡ false → IsStringOf style f a
     → Added (putting_text f m b) old new → Stepped style allowed (token.Run (callee.BuiltIn built_in.Assign)) (a ∷ []) deep loops old new
 code_assign_text style allowed deep loops a b j i (callee.GlobalString k) m old new t there v x = record {
   steps = style_rule_runs style allowed (callee.BuiltIn built_in.Assign) a deep loops new
-      (rule_assign_global_string style allowed k j i m a b.stack new v t.stack t.first t.second there (rest_into a b (λ x. putting_text (callee.GlobalString k) m x) new t.rest x.into));
+      (rule_assign_global_string style allowed k j i m a b.stack new v t.stack t.first t.second there
+      (rest_into a b (λ x. putting_text (callee.GlobalString k) m x) new t.rest x.into));
   sub = x.sub;
 }
 code_assign_text style allowed deep loops a b j i (callee.EntryString k) m old new t there v x = record {
   steps = style_rule_runs style allowed (callee.BuiltIn built_in.Assign) a deep loops new
-      (rule_assign_entry_string style allowed k j i m a b.stack new v.1 v.0 t.stack t.first t.second there (rest_into a b (λ x. putting_text (callee.EntryString k) m x) new t.rest x.into));
+      (rule_assign_entry_string style allowed k j i m a b.stack new v.1 v.0 t.stack t.first t.second there
+      (rest_into a b (λ x. putting_text (callee.EntryString k) m x) new t.rest x.into));
   sub = x.sub;
 }
 code_assign_text style allowed deep loops a b j i (callee.GlobalInteger k) m old new t there v x = absurd v
@@ -239,7 +292,8 @@ code_assign_text style allowed deep loops a b j i (callee.User k) m old new t th
 
 -- ---- names
 
-pub code_known : (f : Callee) (a : Abstract) (i : ℕ) (old new : List Abstract) → IsName f → NeedsEntry f a → length a.stack < 1000 → slot a f ≡ Some i → Added (pushing i a) old new → Ruled f a old new
+pub code_known : (f : Callee) (a : Abstract) (i : ℕ) (old new : List Abstract) → IsName f → NeedsEntry f a → length a.stack < 1000 → slot a f ≡ Some i
+    → Added (pushing i a) old new → Ruled f a old new
 code_known (callee.GlobalInteger k) a i old new v en l e x = ruled _ _ _ _ (rule_global_integer_known k i a new l e x.into) (x.sub)
 code_known (callee.GlobalString k) a i old new v en l e x = ruled _ _ _ _ (rule_global_string_known k i a new l e x.into) (x.sub)
 code_known (callee.EntryInteger k) a i old new v en l e x = ruled _ _ _ _ (rule_entry_integer_known k i a new en l e x.into) (x.sub)
@@ -248,7 +302,8 @@ code_known (callee.Field k) a i old new v en l e x = ruled _ _ _ _ (rule_field_k
 code_known (callee.BuiltIn k) a i old new v en l e x = absurd v
 code_known (callee.User k) a i old new v en l e x = absurd v
 
-pub code_new : (f : Callee) (a : Abstract) (old new : List Abstract) → IsName f → NeedsEntry f a → length a.stack < 1000 → Added (putting f (length a.values) (pushing_new (kind_of f) a)) old new → Ruled f a old new
+pub code_new : (f : Callee) (a : Abstract) (old new : List Abstract) → IsName f → NeedsEntry f a → length a.stack < 1000
+    → Added (putting f (length a.values) (pushing_new (kind_of f) a)) old new → Ruled f a old new
 code_new (callee.GlobalInteger k) a old new v en l x = ruled _ _ _ _ (rule_global_integer_new k a new l x.into) (x.sub)
 code_new (callee.GlobalString k) a old new v en l x = ruled _ _ _ _ (rule_global_string_new k a new l x.into) (x.sub)
 code_new (callee.EntryInteger k) a old new v en l x = ruled _ _ _ _ (rule_entry_integer_new k a new en l x.into) (x.sub)
@@ -259,12 +314,19 @@ code_new (callee.User k) a old new v en l x = absurd v
 
 -- ---- tokens
 
-pub code_text : (style : Style) (allowed : List ℕ) (r w i : ℕ) (m : Mask) (text : List ℕ) (a : Abstract) (old new : List Abstract) → length a.stack < 1000 → text ≡ slice_index_or style.texts i [] → ((left : ℕ) → Is left (value.Text m) (Text text))
+pub code_text : (style : Style) (allowed : List ℕ) (r w i : ℕ) (m : Mask) (text : List ℕ) (a : Abstract) (old new : List Abstract) → length a.stack < 1000
+    → text ≡ slice_index_or style.texts i [] → ((left : ℕ) → Is left (value.Text m) (Text text))
     → Added (pushing_new (value.Text m) a) old new → Stepped style allowed (token.Text i) (a ∷ []) r w old new
-code_text style allowed r w i m text a old new l e h x = record { steps = text_runs style allowed i (value.Text m) a r w new l (λ left. subst (λ (t : List ℕ). Is left (value.Text m) (Text t)) e (h left)) x.into; sub = x.sub }
+code_text style allowed r w i m text a old new l e h x =
+    record {
+      steps = text_runs style allowed i (value.Text m) a r w new l (λ left. subst (λ (t : List ℕ). Is left (value.Text m) (Text t)) e (h left)) x.into;
+      sub = x.sub;
+    }
 
-pub code_number : (style : Style) (allowed : List ℕ) (r w : ℕ) (n : ℤ) (a : Abstract) (old new : List Abstract) → length a.stack < 1000 → Added (pushing_new (exactly n) a) old new → Stepped style allowed (token.Integer n) (a ∷ []) r w old new
+pub code_number : (style : Style) (allowed : List ℕ) (r w : ℕ) (n : ℤ) (a : Abstract) (old new : List Abstract) → length a.stack < 1000
+    → Added (pushing_new (exactly n) a) old new → Stepped style allowed (token.Integer n) (a ∷ []) r w old new
 code_number style allowed r w n a old new l x = record { steps = integer_runs style allowed n a r w new l x.into; sub = x.sub }
 
-pub code_quote : (style : Style) (allowed : List ℕ) (r w : ℕ) (f : Callee) (a : Abstract) (old new : List Abstract) → length a.stack < 1000 → Added (pushing_new (value.Function f) a) old new → Stepped style allowed (token.Quote f) (a ∷ []) r w old new
+pub code_quote : (style : Style) (allowed : List ℕ) (r w : ℕ) (f : Callee) (a : Abstract) (old new : List Abstract) → length a.stack < 1000
+    → Added (pushing_new (value.Function f) a) old new → Stepped style allowed (token.Quote f) (a ∷ []) r w old new
 code_quote style allowed r w f a old new l x = record { steps = quote_runs style allowed f a r w new l x.into; sub = x.sub }

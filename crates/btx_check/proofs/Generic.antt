@@ -30,49 +30,61 @@ abbrev pub OnAll : ((Store → Answer) → Type 0) → (operands : List Operand)
 OnAll P [] does = P does
 OnAll P (operand ∷ more) does = (v : Operated operand) → OnAll P more (does v)
 
-record Fitted (P : (Store → Answer) → Type 0) (operands : List Operand) (does : Does operands) (v : List Literal) (below : List ℕ) (xs : List Literal) : Type 0 where
+record Fitted (P : (Store → Answer) → Type 0) (operands : List Operand) (does : Does operands) (v : List Literal) (below : List ℕ) (xs : List Literal) : Type
+    0 where
   go : Store → Answer
   applies : applied operands does xs ≡ Some go
   so : P go
   rest : Stack v below (drop (length operands) xs)
 
-one_fits : (left : ℕ) (P : (Store → Answer) → Type 0) (v : List Literal) (below : List ℕ) (operand : Operand) (more : List Operand) (does : Does (operand ∷ more)) (d : Value) (x : Literal) (xs : List Literal) → OpFits operand d → Is left d x
+one_fits : (left : ℕ) (P : (Store → Answer) → Type 0) (v : List Literal) (below : List ℕ) (operand : Operand) (more : List Operand)
+    (does : Does (operand ∷ more)) (d : Value) (x : Literal) (xs : List Literal) → OpFits operand d → Is left d x
     → ((w : Operated operand) → Fitted P more (does w) v below xs) → Fitted P (operand ∷ more) does v below (x ∷ xs)
 one_fits left P v below Any more does d x xs o p h = let r = h x in record { go = r.go; applies = r.applies; so = r.so; rest = r.rest }
-one_fits left P v below (Of wanted.Integer) more does (value.Integer lo hi) (Integer n) xs o p h = let r = h n in record { go = r.go; applies = r.applies; so = r.so; rest = r.rest }
-one_fits left P v below (Of wanted.Text) more does (value.Text m) (Text t) xs o p h = let r = h t in record { go = r.go; applies = r.applies; so = r.so; rest = r.rest }
+one_fits left P v below (Of wanted.Integer) more does (value.Integer lo hi) (Integer n) xs o p h = let r = h n in
+    record { go = r.go; applies = r.applies; so = r.so; rest = r.rest }
+one_fits left P v below (Of wanted.Text) more does (value.Text m) (Text t) xs o p h = let r = h t in
+    record { go = r.go; applies = r.applies; so = r.so; rest = r.rest }
 one_fits left P v below (Of wanted.Text) more does (value.Text m) Missing xs o p h = absurd (cc)
-one_fits left P v below (Of wanted.Function) more does (value.Function f) (Function g) xs o p h = let r = h g in record { go = r.go; applies = r.applies; so = r.so; rest = r.rest }
-one_fits left P v below (Of wanted.TextOrMissing) more does (value.Text m) (Text t) xs o p h = let r = h (Some t) in record { go = r.go; applies = r.applies; so = r.so; rest = r.rest }
-one_fits left P v below (Of wanted.TextOrMissing) more does (value.Text m) Missing xs o p h = let r = h None in record { go = r.go; applies = r.applies; so = r.so; rest = r.rest }
+one_fits left P v below (Of wanted.Function) more does (value.Function f) (Function g) xs o p h = let r = h g in
+    record { go = r.go; applies = r.applies; so = r.so; rest = r.rest }
+one_fits left P v below (Of wanted.TextOrMissing) more does (value.Text m) (Text t) xs o p h = let r = h (Some t) in
+    record { go = r.go; applies = r.applies; so = r.so; rest = r.rest }
+one_fits left P v below (Of wanted.TextOrMissing) more does (value.Text m) Missing xs o p h = let r = h None in
+    record { go = r.go; applies = r.applies; so = r.so; rest = r.rest }
 one_fits left P v below (Of wanted.Integer) more does (value.Integer lo hi) _ xs o p h = absurd p
 one_fits left P v below (Of wanted.Text) more does (value.Text m) _ xs o p h = absurd p
 one_fits left P v below (Of wanted.Function) more does (value.Function f) _ xs o p h = absurd p
 one_fits left P v below (Of wanted.TextOrMissing) more does (value.Text m) _ xs o p h = absurd p
 one_fits left P v below (Of _) more does _ x xs o p h = absurd o
 
-fitted : (left : ℕ) (P : (Store → Answer) → Type 0) (ds : List Value) (v : List Literal) (below : List ℕ) → Fits left ds v → (operands : List Operand) (does : Does operands) (is : List ℕ) (xs : List Literal) → TopsFit ds operands is below → Stack v is xs
+fitted : (left : ℕ) (P : (Store → Answer) → Type 0) (ds : List Value) (v : List Literal) (below : List ℕ) → Fits left ds v
+    → (operands : List Operand) (does : Does operands) (is : List ℕ) (xs : List Literal) → TopsFit ds operands is below → Stack v is xs
     → OnAll P operands does → Fitted P operands does v below xs
 fitted left P ds v below f [] does is xs t k h = record { go = does; applies = refl; so = h; rest = subst (λ (b : List ℕ). Stack v b xs) t k }
 fitted left P ds v below f (operand ∷ more) does [] xs t k h = absurd t
 fitted left P ds v below f (operand ∷ more) does (i ∷ is) [] t k h = absurd k
 fitted left P ds v below f (operand ∷ more) does (i ∷ is) (x ∷ xs) t k h =
-    one_fits left P v below operand more does (get_or ds i value.Any) x xs t.0 (fits-at left ds v i x f k.0) (λ w. fitted left P ds v below f more (does w) is xs t.1 k.1 (h w))
+    one_fits left P v below operand more does (get_or ds i value.Any) x xs t.0 (fits-at left ds v i x f k.0)
+    (λ w. fitted left P ds v below f more (does w) is xs t.1 k.1 (h w))
 
 -- what a row has to do from the states below its operands
 abbrev pub Onward : Job → ℕ → Abstract → List ℕ → List Abstract → (Store → Answer) → Type 0
 Onward job left a below to go = (s : Store) → In job left (with_stack below a) s → Leads job left to s (go s)
 
 -- THE GENERIC ROW: where the numbers on top fit, the function is done on the literals below
-pub row_leads : (job : Job) (left : ℕ) (f : BuiltIn) (a : Abstract) (below : List ℕ) (to : List Abstract) (s : Store) → built_in_run job f s ≡ on_operands (row f).operands (row f).default ((row f).does job) s.literals s
-    → TopsFit a.values (row f).operands a.stack below → OnAll (Onward job left a below to) (row f).operands ((row f).does job) → In job left a s → Leads job left to s (function_run job (callee.BuiltIn f) s)
+pub row_leads : (job : Job) (left : ℕ) (f : BuiltIn) (a : Abstract) (below : List ℕ) (to : List Abstract) (s : Store)
+    → built_in_run job f s ≡ on_operands (row f).operands (row f).default ((row f).does job) s.literals s
+    → TopsFit a.values (row f).operands a.stack below → OnAll (Onward job left a below to) (row f).operands ((row f).does job) → In job left a s
+    → Leads job left to s (function_run job (callee.BuiltIn f) s)
 unfolding function_run
 row_leads job left f a below to s b t h i =
     let r = fitted left (Onward job left a below to) a.values i.0 below i.1.values (row f).operands ((row f).does job) a.stack s.literals t i.1.stack h in
     let notes = or_else (absent (row f).operands s.literals) (wrong (row f).operands s.literals) in
     let under = drop (length (row f).operands) s.literals in
     let l = r.so (with_literals under s) (i.0, restack job left a (values_in s) i.0 below s.literals under r.rest i.1) in
-    subst (Leads job left to s) (sym b) (subst (λ (o : Option (Store → Answer)). Leads job left to s (or_default o (row f).default notes s.literals under s)) (sym r.applies)
+    subst (Leads job left to s) (sym b) (subst (λ (o : Option (Store → Answer)). Leads job left to s (or_default o (row f).default notes s.literals under s))
+    (sym r.applies)
     (record { calm = l.calm; deepest = l.deepest; sized = l.sized; goes = l.goes }))
 
 -- ---- results of which nothing is known
@@ -89,12 +101,18 @@ module _ (job : Job) (left : ℕ) (a : Abstract) (below : List ℕ) (to : List A
   room_below : (s : Store) → In job left (with_stack below a) s → length s.literals < 1000
   room_below s h = let n = stack-length h.0 below s.literals h.1.stack in omega (arith, l, n)
 
-  pub text_onward : (words : Said) (text : List ℕ) → Calm words → Into (pushing_new (value.Text any_text) (with_stack below a)) to → Onward job left a below to (pushes_text words text)
+  pub text_onward : (words : Said) (text : List ℕ) → Calm words → Into (pushing_new (value.Text any_text) (with_stack below a)) to
+      → Onward job left a below to (pushes_text words text)
   text_onward words text calm go s h =
       pushes_text_leads job left to s s words text calm refl (λ z. z) (room_below s h)
-      (go.into job left (with_literals (Text text ∷ s.literals) s) (h.0 ++ Text text ∷ [], fresh job left (with_stack below a) (values_in s) h.0 s.literals (value.Text any_text) (Text text) (any_text_is left text) h.1))
+      (go.into job left (with_literals (Text text ∷ s.literals) s) (
+        h.0 ++ Text text ∷ [],
+        fresh job left (with_stack below a) (values_in s) h.0 s.literals (value.Text any_text) (Text text) (any_text_is left text)
+            h.1,
+      ))
 
-  pub push_onward : (words : Said) (d : Value) (y : Literal) → Calm words → Is left d y → Into (pushing_new d (with_stack below a)) to → Onward job left a below to (pushes words y)
+  pub push_onward : (words : Said) (d : Value) (y : Literal) → Calm words → Is left d y → Into (pushing_new d (with_stack below a)) to
+      → Onward job left a below to (pushes words y)
   push_onward words d y calm o go s h =
       pushes_leads job left to s s words y calm refl (λ z. z) (room_below s h)
       (go.into job left (with_literals (y ∷ s.literals) s) (h.0 ++ y ∷ [], fresh job left (with_stack below a) (values_in s) h.0 s.literals d y o h.1))

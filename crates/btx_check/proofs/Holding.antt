@@ -19,7 +19,8 @@ at-last left [] (x ∷ v) y f = absurd f
 at-last left (d ∷ ds) [] y f = absurd f
 at-last left (d ∷ ds) (x ∷ v) y f = at-last left ds v y f.1
 
-pub fits-append : (left : ℕ) (ds : List Value) (v : List Literal) (d : Value) (y : Literal) → Fits left ds v → Is left d y → Fits left (ds ++ d ∷ []) (v ++ y ∷ [])
+pub fits-append : (left : ℕ) (ds : List Value) (v : List Literal) (d : Value) (y : Literal) → Fits left ds v → Is left d y
+    → Fits left (ds ++ d ∷ []) (v ++ y ∷ [])
 fits-append left [] [] d y f h = (h, tt)
 fits-append left [] (x ∷ v) d y f h = absurd f
 fits-append left (e ∷ ds) [] d y f h = absurd f
@@ -42,7 +43,8 @@ fits-at left (d ∷ ds) [] i x f e = absurd f
 fits-at left (d ∷ ds) (y ∷ v) zero x f e = let q : y ≡ x = cc in subst (λ z. Is left d z) q f.0
 fits-at left (d ∷ ds) (y ∷ v) (suc i) x f e = fits-at left ds v i x f.1 e
 
-pub fits-set : (left : ℕ) (ds : List Value) (v : List Literal) (i : ℕ) (d : Value) (x : Literal) → Fits left ds v → at v i ≡ Some x → Is left d x → Fits left (slice_set ds i d) v
+pub fits-set : (left : ℕ) (ds : List Value) (v : List Literal) (i : ℕ) (d : Value) (x : Literal) → Fits left ds v → at v i ≡ Some x → Is left d x
+    → Fits left (slice_set ds i d) v
 fits-set left [] v i d x f e h = f
 fits-set left (c ∷ ds) [] i d x f e h = absurd f
 fits-set left (c ∷ ds) (y ∷ v) zero d x f e h = let q : x ≡ y = cc in (subst (λ z. Is left d z) q h, f.1)
@@ -70,5 +72,6 @@ module _ (job : Job) (left : ℕ) (a : Abstract) (n : Values) (v : List Literal)
   }
 
   -- what is known better
-  pub known : (xs : List Literal) (i : ℕ) (d : Value) (x : Literal) → at v i ≡ Some x → Is left d x → Holds job left a n xs v → Holds job left (knowing i d a) n xs v
+  pub known : (xs : List Literal) (i : ℕ) (d : Value) (x : Literal) → at v i ≡ Some x → Is left d x → Holds job left a n xs v
+      → Holds job left (knowing i d a) n xs v
   known xs i d x e k h = record { values = fits-set left a.values v i d x h.values e k; stack = h.stack; names = h.names; steps = h.steps; entry = h.entry }

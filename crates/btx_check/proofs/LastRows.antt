@@ -1,5 +1,6 @@
 -- The rows that are left: tokens that push, names of which nothing is known, `=`, `missing$`, `cite$`, `type$`, `int.to.chr$`, `stack$` and `call.type$`.
-use Rattle.std.proofs.Common.{◌≡◌, ℕ, ◌<◌, ℤ, pos, negsuc, List, [], ◌∷◌, ◌++◌, length, map, Option, None, Some, Bool, true, false, cond, get_or, refl, sym, ap, subst, ◌∙◌, arith, nat_lt}
+use Rattle.std.proofs.Common.{◌≡◌, ℕ, ◌<◌, ℤ, pos, negsuc, List, [], ◌∷◌, ◌++◌, length, map, Option, None, Some, Bool, true, false, cond, get_or, refl, sym, ap}
+use Rattle.std.proofs.Common.{subst, ◌∙◌, arith, nat_lt}
 use Rattle.std.proofs.lemmas.Int.{ints}
 use Rattle.std.specs.Prelude.{slice_index_or, unwrap_or, slice_get}
 use Rattle.std.specs.List.{list_any}
@@ -47,26 +48,31 @@ use Rattle.btx_check.proofs.Covering.{token_runs, one_of}
 
 -- ---- tokens that push
 
-push_in : (job : Job) (left : ℕ) (a : Abstract) (s : Store) (d : Value) (y : Literal) → Is left d y → In job left a s → In job left (pushing_new d a) (with_literals (y ∷ s.literals) s)
+push_in : (job : Job) (left : ℕ) (a : Abstract) (s : Store) (d : Value) (y : Literal) → Is left d y → In job left a s
+    → In job left (pushing_new d a) (with_literals (y ∷ s.literals) s)
 push_in job left a s d y o h = (h.0 ++ y ∷ [], fresh job left a (values_in s) h.0 s.literals d y o h.1)
 
-pub text_runs : (style : Style) (allowed : List ℕ) (i : ℕ) (d : Value) (a : Abstract) (r w : ℕ) (to : List Abstract) → length a.stack < 1000 → ((left : ℕ) → Is left d (Text (slice_index_or style.texts i []))) → Into (pushing_new d a) to
+pub text_runs : (style : Style) (allowed : List ℕ) (i : ℕ) (d : Value) (a : Abstract) (r w : ℕ) (to : List Abstract) → length a.stack < 1000
+    → ((left : ℕ) → Is left d (Text (slice_index_or style.texts i []))) → Into (pushing_new d a) to
     → RunsFrom style allowed (token.Text i) (a ∷ []) r w to
 unfolding step_of
 text_runs style allowed i d a r w to l o go = token_runs style allowed (token.Text i) (a ∷ []) r w to (λ job of left s z hs.
     let h = one_of job left a s hs in
     let text = slice_index_or job.style.texts i [] in
     let p : Is left d (Text text) = subst (λ (st : Style). Is left d (Text (slice_index_or st.texts i []))) (sym of.same) (o left) in
-    pushes_text_leads job left to s s said.Nothing text tt refl (λ z. z) (room_for a h.0 s.literals l h.1.stack) (go.into job left (with_literals (Text text ∷ s.literals) s) (push_in job left a s d (Text text) p h)))
+    pushes_text_leads job left to s s said.Nothing text tt refl (λ z. z) (room_for a h.0 s.literals l h.1.stack)
+    (go.into job left (with_literals (Text text ∷ s.literals) s) (push_in job left a s d (Text text) p h)))
 
-pub integer_runs : (style : Style) (allowed : List ℕ) (n : ℤ) (a : Abstract) (r w : ℕ) (to : List Abstract) → length a.stack < 1000 → Into (pushing_new (exactly n) a) to → RunsFrom style allowed (token.Integer n) (a ∷ []) r w to
+pub integer_runs : (style : Style) (allowed : List ℕ) (n : ℤ) (a : Abstract) (r w : ℕ) (to : List Abstract) → length a.stack < 1000
+    → Into (pushing_new (exactly n) a) to → RunsFrom style allowed (token.Integer n) (a ∷ []) r w to
 unfolding step_of
 integer_runs style allowed n a r w to l go = token_runs style allowed (token.Integer n) (a ∷ []) r w to (λ job of left s z hs.
     let h = one_of job left a s hs in
     pushes_leads job left to s s said.Nothing (Integer n) tt refl (λ z. z) (room_for a h.0 s.literals l h.1.stack)
     (go.into job left (with_literals (Integer n ∷ s.literals) s) (push_in job left a s (exactly n) (Integer n) (omega (arith, ints), omega (arith, ints)) h)))
 
-pub quote_runs : (style : Style) (allowed : List ℕ) (f : Callee) (a : Abstract) (r w : ℕ) (to : List Abstract) → length a.stack < 1000 → Into (pushing_new (value.Function f) a) to → RunsFrom style allowed (token.Quote f) (a ∷ []) r w to
+pub quote_runs : (style : Style) (allowed : List ℕ) (f : Callee) (a : Abstract) (r w : ℕ) (to : List Abstract) → length a.stack < 1000
+    → Into (pushing_new (value.Function f) a) to → RunsFrom style allowed (token.Quote f) (a ∷ []) r w to
 unfolding step_of
 quote_runs style allowed f a r w to l go = token_runs style allowed (token.Quote f) (a ∷ []) r w to (λ job of left s z hs.
     let h = one_of job left a s hs in
@@ -75,15 +81,22 @@ quote_runs style allowed f a r w to l go = token_runs style allowed (token.Quote
 
 -- ---- a name of which nothing is known: it gets a number
 
-new_leads : (job : Job) (left : ℕ) (a : Abstract) (s : Store) (h : In job left a s) (f : Callee) (d : Value) (y : Literal) (to : List Abstract) → IsVariable f → length a.stack < 1000 → named job (values_in s) f ≡ Some y → Is left d y
+new_leads : (job : Job) (left : ℕ) (a : Abstract) (s : Store) (h : In job left a s) (f : Callee) (d : Value) (y : Literal) (to : List Abstract) → IsVariable f
+    → length a.stack < 1000 → named job (values_in s) f ≡ Some y → Is left d y
     → Into (putting f (length a.values) (pushing_new d a)) to → Leads job left to s (pushed y s)
 new_leads job left a s h f d y to v l e o go =
     let w = fresh job left a (values_in s) h.0 s.literals d y o h.1 in
     pushes_leads job left to s s said.Nothing y tt refl (λ z. z) (room_for a h.0 s.literals l h.1.stack)
-    (go.into job left (with_literals (y ∷ s.literals) s) (h.0 ++ y ∷ [], kept f v (λ g x p. put_names job left (pushing_new d a) (values_in s) (values_in s) f (length a.values) y (h.0 ++ y ∷ []) v e (at-last left a.values h.0 y h.1.values) (λ g ne. refl) w.names g x p) w))
+    (go.into job left (with_literals (y ∷ s.literals) s) (
+      h.0 ++ y ∷ [],
+      kept f v (λ g x p. put_names job left (pushing_new d a) (values_in s) (values_in s) f (length a.values) y (h.0 ++ y ∷ []) v e
+          (at-last left a.values h.0 y h.1.values) (λ g ne. refl) w.names g x p) w,
+    ))
   where
-    kept : (f : Callee) → IsVariable f → ((g : Callee) (x : Literal) → named job (values_in s) g ≡ Some x → Stands (h.0 ++ y ∷ []) (slot (putting f (length a.values) (pushing_new d a)) g) x)
-        → Holds job left (pushing_new d a) (values_in s) (y ∷ s.literals) (h.0 ++ y ∷ []) → Holds job left (putting f (length a.values) (pushing_new d a)) (values_in s) (y ∷ s.literals) (h.0 ++ y ∷ [])
+    kept : (f : Callee) → IsVariable f → ((g : Callee) (x : Literal) → named job (values_in s) g ≡ Some x
+        → Stands (h.0 ++ y ∷ []) (slot (putting f (length a.values) (pushing_new d a)) g) x)
+        → Holds job left (pushing_new d a) (values_in s) (y ∷ s.literals) (h.0 ++ y ∷ [])
+        → Holds job left (putting f (length a.values) (pushing_new d a)) (values_in s) (y ∷ s.literals) (h.0 ++ y ∷ [])
     kept (callee.GlobalInteger k) v n w = record { values = w.values; stack = w.stack; names = n; steps = w.steps; entry = w.entry }
     kept (callee.GlobalString k) v n w = record { values = w.values; stack = w.stack; names = n; steps = w.steps; entry = w.entry }
     kept (callee.EntryInteger k) v n w = record { values = w.values; stack = w.stack; names = n; steps = w.steps; entry = w.entry }
@@ -92,23 +105,33 @@ new_leads job left a s h f d y to v l e o go =
     kept (callee.BuiltIn k) v n w = absurd v
     kept (callee.User k) v n w = absurd v
 
-pub rule_global_integer_new : (k : ℕ) (a : Abstract) (to : List Abstract) → length a.stack < 1000 → Into (putting (callee.GlobalInteger k) (length a.values) (pushing_new (value.Integer None open_end) a)) to → RuleNow (callee.GlobalInteger k) a to
+pub rule_global_integer_new : (k : ℕ) (a : Abstract) (to : List Abstract) → length a.stack < 1000
+    → Into (putting (callee.GlobalInteger k) (length a.values) (pushing_new (value.Integer None open_end) a)) to → RuleNow (callee.GlobalInteger k) a to
 unfolding function_run
-rule_global_integer_new k a to l go job g g' left s h = new_leads job left a s h (callee.GlobalInteger k) (value.Integer None open_end) _ to tt l refl (tt, tt) go
+rule_global_integer_new k a to l go job g g' left s h = new_leads job left a s h (callee.GlobalInteger k) (value.Integer None open_end) _ to tt l refl (tt, tt)
+    go
 
-pub rule_global_string_new : (k : ℕ) (a : Abstract) (to : List Abstract) → length a.stack < 1000 → Into (putting (callee.GlobalString k) (length a.values) (pushing_new (value.Text any_text) a)) to → RuleNow (callee.GlobalString k) a to
+pub rule_global_string_new : (k : ℕ) (a : Abstract) (to : List Abstract) → length a.stack < 1000
+    → Into (putting (callee.GlobalString k) (length a.values) (pushing_new (value.Text any_text) a)) to → RuleNow (callee.GlobalString k) a to
 unfolding function_run
-rule_global_string_new k a to l go job g g' left s h = new_leads job left a s h (callee.GlobalString k) (value.Text any_text) _ to tt l refl (any_text_is left (unwrap_or (slice_get s.strings k) [])) go
+rule_global_string_new k a to l go job g g' left s h = new_leads job left a s h (callee.GlobalString k) (value.Text any_text) _ to tt l refl
+    (any_text_is left (unwrap_or (slice_get s.strings k) [])) go
 
-pub rule_entry_integer_new : (k : ℕ) (a : Abstract) (to : List Abstract) → a.entry ≡ true → length a.stack < 1000 → Into (putting (callee.EntryInteger k) (length a.values) (pushing_new (value.Integer None open_end) a)) to → RuleNow (callee.EntryInteger k) a to
+pub rule_entry_integer_new : (k : ℕ) (a : Abstract) (to : List Abstract) → a.entry ≡ true → length a.stack < 1000
+    → Into (putting (callee.EntryInteger k) (length a.values) (pushing_new (value.Integer None open_end) a)) to → RuleNow (callee.EntryInteger k) a to
 unfolding function_run
-rule_entry_integer_new k a to en l go job g g' left s h = entry_goes job left to s (λ entry. pushed (Integer (integer_of s.entries entry k))) s.current refl (h.1.entry ∙ en)
-    (λ entry c. new_leads job left a s h (callee.EntryInteger k) (value.Integer None open_end) (Integer (integer_of s.entries entry k)) to tt l (map_at s.current entry (λ e. Integer (integer_of s.entries e k)) _ c refl) (tt, tt) go)
+rule_entry_integer_new k a to en l go job g g' left s h = entry_goes job left to s (λ entry. pushed (Integer (integer_of s.entries entry k))) s.current refl
+    (h.1.entry ∙ en)
+    (λ entry c. new_leads job left a s h (callee.EntryInteger k) (value.Integer None open_end) (Integer (integer_of s.entries entry k)) to tt l
+    (map_at s.current entry (λ e. Integer (integer_of s.entries e k)) _ c refl) (tt, tt) go)
 
-pub rule_entry_string_new : (k : ℕ) (a : Abstract) (to : List Abstract) → a.entry ≡ true → length a.stack < 1000 → Into (putting (callee.EntryString k) (length a.values) (pushing_new (value.Text any_text) a)) to → RuleNow (callee.EntryString k) a to
+pub rule_entry_string_new : (k : ℕ) (a : Abstract) (to : List Abstract) → a.entry ≡ true → length a.stack < 1000
+    → Into (putting (callee.EntryString k) (length a.values) (pushing_new (value.Text any_text) a)) to → RuleNow (callee.EntryString k) a to
 unfolding function_run
-rule_entry_string_new k a to en l go job g g' left s h = entry_goes job left to s (λ entry. pushed (Text (string_of s.entries entry k))) s.current refl (h.1.entry ∙ en)
-    (λ entry c. new_leads job left a s h (callee.EntryString k) (value.Text any_text) (Text (string_of s.entries entry k)) to tt l (map_at s.current entry (λ e. Text (string_of s.entries e k)) _ c refl) (any_text_is left (string_of s.entries entry k)) go)
+rule_entry_string_new k a to en l go job g g' left s h = entry_goes job left to s (λ entry. pushed (Text (string_of s.entries entry k))) s.current refl
+    (h.1.entry ∙ en)
+    (λ entry c. new_leads job left a s h (callee.EntryString k) (value.Text any_text) (Text (string_of s.entries entry k)) to tt l
+    (map_at s.current entry (λ e. Text (string_of s.entries e k)) _ c refl) (any_text_is left (string_of s.entries entry k)) go)
 
 -- ---- `=`
 
@@ -122,11 +145,14 @@ module _ (a : Abstract) (j i : ℕ) (below : List ℕ) (to : List Abstract) (st 
 
       go : (b : Bool) → Leads job left to (with_literals under s) (pushed (truth b) (with_literals under s))
       go true = pushes_leads job left to (with_literals under s) (with_literals under s) said.Nothing (Integer (pos 1)) tt refl (λ z. z) room
-          (if_so.into job left (with_literals (Integer (pos 1) ∷ under) s) (v ++ Integer (pos 1) ∷ [], fresh job left (with_stack below a) (values_in s) v under (exactly (pos 1)) (Integer (pos 1)) (one_is left) w))
+          (if_so.into job left (with_literals (Integer (pos 1) ∷ under) s)
+          (v ++ Integer (pos 1) ∷ [], fresh job left (with_stack below a) (values_in s) v under (exactly (pos 1)) (Integer (pos 1)) (one_is left) w))
       go false = pushes_leads job left to (with_literals under s) (with_literals under s) said.Nothing (Integer (pos 0)) tt refl (λ z. z) room
-          (if_not.into job left (with_literals (Integer (pos 0) ∷ under) s) (v ++ Integer (pos 0) ∷ [], fresh job left (with_stack below a) (values_in s) v under (exactly (pos 0)) (Integer (pos 0)) (zero_is left) w))
+          (if_not.into job left (with_literals (Integer (pos 0) ∷ under) s)
+          (v ++ Integer (pos 0) ∷ [], fresh job left (with_stack below a) (values_in s) v under (exactly (pos 0)) (Integer (pos 0)) (zero_is left) w))
 
-  compared : (job : Job) (left : ℕ) (v : List Literal) (s : Store) (d c : Value) → Comparable d c → (y x : Literal) → Is left d y → Is left c x → OnwardAt job left left a v below to s (equals y x)
+  compared : (job : Job) (left : ℕ) (v : List Literal) (s : Store) (d c : Value) → Comparable d c → (y x : Literal) → Is left d y → Is left c x
+      → OnwardAt job left left a v below to s (equals y x)
   compared job left v s (value.Integer lo hi) (value.Integer lo2 hi2) k (Integer n) (Integer m) o p = truth_onward job left v s (int_eq m n)
   compared job left v s (value.Integer lo hi) (value.Integer lo2 hi2) k (Integer n) (Text t) o p = absurd p
   compared job left v s (value.Integer lo hi) (value.Integer lo2 hi2) k (Integer n) (Function f) o p = absurd p
@@ -147,19 +173,22 @@ module _ (a : Abstract) (j i : ℕ) (below : List ℕ) (to : List Abstract) (st 
   unfolding built_in_run
   rule_equals k job g g' left s h = row_known job left left built_in.Equals a below to s refl
       (subst (λ (is : List ℕ). TopsFit a.values (row built_in.Equals).operands is below) (sym st) (tt, (tt, refl))) h
-      (subst (λ (is : List ℕ). OnKnown left (OnwardAt job left left a h.0 below to s) h.0 a.values (row built_in.Equals).operands is ((row built_in.Equals).does job)) (sym st)
+      (subst (λ (is : List ℕ). OnKnown left (OnwardAt job left left a h.0 below to s) h.0 a.values (row built_in.Equals).operands is
+      ((row built_in.Equals).does job)) (sym st)
       (λ y q o x q2 o2. compared job left h.0 s (get_or a.values j value.Any) (get_or a.values i value.Any) k y x o o2))
 
 -- ---- `int.to.chr$`
 
-module _ (a : Abstract) (below : List ℕ) (to : List Abstract) (l : length below < 1000) (go : Into (pushing_new (value.Text any_text) (with_stack below a)) to) where
+module _ (a : Abstract) (below : List ℕ) (to : List Abstract) (l : length below < 1000)
+    (go : Into (pushing_new (value.Text any_text) (with_stack below a)) to) where
   character : (job : Job) (left : ℕ) (n : ℤ) → Onward job left a below to (gives_character n)
   character job left (pos n) s h = both (nat_lt n 128)
     where
       both : (b : Bool) → Leads job left to s (cond b (pushed (Text (n ∷ [])) s) (pushes (said.Noted (note.NotAscii (pos n) ∷ [])) (Text []) s))
       both true = push_onward job left a below to l said.Nothing (value.Text any_text) (Text (n ∷ [])) tt (any_text_is left (n ∷ [])) go s h
       both false = push_onward job left a below to l (said.Noted (note.NotAscii (pos n) ∷ [])) (value.Text any_text) (Text []) refl refl go s h
-  character job left (negsuc n) s h = push_onward job left a below to l (said.Noted (note.NotAscii (negsuc n) ∷ [])) (value.Text any_text) (Text []) refl refl go s h
+  character job left (negsuc n) s h = push_onward job left a below to l (said.Noted (note.NotAscii (negsuc n) ∷ [])) (value.Text any_text) (Text []) refl refl
+      go s h
 
   pub rule_int_to_chr : TopsFit a.values (row built_in.IntToChr).operands a.stack below → RuleNow (callee.BuiltIn built_in.IntToChr) a to
   unfolding built_in_run
@@ -170,13 +199,17 @@ module _ (a : Abstract) (below : List ℕ) (to : List Abstract) (l : length belo
   pub rule_cite : a.entry ≡ true → TopsFit a.values (row built_in.Cite).operands a.stack below → RuleNow (callee.BuiltIn built_in.Cite) a to
   unfolding built_in_run
   rule_cite en t job g g' left s h = row_leads job left built_in.Cite a below to s refl t
-      (λ s2 h2. entry_goes job left to s2 (λ entry. pushed_text (key_of (entry_of job entry))) s2.current refl (h2.1.entry ∙ en) (λ entry c. text_onward job left a below to l said.Nothing (key_of (entry_of job entry)) tt go s2 h2)) h
+      (λ s2 h2. entry_goes job left to s2 (λ entry. pushed_text (key_of (entry_of job entry))) s2.current refl (h2.1.entry ∙ en)
+      (λ entry c. text_onward job left a below to l said.Nothing (key_of (entry_of job entry)) tt go s2 h2)) h
 
   pub rule_type : a.entry ≡ true → TopsFit a.values (row built_in.Type).operands a.stack below → RuleNow (callee.BuiltIn built_in.Type) a to
   unfolding built_in_run
   rule_type en t job g g' left s h = row_leads job left built_in.Type a below to s refl t
-      (λ s2 h2. entry_goes job left to s2 (λ entry. pushed_text (option_map_or (λ (function : ℕ). name_of job.style.names (callee.User function)) (entry_type (entry_of job entry)) [])) s2.current refl (h2.1.entry ∙ en)
-      (λ entry c. text_onward job left a below to l said.Nothing (option_map_or (λ (function : ℕ). name_of job.style.names (callee.User function)) (entry_type (entry_of job entry)) []) tt go s2 h2)) h
+      (λ s2 h2. entry_goes job left to s2
+      (λ entry. pushed_text (option_map_or (λ (function : ℕ). name_of job.style.names (callee.User function)) (entry_type (entry_of job entry)) []))
+      s2.current refl (h2.1.entry ∙ en)
+      (λ entry c. text_onward job left a below to l said.Nothing
+      (option_map_or (λ (function : ℕ). name_of job.style.names (callee.User function)) (entry_type (entry_of job entry)) []) tt go s2 h2)) h
 
 -- ---- `stack$`
 
@@ -195,48 +228,69 @@ rule_stack a to go job g g' left s h = record {
 
 -- ---- `missing$`
 
-missing_is : (job : Job) (left : ℕ) (s : Store) (o : Option ℕ) → s.current ≡ o → is_some o ≡ true → built_in_run job built_in.Missing s ≡ on_operands (row built_in.Missing).operands (row built_in.Missing).default ((row built_in.Missing).does job) s.literals s
+missing_is : (job : Job) (left : ℕ) (s : Store) (o : Option ℕ) → s.current ≡ o → is_some o ≡ true → built_in_run job built_in.Missing s
+    ≡ on_operands (row built_in.Missing).operands (row built_in.Missing).default ((row built_in.Missing).does job) s.literals s
 unfolding built_in_run
 missing_is job left s None c k = absurd (cc)
 missing_is job left s (Some entry) c k = ap (λ (o : Option ℕ). runs_missing o s) c
 
-module _ (a : Abstract) (i : ℕ) (below : List ℕ) (m : Mask) (to : List Abstract) (st : a.stack ≡ i ∷ below) (d : get_or a.values i value.Any ≡ value.Text m) (l : length below < 1000)
-    (if_so : Into (pushing_new (exactly (pos 1)) (knowing i (value.Text (gone m)) (with_stack below a))) to) (if_not : Into (pushing_new (exactly (pos 0)) (knowing i (value.Text (present m)) (with_stack below a))) to) where
-  absence : (job : Job) (left : ℕ) (v : List Literal) (s : Store) (o : Option (List ℕ)) (x : Literal) → x ≡ option_map_or Text o Missing → at v i ≡ Some x → Is left (value.Text m) x → OnwardAt job left left a v below to s (finds_missing o)
+module _ (a : Abstract) (i : ℕ) (below : List ℕ) (m : Mask) (to : List Abstract) (st : a.stack ≡ i ∷ below) (d : get_or a.values i value.Any ≡ value.Text m)
+    (l : length below < 1000)
+    (if_so : Into (pushing_new (exactly (pos 1)) (knowing i (value.Text (gone m)) (with_stack below a))) to)
+    (if_not : Into (pushing_new (exactly (pos 0)) (knowing i (value.Text (present m)) (with_stack below a))) to) where
+  absence : (job : Job) (left : ℕ) (v : List Literal) (s : Store) (o : Option (List ℕ)) (x : Literal) → x ≡ option_map_or Text o Missing → at v i ≡ Some x
+      → Is left (value.Text m) x → OnwardAt job left left a v below to s (finds_missing o)
   absence job left v s None x e q k under w =
       let q2 : at v i ≡ Some Missing = q ∙ ap Some e in
       let n = stack-length v below under w.stack in
       pushes_leads job left to (with_literals under s) (with_literals under s) said.Nothing (Integer (pos 1)) tt refl (λ z. z) (omega (arith, l, n))
-      (if_so.into job left (with_literals (Integer (pos 1) ∷ under) s)
-      (v ++ Integer (pos 1) ∷ [], fresh job left (knowing i (value.Text (gone m)) (with_stack below a)) (values_in s) v under (exactly (pos 1)) (Integer (pos 1)) (one_is left) (known job left (with_stack below a) (values_in s) v under i (value.Text (gone m)) Missing q2 (subst (λ (y : Literal). Is left (value.Text m) y) e k) w)))
+      (if_so.into job left (with_literals (Integer (pos 1) ∷ under) s) (
+        v ++ Integer (pos 1) ∷ [],
+        fresh job left (knowing i (value.Text (gone m)) (with_stack below a)) (values_in s) v under (exactly (pos 1))
+            (Integer (pos 1)) (one_is left)
+            (known job left (with_stack below a) (values_in s) v under i (value.Text (gone m)) Missing q2 (subst (λ (y : Literal). Is left (value.Text m) y) e k)
+            w),
+      ))
   absence job left v s (Some t) x e q k under w =
       let q2 : at v i ≡ Some (Text t) = q ∙ ap Some e in
       let k2 : Is left (value.Text m) (Text t) = subst (λ (y : Literal). Is left (value.Text m) y) e k in
       let n = stack-length v below under w.stack in
       pushes_leads job left to (with_literals under s) (with_literals under s) said.Nothing (Integer (pos 0)) tt refl (λ z. z) (omega (arith, l, n))
-      (if_not.into job left (with_literals (Integer (pos 0) ∷ under) s)
-      (v ++ Integer (pos 0) ∷ [], fresh job left (knowing i (value.Text (present m)) (with_stack below a)) (values_in s) v under (exactly (pos 0)) (Integer (pos 0)) (zero_is left) (known job left (with_stack below a) (values_in s) v under i (value.Text (present m)) (Text t) q2 (there m t k2) w)))
+      (if_not.into job left (with_literals (Integer (pos 0) ∷ under) s) (
+        v ++ Integer (pos 0) ∷ [],
+        fresh job left (knowing i (value.Text (present m)) (with_stack below a)) (values_in s) v under (exactly (pos 0))
+            (Integer (pos 0)) (zero_is left) (known job left (with_stack below a) (values_in s) v under i (value.Text (present m)) (Text t) q2 (there m t k2) w),
+      ))
     where
       there : (m : Mask) (t : List ℕ) → Is left (value.Text m) (Text t) → Is left (value.Text (present m)) (Text t)
       there m t k = k
 
   pub rule_missing : a.entry ≡ true → RuleNow (callee.BuiltIn built_in.Missing) a to
   rule_missing en job g g' left s h = row_known job left left built_in.Missing a below to s (missing_is job left s s.current refl (h.1.entry ∙ en))
-      (subst (λ (is : List ℕ). TopsFit a.values (row built_in.Missing).operands is below) (sym st) (subst (λ (c : Value). OpFits (Of wanted.TextOrMissing) c) (sym d) tt, refl)) h
-      (subst (λ (is : List ℕ). OnKnown left (OnwardAt job left left a h.0 below to s) h.0 a.values (row built_in.Missing).operands is ((row built_in.Missing).does job)) (sym st) found)
+      (subst (λ (is : List ℕ). TopsFit a.values (row built_in.Missing).operands is below) (sym st)
+      (subst (λ (c : Value). OpFits (Of wanted.TextOrMissing) c) (sym d) tt, refl)) h
+      (subst (λ (is : List ℕ). OnKnown left (OnwardAt job left left a h.0 below to s) h.0 a.values (row built_in.Missing).operands is
+      ((row built_in.Missing).does job)) (sym st) found)
     where
-      found : (o : Option (List ℕ)) → at h.0 i ≡ Some (operand_literal (Of wanted.TextOrMissing) o) → Is left (get_or a.values i value.Any) (operand_literal (Of wanted.TextOrMissing) o) → OnwardAt job left left a h.0 below to s (finds_missing o)
+      found : (o : Option (List ℕ)) → at h.0 i ≡ Some (operand_literal (Of wanted.TextOrMissing) o)
+          → Is left (get_or a.values i value.Any) (operand_literal (Of wanted.TextOrMissing) o) → OnwardAt job left left a h.0 below to s (finds_missing o)
       found None q k = absence job left h.0 s None Missing refl q (subst (λ (c : Value). Is left c Missing) d k)
       found (Some t) q k = absence job left h.0 s (Some t) (Text t) refl q (subst (λ (c : Value). Is left c (Text t)) d k)
 
 -- ---- variables of entries whose numbers are known
 
-pub rule_entry_integer_known : (k i : ℕ) (a : Abstract) (to : List Abstract) → a.entry ≡ true → length a.stack < 1000 → slot a (callee.EntryInteger k) ≡ Some i → Into (pushing i a) to → RuleNow (callee.EntryInteger k) a to
+pub rule_entry_integer_known : (k i : ℕ) (a : Abstract) (to : List Abstract) → a.entry ≡ true → length a.stack < 1000 → slot a (callee.EntryInteger k) ≡ Some i
+    → Into (pushing i a) to → RuleNow (callee.EntryInteger k) a to
 unfolding function_run
-rule_entry_integer_known k i a to en l e go job g g' left s h = entry_goes job left to s (λ entry. pushed (Integer (integer_of s.entries entry k))) s.current refl (h.1.entry ∙ en)
-    (λ entry c. known_leads job left a s h (callee.EntryInteger k) i (Integer (integer_of s.entries entry k)) to l (map_at s.current entry (λ e. Integer (integer_of s.entries e k)) _ c refl) e go)
+rule_entry_integer_known k i a to en l e go job g g' left s h = entry_goes job left to s (λ entry. pushed (Integer (integer_of s.entries entry k))) s.current
+    refl (h.1.entry ∙ en)
+    (λ entry c. known_leads job left a s h (callee.EntryInteger k) i (Integer (integer_of s.entries entry k)) to l
+    (map_at s.current entry (λ e. Integer (integer_of s.entries e k)) _ c refl) e go)
 
-pub rule_entry_string_known : (k i : ℕ) (a : Abstract) (to : List Abstract) → a.entry ≡ true → length a.stack < 1000 → slot a (callee.EntryString k) ≡ Some i → Into (pushing i a) to → RuleNow (callee.EntryString k) a to
+pub rule_entry_string_known : (k i : ℕ) (a : Abstract) (to : List Abstract) → a.entry ≡ true → length a.stack < 1000 → slot a (callee.EntryString k) ≡ Some i
+    → Into (pushing i a) to → RuleNow (callee.EntryString k) a to
 unfolding function_run
-rule_entry_string_known k i a to en l e go job g g' left s h = entry_goes job left to s (λ entry. pushed (Text (string_of s.entries entry k))) s.current refl (h.1.entry ∙ en)
-    (λ entry c. known_leads job left a s h (callee.EntryString k) i (Text (string_of s.entries entry k)) to l (map_at s.current entry (λ e. Text (string_of s.entries e k)) _ c refl) e go)
+rule_entry_string_known k i a to en l e go job g g' left s h = entry_goes job left to s (λ entry. pushed (Text (string_of s.entries entry k))) s.current refl
+    (h.1.entry ∙ en)
+    (λ entry c. known_leads job left a s h (callee.EntryString k) i (Text (string_of s.entries entry k)) to l
+    (map_at s.current entry (λ e. Text (string_of s.entries e k)) _ c refl) e go)

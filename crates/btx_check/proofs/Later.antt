@@ -44,8 +44,15 @@ fits_later left (d ∷ ds) (x ∷ v) h = (is_later left d x h.0, fits_later left
 few_later : (left : ℕ) → suc left ≤ most_steps → left ≤ most_steps
 few_later left h = omega (arith, h)
 
-pub holds_later : (job : Job) (left : ℕ) (a : Abstract) (n : Values) (literals v : List Literal) → Holds job (suc left) a n literals v → Holds job left a n literals v
-holds_later job left a n literals v h = record { steps = few_later left h.steps; values = fits_later left a.values v h.values; stack = h.stack; names = h.names; entry = h.entry }
+pub holds_later : (job : Job) (left : ℕ) (a : Abstract) (n : Values) (literals v : List Literal) → Holds job (suc left) a n literals v
+    → Holds job left a n literals v
+holds_later job left a n literals v h = record {
+  steps = few_later left h.steps;
+  values = fits_later left a.values v h.values;
+  stack = h.stack;
+  names = h.names;
+  entry = h.entry;
+}
 
 pub in_later : (job : Job) (left : ℕ) (a : Abstract) (s : Store) → In job (suc left) a s → In job left a s
 in_later job left a s h = (h.0, holds_later job left a (values_in s) s.literals h.0 h.1)

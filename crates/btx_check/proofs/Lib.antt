@@ -6,6 +6,8 @@ pub mod Choices
 pub mod Names
 pub mod Generic
 pub mod PlainRows
+pub mod Orders
+pub mod Spared
 pub mod Commands
 pub mod Known
 pub mod Assign
@@ -20,3 +22,4 @@ pub mod CodeLemmas
 pub mod TypeLemmas
 pub mod PlainLemmas
 pub mod Kept
+pub mod EntryLemmas

@@ -56,25 +56,27 @@ truth_is left false = (omega (arith, ints), omega (arith, ints))
 -- ---- strings
 
 module _ (a : Abstract) (below : List ℕ) (to : List Abstract) (l : length below < 1000) (go : Into (pushing_new any_string (with_stack below a)) to) where
-  pub rule_concatenate : TopsFit a.values (row built_in.Concatenate).operands a.stack below → RuleNow (callee.BuiltIn built_in.Concatenate) a to
-  unfolding built_in_run
-  rule_concatenate t job g g' left s h = row_leads job left built_in.Concatenate a below to s refl t (λ last first. text_onward job left a below to l said.Nothing (first ++ last) tt go) h
-
   pub rule_add_period : TopsFit a.values (row built_in.AddPeriod).operands a.stack below → RuleNow (callee.BuiltIn built_in.AddPeriod) a to
   unfolding built_in_run
-  rule_add_period t job g g' left s h = row_leads job left built_in.AddPeriod a below to s refl t (λ text. text_onward job left a below to l said.Nothing (add_period_of text) tt go) h
+  rule_add_period t job g g' left s h =
+      row_leads job left built_in.AddPeriod a below to s refl t (λ text. text_onward job left a below to l said.Nothing (add_period_of text) tt go) h
 
   pub rule_purify : TopsFit a.values (row built_in.Purify).operands a.stack below → RuleNow (callee.BuiltIn built_in.Purify) a to
   unfolding built_in_run
-  rule_purify t job g g' left s h = row_leads job left built_in.Purify a below to s refl t (λ text. text_onward job left a below to l said.Nothing (purify_of text) tt go) h
+  rule_purify t job g g' left s h = row_leads job left built_in.Purify a below to s refl t
+      (λ text. text_onward job left a below to l said.Nothing (purify_of text) tt go) h
 
   pub rule_substring : TopsFit a.values (row built_in.Substring).operands a.stack below → RuleNow (callee.BuiltIn built_in.Substring) a to
   unfolding built_in_run
-  rule_substring t job g g' left s h = row_leads job left built_in.Substring a below to s refl t (λ size start text. text_onward job left a below to l said.Nothing (substring_of text start size) tt go) h
+  rule_substring t job g g' left s h =
+      row_leads job left built_in.Substring a below to s refl t
+      (λ size start text. text_onward job left a below to l said.Nothing (substring_of text start size) tt go) h
 
   pub rule_text_prefix : TopsFit a.values (row built_in.TextPrefix).operands a.stack below → RuleNow (callee.BuiltIn built_in.TextPrefix) a to
   unfolding built_in_run
-  rule_text_prefix t job g g' left s h = row_leads job left built_in.TextPrefix a below to s refl t (λ count text. text_onward job left a below to l said.Nothing (text_prefix_of job.mode text count) tt go) h
+  rule_text_prefix t job g g' left s h =
+      row_leads job left built_in.TextPrefix a below to s refl t
+      (λ count text. text_onward job left a below to l said.Nothing (text_prefix_of job.mode text count) tt go) h
 
   one_calm : (b : Bool) (n : Note) → is_fault n ≡ false → Calm (noted (only_if b n))
   one_calm true n e = subst (λ (x : Bool). (x || false) ≡ false) (sym e) refl
@@ -83,10 +85,13 @@ module _ (a : Abstract) (below : List ℕ) (to : List Abstract) (l : length belo
   pub rule_change_case : TopsFit a.values (row built_in.ChangeCase).operands a.stack below → RuleNow (callee.BuiltIn built_in.ChangeCase) a to
   unfolding built_in_run
   rule_change_case t job g g' left s h = row_leads job left built_in.ChangeCase a below to s refl t
-      (λ letter text. text_onward job left a below to l (noted (only_if (case_complaints letter).illegal_conversion (note.NoConversion letter))) (change_case_of text letter)
+      (λ letter text. text_onward job left a below to l (noted (only_if (case_complaints letter).illegal_conversion (note.NoConversion letter)))
+      (change_case_of text letter)
       (one_calm (case_complaints letter).illegal_conversion (note.NoConversion letter) refl) go) h
 
-  names_calm : (b c d e : Bool) (n : ℤ) (names format : List ℕ) → Calm (noted (only_if b (note.NoSuchName n names) ++ only_if c (note.FinalComma n names) ++ only_if d (note.TooManyCommas n names) ++ only_if e (note.IllegalFormat format)))
+  names_calm : (b c d e : Bool) (n : ℤ) (names format : List ℕ)
+      → Calm (noted (only_if b (note.NoSuchName n names) ++ only_if c (note.FinalComma n names) ++ only_if d (note.TooManyCommas n names)
+      ++ only_if e (note.IllegalFormat format)))
   names_calm false false false false n names format = tt
   names_calm false false false true n names format = refl
   names_calm false false true false n names format = refl
@@ -108,45 +113,59 @@ module _ (a : Abstract) (below : List ℕ) (to : List Abstract) (l : length belo
   unfolding built_in_run
   rule_format_name t job g g' left s h = row_leads job left built_in.FormatName a below to s refl t
       (λ format number names. let c = format_name_complaints names number format in
-      text_onward job left a below to l _ (format_name_text job.mode names number format) (names_calm c.no_such_name c.comma_at_end c.too_many_commas c.illegal_format number names format) go) h
+      text_onward job left a below to l _ (format_name_text job.mode names number format)
+      (names_calm c.no_such_name c.comma_at_end c.too_many_commas c.illegal_format number names format) go) h
 
   pub rule_int_to_str : TopsFit a.values (row built_in.IntToStr).operands a.stack below → RuleNow (callee.BuiltIn built_in.IntToStr) a to
   unfolding built_in_run
-  rule_int_to_str t job g g' left s h = row_leads job left built_in.IntToStr a below to s refl t (λ n. push_onward job left a below to l said.Nothing any_string (Text (signed_decimal n)) tt (any_text_is left (signed_decimal n)) go) h
+  rule_int_to_str t job g g' left s h =
+      row_leads job left built_in.IntToStr a below to s refl t
+      (λ n. push_onward job left a below to l said.Nothing any_string (Text (signed_decimal n)) tt (any_text_is left (signed_decimal n)) go) h
 
   pub rule_preamble : TopsFit a.values (row built_in.Preamble).operands a.stack below → RuleNow (callee.BuiltIn built_in.Preamble) a to
   unfolding built_in_run
-  rule_preamble t job g g' left s h = row_leads job left built_in.Preamble a below to s refl t (push_onward job left a below to l said.Nothing any_string (Text job.library.preamble) tt (any_text_is left job.library.preamble) go) h
+  rule_preamble t job g g' left s h =
+      row_leads job left built_in.Preamble a below to s refl t
+      (push_onward job left a below to l said.Nothing any_string (Text job.library.preamble) tt (any_text_is left job.library.preamble) go) h
 
   pub rule_quote : TopsFit a.values (row built_in.Quote).operands a.stack below → RuleNow (callee.BuiltIn built_in.Quote) a to
   unfolding built_in_run
-  rule_quote t job g g' left s h = row_leads job left built_in.Quote a below to s refl t (push_onward job left a below to l said.Nothing any_string (Text (codes "\"")) tt (any_text_is left (codes "\"")) go) h
+  rule_quote t job g g' left s h = row_leads job left built_in.Quote a below to s refl t
+      (push_onward job left a below to l said.Nothing any_string (Text (codes "\"")) tt (any_text_is left (codes "\"")) go) h
 
 -- ---- counts
 
 module _ (a : Abstract) (below : List ℕ) (to : List Abstract) (l : length below < 1000) (go : Into (pushing_new a_count (with_stack below a)) to) where
   pub rule_num_names : TopsFit a.values (row built_in.NumNames).operands a.stack below → RuleNow (callee.BuiltIn built_in.NumNames) a to
   unfolding built_in_run
-  rule_num_names t job g g' left s h = row_leads job left built_in.NumNames a below to s refl t (λ text. push_onward job left a below to l said.Nothing a_count (Integer (pos (length (names_of text)))) tt (count_is left (length (names_of text))) go) h
+  rule_num_names t job g g' left s h =
+      row_leads job left built_in.NumNames a below to s refl t
+      (λ text. push_onward job left a below to l said.Nothing a_count (Integer (pos (length (names_of text)))) tt (count_is left (length (names_of text))) go) h
 
   pub rule_text_length : TopsFit a.values (row built_in.TextLength).operands a.stack below → RuleNow (callee.BuiltIn built_in.TextLength) a to
   unfolding built_in_run
-  rule_text_length t job g g' left s h = row_leads job left built_in.TextLength a below to s refl t (λ text. push_onward job left a below to l said.Nothing a_count (Integer (pos (text_length_of job.mode text))) tt (count_is left (text_length_of job.mode text)) go) h
+  rule_text_length t job g g' left s h =
+      row_leads job left built_in.TextLength a below to s refl t
+      (λ text. push_onward job left a below to l said.Nothing a_count (Integer (pos (text_length_of job.mode text))) tt
+      (count_is left (text_length_of job.mode text)) go) h
 
   pub rule_width : TopsFit a.values (row built_in.Width).operands a.stack below → RuleNow (callee.BuiltIn built_in.Width) a to
   unfolding built_in_run
-  rule_width t job g g' left s h = row_leads job left built_in.Width a below to s refl t (λ text. push_onward job left a below to l said.Nothing a_count (Integer (pos (width_of text))) tt (count_is left (width_of text)) go) h
+  rule_width t job g g' left s h = row_leads job left built_in.Width a below to s refl t
+      (λ text. push_onward job left a below to l said.Nothing a_count (Integer (pos (width_of text))) tt (count_is left (width_of text)) go) h
 
 -- ---- truths
 
 module _ (a : Abstract) (below : List ℕ) (to : List Abstract) (l : length below < 1000) (go : Into (pushing_new a_truth (with_stack below a)) to) where
   pub rule_greater : TopsFit a.values (row built_in.Greater).operands a.stack below → RuleNow (callee.BuiltIn built_in.Greater) a to
   unfolding built_in_run
-  rule_greater t job g g' left s h = row_leads job left built_in.Greater a below to s refl t (λ b c. push_onward job left a below to l said.Nothing a_truth (truth (int_lt b c)) tt (truth_is left (int_lt b c)) go) h
+  rule_greater t job g g' left s h = row_leads job left built_in.Greater a below to s refl t
+      (λ b c. push_onward job left a below to l said.Nothing a_truth (truth (int_lt b c)) tt (truth_is left (int_lt b c)) go) h
 
   pub rule_less : TopsFit a.values (row built_in.Less).operands a.stack below → RuleNow (callee.BuiltIn built_in.Less) a to
   unfolding built_in_run
-  rule_less t job g g' left s h = row_leads job left built_in.Less a below to s refl t (λ b c. push_onward job left a below to l said.Nothing a_truth (truth (int_lt c b)) tt (truth_is left (int_lt c b)) go) h
+  rule_less t job g g' left s h = row_leads job left built_in.Less a below to s refl t
+      (λ b c. push_onward job left a below to l said.Nothing a_truth (truth (int_lt c b)) tt (truth_is left (int_lt c b)) go) h
 
 -- ---- sums
 
@@ -169,7 +188,8 @@ module _ (a : Abstract) (below : List ℕ) (to : List Abstract) (l : length belo
   code_onward : (job : Job) (left : ℕ) (text : List ℕ) → Onward job left a below to (gives_code text)
   code_onward job left [] s h = push_onward job left a below to l (said.Noted (note.NotOneCharacter [] ∷ [])) any_number (Integer (pos 0)) refl (tt, tt) go s h
   code_onward job left (b ∷ []) s h = push_onward job left a below to l said.Nothing any_number (Integer (pos b)) tt (tt, tt) go s h
-  code_onward job left (b ∷ c ∷ text) s h = push_onward job left a below to l (said.Noted (note.NotOneCharacter (b ∷ c ∷ text) ∷ [])) any_number (Integer (pos 0)) refl (tt, tt) go s h
+  code_onward job left (b ∷ c ∷ text) s h = push_onward job left a below to l (said.Noted (note.NotOneCharacter (b ∷ c ∷ text) ∷ [])) any_number
+      (Integer (pos 0)) refl (tt, tt) go s h
 
   pub rule_chr_to_int : TopsFit a.values (row built_in.ChrToInt).operands a.stack below → RuleNow (callee.BuiltIn built_in.ChrToInt) a to
   unfolding built_in_run
@@ -184,8 +204,10 @@ module _ (a : Abstract) (below : List ℕ) (to : List Abstract) (l : length belo
 
   pub rule_top : TopsFit a.values (row built_in.Top).operands a.stack below → RuleNow (callee.BuiltIn built_in.Top) a to
   unfolding built_in_run
-  rule_top t job g g' left s h = row_leads job left built_in.Top a below to s refl t (λ v. says_onward job left a below to l (said.Noted (note.Shown v ∷ [])) refl go) h
+  rule_top t job g g' left s h = row_leads job left built_in.Top a below to s refl t
+      (λ v. says_onward job left a below to l (said.Noted (note.Shown v ∷ [])) refl go) h
 
   pub rule_warning : TopsFit a.values (row built_in.Warning).operands a.stack below → RuleNow (callee.BuiltIn built_in.Warning) a to
   unfolding built_in_run
-  rule_warning t job g g' left s h = row_leads job left built_in.Warning a below to s refl t (λ text. says_onward job left a below to l (said.Noted (note.Warning text ∷ [])) refl go) h
+  rule_warning t job g g' left s h = row_leads job left built_in.Warning a below to s refl t
+      (λ text. says_onward job left a below to l (said.Noted (note.Warning text ∷ [])) refl go) h

@@ -1,5 +1,6 @@
 -- One lemma for each row of the table that executes nothing further.
-use Rattle.std.proofs.Common.{◌≡◌, ℕ, suc, ◌<◌, pos, List, [], ◌∷◌, ◌++◌, length, Some, Bool, true, false, cond, get_or, refl, sym, ap, subst, ◌∙◌, arith, nat_lt}
+use Rattle.std.proofs.Common.{◌≡◌, ℕ, suc, ◌<◌, pos, List, [], ◌∷◌, ◌++◌, length, Some, Bool, true, false, cond, get_or, refl, sym, ap, subst, ◌∙◌, arith}
+use Rattle.std.proofs.Common.{nat_lt}
 use Rattle.std.proofs.lemmas.Bool.{lt-ltb}
 use Rattle.std.proofs.lemmas.Int.{ints}
 use Rattle.std.specs.List.{list_all}
@@ -32,7 +33,8 @@ use Rattle.btx_check.proofs.Holding.{fits-at, stack-length, restack, fresh, know
 
 -- ---- pushing
 
-pub pushes_leads : (job : Job) (left : ℕ) (xs : List Abstract) (s0 s : Store) (words : Said) (y : Literal) → Calm words → s.deepest ≡ s0.deepest → (Sized job (values_in s0) → Sized job (values_in s)) → length s.literals < 1000
+pub pushes_leads : (job : Job) (left : ℕ) (xs : List Abstract) (s0 s : Store) (words : Said) (y : Literal) → Calm words → s.deepest ≡ s0.deepest
+    → (Sized job (values_in s0) → Sized job (values_in s)) → length s.literals < 1000
     → Among job left xs (with_literals (y ∷ s.literals) s) → Leads job left xs s0 (pushes words y s)
 pushes_leads job left xs s0 s words y calm d z l h = go (nat_lt (length s.literals) 1000) (lt-ltb (length s.literals) 1000 l)
   where
@@ -40,7 +42,8 @@ pushes_leads job left xs s0 s words y calm d z l h = go (nat_lt (length s.litera
     go true e = record { calm = calm; deepest = d; sized = z; goes = h }
     go false e = absurd (cc)
 
-pub pushes_text_leads : (job : Job) (left : ℕ) (xs : List Abstract) (s0 s : Store) (words : Said) (text : List ℕ) → Calm words → s.deepest ≡ s0.deepest → (Sized job (values_in s0) → Sized job (values_in s)) → length s.literals < 1000
+pub pushes_text_leads : (job : Job) (left : ℕ) (xs : List Abstract) (s0 s : Store) (words : Said) (text : List ℕ) → Calm words → s.deepest ≡ s0.deepest
+    → (Sized job (values_in s0) → Sized job (values_in s)) → length s.literals < 1000
     → Among job left xs (with_literals (Text text ∷ s.literals) s) → Leads job left xs s0 (pushes_text words text s)
 pushes_text_leads job left xs s0 s words text calm d z l h = go (nat_lt greatest_string (length text))
   where
@@ -49,10 +52,13 @@ pushes_text_leads job left xs s0 s words text calm d z l h = go (nat_lt greatest
     go false = pushes_leads job left xs s0 s words (Text text) calm d z l h
 
 -- the step of a built-in function, by what stands on the stack
-pub run_row : (job : Job) (left : ℕ) (f : BuiltIn) (xs : List Abstract) (s : Store) (ls : List Literal) → built_in_run job f s ≡ on_operands (row f).operands (row f).default ((row f).does job) s.literals s → s.literals ≡ ls → Leads job left xs s (on_operands (row f).operands (row f).default ((row f).does job) ls s)
+pub run_row : (job : Job) (left : ℕ) (f : BuiltIn) (xs : List Abstract) (s : Store) (ls : List Literal)
+    → built_in_run job f s ≡ on_operands (row f).operands (row f).default ((row f).does job) s.literals s → s.literals ≡ ls
+    → Leads job left xs s (on_operands (row f).operands (row f).default ((row f).does job) ls s)
     → Leads job left xs s (function_run job (callee.BuiltIn f) s)
 unfolding function_run
-run_row job left f xs s ls b e h = subst (Leads job left xs s) (sym b) (subst (λ (k : List Literal). Leads job left xs s (on_operands (row f).operands (row f).default ((row f).does job) k s)) (sym e) h)
+run_row job left f xs s ls b e h = subst (Leads job left xs s) (sym b)
+    (subst (λ (k : List Literal). Leads job left xs s (on_operands (row f).operands (row f).default ((row f).does job) k s)) (sym e) h)
 
 -- what stands on top
 pub record Top (left : ℕ) (v : List Literal) (i : ℕ) (is : List ℕ) (d : Value) (literals : List Literal) : Type 0 where
@@ -63,7 +69,8 @@ pub record Top (left : ℕ) (v : List Literal) (i : ℕ) (is : List ℕ) (d : Va
   pub below : Stack v is xs
   pub is_so : Is left d x
 
-pub top_of : (left : ℕ) (ds : List Value) (v : List Literal) (i : ℕ) (is : List ℕ) (literals : List Literal) → Fits left ds v → Stack v (i ∷ is) literals → Top left v i is (get_or ds i value.Any) literals
+pub top_of : (left : ℕ) (ds : List Value) (v : List Literal) (i : ℕ) (is : List ℕ) (literals : List Literal) → Fits left ds v → Stack v (i ∷ is) literals
+    → Top left v i is (get_or ds i value.Any) literals
 top_of left ds v i is [] f h = absurd h
 top_of left ds v i is (x ∷ xs) f h = record { x = x; xs = xs; literals_are = refl; stands = h.0; below = h.1; is_so = fits-at left ds v i x f h.0 }
 
@@ -78,36 +85,57 @@ zero_is left = (omega (arith, ints), omega (arith, ints))
 pub stack_at : (a : Abstract) (v : List Literal) (ls : List Literal) (i : ℕ) (is : List ℕ) → a.stack ≡ i ∷ is → Stack v a.stack ls → Stack v (i ∷ is) ls
 stack_at a v ls i is e h = subst (λ (k : List ℕ). Stack v k ls) e h
 
-pub room : (a : Abstract) (v : List Literal) (i : ℕ) (is : List ℕ) (xs : List Literal) → a.stack ≡ i ∷ is → length a.stack < 1000 → Stack v is xs → suc (length xs) < 1000
+pub room : (a : Abstract) (v : List Literal) (i : ℕ) (is : List ℕ) (xs : List Literal) → a.stack ≡ i ∷ is → length a.stack < 1000 → Stack v is xs
+    → suc (length xs) < 1000
 room a v i is xs e l k = let n = ap {B = ℕ} length e in let m = stack-length v is xs k in omega (arith, l, n, m)
 
-pub rule_duplicate : (a : Abstract) (i : ℕ) (is : List ℕ) (to : List Abstract) → a.stack ≡ i ∷ is → length a.stack < 1000 → Into (pushing i a) to → RuleNow (callee.BuiltIn built_in.Duplicate) a to
+pub rule_duplicate : (a : Abstract) (i : ℕ) (is : List ℕ) (to : List Abstract) → a.stack ≡ i ∷ is → length a.stack < 1000 → Into (pushing i a) to
+    → RuleNow (callee.BuiltIn built_in.Duplicate) a to
 unfolding built_in_run
 rule_duplicate a i is to e l go job g g' left s h =
     let t = top_of left a.values h.0 i is s.literals h.1.values (stack_at a h.0 s.literals i is e h.1.stack) in
     run_row job left built_in.Duplicate to s (t.x ∷ t.xs) refl t.literals_are
     (pushes_leads job left to s (with_literals (t.x ∷ t.xs) s) Nothing t.x tt refl (λ z. z) (room a h.0 i is t.xs e l t.below)
-    (go.into job left (with_literals (t.x ∷ t.x ∷ t.xs) s)
-    (h.0, restack job left a (values_in s) h.0 (i ∷ a.stack) s.literals (t.x ∷ t.x ∷ t.xs) (t.stands, subst (λ (k : List ℕ). Stack h.0 k (t.x ∷ t.xs)) (sym e) (t.stands, t.below)) h.1)))
+    (go.into job left (with_literals (t.x ∷ t.x ∷ t.xs) s) (
+      h.0,
+      restack job left a (values_in s) h.0 (i ∷ a.stack) s.literals (t.x ∷ t.x ∷ t.xs)
+          (t.stands, subst (λ (k : List ℕ). Stack h.0 k (t.x ∷ t.xs)) (sym e) (t.stands, t.below)) h.1,
+    )))
 
-pub rule_pop : (a : Abstract) (i : ℕ) (is : List ℕ) (to : List Abstract) → a.stack ≡ i ∷ is → Into (with_stack is a) to → RuleNow (callee.BuiltIn built_in.Pop) a to
+pub rule_pop : (a : Abstract) (i : ℕ) (is : List ℕ) (to : List Abstract) → a.stack ≡ i ∷ is → Into (with_stack is a) to
+    → RuleNow (callee.BuiltIn built_in.Pop) a to
 unfolding built_in_run
 rule_pop a i is to e go job g g' left s h =
     let t = top_of left a.values h.0 i is s.literals h.1.values (stack_at a h.0 s.literals i is e h.1.stack) in
     run_row job left built_in.Pop to s (t.x ∷ t.xs) refl t.literals_are
-    (record { calm = tt; deepest = refl; sized = λ z. z; goes = go.into job left (with_literals t.xs s) (h.0, restack job left a (values_in s) h.0 is s.literals t.xs t.below h.1) })
+    (record {
+      calm = tt;
+      deepest = refl;
+      sized = λ z. z;
+      goes =
+          go.into job left (with_literals t.xs s) (h.0, restack job left a (values_in s) h.0 is s.literals t.xs t.below h.1);
+    })
 
 pub rule_skip : (a : Abstract) (to : List Abstract) → Into a to → RuleNow (callee.BuiltIn built_in.Skip) a to
 unfolding built_in_run
-rule_skip a to go job g g' left s h = run_row job left built_in.Skip to s s.literals refl refl (record { calm = tt; deepest = refl; sized = λ z. z; goes = go.into job left s h })
+rule_skip a to go job g g' left s h =
+    run_row job left built_in.Skip to s s.literals refl refl (record { calm = tt; deepest = refl; sized = λ z. z; goes = go.into job left s h })
 
-pub rule_swap : (a : Abstract) (i j : ℕ) (is : List ℕ) (to : List Abstract) → a.stack ≡ i ∷ j ∷ is → Into (with_stack (j ∷ i ∷ is) a) to → RuleNow (callee.BuiltIn built_in.Swap) a to
+pub rule_swap : (a : Abstract) (i j : ℕ) (is : List ℕ) (to : List Abstract) → a.stack ≡ i ∷ j ∷ is → Into (with_stack (j ∷ i ∷ is) a) to
+    → RuleNow (callee.BuiltIn built_in.Swap) a to
 unfolding built_in_run
 rule_swap a i j is to e go job g g' left s h =
     let t = top_of left a.values h.0 i (j ∷ is) s.literals h.1.values (stack_at a h.0 s.literals i (j ∷ is) e h.1.stack) in
     let u = top_of left a.values h.0 j is t.xs h.1.values t.below in
     run_row job left built_in.Swap to s (t.x ∷ u.x ∷ u.xs) refl (t.literals_are ∙ ap (λ (k : List Literal). t.x ∷ k) u.literals_are)
-    (record { calm = tt; deepest = refl; sized = λ z. z; goes = go.into job left (with_literals (u.x ∷ t.x ∷ u.xs) s) (h.0, restack job left a (values_in s) h.0 (j ∷ i ∷ is) s.literals (u.x ∷ t.x ∷ u.xs) (u.stands, (t.stands, u.below)) h.1) })
+    (record {
+      calm = tt;
+      deepest = refl;
+      sized = λ z. z;
+      goes =
+          go.into job left (with_literals (u.x ∷ t.x ∷ u.xs) s)
+          (h.0, restack job left a (values_in s) h.0 (j ∷ i ∷ is) s.literals (u.x ∷ t.x ∷ u.xs) (u.stands, (t.stands, u.below)) h.1);
+    })
 
 -- ---- `write$`
 
@@ -122,9 +150,16 @@ module _ (job : Job) (left : ℕ) (a : Abstract) (s : Store) (i : ℕ) (is : Lis
   write_on (Integer n) o go = absurd o
   write_on (Function f) o go = absurd o
   write_on Missing o go = absurd (cc)
-  write_on (Text t) o go = record { calm = tt; deepest = refl; sized = λ z. z; goes = go.into job left (with_literals xs s) (v, restack job left a (values_in s) v is s.literals xs k h) }
+  write_on (Text t) o go = record {
+    calm = tt;
+    deepest = refl;
+    sized = λ z. z;
+    goes =
+        go.into job left (with_literals xs s) (v, restack job left a (values_in s) v is s.literals xs k h);
+  }
 
-pub rule_write : (a : Abstract) (i : ℕ) (is : List ℕ) (m : Mask) (to : List Abstract) → a.stack ≡ i ∷ is → get_or a.values i value.Any ≡ value.Text m → IsText m → Into (with_stack is a) to
+pub rule_write : (a : Abstract) (i : ℕ) (is : List ℕ) (m : Mask) (to : List Abstract) → a.stack ≡ i ∷ is → get_or a.values i value.Any ≡ value.Text m → IsText m
+    → Into (with_stack is a) to
     → RuleNow (callee.BuiltIn built_in.Write) a to
 unfolding built_in_run
 rule_write a i is m to e d there go job g g' left s h =
@@ -154,7 +189,8 @@ filled_is m (x ∷ t) w h = go (list_all is_white (x ∷ t)) w h
 abbrev pub found : Value → Value → ℕ → List ℕ → Abstract → Abstract
 found result d i is a = pushing_new result (knowing i d (with_stack is a))
 
-pub found_in : (job : Job) (left : ℕ) (a : Abstract) (s : Store) (i : ℕ) (is : List ℕ) (v xs : List Literal) (x y : Literal) (d r : Value) → Stack v is xs → Holds job left a (values_in s) s.literals v
+pub found_in : (job : Job) (left : ℕ) (a : Abstract) (s : Store) (i : ℕ) (is : List ℕ) (v xs : List Literal) (x y : Literal) (d r : Value) → Stack v is xs
+    → Holds job left a (values_in s) s.literals v
     → at v i ≡ Some x → Is left d x → Is left r y → In job left (found r d i is a) (with_literals (y ∷ xs) s)
 found_in job left a s i is v xs x y d r k h e p q = (
   v ++ y ∷ [],
@@ -171,19 +207,25 @@ module _ (job : Job) (left : ℕ) (a : Abstract) (s : Store) (i : ℕ) (is : Lis
   empty_on (Function f) o e = absurd o
   empty_on Missing o e =
       pushes_leads job left to s (with_literals xs s) Nothing (Integer (pos 1)) tt refl (λ z. z) (omega (arith, l))
-      (yes.into job left (with_literals (Integer (pos 1) ∷ xs) s) (found_in job left a s i is v xs Missing (Integer (pos 1)) (value.Text (blank m)) (exactly (pos 1)) k h e o (one_is left)))
+      (yes.into job left (with_literals (Integer (pos 1) ∷ xs) s)
+      (found_in job left a s i is v xs Missing (Integer (pos 1)) (value.Text (blank m)) (exactly (pos 1)) k h e o (one_is left)))
   empty_on (Text t) o e = go (list_all is_white t) refl
     where
       go : (b : Bool) → list_all is_white t ≡ b → Leads job left to s (pushes Nothing (truth b) (with_literals xs s))
       go true w = pushes_leads job left to s (with_literals xs s) Nothing (Integer (pos 1)) tt refl (λ z. z) (omega (arith, l))
-          (yes.into job left (with_literals (Integer (pos 1) ∷ xs) s) (found_in job left a s i is v xs (Text t) (Integer (pos 1)) (value.Text (blank m)) (exactly (pos 1)) k h e (blank_is m t w o) (one_is left)))
+          (yes.into job left (with_literals (Integer (pos 1) ∷ xs) s)
+          (found_in job left a s i is v xs (Text t) (Integer (pos 1)) (value.Text (blank m)) (exactly (pos 1)) k h e (blank_is m t w o) (one_is left)))
       go false w = pushes_leads job left to s (with_literals xs s) Nothing (Integer (pos 0)) tt refl (λ z. z) (omega (arith, l))
-          (no.into job left (with_literals (Integer (pos 0) ∷ xs) s) (found_in job left a s i is v xs (Text t) (Integer (pos 0)) (value.Text (filled m)) (exactly (pos 0)) k h e (filled_is m t w o) (zero_is left)))
+          (no.into job left (with_literals (Integer (pos 0) ∷ xs) s)
+          (found_in job left a s i is v xs (Text t) (Integer (pos 0)) (value.Text (filled m)) (exactly (pos 0)) k h e (filled_is m t w o) (zero_is left)))
 
-pub rule_empty : (a : Abstract) (i : ℕ) (is : List ℕ) (m : Mask) (to : List Abstract) → a.stack ≡ i ∷ is → get_or a.values i value.Any ≡ value.Text m → length a.stack < 1000
-    → Into (found (exactly (pos 1)) (value.Text (blank m)) i is a) to → Into (found (exactly (pos 0)) (value.Text (filled m)) i is a) to → RuleNow (callee.BuiltIn built_in.Empty) a to
+pub rule_empty : (a : Abstract) (i : ℕ) (is : List ℕ) (m : Mask) (to : List Abstract) → a.stack ≡ i ∷ is → get_or a.values i value.Any ≡ value.Text m
+    → length a.stack < 1000
+    → Into (found (exactly (pos 1)) (value.Text (blank m)) i is a) to → Into (found (exactly (pos 0)) (value.Text (filled m)) i is a) to
+    → RuleNow (callee.BuiltIn built_in.Empty) a to
 unfolding built_in_run
 rule_empty a i is m to e d l if_so if_not job g g' left s h =
     let t = top_of left a.values h.0 i is s.literals h.1.values (stack_at a h.0 s.literals i is e h.1.stack) in
     run_row job left built_in.Empty to s (t.x ∷ t.xs) refl t.literals_are
-    (empty_on job left a s i is m to h.0 t.xs t.below h.1 (room a h.0 i is t.xs e l t.below) if_so if_not t.x (subst (λ (c : Value). Is left c t.x) d t.is_so) t.stands)
+    (empty_on job left a s i is m to h.0 t.xs t.below h.1 (room a h.0 i is t.xs e l t.below) if_so if_not t.x (subst (λ (c : Value). Is left c t.x) d t.is_so)
+    t.stands)

@@ -1,5 +1,6 @@
 -- `call.type$`, in the form in which the code meets it.
-use Rattle.std.proofs.Common.{◌≡◌, ℕ, ◌+◌, ◌<◌, ◌≤◌, List, [], ◌∷◌, ◌++◌, length, take, None, Some, Bool, true, false, get_or, refl, sym, subst, ◌∙◌, inl, inr, nat_eq}
+use Rattle.std.proofs.Common.{◌≡◌, ℕ, ◌+◌, ◌<◌, ◌≤◌, List, [], ◌∷◌, ◌++◌, length, take, None, Some, Bool, true, false, get_or, refl, sym, subst, ◌∙◌, inl, inr}
+use Rattle.std.proofs.Common.{nat_eq}
 use Rattle.std.specs.Prelude.{◌⊎◌, ◌||◌}
 use Rattle.std.proofs.lemmas.List.{take_more, take_all}
 use Rattle.std.proofs.lemmas.Bool.{eqb-true}
@@ -30,7 +31,8 @@ among_snoc : (xs : List ℕ) (x n : ℕ) → is_among (xs ++ x ∷ []) n ≡ tru
 among_snoc [] x n e = elim (or_parts (nat_eq x n) false e) [ inl h ↦ inr (eqb-true x n h) | inr h ↦ absurd (cc) ]
 among_snoc (y ∷ xs) x n e = among_pick (nat_eq y n) (is_among (xs ++ x ∷ []) n) (is_among xs n) (x ≡ n) e (λ h. among_snoc xs x n h)
 
-types_snoc : (style : Style) (allowed numbers : List ℕ) (x : ℕ) (a : Abstract) (r w : ℕ) (old mid new : List Abstract) → TypesStepped style allowed numbers a r w old mid → Stepped style allowed (token.Run (callee.User x)) (a ∷ []) r w mid new
+types_snoc : (style : Style) (allowed numbers : List ℕ) (x : ℕ) (a : Abstract) (r w : ℕ) (old mid new : List Abstract)
+    → TypesStepped style allowed numbers a r w old mid → Stepped style allowed (token.Run (callee.User x)) (a ∷ []) r w mid new
     → TypesStepped style allowed (numbers ++ x ∷ []) a r w old new
 types_snoc style allowed numbers x a r w old mid new h g = record {
   steps = λ number e. elim (among_snoc numbers x number e) [
@@ -40,16 +42,21 @@ types_snoc style allowed numbers x a r w old mid new h g = record {
   sub = sub_then old mid new h.sub g.sub;
 }
 
-pub types_step : (style : Style) (allowed numbers : List ℕ) (k d : ℕ) (a : Abstract) (r w : ℕ) (old mid new : List Abstract) → k < length numbers → TypesStepped style allowed (take k numbers) a r w old mid
-    → Stepped style allowed (token.Run (callee.User (get_or numbers k d))) (a ∷ []) r w mid new → TypesStepped style allowed (take (k + 1) numbers) a r w old new
+pub types_step : (style : Style) (allowed numbers : List ℕ) (k d : ℕ) (a : Abstract) (r w : ℕ) (old mid new : List Abstract) → k < length numbers
+    → TypesStepped style allowed (take k numbers) a r w old mid
+    → Stepped style allowed (token.Run (callee.User (get_or numbers k d))) (a ∷ []) r w mid new
+    → TypesStepped style allowed (take (k + 1) numbers) a r w old new
 types_step style allowed numbers k d a r w old mid new l h g =
-    subst (λ (ns : List ℕ). TypesStepped style allowed ns a r w old new) (sym (take_more numbers k d l)) (types_snoc style allowed (take k numbers) (get_or numbers k d) a r w old mid new h g)
+    subst (λ (ns : List ℕ). TypesStepped style allowed ns a r w old new) (sym (take_more numbers k d l))
+    (types_snoc style allowed (take k numbers) (get_or numbers k d) a r w old mid new h g)
 
-all_types : (style : Style) (allowed : List ℕ) (k : ℕ) (a : Abstract) (r w : ℕ) (old mid : List Abstract) → length allowed ≤ k → TypesStepped style allowed (take k allowed) a r w old mid → TypesStepped style allowed allowed a r w old mid
+all_types : (style : Style) (allowed : List ℕ) (k : ℕ) (a : Abstract) (r w : ℕ) (old mid : List Abstract) → length allowed ≤ k
+    → TypesStepped style allowed (take k allowed) a r w old mid → TypesStepped style allowed allowed a r w old mid
 all_types style allowed k a r w old mid l h = subst (λ (ns : List ℕ). TypesStepped style allowed ns a r w old mid) (take_all k allowed l) h
 
 -- no default type
-pub types_without : (style : Style) (allowed : List ℕ) (k : ℕ) (a : Abstract) (r w : ℕ) (old mid new : List Abstract) → a.entry ≡ true → length allowed ≤ k → TypesStepped style allowed (take k allowed) a r w old mid → default_of style ≡ None
+pub types_without : (style : Style) (allowed : List ℕ) (k : ℕ) (a : Abstract) (r w : ℕ) (old mid new : List Abstract) → a.entry ≡ true → length allowed ≤ k
+    → TypesStepped style allowed (take k allowed) a r w old mid → default_of style ≡ None
     → Added a mid new → Stepped style allowed (token.Run (callee.BuiltIn built_in.CallType)) (a ∷ []) r w old new
 types_without style allowed k a r w old mid new en l g e x =
     let h = all_types style allowed k a r w old mid l g in
@@ -59,12 +66,15 @@ types_without style allowed k a r w old mid new en l g e x =
     }
   where
     each : (number : ℕ) → Called style allowed number → RunsFrom style allowed (token.Run (callee.User number)) (a ∷ []) r w new
-    each number (inl q) = runs_sub style allowed (token.Run (callee.User number)) (a ∷ []) r w mid new ((all_types style allowed k a r w old mid l g).steps number q) x.sub
+    each number (inl q) = runs_sub style allowed (token.Run (callee.User number)) (a ∷ []) r w mid new
+        ((all_types style allowed k a r w old mid l g).steps number q) x.sub
     each number (inr q) = absurd (cc)
 
 -- a default type
-pub types_with : (style : Style) (allowed : List ℕ) (k n : ℕ) (a : Abstract) (r w : ℕ) (old mid new : List Abstract) → a.entry ≡ true → length allowed ≤ k → TypesStepped style allowed (take k allowed) a r w old mid → default_of style ≡ Some n
-    → Stepped style allowed (token.Run (callee.User n)) (a ∷ []) r w mid new → Stepped style allowed (token.Run (callee.BuiltIn built_in.CallType)) (a ∷ []) r w old new
+pub types_with : (style : Style) (allowed : List ℕ) (k n : ℕ) (a : Abstract) (r w : ℕ) (old mid new : List Abstract) → a.entry ≡ true → length allowed ≤ k
+    → TypesStepped style allowed (take k allowed) a r w old mid → default_of style ≡ Some n
+    → Stepped style allowed (token.Run (callee.User n)) (a ∷ []) r w mid new → Stepped style allowed (token.Run (callee.BuiltIn built_in.CallType)) (a ∷ []) r w
+    old new
 types_with style allowed k n a r w old mid new en l g e x =
     record {
       steps = call_type_runs style allowed a r w new en each (λ e2. absurd (cc));
@@ -75,5 +85,6 @@ types_with style allowed k n a r w old mid new en l g e x =
     some_is y z e = cc
 
     each : (number : ℕ) → Called style allowed number → RunsFrom style allowed (token.Run (callee.User number)) (a ∷ []) r w new
-    each number (inl q) = runs_sub style allowed (token.Run (callee.User number)) (a ∷ []) r w mid new ((all_types style allowed k a r w old mid l g).steps number q) x.sub
+    each number (inl q) = runs_sub style allowed (token.Run (callee.User number)) (a ∷ []) r w mid new
+        ((all_types style allowed k a r w old mid l g).steps number q) x.sub
     each number (inr q) = subst (λ (m : ℕ). RunsFrom style allowed (token.Run (callee.User m)) (a ∷ []) r w new) (some_is n number (sym e ∙ q)) x.steps

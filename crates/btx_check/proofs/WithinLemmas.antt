@@ -1,5 +1,6 @@
 -- Inclusion of states.
-use Rattle.std.proofs.Common.{◌≡◌, ℕ, zero, suc, ◌<◌, ◌≤◌, List, [], ◌∷◌, length, Option, None, Some, Bool, true, false, not, get_or, refl, sym, ap, subst, ◌∙◌, arith, inl, inr}
+use Rattle.std.proofs.Common.{◌≡◌, ℕ, zero, suc, ◌<◌, ◌≤◌, List, [], ◌∷◌, length, Option, None, Some, Bool, true, false, not, get_or, refl, sym, ap, subst, ◌∙◌}
+use Rattle.std.proofs.Common.{arith, inl, inr}
 use Rattle.std.proofs.lemmas.Bool.{cases_lt}
 use Rattle.std.proofs.lemmas.List.{get_or_past, get_or_default}
 use Rattle.btx_check.specs.declared.description.Value.{Value}
@@ -53,7 +54,8 @@ fits_length left [] (x ∷ v) f = absurd f
 fits_length left (d ∷ ds) [] f = absurd f
 fits_length left (d ∷ ds) (x ∷ v) f = ap suc (fits_length left ds v f.1)
 
-fits_by_index : (left : ℕ) (ds : List Value) (v : List Literal) → length ds ≡ length v → ((j : ℕ) → j < length ds → Is left (get_or ds j value.Any) (get_or v j Missing)) → Fits left ds v
+fits_by_index : (left : ℕ) (ds : List Value) (v : List Literal) → length ds ≡ length v
+    → ((j : ℕ) → j < length ds → Is left (get_or ds j value.Any) (get_or v j Missing)) → Fits left ds v
 fits_by_index left [] [] e h = tt
 fits_by_index left [] (x ∷ v) e h = absurd (omega (arith, e))
 fits_by_index left (d ∷ ds) [] e h = absurd (omega (arith, e))
@@ -72,19 +74,25 @@ stack_mapped v is (x ∷ xs) [] ls m h = absurd (omega (arith, m.lengths))
 stack_mapped v is (x ∷ xs) (y ∷ ys) [] m h = absurd h
 stack_mapped v is (x ∷ xs) (y ∷ ys) (l ∷ ls) m h =
     let e = m.each 0 (omega arith) in
-    let q : at v (get_or is y 0) ≡ Some l = subst (λ i. at v i ≡ Some l) (sym e.1) h.0 in
-    (mapped_at v is y e.0 ∙ ap Some (at_get v (get_or is y 0) l q), stack_mapped v is xs ys ls (record { lengths = omega (arith, m.lengths); each = λ k l. m.each (suc k) (omega (arith, l)) }) h.1)
+    let q : at v (get_or is y 0) ≡ Some l = subst (λ i. at v i ≡ Some l) (sym e.1) h.0 in (
+      mapped_at v is y e.0 ∙ ap Some (at_get v (get_or is y 0) l q),
+      stack_mapped v is xs ys ls (record { lengths = omega (arith, m.lengths); each = λ k l. m.each (suc k) (omega (arith, l)) }) h.1,
+    )
 
-values_mapped : (left : ℕ) → left ≤ most_steps → (v : List Literal) (is : List ℕ) (cs ds : List Value) → ValuesMap is cs ds → Fits left cs v → Fits left ds (mapped v is)
+values_mapped : (left : ℕ) → left ≤ most_steps → (v : List Literal) (is : List ℕ) (cs ds : List Value) → ValuesMap is cs ds → Fits left cs v
+    → Fits left ds (mapped v is)
 values_mapped left few v is cs ds m f =
     let n = fits_length left cs v f in
     let e = mapped_length v is in
     let p = m.lengths in
     fits_by_index left ds (mapped v is) (sym p ∙ sym e)
     (λ j l. let q = m.each j l in let l2 : j < length is = omega (arith, l, p) in
-    subst (λ x. Is left (get_or ds j value.Any) x) (sym (mapped_get v is j l2)) (q.1 left few (get_or v (get_or is j 0) Missing) (fits-at left cs v (get_or is j 0) (get_or v (get_or is j 0) Missing) f (get_at v (get_or is j 0) (omega (arith, q.0, n))))))
+    subst (λ x. Is left (get_or ds j value.Any) x) (sym (mapped_get v is j l2))
+    (q.1 left few (get_or v (get_or is j 0) Missing)
+    (fits-at left cs v (get_or is j 0) (get_or v (get_or is j 0) Missing) f (get_at v (get_or is j 0) (omega (arith, q.0, n))))))
 
-fields_mapped : (v : List Literal) (is : List ℕ) (xs ys : List (Option ℕ)) (f : ℕ) (x : Literal) → FieldsMap is xs ys → Stands v (get_or xs f None) x → Stands (mapped v is) (get_or ys f None) x
+fields_mapped : (v : List Literal) (is : List ℕ) (xs ys : List (Option ℕ)) (f : ℕ) (x : Literal) → FieldsMap is xs ys → Stands v (get_or xs f None) x
+    → Stands (mapped v is) (get_or ys f None) x
 fields_mapped v is xs ys f x m h = elim (cases_lt f (length ys)) [
   | inl l ↦ name_mapped v is (get_or xs f None) (get_or ys f None) x (m.each f l) h
   | inr l ↦ subst (λ o. Stands (mapped v is) o x) (sym (get_or_past ys f None l)) tt
@@ -98,7 +106,8 @@ pub record NamesMap (is : List ℕ) (a b : Abstract) : Type 0 where
   pub entry_strings : FieldsMap is a.entry_strings b.entry_strings
   pub fields : FieldsMap is a.fields b.fields
 
-slots_mapped : (v : List Literal) (is : List ℕ) (a b : Abstract) → NamesMap is a b → (f : Callee) (x : Literal) → Stands v (slot a f) x → Stands (mapped v is) (slot b f) x
+slots_mapped : (v : List Literal) (is : List ℕ) (a b : Abstract) → NamesMap is a b → (f : Callee) (x : Literal) → Stands v (slot a f) x
+    → Stands (mapped v is) (slot b f) x
 slots_mapped v is a b m (callee.GlobalInteger k) x h = fields_mapped v is a.global_integers b.global_integers k x m.global_integers h
 slots_mapped v is a b m (callee.GlobalString k) x h = fields_mapped v is a.global_strings b.global_strings k x m.global_strings h
 slots_mapped v is a b m (callee.EntryInteger k) x h = fields_mapped v is a.entry_integers b.entry_integers k x m.entry_integers h
@@ -107,7 +116,8 @@ slots_mapped v is a b m (callee.Field k) x h = fields_mapped v is a.fields b.fie
 slots_mapped v is a b m (callee.BuiltIn k) x h = tt
 slots_mapped v is a b m (callee.User k) x h = tt
 
-pub within_is : (a b : Abstract) (is : List ℕ) → a.entry ≡ b.entry → StackMaps is a.stack b.stack → NamesMap is a b → ValuesMap is a.values b.values → Within a b
+pub within_is : (a b : Abstract) (is : List ℕ) → a.entry ≡ b.entry → StackMaps is a.stack b.stack → NamesMap is a b → ValuesMap is a.values b.values
+    → Within a b
 within_is a b is e st nm vs = record {
   within = λ job left s h. (
     mapped h.0 is,
@@ -129,7 +139,8 @@ impossible_at a j l h = record {
       h left x (fits-at left a.values i.0 j x i.1.values (get_at i.0 j (omega (arith, l, n))));
 }
 
-pub impossible_of : (a : Abstract) (vs : List Value) (j : ℕ) (d : Value) → vs ≡ a.values → j < length vs → d ≡ get_or vs j d → ((left : ℕ) (x : Literal) → Is left d x → ⊥) → IsImpossible a
+pub impossible_of : (a : Abstract) (vs : List Value) (j : ℕ) (d : Value) → vs ≡ a.values → j < length vs → d ≡ get_or vs j d
+    → ((left : ℕ) (x : Literal) → Is left d x → ⊥) → IsImpossible a
 impossible_of a vs j d e l g h =
     let l2 : j < length a.values = subst (λ (us : List Value). j < length us) e l in
     let q : get_or a.values j value.Any ≡ d = subst (λ (us : List Value). get_or us j value.Any ≡ d) e (get_or_default vs j value.Any d l ∙ sym g) in
@@ -141,13 +152,23 @@ beq_same true false h = absurd (cc)
 beq_same false true h = absurd (cc)
 beq_same false false h = refl
 
-pub within_parts : (a b a' b' : Abstract) (is xs ys : List ℕ) (g1 h1 g2 h2 g3 h3 g4 h4 g5 h5 : List (Option ℕ)) (vs ws : List Value) → a' ≡ a → b' ≡ b → xs ≡ a'.stack → ys ≡ b'.stack
-    → g1 ≡ a'.global_integers → h1 ≡ b'.global_integers → g2 ≡ a'.global_strings → h2 ≡ b'.global_strings → g3 ≡ a'.entry_integers → h3 ≡ b'.entry_integers → g4 ≡ a'.entry_strings → h4 ≡ b'.entry_strings → g5 ≡ a'.fields → h5 ≡ b'.fields
-    → vs ≡ a'.values → ws ≡ b'.values → not (beq a'.entry b'.entry) ≡ false → StackMaps is xs ys → FieldsMap is g1 h1 → FieldsMap is g2 h2 → FieldsMap is g3 h3 → FieldsMap is g4 h4 → FieldsMap is g5 h5 → ValuesMap is vs ws → Within a b
+pub within_parts : (a b a' b' : Abstract) (is xs ys : List ℕ) (g1 h1 g2 h2 g3 h3 g4 h4 g5 h5 : List (Option ℕ)) (vs ws : List Value) → a' ≡ a → b' ≡ b
+    → xs ≡ a'.stack → ys ≡ b'.stack
+    → g1 ≡ a'.global_integers → h1 ≡ b'.global_integers → g2 ≡ a'.global_strings → h2 ≡ b'.global_strings → g3 ≡ a'.entry_integers → h3 ≡ b'.entry_integers
+    → g4 ≡ a'.entry_strings → h4 ≡ b'.entry_strings → g5 ≡ a'.fields → h5 ≡ b'.fields
+    → vs ≡ a'.values → ws ≡ b'.values → not (beq a'.entry b'.entry) ≡ false → StackMaps is xs ys → FieldsMap is g1 h1 → FieldsMap is g2 h2 → FieldsMap is g3 h3
+    → FieldsMap is g4 h4 → FieldsMap is g5 h5 → ValuesMap is vs ws → Within a b
 within_parts a b a' b' is xs ys g1 h1 g2 h2 g3 h3 g4 h4 g5 h5 vs ws ea eb e1 e2 c1 d1 c2 d2 c3 d3 c4 d4 c5 d5 e5 e6 en st m1 m2 m3 m4 m5 vm =
     subst (λ (x : Abstract). Within x b) ea (subst (λ (x : Abstract). Within a' x) eb
     (within_is a' b' is (beq_same a'.entry b'.entry en) (subst (λ (l : List ℕ). StackMaps is l b'.stack) e1 (subst (λ (l : List ℕ). StackMaps is xs l) e2 st))
-    (record { global_integers = both g1 h1 c1 d1 m1; global_strings = both g2 h2 c2 d2 m2; entry_integers = both g3 h3 c3 d3 m3; entry_strings = both g4 h4 c4 d4 m4; fields = both g5 h5 c5 d5 m5 })
+    (record {
+      global_integers = both g1 h1 c1 d1 m1;
+      global_strings = both g2 h2 c2 d2 m2;
+      entry_integers = both g3 h3 c3 d3 m3;
+      entry_strings =
+          both g4 h4 c4 d4 m4;
+      fields = both g5 h5 c5 d5 m5;
+    })
     (subst (λ (l : List Value). ValuesMap is l b'.values) e5 (subst (λ (l : List Value). ValuesMap is vs l) e6 vm))))
   where
     both : (g h : List (Option ℕ)) {g' h' : List (Option ℕ)} → g ≡ g' → h ≡ h' → FieldsMap is g h → FieldsMap is g' h'
@@ -155,7 +176,8 @@ within_parts a b a' b' is xs ys g1 h1 g2 h2 g3 h3 g4 h4 g5 h5 vs ws ea eb e1 e2 
 
 -- ---- a state of which nothing is known
 
-pub starts_of : (a : Abstract) → a.stack ≡ [] → a.values ≡ [] → ((i : ℕ) → get_or a.global_integers i None ≡ None) → ((i : ℕ) → get_or a.global_strings i None ≡ None) → ((i : ℕ) → get_or a.entry_integers i None ≡ None)
+pub starts_of : (a : Abstract) → a.stack ≡ [] → a.values ≡ [] → ((i : ℕ) → get_or a.global_integers i None ≡ None)
+    → ((i : ℕ) → get_or a.global_strings i None ≡ None) → ((i : ℕ) → get_or a.entry_integers i None ≡ None)
     → ((i : ℕ) → get_or a.entry_strings i None ≡ None) → ((i : ℕ) → get_or a.fields i None ≡ None) → Starts a
 starts_of a s v e1 e2 e3 e4 e5 = record { stack = s; values = v; names = λ f. none f }
   where

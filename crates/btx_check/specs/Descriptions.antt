@@ -1,5 +1,5 @@
 -- Descriptions of literals, and the literals that they stand for.
-use Rattle.std.specs.Prelude.{◌≡◌, ◌||◌, ℕ, ℤ, pos, ◌≤ℤ◌, ◌+ℤ◌, List, [], ◌∷◌, Option, None, Some, Bool, true, false, if◌then◌else◌}
+use Rattle.std.specs.Prelude.{◌≡◌, ◌||◌, ◌&&◌, ℕ, ℤ, pos, ◌≤ℤ◌, ◌+ℤ◌, List, [], ◌∷◌, Option, None, Some, Bool, true, false, if◌then◌else◌}
 use Rattle.std.specs.List.{list_all}
 use Rattle.btx_text.specs.language.Class.{is_white}
 use Rattle.btx_stack.specs.declared.literal.Literal.{Literal}
@@ -91,3 +91,12 @@ nothing m = record { missing = false; empty = m.empty; white = false; full = fal
 -- the mask without a missing field and the empty string
 abbrev pub something : Mask → Mask
 something m = record { missing = false; empty = false; white = m.white; full = m.full }
+
+-- the mask of a string and another one behind it
+abbrev pub followed : Mask → Mask → Mask
+followed m n = record {
+  missing = false;
+  empty = m.empty && n.empty;
+  white = (m.empty || m.white) && (n.empty || n.white) && (m.white || n.white);
+  full = m.full || n.full;
+}

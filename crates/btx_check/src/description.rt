@@ -16,7 +16,7 @@ pub struct Mask {
 
 impl Mask {
     ghost use Rattle.std.specs.Prelude.{◌≡◌};
-    ghost use Rattle.btx_check.specs.Descriptions.{any_text, any_field, blank, filled, gone, present, nothing, something, cut};
+    ghost use Rattle.btx_check.specs.Descriptions.{any_text, any_field, blank, filled, gone, present, nothing, something, cut, followed};
 
     /// Any string.
     pub fn any_text() -> Mask
@@ -123,6 +123,20 @@ impl Mask {
             empty: self.empty,
             white: self.white || self.full,
             full: self.full,
+        }
+    }
+
+    /// Such a string, and behind it one of the other mask.
+    pub fn followed(self, other: Mask) -> Mask
+        ensures { result ≡ followed self other }
+    {
+        Mask {
+            missing: false,
+            empty: self.empty && other.empty,
+            white: (self.empty || self.white)
+                && (other.empty || other.white)
+                && (self.white || other.white),
+            full: self.full || other.full,
         }
     }
 

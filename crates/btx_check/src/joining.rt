@@ -61,17 +61,32 @@ impl State {
         other: &State,
         is_wide: bool,
     ) -> Result<Option<State>, AllocError> {
+        match self.both(alloc, other, is_wide)? {
+            None => Ok(None),
+            Some(both) => Ok(Some(both.state)),
+        }
+    }
+
+    /// The same, with the numbers of both.
+    pub fn both(
+        &self,
+        alloc: Global,
+        other: &State,
+        is_wide: bool,
+    ) -> Result<Option<Both>, AllocError> {
         if self.stack.len() != other.stack.len() || self.entry != other.entry {
             return Ok(None);
         }
+        let room = self.values.len().saturating_add(SPARE_PAIRS);
         let mut pairs = Pairs {
             first: self,
             second: other,
             is_wide,
             latest: vec![in alloc; None; self.values.len()]?,
-            earlier: Vec::new(alloc),
-            seconds: Vec::new(alloc),
-            values: Vec::new(alloc),
+            earlier: Vec::with_capacity(alloc, room)?,
+            firsts: Vec::with_capacity(alloc, room)?,
+            seconds: Vec::with_capacity(alloc, room)?,
+            values: Vec::with_capacity(alloc, room)?,
         };
         let stack = pairs.stack(alloc, &self.stack, &other.stack)?;
         let global_integers = pairs.names(alloc, &self.global_integers, &other.global_integers)?;
@@ -79,7 +94,7 @@ impl State {
         let entry_integers = pairs.names(alloc, &self.entry_integers, &other.entry_integers)?;
         let entry_strings = pairs.names(alloc, &self.entry_strings, &other.entry_strings)?;
         let fields = pairs.names(alloc, &self.fields, &other.fields)?;
-        Ok(Some(State {
+        let state = State {
             stack,
             values: pairs.values,
             global_integers,
@@ -88,8 +103,24 @@ impl State {
             entry_strings,
             fields,
             entry: self.entry,
+        };
+        Ok(Some(Both {
+            state,
+            firsts: pairs.firsts,
+            seconds: pairs.seconds,
         }))
     }
+}
+
+// For how many more pairs than numbers of the first state there is room at once.
+const SPARE_PAIRS: usize = 8;
+
+/// A description of all that two others describe, and for each of its numbers those of the two: a guess.
+#[derive(Drop)]
+pub struct Both {
+    pub state: State,
+    pub firsts: Vec<usize>,
+    pub seconds: Vec<usize>,
 }
 
 // Pairs of numbers of two states, and what is known of both.
@@ -101,6 +132,7 @@ struct Pairs<'a> {
     // Of each number of the first: the latest pair with it, and of each pair the one before it.
     latest: Vec<Option<usize>>,
     earlier: Vec<Option<usize>>,
+    firsts: Vec<usize>,
     seconds: Vec<usize>,
     values: Vec<Value>,
 }
@@ -135,6 +167,7 @@ impl<'a> Pairs<'a> {
             self.latest[i] = Some(n);
         }
         self.earlier.push(latest)?;
+        self.firsts.push(i)?;
         self.seconds.push(j)?;
         self.values.push(value)?;
         Ok(n)
@@ -147,7 +180,7 @@ impl<'a> Pairs<'a> {
         mine: &[usize],
         its: &[usize],
     ) -> Result<Vec<usize>, AllocError> {
-        let mut stack: Vec<usize> = Vec::new(alloc);
+        let mut stack: Vec<usize> = Vec::with_capacity(alloc, mine.len())?;
         for k in 0..mine.len() {
             if k < its.len() {
                 let number = self.number(mine[k], its[k])?;
@@ -214,7 +247,7 @@ pub fn joined_value(a: Value, b: Value, is_wide: bool) -> Value {
 // The thresholds of lower bounds, and of upper ones.
 const LOWS: [i32; 4] = [2, 1, 0, -1];
 
-const HIGHS: [i32; 6] = [-1, 0, 1, 2, 127, 255];
+const HIGHS: [i32; 4] = [-1, 0, 1, 2];
 
 // The lesser of two lower bounds; a wide one at the next threshold.
 fn joined_low(old: Option<i32>, new: Option<i32>, is_wide: bool) -> Option<i32> {

@@ -1,4 +1,4 @@
-//! Rules of functions that say something of their operands: tests, comparisons, sums and differences.
+//! Rules of functions that say something of their operands: tests, comparisons, sums, differences and `*`.
 ghost use Rattle.std.specs.Prelude.{◌≡◌, ℕ, List, IsTrue, true, false, Option, Some, None};
 ghost use Rattle.std.specs.Result.{IfOk};
 ghost use Rattle.btx_bst.specs.declared.built_in.BuiltIn.TheVariants as built_in;
@@ -70,6 +70,29 @@ pub fn num_names(work: &Work, a: &State, out: &mut Vec<State>) -> Result<bool, A
                 let some = Value::Text(m.something());
                 add_found(work, t.below.copy()?, t.number, none, Value::zero(), out)?;
                 add_found(work, t.below, t.number, some, Value::some_count(), out)?;
+                Ok(true)
+            }
+            _ => Ok(false),
+        },
+    }
+}
+
+/// `*`.
+pub fn concatenate(work: &Work, a: &State, out: &mut Vec<State>) -> Result<bool, AllocError>
+    ensures { IfOk result (λ ok. IsTrue ok → Ruled (callee.BuiltIn built_in.Concatenate) a.now out.old.items out.new.items) }
+{
+    match pair_of(a)? {
+        None => Ok(false),
+        Some(t) => match (t.first_value, t.second_value) {
+            (Value::Text(m), Value::Text(n)) => {
+                if m.missing {
+                    return Ok(false);
+                }
+                if n.missing {
+                    return Ok(false);
+                }
+                let whole = n.followed(m);
+                add_new(work, t.below, Value::Text(whole), out)?;
                 Ok(true)
             }
             _ => Ok(false),

@@ -4,6 +4,7 @@
 mod adding;
 mod bounds;
 pub mod description;
+mod entries;
 pub mod findings;
 mod joining;
 mod known_rules;

@@ -108,8 +108,13 @@ pub fn proposed(
     Ok(out)
 }
 
-// Joins a description to the first that it is like, or adds it.
-fn propose(work: &Work, a: &State, out: &mut Vec<State>, is_wide: bool) -> Result<(), AllocError> {
+/// Joins a description to the first that it is like, or adds it.
+pub fn propose(
+    work: &Work,
+    a: &State,
+    out: &mut Vec<State>,
+    is_wide: bool,
+) -> Result<(), AllocError> {
     if a.is_impossible() {
         return Ok(());
     }

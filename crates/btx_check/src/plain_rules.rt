@@ -12,14 +12,6 @@ use crate::work::Work;
 use btx_step::Wanted;
 use std::alloc::AllocError;
 
-/// `*`.
-pub fn concatenate(work: &Work, a: &State, out: &mut Vec<State>) -> Result<bool, AllocError>
-    ensures { IfOk result (λ ok. IsTrue ok → Ruled (callee.BuiltIn built_in.Concatenate) a.now out.old.items out.new.items) }
-{
-    let taken = take_two(a, Wanted::Text, Wanted::Text)?;
-    pushes(work, taken, Value::Text(Mask::any_text()), out)
-}
-
 /// `add.period$`.
 pub fn add_period(work: &Work, a: &State, out: &mut Vec<State>) -> Result<bool, AllocError>
     ensures { IfOk result (λ ok. IsTrue ok → Ruled (callee.BuiltIn built_in.AddPeriod) a.now out.old.items out.new.items) }

@@ -1,6 +1,8 @@
 //! The rule of each function of one step, and of the tokens that push.
 ghost use Rattle.std.specs.Prelude.{◌≡◌, ℕ, List, [], ◌∷◌, IsTrue, true, false, Option, Some, None};
 ghost use Rattle.std.specs.Result.{IfOk};
+ghost use Rattle.std.specs.List.{list_all};
+ghost use Rattle.btx_text.specs.language.Class as white;
 ghost use Rattle.btx_bst.specs.declared.callee.Callee.TheVariants as callee;
 ghost use Rattle.btx_stack.specs.declared.literal.Literal.TheVariants.{Text as TextLiteral};
 ghost use Rattle.btx_check.specs.declared.description.Value.TheVariants as value;
@@ -13,6 +15,7 @@ use crate::state::State;
 use crate::work::Work;
 use crate::{known_rules, name_rules, plain_rules, stack_rules};
 use btx_bst::{BuiltIn, Callee, Style, Token};
+use btx_text::classify::is_white;
 use std::alloc::AllocError;
 
 /// A function of one step, from a description: what follows is added to the others. False if it may go wrong, or isn't of one step.
@@ -46,7 +49,7 @@ fn built_in(work: &Work, a: &State, b: BuiltIn, out: &mut Vec<State>) -> Result<
         BuiltIn::Greater => known_rules::greater(work, a, out),
         BuiltIn::Less => known_rules::less(work, a, out),
         BuiltIn::Equals => known_rules::equals(work, a, out),
-        BuiltIn::Concatenate => plain_rules::concatenate(work, a, out),
+        BuiltIn::Concatenate => known_rules::concatenate(work, a, out),
         BuiltIn::AddPeriod => plain_rules::add_period(work, a, out),
         BuiltIn::ChangeCase => plain_rules::change_case(work, a, out),
         BuiltIn::FormatName => plain_rules::format_name(work, a, out),
@@ -73,12 +76,20 @@ pub fn mask_of(text: &[u8]) -> Mask
     ensures { (left : ℕ) → Is left (value.Text result) (TextLiteral text.now) }
 {
     let is_empty = text.is_empty();
+    let is_white = is_blank(text);
     Mask {
         missing: false,
         empty: is_empty,
-        white: !is_empty,
-        full: !is_empty,
+        white: !is_empty && is_white,
+        full: !is_empty && !is_white,
     }
+}
+
+// Whether a string is of whitespace alone.
+fn is_blank(text: &[u8]) -> bool
+    ensures { result ≡ list_all white.is_white text.now }
+{
+    text.iter().all(|byte| is_white(*byte))
 }
 
 /// A token that pushes a literal, from a description.

@@ -321,7 +321,7 @@ pub fn run_loop(
             add_all(work, &ends, out)?;
             return Ok(true);
         }
-        heads = proposed(work, b, heads, &bodies, round > 2)?;
+        heads = proposed(work, b, heads, &bodies, round > 0)?;
     }
     work.gave_up = true;
     Ok(false)

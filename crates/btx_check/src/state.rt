@@ -9,7 +9,7 @@ ghost use Rattle.btx_check.specs.Descriptions.{Is};
 ghost use Rattle.btx_check.specs.States.{slot, putting, Abstract, pushing, pushing_new, knowing, with_stack, keeping};
 ghost use Rattle.btx_check.specs.Inclusion.{Within, IsImpossible};
 ghost use Rattle.btx_check.specs.Running.{Starts};
-ghost use Rattle.btx_check.specs.Between.{IsGlobal, where_entry};
+ghost use Rattle.btx_check.specs.Between.{IsGlobal, IsLocal, Combines, Shifted, IsShifted, where_entry};
 
 use crate::description::{Mask, Upper, Value};
 use crate::within::{fields_map, stack_maps, values_map};
@@ -105,6 +105,42 @@ impl State {
             entry_strings: no_numbers(alloc, self.entry_strings.len())?,
             fields: no_numbers(alloc, self.fields.len())?,
             entry: self.entry,
+        })
+    }
+
+    /// What this says of the entry, and of nothing else.
+    pub fn locals(&self, alloc: Global) -> Result<State, AllocError>
+        ensures { IfOk result (λ a. IsLocal a) }
+    {
+        Ok(State {
+            stack: Vec::new(alloc),
+            values: copied_values(&self.values)?,
+            global_integers: no_numbers(alloc, self.global_integers.len())?,
+            global_strings: no_numbers(alloc, self.global_strings.len())?,
+            entry_integers: self.entry_integers.clone()?,
+            entry_strings: self.entry_strings.clone()?,
+            fields: self.fields.clone()?,
+            entry: self.entry,
+        })
+    }
+
+    /// What this says of all but the entry, and another one of the entry, which is current.
+    pub fn with_entry(&self, other: &State) -> Result<State, AllocError>
+        ensures { IfOk result (λ a. Combines self.now other.now a) }
+    {
+        let alloc = *self.values.allocator();
+        let n = self.values.len();
+        let mut values = copied_values(&self.values)?;
+        values.extend_from_slice(&other.values)?;
+        Ok(State {
+            stack: copied_numbers(&self.stack)?,
+            values,
+            global_integers: self.global_integers.clone()?,
+            global_strings: self.global_strings.clone()?,
+            entry_integers: shifted(alloc, &other.entry_integers, n)?,
+            entry_strings: shifted(alloc, &other.entry_strings, n)?,
+            fields: shifted(alloc, &other.fields, n)?,
+            entry: true,
         })
     }
 
@@ -321,18 +357,16 @@ impl State {
         if !self.is_like(work, other, is_coarse) {
             return Ok(None);
         }
-        match self.joined(work.alloc, other, false)? {
+        match self.both(work.alloc, other, false)? {
             None => Ok(None),
-            Some(j) => {
-                let mine = self.numbers_for(work.alloc, &j)?;
-                let its = other.numbers_for(work.alloc, &j)?;
-                if !self.is_within(&j, &mine) {
+            Some(both) => {
+                if !self.is_within(&both.state, &both.firsts) {
                     return Ok(None);
                 }
-                if !other.is_within(&j, &its) {
+                if !other.is_within(&both.state, &both.seconds) {
                     return Ok(None);
                 }
-                Ok(Some(j))
+                Ok(Some(both.state))
             }
         }
     }
@@ -344,12 +378,11 @@ impl State {
         if !self.is_loose() {
             return Ok(self);
         }
-        match self.joined(alloc, &self, false)? {
+        match self.both(alloc, &self, false)? {
             None => Ok(self),
-            Some(j) => {
-                let numbers = self.numbers_for(alloc, &j)?;
-                if self.is_within(&j, &numbers) {
-                    return Ok(j);
+            Some(both) => {
+                if self.is_within(&both.state, &both.firsts) {
+                    return Ok(both.state);
                 }
                 Ok(self)
             }
@@ -419,6 +452,33 @@ fn no_numbers(alloc: Global, n: usize) -> Result<RcSlice<Option<usize>>, AllocEr
     let numbers: Vec<Option<usize>> = vec![in alloc; None; n]?;
     let shared = RcSlice::from_vec(numbers)?;
     Ok(shared)
+}
+
+// These numbers, each greater by `n`.
+fn shifted(
+    alloc: Global,
+    numbers: &[Option<usize>],
+    n: usize,
+) -> Result<RcSlice<Option<usize>>, AllocError>
+    ensures { IfOk result (λ v. Shifted n numbers.now (rc_slice_items v)) }
+{
+    let mut greater: Vec<Option<usize>> = Vec::with_capacity(alloc, numbers.len())?;
+    for number in numbers {
+        let sum = shifted_number(*number, n);
+        greater.push(sum)?;
+    }
+    let shared = RcSlice::from_vec(greater)?;
+    Ok(shared)
+}
+
+// A number that is greater by `n`, if there is one.
+fn shifted_number(number: Option<usize>, n: usize) -> Option<usize>
+    ensures { IsShifted n number result }
+{
+    match number {
+        None => None,
+        Some(i) => i.checked_add(n),
+    }
 }
 
 // The number at a place.

@@ -102,12 +102,28 @@ pub fn is_from_zero(low: Option<i32>) -> bool
     }
 }
 
-// What is known of a result from this bound on, which is 0 where it doesn't fit.
-fn unfit(least: Option<i32>) -> Value
-    ensures { (left : ℕ) (z : ℤ) → Above least z → Is left result (Integer (cond (fits z) z (pos 0))) }
+/// Whether an upper bound is 0 or less.
+pub fn is_to_zero(high: Upper) -> bool
+    ensures { IsTrue result → (left : ℕ) (n : ℤ) → Below left high n → n ≤ℤ pos 0 }
+{
+    match high {
+        Upper::Counter => false,
+        Upper::Number(h) => match h {
+            None => false,
+            Some(n) => n <= 0,
+        },
+    }
+}
+
+// What is known of a result within these bounds, which is 0 where it doesn't fit.
+fn unfit(least: Option<i32>, most: Upper) -> Value
+    ensures { (left : ℕ) (z : ℤ) → Above least z → Below left most z → Is left result (Integer (cond (fits z) z (pos 0))) }
 {
     if is_from_zero(least) {
         return Value::any_count();
+    }
+    if is_to_zero(most) {
+        return Value::Integer(None, Upper::Number(Some(0)));
     }
     Value::any_integer()
 }
@@ -119,13 +135,13 @@ pub fn sum_of(low: Option<i32>, high: Upper, low2: Option<i32>, high2: Upper) ->
     let least = sum_low(low, low2);
     let most = sum_high(high, high2);
     if !is_small_low(low) {
-        return unfit(least);
+        return unfit(least, most);
     }
     if !is_small_low(low2) {
-        return unfit(least);
+        return unfit(least, most);
     }
     if !is_low_sum(high, high2) {
-        return unfit(least);
+        return unfit(least, most);
     }
     Value::Integer(least, most)
 }
@@ -137,13 +153,13 @@ pub fn difference_of(low: Option<i32>, high: Upper, low2: Option<i32>, high2: Up
     let least = difference_low(low, high2);
     let most = difference_high(high, low2);
     if !is_small_low(low) {
-        return unfit(least);
+        return unfit(least, most);
     }
     if !is_small_high(high2) {
-        return unfit(least);
+        return unfit(least, most);
     }
     if !is_low_difference(high, low2) {
-        return unfit(least);
+        return unfit(least, most);
     }
     Value::Integer(least, most)
 }

@@ -2,6 +2,7 @@
 use crate::adding::{add, add_known, add_same};
 use crate::bounds::{not_positive, positive};
 use crate::description::{Upper, Value};
+use crate::entries::{Known, entries_of, starts_of, unknown_entries};
 use crate::findings::{Cause, Condition, Fault, Finding, Growth, Operand};
 use crate::lasting::{globals_of, lasting};
 use crate::loops::{all_in, proposed};
@@ -88,47 +89,58 @@ pub fn trace(before: Work, style: &Style) -> Result<Traced, AllocError> {
         uneven: vec![in alloc; false; style.functions()]?,
     };
     let items = style.items();
-    let mut known = State::start(alloc, false, style)?;
+    let nothing = State::start(alloc, false, style)?;
+    let mut known = unknown_entries(alloc, style, nothing)?;
     for k in 0..items.len() {
         search.item = k;
-        let item = items[k];
-        match item {
-            Item::Execute(f) => {
-                let ends = search.visit(style, f, false, &known)?;
-                known = globals_of(&search.work, style, &ends)?;
-            }
-            Item::Iterate(f) | Item::Reverse(f) => {
-                known = lasting(&search.work, style, &search.allowed, f, &known)?;
-                let _ = search.visit(style, f, true, &known)?;
-            }
-            _ => {}
-        }
+        known = search.command(style, items[k], known)?;
     }
     search.into_traced(alloc, style)
 }
 
 impl Search {
-    // A function, executed for a command, from what is known before it: where it ends without a fault.
-    fn visit(
-        &mut self,
-        style: &Style,
-        f: Callee,
-        entry: bool,
-        known: &State,
-    ) -> Result<Vec<State>, AllocError> {
-        let start = known.where_entry(entry)?;
+    // A command: what is known after it.
+    fn command(&mut self, style: &Style, item: Item, known: Known) -> Result<Known, AllocError> {
+        let alloc = self.work.alloc;
+        match item {
+            Item::Execute(f) => {
+                let mut starts: Vec<State> = Vec::new(alloc);
+                starts.push(known.globals.where_entry(false)?)?;
+                let ends = self.visit(style, f, &starts)?;
+                Ok(Known {
+                    globals: globals_of(&self.work, style, &ends.good)?,
+                    entries: known.entries,
+                })
+            }
+            Item::Iterate(f) | Item::Reverse(f) => {
+                let globals = lasting(&self.work, style, &self.allowed, f, &known.globals)?;
+                let starts = starts_of(alloc, &globals, &known.entries)?;
+                let mut ends = self.visit(style, f, &starts)?;
+                ends.good.append(&mut ends.spoilt)?;
+                let entries = entries_of(&self.work, style, &ends.good)?;
+                Ok(Known { globals, entries })
+            }
+            Item::Read => unknown_entries(alloc, style, known.globals),
+            _ => Ok(known),
+        }
+    }
+
+    // A function, executed for a command, from each of these: where it ends.
+    fn visit(&mut self, style: &Style, f: Callee, starts: &[State]) -> Result<Lanes, AllocError> {
         let room = Room {
             fuel: MOST_NESTED,
             deep: 4096,
             loops: MOST_LOOPS,
         };
-        self.entry_type = None;
-        self.work.open.clear();
         let mut out = Lanes::new(self.work.alloc);
-        self.function(style, room, &start, true, f, &mut out)?;
+        for start in starts {
+            self.entry_type = None;
+            self.work.open.clear();
+            self.function(style, room, start, true, f, &mut out)?;
+        }
         self.left_over(style, f, &out.good, true)?;
         self.left_over(style, f, &out.spoilt, false)?;
-        Ok(out.good)
+        Ok(out)
     }
 
     // Notes literals that are left over when a command ends.
@@ -531,7 +543,7 @@ impl Search {
                 }
                 return Ok(());
             }
-            heads = proposed(&self.work, b, heads, back, round > 2)?;
+            heads = proposed(&self.work, b, heads, back, round > 0)?;
         }
         self.work.gave_up = true;
         Ok(())

@@ -132,23 +132,54 @@ fn at(flags: &[bool], i: usize) -> bool {
     if i < flags.len() { flags[i] } else { false }
 }
 
-/// Of each global integer variable: whether it is assigned nothing but literals and such variables.
-pub fn constants(alloc: Global, style: &Style) -> Result<Vec<bool>, AllocError> {
-    let mut are: Vec<bool> = vec![in alloc; true; style.global_integers()]?;
+/// Integer variables that are assigned nothing but literals and such variables: of each variable whether it is one.
+#[derive(Drop)]
+pub struct ConstantVariables {
+    pub globals: Vec<bool>,
+    pub entries: Vec<bool>,
+}
+
+/// Which integer variables are assigned nothing but literals and such variables.
+pub fn constants(alloc: Global, style: &Style) -> Result<ConstantVariables, AllocError> {
+    let mut are = ConstantVariables {
+        globals: vec![in alloc; true; style.global_integers()]?,
+        entries: vec![in alloc; true; style.entry_integers()]?,
+    };
     for i in 0..style.functions() {
         let body = style.body(i);
         for k in 0..body.len() {
-            match body[k] {
-                Token::Quote(Callee::GlobalInteger(v)) => {
-                    if !is_assigned_literal(body, k) && (v as usize) < are.len() {
-                        are[v as usize] = false;
-                    }
-                }
-                _ => {}
+            if !is_assigned_literal(body, k) {
+                are.exclude(body[k]);
             }
         }
     }
     Ok(are)
+}
+
+impl ConstantVariables {
+    // Excludes the variable that a token quotes, if it quotes one.
+    fn exclude(&mut self, token: Token) {
+        match token {
+            Token::Quote(Callee::GlobalInteger(v)) => clear(&mut self.globals, v),
+            Token::Quote(Callee::EntryInteger(v)) => clear(&mut self.entries, v),
+            _ => {}
+        }
+    }
+
+    /// Whether a callee is such a variable.
+    pub fn has(&self, f: Callee) -> bool {
+        match f {
+            Callee::GlobalInteger(v) => at(&self.globals, v as usize),
+            Callee::EntryInteger(v) => at(&self.entries, v as usize),
+            _ => false,
+        }
+    }
+}
+
+fn clear(marks: &mut [bool], i: u32) {
+    if (i as usize) < marks.len() {
+        marks[i as usize] = false;
+    }
 }
 
 // Whether a quoted variable is assigned an integer that is written before it.

@@ -5,15 +5,17 @@ ghost use Rattle.btx_bst.specs.refinement.Views.{item_view};
 ghost use Rattle.btx_check.specs.Promise.{StyleIsClean};
 ghost use Rattle.std.specs.Option.{IfSome};
 ghost use Rattle.btx_check.specs.Running.{Each, IsEmpty};
-ghost use Rattle.btx_check.specs.Between.{IsGlobal, Visited, Found, FoundForEach, ItemFound, Begins};
+ghost use Rattle.btx_check.specs.Between.{IsGlobal, Visited, Found, Closes, FoundForEach, ItemFound, Begins};
 ghost use Rattle.btx_check.specs.Verdicts.{IsRight};
 
+use crate::entries::{Known, entries_of, starts_of, unknown_entries};
 use crate::lasting::{all_within, globals_of, lasting};
-use crate::running::run;
+use crate::loops::all_in;
+use crate::running::run_all;
 use crate::state::State;
 use crate::types::{MOST_BODIES, constants, likely_depth, meant_types};
 use crate::work::{MOST_LOOPS, MOST_NESTED, Room, Warning, Work};
-use btx_bst::{Callee, Item, Style};
+use btx_bst::{Callee, Item, Style, Token};
 use std::alloc::{AllocError, Global};
 
 /// What is found of a style that is clean.
@@ -52,36 +54,37 @@ fn all_empty(states: &[State]) -> bool
     true
 }
 
-// Executes a function for a command, from what is known before it. Whether it runs without a fault and leaves nothing.
+// Executes a function for a command, from each of `starts`. Whether it runs without a fault and leaves nothing.
 fn visit(
     work: &mut Work,
     style: &Style,
     allowed: &[u32],
     deepest: usize,
     f: Callee,
-    entry: bool,
-    before: &State,
+    starts: &[State],
     out: &mut Vec<State>,
 ) -> Result<bool, AllocError>
-    ensures { IfOk result (λ ok. IsTrue ok → Visited style.now allowed.now f entry deepest before.now out.new.items) }
+    ensures { IfOk result (λ ok. IsTrue ok → Visited style.now allowed.now f deepest starts.now out.new.items) }
 {
-    let start = before.where_entry(entry)?;
     let room = Room {
         fuel: MOST_NESTED,
         deep: deepest,
         loops: MOST_LOOPS,
     };
-    if !run(work, style, allowed, room, &start, f, out)? {
+    if !run_all(work, style, allowed, room, starts, Token::Run(f), out)? {
         return Ok(false);
     }
     if !all_empty(out) {
-        work.warn(f, &start)?;
+        match starts.first() {
+            Some(start) => work.warn(f, start)?,
+            None => {}
+        }
         return Ok(false);
     }
     Ok(true)
 }
 
-// EXECUTE: what is known after it, if it runs without a fault.
+// EXECUTE: what is known of global variables after it, if it runs without a fault.
 fn execute(
     work: &mut Work,
     style: &Style,
@@ -92,10 +95,13 @@ fn execute(
 ) -> Result<Option<State>, AllocError>
     requires few { deepest ≤ 4096 }
     requires global { IsGlobal before.now }
-    ensures { IfOk result (λ o. IfSome o (λ after. Found style.now allowed.now f false deepest before.now after)) }
+    ensures { IfOk result (λ o. IfSome o (λ after. Found style.now allowed.now f deepest before.now after)) }
 {
+    let start = before.where_entry(false)?;
+    let mut starts: Vec<State> = Vec::new(work.alloc);
+    starts.push(start)?;
     let mut out: Vec<State> = Vec::new(work.alloc);
-    if !visit(work, style, allowed, deepest, f, false, before, &mut out)? {
+    if !visit(work, style, allowed, deepest, f, &starts, &mut out)? {
         return Ok(None);
     }
     let after = globals_of(work, style, &out)?;
@@ -107,36 +113,56 @@ fn execute(
     Ok(Some(after))
 }
 
-// ITERATE and REVERSE: what is known before and after each visit, if they run without a fault.
+// Whether no more is known of global variables after visits than before them, and all ends of a visit say so, and what is said of entries.
+fn closes(
+    work: &Work,
+    before: &State,
+    after: &State,
+    ends: &[State],
+    entries: &[State],
+) -> Result<bool, AllocError>
+    ensures { IfOk result (λ ok. IsTrue ok → Closes before.now after.now ends.now entries.now) }
+{
+    let old = before.where_entry(false)?;
+    let new = after.where_entry(false)?;
+    let numbers = old.numbers_for(work.alloc, &new)?;
+    if !old.is_within(&new, &numbers) {
+        return Ok(false);
+    }
+    let here = after.where_entry(true)?;
+    if !all_within(work, ends, &here)? {
+        return Ok(false);
+    }
+    if !all_in(work, ends, entries)? {
+        return Ok(false);
+    }
+    Ok(true)
+}
+
+// ITERATE and REVERSE: what is known after each visit, if they run without a fault.
 fn iterate(
     work: &mut Work,
     style: &Style,
     allowed: &[u32],
     deepest: usize,
     f: Callee,
-    before: &State,
-) -> Result<Option<State>, AllocError>
+    before: &Known,
+) -> Result<Option<Known>, AllocError>
     requires { deepest ≤ 4096 }
     ensures { IfOk result (λ o. IfSome o (λ after. FoundForEach style.now allowed.now f deepest before.now after)) }
 {
-    let after = lasting(work, style, allowed, f, before)?;
-    let old = before.where_entry(false)?;
-    let new = after.where_entry(false)?;
-    let numbers = old.numbers_for(work.alloc, &new)?;
-    if !old.is_within(&new, &numbers) {
-        work.gave_up = true;
-        return Ok(None);
-    }
+    let globals = lasting(work, style, allowed, f, &before.globals)?;
+    let starts = starts_of(work.alloc, &globals, &before.entries)?;
     let mut out: Vec<State> = Vec::new(work.alloc);
-    if !visit(work, style, allowed, deepest, f, true, &after, &mut out)? {
+    if !visit(work, style, allowed, deepest, f, &starts, &mut out)? {
         return Ok(None);
     }
-    let here = after.where_entry(true)?;
-    if !all_within(work, &out, &here)? {
+    let entries = entries_of(work, style, &out)?;
+    if !closes(work, &before.globals, &globals, &out, &entries)? {
         work.gave_up = true;
         return Ok(None);
     }
-    Ok(Some(after))
+    Ok(Some(Known { globals, entries }))
 }
 
 // A command: what is known after it, if it runs without a fault.
@@ -146,21 +172,28 @@ fn command(
     allowed: &[u32],
     deepest: usize,
     item: &Item,
-    before: &State,
-) -> Result<Option<State>, AllocError>
+    before: Known,
+) -> Result<Option<Known>, AllocError>
     requires few { deepest ≤ 4096 }
-    requires global { IsGlobal before.now }
-    ensures found { IfOk result (λ o. IfSome o (λ after. ItemFound style.now allowed.now deepest (item_view item.now) before.now after)) }
-    ensures global { IfOk result (λ o. IfSome o (λ after. IsGlobal after)) }
+    requires global { IsGlobal before.globals }
+    ensures found { IfOk result (λ o. IfSome o (λ after. ItemFound style.now allowed.now deepest (item_view item.now) before after)) }
+    ensures global { IfOk result (λ o. IfSome o (λ after. IsGlobal after.globals)) }
 {
     match *item {
-        Item::Execute(f) => execute(work, style, allowed, deepest, f, before),
-        Item::Iterate(f) => iterate(work, style, allowed, deepest, f, before),
-        Item::Reverse(f) => iterate(work, style, allowed, deepest, f, before),
-        _ => {
-            let same = before.copy()?;
-            Ok(Some(same))
+        Item::Execute(f) => match execute(work, style, allowed, deepest, f, &before.globals)? {
+            None => Ok(None),
+            Some(globals) => Ok(Some(Known {
+                globals,
+                entries: before.entries,
+            })),
+        },
+        Item::Iterate(f) => iterate(work, style, allowed, deepest, f, &before),
+        Item::Reverse(f) => iterate(work, style, allowed, deepest, f, &before),
+        Item::Read => {
+            let known = unknown_entries(work.alloc, style, before.globals)?;
+            Ok(Some(known))
         }
+        _ => Ok(Some(before)),
     }
 }
 
@@ -176,10 +209,11 @@ pub fn is_clean(
     if deepest > 4096 {
         return Ok(false);
     }
-    let mut known = State::start(work.alloc, false, style)?;
+    let nothing = State::start(work.alloc, false, style)?;
+    let mut known = unknown_entries(work.alloc, style, nothing)?;
     let items = style.items();
     for item in items {
-        match command(work, style, allowed, deepest, item, &known)? {
+        match command(work, style, allowed, deepest, item, known)? {
             None => return Ok(false),
             Some(after) => known = after,
         }
@@ -206,6 +240,7 @@ pub fn judged(work: &mut Work, style: &Style) -> Result<Verdict, AllocError>
     let allowed = meant_types(work.alloc, style)?;
     let constants = constants(work.alloc, style)?;
     let mut bodies = likely_depth(work.alloc, style, &allowed)?;
+    let mut before: Option<Warning> = None;
     for _ in 0..MOST_ROUNDS {
         work.begin();
         if is_clean(work, style, &allowed, bodies)? {
@@ -213,8 +248,8 @@ pub fn judged(work: &mut Work, style: &Style) -> Result<Verdict, AllocError>
         }
         match work.warning.take() {
             None => {
-                if bodies == MOST_BODIES || work.steps == 0 {
-                    return Ok(Verdict::Incomplete);
+                if bodies == MOST_BODIES || work.is_out() {
+                    break;
                 }
                 bodies = MOST_BODIES;
             }
@@ -222,10 +257,23 @@ pub fn judged(work: &mut Work, style: &Style) -> Result<Verdict, AllocError>
                 if !work.add_flags(style, &warning, &constants)? {
                     return Ok(Verdict::NotKnownClean(warning));
                 }
+                before = Some(warning);
             }
         }
     }
-    Ok(Verdict::Incomplete)
+    work.drop_flags();
+    Ok(not_clean(style, before))
+}
+
+// The verdict where a round didn't come to its end, or none was the last: the warning of the latest that did.
+fn not_clean(style: &Style, before: Option<Warning>) -> Verdict
+    ensures { IsRight style.now result }
+{
+    let _ = style.functions();
+    match before {
+        Some(warning) => Verdict::NotKnownClean(warning),
+        None => Verdict::Incomplete,
+    }
 }
 
 // The verdict on a style that is clean with at most so many bodies, with the least bound of open bodies that was found.
@@ -240,6 +288,7 @@ fn bounded(
 {
     let literals = work.most_literals;
     let deepest = work.deepest(bodies);
+    work.release();
     if deepest < bodies && is_clean(work, style, &allowed, deepest)? {
         return Ok(Verdict::Clean(Clean {
             allowed,

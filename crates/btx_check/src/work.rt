@@ -1,6 +1,7 @@
 //! What the search goes by: none of it is proved, and none has to be. What it finds is tested.
 use crate::description::Value;
 use crate::state::State;
+use crate::types::ConstantVariables;
 use btx_bst::{Callee, Style, Token};
 use std::alloc::{AllocError, Global};
 
@@ -33,6 +34,10 @@ pub struct Work {
     pub steps: u64,
     /// How many could be taken.
     pub all_steps: u64,
+    /// How many are left when this round ends.
+    pub floor: u64,
+    /// How many of the flags an earlier round came to its end with.
+    pub tried_flags: usize,
     /// Whether the search was given up: for want of steps, or since it went too deep.
     pub gave_up: bool,
     /// How many more bodies could always be opened.
@@ -57,6 +62,8 @@ impl Work {
             alloc,
             steps,
             all_steps: steps,
+            floor: 0,
+            tried_flags: 0,
             gave_up: false,
             spare_bodies: usize::MAX,
             most_literals: 0,
@@ -66,8 +73,11 @@ impl Work {
         }
     }
 
-    /// Begins again, with the steps and the flags that there are.
+    /// Begins again, with the steps and the flags that there are. A round with flags may take half of the steps.
     pub fn begin(&mut self) {
+        if !self.flags.is_empty() {
+            self.floor = self.steps / 2;
+        }
         self.gave_up = false;
         self.spare_bodies = usize::MAX;
         self.most_literals = 0;
@@ -77,12 +87,27 @@ impl Work {
 
     /// Takes a step, if one is left.
     pub fn step(&mut self) -> bool {
-        if self.steps == 0 {
+        if self.is_out() || self.steps == 0 {
             self.gave_up = true;
             return false;
         }
         self.steps -= 1;
         true
+    }
+
+    /// Whether this round may take no more steps.
+    pub fn is_out(&self) -> bool {
+        self.steps <= self.floor
+    }
+
+    /// Lets what follows take all steps that are left.
+    pub fn release(&mut self) {
+        self.floor = 0;
+    }
+
+    /// Drops the flags with which no round came to its end.
+    pub fn drop_flags(&mut self) {
+        self.flags.truncate(self.tried_flags);
     }
 
     /// How many steps were taken.
@@ -152,9 +177,10 @@ impl Work {
         &mut self,
         style: &Style,
         warning: &Warning,
-        constants: &[bool],
+        constants: &ConstantVariables,
     ) -> Result<bool, AllocError> {
         let before = self.flags.len();
+        self.tried_flags = before;
         match warning.missing {
             Some(field) => self.add_flag(field)?,
             None => {}
@@ -173,22 +199,33 @@ impl Work {
         &mut self,
         style: &Style,
         function: usize,
-        constants: &[bool],
+        constants: &ConstantVariables,
     ) -> Result<(), AllocError> {
         if function >= style.functions() {
             return Ok(());
         }
         for token in style.body(function) {
             match *token {
-                Token::Run(Callee::GlobalInteger(i)) => {
-                    if (i as usize) < constants.len() && constants[i as usize] {
-                        self.add_flag(Callee::GlobalInteger(i))?;
+                Token::Run(f) => {
+                    if constants.has(f) {
+                        self.add_flag(f)?;
                     }
                 }
                 _ => {}
             }
         }
         Ok(())
+    }
+
+    /// Whether descriptions are kept apart by variables of entries.
+    pub fn keeps_entries(&self) -> bool {
+        for flag in self.flags.iter() {
+            match *flag {
+                Callee::EntryInteger(_) => return true,
+                _ => {}
+            }
+        }
+        false
     }
 
     fn add_flag(&mut self, flag: Callee) -> Result<(), AllocError> {

@@ -26,7 +26,10 @@ FUNCTION {f} {#1 #2 swap$ < {\"a\" write$} 'skip$ if$} READ EXECUTE {f}
 FUNCTION {f} {\"a\" #1 = {skip$} {skip$} if$} READ ITERATE {skip$}
 FUNCTION {f} {s text.length$ 'n := n #0 = 'skip$ {n #0 = {#1 write$} 'skip$ if$} if$} READ EXECUTE {f}
 FUNCTION {i} {#1 'n :=} FUNCTION {f} {n #1 = 'skip$ {#1 write$} if$} READ EXECUTE {i} ITERATE {f}
-FUNCTION {f} {title empty$ {\"\"} 'title if$ 's := s num.names$ #0 > {s #1 \"{ll}\" format.name$ write$} 'skip$ if$} READ ITERATE {f}";
+FUNCTION {f} {title empty$ {\"\"} 'title if$ 's := s num.names$ #0 > {s #1 \"{ll}\" format.name$ write$} 'skip$ if$} READ ITERATE {f}
+FUNCTION {f} {s \"a\" * empty$ {#1 write$} 'skip$ if$} READ EXECUTE {f}
+FUNCTION {f} {\"a\" s * empty$ {#1 write$} 'skip$ if$} READ EXECUTE {f}
+FUNCTION {f} {\" \" empty$ 'skip$ {#1 write$} if$} READ EXECUTE {f}";
 
 const SPOILT_VALUES: &[u8] =
     b"FUNCTION {f} {#5 'n := #0 'n := n #0 > 'skip$ {#1 write$} if$} READ EXECUTE {f}
@@ -36,7 +39,10 @@ FUNCTION {i} {#1 'n :=} FUNCTION {f} {n #1 = 'skip$ {#1 write$} if$ #2 'n :=} RE
 FUNCTION {f} {#1 'skip$ :=} READ EXECUTE {f}
 FUNCTION {f} {\"a\" 's := s empty$ {#1 write$} 'skip$ if$} READ EXECUTE {f}
 FUNCTION {f} {pop$} READ EXECUTE {f}
-FUNCTION {f} {#1 write$} READ EXECUTE {f}";
+FUNCTION {f} {#1 write$} READ EXECUTE {f}
+FUNCTION {f} {\"\" \"\" * empty$ {#1 write$} 'skip$ if$} READ EXECUTE {f}
+FUNCTION {f} {s \" \" * empty$ {#1 write$} 'skip$ if$} READ EXECUTE {f}
+FUNCTION {f} {\" \" empty$ {#1 write$} 'skip$ if$} READ EXECUTE {f}";
 
 const LOOPS: &[u8] =
     b"FUNCTION {f} {#1 'n := #3 'm := {m #0 >} {n #1 > {\"b\" *} {\"a\"} if$ n #1 + 'n := m #1 - 'm :=} while$ write$} READ EXECUTE {f}
@@ -51,6 +57,20 @@ FUNCTION {f} {#0 'n := {#10 n >} {n #1 + 'n :=} while$ n #9 > {#1 write$} 'skip$
 FUNCTION {book} {title write$} READ ITERATE {call.type$}
 FUNCTION {book} {skip$} FUNCTION {default.type} {pop$} READ ITERATE {call.type$}
 FUNCTION {h} {duplicate$ #1 swap$ 'skip$ if$} FUNCTION {g} {'h h} READ EXECUTE {g}";
+
+// What is known of an entry from one command to the next.
+const ENTRIES: &[u8] =
+    b"FUNCTION {f} {title empty$ {#0 'year :=} {#1 'year :=} if$} FUNCTION {g} {year {title write$} 'skip$ if$} READ ITERATE {f} ITERATE {g}
+FUNCTION {f} {title empty$ {#0 'year :=} {#1 'year :=} if$} FUNCTION {g} {year {title write$} 'skip$ if$} READ ITERATE {f} SORT REVERSE {g} ITERATE {g}
+FUNCTION {i} {#1 'n :=} FUNCTION {f} {title empty$ {#0 'year :=} {n 'year :=} if$} FUNCTION {g} {year n = {title write$} 'skip$ if$} READ EXECUTE {i} REVERSE {f} EXECUTE {i} ITERATE {g}
+FUNCTION {f} {title empty$ {#0 'year :=} {#1 'year :=} if$} FUNCTION {h} {label 's := year {title 's :=} 'skip$ if$} READ ITERATE {f} ITERATE {h} ITERATE {h}";
+
+const SPOILT_ENTRIES: &[u8] =
+    b"FUNCTION {f} {title empty$ {#1 'year :=} {#0 'year :=} if$} FUNCTION {g} {year {title write$} 'skip$ if$} READ ITERATE {f} ITERATE {g}
+FUNCTION {f} {title empty$ {#0 'year :=} {#1 'year :=} if$} FUNCTION {h} {#1 'year :=} FUNCTION {g} {year {title write$} 'skip$ if$} READ ITERATE {f} SORT ITERATE {h} ITERATE {g}
+FUNCTION {f} {title empty$ {#0 'year :=} {#1 'year :=} if$} FUNCTION {g} {year {editor write$} 'skip$ if$} READ ITERATE {f} ITERATE {g}
+FUNCTION {i} {#1 'n :=} FUNCTION {f} {#0 'year :=} FUNCTION {g} {year #0 = {title write$} 'skip$ if$} READ EXECUTE {i} ITERATE {f} ITERATE {g}
+FUNCTION {f} {title empty$ {#0 'n :=} {#1 'n :=} if$} FUNCTION {g} {n {title write$} 'skip$ if$} READ ITERATE {f} ITERATE {g}";
 
 // Whether a style of this head and this rest is called clean.
 pub(crate) fn is_clean(alloc: Global, rest: &[u8]) -> bool {
@@ -120,7 +140,7 @@ fn spoilt_fields(rt: HostRuntime) {
 
 #[test]
 fn values(rt: HostRuntime) {
-    assert!(rt; clean_of(rt.alloc(), VALUES) == 7);
+    assert!(rt; clean_of(rt.alloc(), VALUES) == 10);
 }
 
 #[test]
@@ -136,4 +156,14 @@ fn loops(rt: HostRuntime) {
 #[test]
 fn spoilt_loops(rt: HostRuntime) {
     assert!(rt; clean_of(rt.alloc(), SPOILT_LOOPS) == 0);
+}
+
+#[test]
+fn entries(rt: HostRuntime) {
+    assert!(rt; clean_of(rt.alloc(), ENTRIES) == 4);
+}
+
+#[test]
+fn spoilt_entries(rt: HostRuntime) {
+    assert!(rt; clean_of(rt.alloc(), SPOILT_ENTRIES) == 0);
 }

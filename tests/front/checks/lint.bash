@@ -306,11 +306,72 @@ wants_status 1
 wants_error_with "I don't know the option --nosuch"
 run_lint nosuch.bst
 wants_status 1
-wants_error_with 'there is no style nosuch.bst that can be read'
+wants_error 'bibtex-lint: there is no style nosuch.bst
+'
 run_lint --help
 wants_status 0
 run_lint --version
 wants_status 0
+end
+
+# What stands in a style's place, what may not be read, and what the machine can't read are three answers; and no other style's check is lost by them.
+begin lint_of_what_is_no_style
+write_clean
+mkdir folder.bst
+mkfifo pipe.bst
+ln -s nosuch.bst link.bst
+ln -s round.bst round.bst
+run_lint --line folder pipe link round clean
+wants_status 1
+wants_output 'clean.bst: clean, literals 3, bodies 4, messages 0, hints 0
+'
+wants_error 'bibtex-lint: there is no style folder: it is a folder
+bibtex-lint: there is no style pipe: it is no ordinary file
+bibtex-lint: there is no style link
+bibtex-lint: there is no style round
+'
+end
+
+gcc -O2 -Wall -Werror -shared -fPIC -o "$room/fail_lint_open.so" "$sources/tests/fail_open.c" -ldl
+for reason in 'EIO Input/output error' 'EMFILE Too many open files' 'EACCES Permission denied'; do
+    begin "lint_at_${reason%% *}"
+    write_clean
+    cp clean.bst other.bst
+    FAIL_OPEN=other.bst FAIL_REASON=${reason%% *} LD_PRELOAD=$room/fail_lint_open.so run_lint --line other clean nosuch
+    wants_status 6
+    wants_output 'clean.bst: clean, literals 3, bodies 4, messages 0, hints 0
+'
+    wants_error "bibtex-lint: other.bst can't be read: ${reason#* }
+bibtex-lint: there is no style nosuch
+"
+    end
+done
+
+# With little memory a style is checked, or nothing is said of it but that memory was refused: it is never missing, incomplete, or possibly faulty only.
+begin lint_with_little_memory
+{
+    letters 60000 '%% this is a comment of a long style\n'
+    echo
+    sed "s/title empty.*/title write\$ newline\$ }/"
+} >long.bst < <(
+    write_clean
+    cat clean.bst
+)
+run_lint --json --entry long.bst
+wants_status 2
+cp "$folder/stdout" whole
+for kilobytes in 4500 5500 6500 8192 10000 13000 16000 20000 24000 32000 48000; do
+    status=0
+    (
+        ulimit -v "$kilobytes"
+        LD_LIBRARY_PATH=$libraries exec timeout -k 5 "$seconds" "$room/bibtex-lint" --json --entry long.bst
+    ) </dev/null >"$folder/stdout" 2>"$folder/stderr" || status=$?
+    case $status in
+    2) cmp -s whole "$folder/stdout" || complaints+=("with $kilobytes KB it prints $(head -c 500 "$folder/stdout")") ;;
+    5) [ "$(tr -d ' \n' <"$folder/stdout")" = '[]' ] || [ ! -s "$folder/stdout" ] || complaints+=("with $kilobytes KB it prints $(head -c 500 "$folder/stdout")") ;;
+    *) complaints+=("with $kilobytes KB the status is $status: $(cat "$folder/stderr")") ;;
+    esac
+done
 end
 
 begin lint_of_a_job

@@ -8,7 +8,8 @@ use Rattle.btx_check.proofs.Kept.{into_only}
 use Rattle.btx_check.proofs.lasting.all_within.Goals as goal
 
 pub loop-a-preserved : goal.loop-a-preserved
-loop-a-preserved c = sub_step _ _ _ (c.args.b.now ∷ []) (c.args.b.now ∷ []) (c.args.b.now ∷ []) (omega arith) c.a-item.is c.loop-a.invariant (sub_same (c.args.b.now ∷ []))
+loop-a-preserved c = sub_step _ _ _ (c.args.b.now ∷ []) (c.args.b.now ∷ []) (c.args.b.now ∷ []) (omega arith) c.a-item.is c.loop-a.invariant
+    (sub_same (c.args.b.now ∷ []))
     (into_only _ _ (c.is_within.ensures (search (rules, c.if-not-is_within.false))))
 
 pub returns : goal.returns

@@ -4,4 +4,4 @@ use Rattle.btx_check.specs.Between.{Begins, IsGlobal}
 use Rattle.btx_check.proofs.verdict.is_clean.Given as goal
 
 abbrev pub invariant-loop-item : goal.invariant-loop-item
-invariant-loop-item l = Begins l.style l.allowed l.deepest (items_view (take l.item-index l.items)) l.known × IsGlobal l.known
+invariant-loop-item l = Begins l.style l.allowed l.deepest (items_view (take l.item-index l.items)) l.known × IsGlobal l.known.globals

@@ -1,21 +1,22 @@
-use Rattle.std.proofs.Common.{arith, rules, subst, List, [], ◌∷◌, false}
+use Rattle.std.proofs.Common.{arith, rules, subst, ap, ◌∙◌, List, true}
 use Rattle.btx_check.specs.States.{Abstract}
-use Rattle.btx_check.specs.Inclusion.{Sub, Within}
-use Rattle.btx_check.specs.Between.{where_entry}
+use Rattle.btx_check.specs.Between.{Facts, where_entry, Visited, Closes, Joint}
 use Rattle.btx_check.proofs.verdict.iterate.Goals as goal
 
 pub returns : goal.returns
-returns c = let h = c.in_ok-visit.ensures (search (rules, c.if-not-branch.false)) in record {
-  weaker = subst (λ (x : Abstract). Within x (where_entry false c.in_ok-after.after)) c.in_ok-old.ensures (subst (λ (x : Abstract). Within c.in_ok-old.old x) c.in_ok-new.ensures (c.is_within.ensures (search (rules, c.if-not-is_within.false))));
-  found = record {
-    before_is = c.in_ok-after.ensures;
-    after_is = c.in_ok-after.ensures;
-    loops = 20;
-    few_bodies = omega arith;
-    few_loops = omega arith;
-    ends = c.visit.new.out.items;
-    runs = h.runs;
-    empty = h.empty;
-    kept = subst (λ (x : Abstract). Sub c.visit.new.out.items (x ∷ [])) c.in_ok-here.ensures (subst (λ (xs : List Abstract). Sub xs (c.in_ok-here.here ∷ [])) c.deref-2.ensures.value (c.in_ok-all_within.ensures (search (rules, c.if-not-branch-2.false))));
-  };
+returns c = record {
+  global = c.in_ok-globals.ensures;
+  few_bodies = omega arith;
+  starts = c.in_ok-starts.starts.items;
+  joint = subst (λ (xs : List Abstract). Joint (where_entry true c.in_ok-globals.globals) xs c.in_ok-starts.starts.items)
+      (c.deref.ensures.value ∙ ap (λ (k : Facts). k.entries) c.before-2.view_is) c.in_ok-starts.ensures;
+  ends = c.visit.new.out.items;
+  visited = subst (λ (xs : List Abstract). Visited c.args.style.now c.args.allowed.now c.args.f c.args.deepest xs c.visit.new.out.items)
+      c.deref-2.ensures.value (c.in_ok-visit.ensures (search (rules, c.if-not-branch.false)));
+  closes = subst (λ (g : Abstract). Closes g c.in_ok-globals.globals c.visit.new.out.items c.in_ok-entries.entries.items)
+      (ap (λ (k : Facts). k.globals) c.before-2.view_is)
+      (subst (λ (xs : List Abstract). Closes c.before-2.inside.globals c.in_ok-globals.globals xs c.in_ok-entries.entries.items) c.deref-4.ensures.value
+      (subst (λ (xs : List Abstract). Closes c.before-2.inside.globals c.in_ok-globals.globals c.deref-4.result.now xs) c.deref-5.ensures.value
+      (c.in_ok-closes.ensures (search (rules, c.if-not-branch-2.false)))));
+  local = c.in_ok-entries.ensures;
 }
