@@ -16,11 +16,12 @@ fn main(rt: HostRuntime) -> ExitCode {
     let _places = hold_places(&rt);
     let mut history = History::new(rt.alloc());
     let mut outputs = SystemOutputs::new(&rt);
-    run_command_line(
+    let (_system, code) = run_command_line(
         rt.alloc(),
         RealSystem::new(&rt),
         &mut history,
         &mut outputs,
         env::args(&rt),
-    )
+    );
+    code
 }

@@ -34,9 +34,11 @@ module _ (files : List BtxFile) (others : Files) where
   abbrev IsRight : Files → FinderAnswer → Type 0
   IsRight files given = files given.name ≡ given.bytes
 
-  right : (given : FinderAnswer) → IfSome given.bytes (λ text. length text < 2 ^ 64) → IsRight (beside files (file_in all_huge)) given → IsRight (beside files others) given
+  right : (given : FinderAnswer) → IfSome given.bytes (λ text. length text < 2 ^ 64) → IsRight (beside files (file_in all_huge)) given
+      → IsRight (beside files others) given
   right given held is = by_case (same_or_other files (file_in all_huge) others given.name) where
-    by_case : (beside files others given.name ≡ beside files (file_in all_huge) given.name) ⊎ (beside files (file_in all_huge) given.name ≡ file_in all_huge given.name) → IsRight (beside files others) given
+    by_case : (beside files others given.name ≡ beside files (file_in all_huge) given.name)
+        ⊎ (beside files (file_in all_huge) given.name ≡ file_in all_huge given.name) → IsRight (beside files others) given
     by_case (inl same) = same ∙ is
     by_case (inr other) = absurd (not_held (subst (λ (bytes : Option (List ℕ)). IfSome bytes (λ text. length text < 2 ^ 64)) (sym is ∙ other) held))
 
@@ -47,4 +49,5 @@ module _ (files : List BtxFile) (others : Files) where
 -- so what was read by such answers is said whatever the other files are
 pub says_always : (files : List BtxFile) (name : List ℕ) (job : AuxJob) (after : List FinderAnswer) {Asks : List (List ℕ) → Type 0}
     → ByAnswers (Some (beside files (file_in all_huge))) [] after Asks (λ files. job ≡ job_named files name) → WereHeld after → SaysAlways files name job
-says_always files name job after part held others = part.holds (beside files others) (agree files others part.answers (subst WereHeld part.given held) part.shown)
+says_always files name job after part held others =
+    part.holds (beside files others) (agree files others part.answers (subst WereHeld part.given held) part.shown)

@@ -1,5 +1,6 @@
 -- The table of the files by name.
-use Rattle.std.proofs.Common.{◌≡◌, ℕ, ◌+◌, ◌<◌, Bool, true, false, List, [], ◌∷◌, Option, None, Some, is_some, length, if◌then◌else◌, cond, get_or, drop, refl, ap, ◌∙◌, arith}
+use Rattle.std.proofs.Common.{◌≡◌, ℕ, ◌+◌, ◌<◌, Bool, true, false, List, [], ◌∷◌, Option, None, Some, is_some, length, if◌then◌else◌, cond, get_or, drop, refl}
+use Rattle.std.proofs.Common.{ap, ◌∙◌, arith}
 use Rattle.std.proofs.lemmas.List.{drop_more}
 use Rattle.std.proofs.lemmas.Slice.Eq.{bytes_eq-Decides}
 use Rattle.std.specs.Borrow.{Bor}
@@ -33,15 +34,18 @@ file-insert (e ∷ es) k v name none = by_test (same_key k e.0) none (file-inser
   heads false rest other = refl
 
   by_test : (b : Bool) → is_some (cond b (Some e.1) (file_of_name es k.now)) ≡ false
-      → (is_some (file_of_name es k.now) ≡ false → file_of_name (insert_entry same_key es k v) name ≡ option_or (file_of_name es name) (cond (bytes_eq name k.now) (Some v) None))
-      → file_of_name (if b then (e.0, v) ∷ es else e ∷ insert_entry same_key es k v) name ≡ option_or (file_of_name (e ∷ es) name) (cond (bytes_eq name k.now) (Some v) None)
+      → (is_some (file_of_name es k.now) ≡ false → file_of_name (insert_entry same_key es k v) name
+      ≡ option_or (file_of_name es name) (cond (bytes_eq name k.now) (Some v) None))
+      → file_of_name (if b then (e.0, v) ∷ es else e ∷ insert_entry same_key es k v) name ≡ option_or (file_of_name (e ∷ es) name)
+      (cond (bytes_eq name k.now) (Some v) None)
   by_test true none later = cc
   by_test false none later =
       ap (cond (bytes_eq name e.0.now) (Some e.1)) (later none)
       ∙ heads (bytes_eq name e.0.now) (file_of_name es name) (cond (bytes_eq name k.now) (Some v) None)
 
 -- a file whose name isn't there adds what it says
-pub adds_new : (es : Entries) (k : Bor (List ℕ)) (v : Bor BtxFile) → k ≡ v.now.name → is_some (file_of_name es k.now) ≡ false → AddsFile es (insert_entry same_key es k v) v.now
+pub adds_new : (es : Entries) (k : Bor (List ℕ)) (v : Bor BtxFile) → k ≡ v.now.name → is_some (file_of_name es k.now) ≡ false
+    → AddsFile es (insert_entry same_key es k v) v.now
 adds_new es k v is none = λ name.
     ap (option_map (λ (file : Bor BtxFile). bytes_in file.now)) (file-insert es k v name none)
     ∙ by_test (bytes_eq name k.now) (bytes_eq v.now.name.now name) (turned name) (file_of_name es name) where
@@ -76,10 +80,11 @@ adds_none es file some = λ name. by_found name (file_of_name es name) refl wher
 pub adds_next : (before after : Entries) (files : List BtxFile) (i : ℕ) (d : BtxFile) (name : List ℕ) → i < length files
     → said_in after name ≡ option_or (said_in before name) (known (get_or files i d ∷ []) name)
     → option_or (said_in before name) (known (drop i files) name) ≡ option_or (said_in after name) (known (drop (i + 1) files) name)
-adds_next before after files i d name within adds = rw (drop_more files i d within, adds) (by_test (bytes_eq (get_or files i d).name.now name) (said_in before name)) where
-  by_test : (b : Bool) (said : Option (Option (List ℕ)))
-      → option_or said (if b then Some (bytes_in (get_or files i d)) else known (drop (i + 1) files) name)
-      ≡ option_or (option_or said (if b then Some (bytes_in (get_or files i d)) else None)) (known (drop (i + 1) files) name)
-  by_test b (Some said) = refl
-  by_test true None = refl
-  by_test false None = refl
+adds_next before after files i d name within adds =
+    rw (drop_more files i d within, adds) (by_test (bytes_eq (get_or files i d).name.now name) (said_in before name)) where
+      by_test : (b : Bool) (said : Option (Option (List ℕ)))
+          → option_or said (if b then Some (bytes_in (get_or files i d)) else known (drop (i + 1) files) name)
+          ≡ option_or (option_or said (if b then Some (bytes_in (get_or files i d)) else None)) (known (drop (i + 1) files) name)
+      by_test b (Some said) = refl
+      by_test true None = refl
+      by_test false None = refl

@@ -19,7 +19,8 @@ use Rattle.btx_core.specs.refinement.Files.Readings.{Logged, after_job, behind, 
 use Rattle.btx_core.specs.refinement.ComputedProduct.{product, product_of_files, product_with}
 use Rattle.btx_c.specs.declared.handed.BtxFile.{BtxFile}
 use Rattle.btx_c.specs.Handed.{beside, is_known, known}
-use Rattle.btx_c.specs.Needs.{EndsWithAuxFiles, NeedsAnother, NeedsNoOther, ReadsAuxFiles, SaysAlways, empty_files, is_absent, line_for, lines_for, lines_named, no_files}
+use Rattle.btx_c.specs.Needs.{EndsWithAuxFiles, NeedsAnother, NeedsNoOther, ReadsAuxFiles, SaysAlways, empty_files, is_absent, line_for, lines_for, lines_named}
+use Rattle.btx_c.specs.Needs.{no_files}
 use Rattle.btx_c.proofs.HandedLemmas.{beside_known, known_same}
 
 -- ---- lines
@@ -55,14 +56,18 @@ module _ (files : List BtxFile) (others : Files) where
   found-same [] known = refl
   found-same (name ∷ names) known = rw (at-same name known.0, found-same names known.1) refl
 
-  logged-same : (earlier names : List (List ℕ)) → AllKnown earlier → AllKnown names → databases_logged (beside files others) earlier names ≡ databases_logged (beside files no_files) earlier names
+  logged-same : (earlier names : List (List ℕ)) → AllKnown earlier → AllKnown names → databases_logged (beside files others) earlier names
+      ≡ databases_logged (beside files no_files) earlier names
   logged-same earlier [] before known = refl
-  logged-same earlier (name ∷ names) before known = rw (at-same name known.0, found-same earlier before, logged-same (earlier ++ name ∷ []) names (more earlier before) known.1) refl where
-    more : (earlier : List (List ℕ)) → AllByRecursion (λ name. is_known files name ≡ true) earlier → AllByRecursion (λ name. is_known files name ≡ true) (earlier ++ name ∷ [])
-    more [] before = (known.0, tt)
-    more (x ∷ xs) before = (before.0, more xs before.1)
+  logged-same earlier (name ∷ names) before known =
+      rw (at-same name known.0, found-same earlier before, logged-same (earlier ++ name ∷ []) names (more earlier before) known.1) refl where
+        more : (earlier : List (List ℕ)) → AllByRecursion (λ name. is_known files name ≡ true) earlier
+            → AllByRecursion (λ name. is_known files name ≡ true) (earlier ++ name ∷ [])
+        more [] before = (known.0, tt)
+        more (x ∷ xs) before = (before.0, more xs before.1)
 
-  read-same : (job : AuxJob) (name : List ℕ) (found : Option NamedFile) → AllKnown job.databases → style_read (beside files others) job name found ≡ style_read (beside files no_files) job name found
+  read-same : (job : AuxJob) (name : List ℕ) (found : Option NamedFile) → AllKnown job.databases → style_read (beside files others) job name found
+      ≡ style_read (beside files no_files) job name found
   unfolding style_read
   read-same job name None known = refl
   read-same job name (Some style) known = rw (logged-same [] job.databases tt known, found-same job.databases known) refl
@@ -71,22 +76,28 @@ module _ (files : List BtxFile) (others : Files) where
   unfolding style_read
   read-absent job name = refl
 
-  named-same : (job : AuxJob) (style : Option (List ℕ)) → lines_named files style job.databases ≡ [] → style_named (beside files others) job style ≡ style_named (beside files no_files) job style
+  named-same : (job : AuxJob) (style : Option (List ℕ)) → lines_named files style job.databases ≡ [] → style_named (beside files others) job style
+      ≡ style_named (beside files no_files) job style
   unfolding style_named
   named-same job None none = refl
   named-same job (Some name) none = by_case (known files name) refl none where
     all_said : (line_for files name ≡ []) × (lines_for files job.databases ≡ [])
-        → style_read (beside files others) job name (file_at (beside files others) name) ≡ style_read (beside files no_files) job name (file_at (beside files no_files) name)
-    all_said parts = rw (at-same name (line_none files name parts.0)) (read-same job name (file_at (beside files no_files) name) (lines_none files job.databases parts.1))
+        → style_read (beside files others) job name (file_at (beside files others) name) ≡ style_read (beside files no_files) job name
+        (file_at (beside files no_files) name)
+    all_said parts = rw (at-same name (line_none files name parts.0))
+        (read-same job name (file_at (beside files no_files) name) (lines_none files job.databases parts.1))
 
     -- it was said that there is no style, or of each file something was said
-    by_case : (said : Option (Option (List ℕ))) → known files name ≡ said → (if is_absent said then [] else line_for files name ++ lines_for files job.databases) ≡ []
-        → style_read (beside files others) job name (file_at (beside files others) name) ≡ style_read (beside files no_files) job name (file_at (beside files no_files) name)
+    by_case : (said : Option (Option (List ℕ))) → known files name ≡ said
+        → (if is_absent said then [] else line_for files name ++ lines_for files job.databases) ≡ []
+        → style_read (beside files others) job name (file_at (beside files others) name) ≡ style_read (beside files no_files) job name
+        (file_at (beside files no_files) name)
     by_case None is none = all_said (parts_none (line_for files name) (lines_for files job.databases) none)
     by_case (Some None) is none = rw (beside_known files others name None is, beside_known files no_files name None is) (read-absent job name)
     by_case (Some (Some bytes)) is none = all_said (parts_none (line_for files name) (lines_for files job.databases) none)
 
-  after-same : (job : AuxJob) (ending : End) → (ending ≡ end.Whole → lines_named files job.style job.databases ≡ []) → after_job (beside files others) job ending ≡ after_job (beside files no_files) job ending
+  after-same : (job : AuxJob) (ending : End) → (ending ≡ end.Whole → lines_named files job.style job.databases ≡ [])
+      → after_job (beside files others) job ending ≡ after_job (beside files no_files) job ending
   unfolding after_job
   after-same job end.Whole none = named-same job job.style (none refl)
   after-same job end.TooManyOpen none = refl
@@ -104,7 +115,8 @@ module _ (files : List BtxFile) (name : List ℕ) (job : AuxJob) (says : SaysAlw
   reading-is : (others : Files) → reading_of (beside files others) name ≡ behind job.log (after_job (beside files others) job job.ending)
   reading-is others = ap (λ (job : AuxJob). behind job.log (after_job (beside files others) job job.ending)) (sym (says others))
 
-  product-is : (others : Files) (options : Options) (budget : ℕ) → product_with (beside files others) name options budget ≡ made job (behind job.log (after_job (beside files others) job job.ending)) options budget
+  product-is : (others : Files) (options : Options) (budget : ℕ) → product_with (beside files others) name options budget
+      ≡ made job (behind job.log (after_job (beside files others) job job.ending)) options budget
   product-is others options budget =
       ap (λ (job : AuxJob). made job (reading_of (beside files others) name) options budget) (sym (says others))
       ∙ ap (λ (read : Logged FilesRead). made job read options budget) (reading-is others)
@@ -127,7 +139,8 @@ module _ (files : List BtxFile) (name : List ℕ) (job : AuxJob) (says : SaysAlw
 -- ---- a job that needs another file
 
 -- what two runs wrote, one without the other files and one where each is empty, differs
-pub another_of : (files : List BtxFile) (job : List ℕ) (options : Options) (absent empty : List ℕ) → absent ≡ log_of (product (beside files (empty_files false)) job options)
+pub another_of : (files : List BtxFile) (job : List ℕ) (options : Options) (absent empty : List ℕ)
+    → absent ≡ log_of (product (beside files (empty_files false)) job options)
     → empty ≡ log_of (product (beside files (empty_files true)) job options) → not (bytes_eq absent empty) ≡ true → NeedsAnother files job
 another_of files job options absent empty is_absent is_empty differ =
     record {

@@ -25,7 +25,8 @@ wrote_of len memory text len_is memory_is = record { text = text; len_is = len_i
 pub broke_of : (files : List BtxFile) (others : OtherFiles) (job : List ℕ) (given : BtxOptions) (options : Options) (report : BtxReport)
     (list log : List ℕ × List ℕ) (wrote_list wrote_log : List ℕ) → options ≡ asked given
     → AtFault (Some [], Some []) (Some wrote_list, Some wrote_log) (product_with (all_files files others) job options) options.budget
-    → report.list_len ≡ min (length wrote_list) (length list.0) → report.log_len ≡ min (length wrote_log) (length log.0) → list.1 ≡ filled list.0 wrote_list → log.1 ≡ filled log.0 wrote_log
+    → report.list_len ≡ min (length wrote_list) (length list.0) → report.log_len ≡ min (length wrote_log) (length log.0) → list.1 ≡ filled list.0 wrote_list
+    → log.1 ≡ filled log.0 wrote_log
     → Broke files others job given report list log
 broke_of files others job given options report list log wrote_list wrote_log is begun list_len log_len list_is log_is =
     record {
@@ -47,7 +48,8 @@ module _ (C : Report → Type 0) where
   ok_of ended false false is = is
 
   -- a run that ended, but is too long for a room, is as one that broke off
-  pub err_of : (A : Type 0) (ended : Result Report Cause) (a b : Bool) → IfOk ended C → OnErr ended A → ((report : Report) → C report → A) → OnErr (outcome ended a b) A
+  pub err_of : (A : Type 0) (ended : Result Report Cause) (a b : Bool) → IfOk ended C → OnErr ended A → ((report : Report) → C report → A)
+      → OnErr (outcome ended a b) A
   err_of A (Ok report) true b is fails so = so report is
   err_of A (Ok report) false true is fails so = so report is
   err_of A (Ok report) false false is fails so = tt
@@ -86,7 +88,8 @@ asks_of ended false false is = is
 
 -- ---- a room that is too small
 
-pub overflows_of : (files : List BtxFile) (others : OtherFiles) (job : List ℕ) (given : BtxOptions) (options : Options) (report : BtxReport) (list log wrote_list wrote_log : List ℕ) → options ≡ asked given
+pub overflows_of : (files : List BtxFile) (others : OtherFiles) (job : List ℕ) (given : BtxOptions) (options : Options) (report : BtxReport)
+    (list log wrote_list wrote_log : List ℕ) → options ≡ asked given
     → AtFault (Some [], Some []) (Some wrote_list, Some wrote_log) (product_with (all_files files others) job options) options.budget
     → ((report.end ≡ LIST_FULL) × (length list < length wrote_list)) ⊎ ((report.end ≡ LOG_FULL) × (length log < length wrote_log))
     → Overflows files others job given report list log
@@ -97,13 +100,23 @@ overflows_of files others job given options report list log wrote_list wrote_log
       by_room : ((report.end ≡ LIST_FULL) × (length list < length wrote_list)) ⊎ ((report.end ≡ LOG_FULL) × (length log < length wrote_log))
           → ((report.end ≡ LIST_FULL) × (length list < length (product_with (all_files files others) job options options.budget).bbl))
           ⊎ ((report.end ≡ LOG_FULL) × (length log < length (log_of (product_with (all_files files others) job options options.budget))))
-      by_room (inl room) = inl (room.0, let long = list_length wrote_list wrote_log (product_with (all_files files others) job options) options.budget fault in omega (arith, room.1, long))
-      by_room (inr room) = inr (room.0, let long = log_length wrote_list wrote_log (product_with (all_files files others) job options) options.budget fault in omega (arith, room.1, long))
+      by_room (inl room) = inl (
+        room.0,
+        let long = list_length wrote_list wrote_log (product_with (all_files files others) job options) options.budget fault in
+            omega (arith, room.1, long),
+      )
+      by_room (inr room) = inr (
+        room.0,
+        let long = log_length wrote_list wrote_log (product_with (all_files files others) job options) options.budget fault in
+            omega (arith, room.1, long),
+      )
 
 -- the room that is too small, by the cause
-pub room_of : (c : Cause) (ended : Result Report Cause) (report : BtxReport) (list_room log_room : ℕ) (list log : List ℕ) → ended ≡ Err c → (c ≡ cause.ListFull) ⊎ (c ≡ cause.LogFull)
+pub room_of : (c : Cause) (ended : Result Report Cause) (report : BtxReport) (list_room log_room : ℕ) (list log : List ℕ) → ended ≡ Err c → (c ≡ cause.ListFull)
+    ⊎ (c ≡ cause.LogFull)
     → (c ≡ cause.ListFull → report.end ≡ LIST_FULL) → (c ≡ cause.LogFull → report.end ≡ LOG_FULL)
     → (ended ≡ Err cause.ListFull → list_room < length list) → (ended ≡ Err cause.LogFull → log_room < length log)
     → ((report.end ≡ LIST_FULL) × (list_room < length list)) ⊎ ((report.end ≡ LOG_FULL) × (log_room < length log))
-room_of c ended report list_room log_room list log is (inl full) list_number log_number list_full log_full = inl (list_number full, list_full (is ∙ ap Err full))
+room_of c ended report list_room log_room list log is (inl full) list_number log_number list_full log_full =
+    inl (list_number full, list_full (is ∙ ap Err full))
 room_of c ended report list_room log_room list log is (inr full) list_number log_number list_full log_full = inr (log_number full, log_full (is ∙ ap Err full))

@@ -8,6 +8,7 @@ use Rattle.btx_command.specs.declared.outcome.Exit.TheVariants as exit
 
 -- words that can't be read for another reason than want of memory are reported as no text
 pub unread_text : {W : Type 0} (kind : ErrorKind) (before after : Done W) → (kind ≡ OutOfMemory → ⊥)
-    → WereDone before after (ReportedText (codes "error: invalid UTF-8 was detected in one or more arguments\n") [] ∷ []) → IsUnread kind before after exit.Refused
+    → WereDone before after (ReportedText (codes "error: invalid UTF-8 was detected in one or more arguments\n") [] ∷ [])
+    → IsUnread kind before after exit.Refused
 unread_text OutOfMemory before after isnt done = absurd (isnt refl)
 unread_text _ before after isnt done = (done, refl)

@@ -1,5 +1,6 @@
 -- What a parse of the command gives for its options of numbers.
-use Rattle.std.proofs.Common.{cond, ◌&&◌, ◌^◌, ◌≡◌, ◌∙◌, ◌<◌, ap, sym, subst, refl, inl, inr, arith, ℕ, zero, suc, Bool, true, false, List, [], ◌∷◌, Option, Some, None, map, length, codes}
+use Rattle.std.proofs.Common.{cond, ◌&&◌, ◌^◌, ◌≡◌, ◌∙◌, ◌<◌, ap, sym, subst, refl, inl, inr, arith, ℕ, zero, suc, Bool, true, false, List, [], ◌∷◌, Option}
+use Rattle.std.proofs.Common.{Some, None, map, length, codes}
 use Rattle.std.specs.Prelude.{Ok, Err, Result, option_map, slice_get, unwrap_or}
 use Rattle.std.specs.List.{All, slice_index_or}
 use Rattle.std.specs.Str.{bytes_eq}
@@ -216,7 +217,8 @@ module _ (modes : Modes) (k : ℕ) (id : List ℕ) (least most : ℕ) (number : 
 -- a parse of the command gives its options numbers in their ranges
 pub has_numbers : (c : Command) (m : ArgMatches) → IsParsedFrom c m → IsBibtex (app_of c) → HasNumbers (rows_of (found_of m))
 has_numbers c m p is = record {
-  min_crossrefs = given_from is.0 0 (codes "min-crossrefs") 0 2147483647 (from 0 (codes "min-crossrefs") 0 2147483647 (omega arith) refl refl refl refl refl) c m p is.2;
+  min_crossrefs = given_from is.0 0 (codes "min-crossrefs") 0 2147483647 (from 0 (codes "min-crossrefs") 0 2147483647 (omega arith) refl refl refl refl refl) c
+      m p is.2;
   budget = given_from is.0 1 (codes "budget") 0 1000000000000000 (from 1 (codes "budget") 0 1000000000000000 (omega arith) refl refl refl refl refl) c m p is.2;
   line = given_from is.0 5 (codes "line") 20 1000 (from 5 (codes "line") 20 1000 (omega arith) refl refl refl refl refl) c m p is.2;
   entry_max = given_from is.0 6 (codes "entry-max") 1 1000000 (from 6 (codes "entry-max") 1 1000000 (omega arith) refl refl refl refl refl) c m p is.2;

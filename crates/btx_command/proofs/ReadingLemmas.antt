@@ -1,5 +1,6 @@
 -- What is read of an open file, piece by piece.
-use Rattle.std.proofs.Common.{◌≡◌, ◌∙◌, ℕ, ◌+◌, ◌-◌, ◌<◌, ◌≤◌, List, [], ◌∷◌, ◌++◌, Option, None, Some, IfSome, Ok, length, min, take, ap, refl, sym, subst, append-nil, append_assoc, length-append, length-take-le, take_all, true≢false, arith}
+use Rattle.std.proofs.Common.{◌≡◌, ◌∙◌, ℕ, ◌+◌, ◌-◌, ◌<◌, ◌≤◌, List, [], ◌++◌, Option, None, Some, IfSome, Ok, length, min, take, ap, refl, sym, subst}
+use Rattle.std.proofs.Common.{append-nil, append_assoc, length-append, length-take-le, take_all, true≢false, arith}
 use mathlib.Core.Logic.{inl, inr}
 use lib.Seq.{take-append-le, take-append_seam}
 use Rattle.std.specs.Prelude.{◌⊎◌, zero, suc, Bool, true, false, if◌then◌else◌}

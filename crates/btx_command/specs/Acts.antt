@@ -1,9 +1,15 @@
 -- What the program does outside, by its outputs.
 use Rattle.std.specs.Prelude.{◌≡◌, ◌++◌, ℕ, List, [], ◌∷◌, Result, Ok, Err, take}
+use Rattle.btx_text.specs.declared.failures.Failures.{Failures}
 use Rattle.btx_run.specs.declared.run_fault.RunFault.{RunFault}
 
--- What can be done, with what came of it; `W` are the files of lists. A file of the real system is the bytes that the system took from it, since it was
--- opened or emptied.
+-- A list's file of the real system, as proofs see it: the bytes that the system took since the file was opened or emptied, and how often a write to it or an
+-- emptying of it failed since it was opened, and whether the last one did.
+pub record TakenFile : Type 0 where
+  pub bytes : List ℕ
+  pub failures : Failures
+
+-- What can be done, with what came of it; `W` are the files of lists, of the real system `TakenFile`.
 pub data Act (W : Type 0) : Type 0 where
   -- the list's file of this path was opened, or that failed
   OpenedList : (path : List ℕ) (opened : Result W RunFault) → Act W
@@ -11,8 +17,8 @@ pub data Act (W : Type 0) : Type 0 where
   ClosedList : (file : W) → Act W
   -- the log that an earlier run may have left at this path was to be emptied; what isn't an ordinary file is left alone
   EmptiedLog : (path : List ℕ) → Act W
-  -- a log was stored in the file of this path, or that failed
-  StoredLog : (path log : List ℕ) (stored : Result (Unit {0}) RunFault) → Act W
+  -- a log was stored in the file of this path, or that failed; `kept` are the failures of the writes that had kept this log in memory
+  StoredLog : (path log : List ℕ) (kept : Failures) (stored : Result (Unit {0}) RunFault) → Act W
   -- a text was printed to standard output, or that failed
   Printed : (text : List ℕ) (printed : Result (Unit {0}) RunFault) → Act W
   -- a text and a hint behind it, which may be empty, were reported on standard error

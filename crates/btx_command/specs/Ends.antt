@@ -10,6 +10,7 @@ use Rattle.std.specs.declared.io.ErrorKind.TheVariants.{OutOfMemory}
 use Rattle.std.specs.declared.vec.IntoIter.{IntoIter}
 use Rattle.std.specs.declared.vec.Vec.{Vec}
 use Rattle.btx_aux.specs.language.Files.{Files}
+use Rattle.btx_text.specs.language.Counts.{Change}
 use Rattle.btx_machine.specs.declared.report.Report.{Report}
 use Rattle.btx_run.specs.declared.run_fault.RunFault.{RunFault}
 use Rattle.btx_run.specs.declared.run_fault.RunFault.TheVariants as run_fault
@@ -17,7 +18,7 @@ use Rattle.btx_command.specs.Acts.{WereDone, Done, Printed, ReportedFault, Repor
 use Rattle.btx_command.specs.CommandLine.{IsSettingsOf, Refuses}
 use Rattle.btx_command.specs.Jobs.{DoesJob}
 use Rattle.btx_run.specs.language.Answered.{Given}
-use Rattle.btx_command.specs.ListFiles.{Held}
+use Rattle.btx_command.specs.ListFiles.{FileState}
 use Rattle.btx_command.specs.Spelling.{hint_of}
 use Rattle.btx_command.specs.Status.{exit_of, exit_shown, refused_memory, status_at}
 use Rattle.btx_command.specs.declared.given.Refusal.{Refusal}
@@ -34,27 +35,30 @@ IsReported hint (refusal.Shown text) before after end =
 IsReported hint (refusal.Mistake text) before after end = WereDone before after (ReportedText (string_bytes text) hint ∷ []) × (end ≡ exit.Refused)
 IsReported hint refusal.Memory before after end = WereDone before after (ReportedFault run_fault.Memory ∷ []) × (end ≡ refused_memory)
 
--- Words that are run come to this end, over a system of these files and lists' files of these contents: their job is done, and then its fault is
--- reported, if its answer is one. `given` are the answers on files that were given before, and those that are given after.
-pub record RunEnds {W : Type 0} (files : Option Files) (given : Given) (contents : W → Held) (settings : Settings) (before after : Done W) (end : Exit) : Type 0 where
+-- Words that are run come to this end, over a system of these files and lists' files that show this state: their job is done, and then its fault is
+-- reported, if its answer is one. `given` are the answers on files that were given before, and those that are given after; `found` are the failures of the
+-- system before and after.
+pub record RunEnds {W : Type 0} (files : Option Files) (given : Given) (found : Change) (state : W → FileState) (settings : Settings) (before after : Done W)
+    (end : Exit) : Type 0 where
   pub answer : Result Report RunFault
   pub done : Done W
-  pub does : DoesJob files given contents settings before done answer
+  pub does : DoesJob files given state settings found before done answer
   pub reports : WereDone done after (reporting answer)
   pub ends : end ≡ exit_of answer
 
--- the settings that were read are run; a refusal, or a text that was asked for, is printed, and no file is asked for
-abbrev pub IsAnswered : {W : Type 0} → Option Files → Given → (W → Held) → List ℕ → Result Settings Refusal → Done W → Done W → Exit → Type 0
-IsAnswered files given contents hint (Ok settings) before after end = RunEnds files given contents settings before after end
-IsAnswered files given contents hint (Err refusal) before after end = (given.1 ≡ given.0) × IsReported hint refusal before after end
+-- the settings that were read are run; a refusal, or a text that was asked for, is printed, no file is asked for, and the system isn't called
+abbrev pub IsAnswered : {W : Type 0} → Option Files → Given → Change → (W → FileState) → List ℕ → Result Settings Refusal → Done W → Done W → Exit → Type 0
+IsAnswered files given found state hint (Ok settings) before after end = RunEnds files given found state settings before after end
+IsAnswered files given found state hint (Err refusal) before after end = (given.1 ≡ given.0) × (found.1 ≡ found.0) × IsReported hint refusal before after end
 
 -- the words of a command line, the program's name first, come to this end: the job of their settings is done, once, and nothing else is, or they
 -- are refused as they are read; a mistake is reported with this hint
-pub record ComesTo {W : Type 0} (files : Option Files) (given : Given) (contents : W → Held) (words : List (List ℕ)) (hint : List ℕ) (before after : Done W) (end : Exit) : Type 0 where
+pub record ComesTo {W : Type 0} (files : Option Files) (given : Given) (found : Change) (state : W → FileState) (words : List (List ℕ)) (hint : List ℕ)
+    (before after : Done W) (end : Exit) : Type 0 where
   pub read : Result Settings Refusal
   pub settings : IfOk read (IsSettingsOf words)
   pub refused : Refuses words read
-  pub answered : IsAnswered files given contents hint read before after end
+  pub answered : IsAnswered files given found state hint read before after end
 
 -- what the system answers when it is asked for the words of the command line: its own iterator over them, or an error
 abbrev pub Args : Type 0
@@ -77,18 +81,21 @@ IsUnread OutOfMemory before after end = WereDone before after (ReportedFault run
 IsUnread _ before after end =
     WereDone before after (ReportedText (codes "error: invalid UTF-8 was detected in one or more arguments\n") [] ∷ []) × (end ≡ exit.Refused)
 
--- words that were read come to the end of their command line; of others the reason is reported, no file is asked for, and nothing else is done
-abbrev pub EndsFor : {W : Type 0} → Option Files → Given → (W → Held) → Words → Done W → Done W → Exit → Type 0
-EndsFor files given contents (Ok words) before after end =
-    ComesTo files given contents (map (λ word. string_bytes word) words.items) (hint_of words.items) before after end
-EndsFor files given contents (Err error) before after end = (given.1 ≡ given.0) × IsUnread (error_kind error) before after end
+-- words that were read come to the end of their command line; of others the reason is reported, no file is asked for, the system isn't called, and nothing
+-- else is done
+abbrev pub EndsFor : {W : Type 0} → Option Files → Given → Change → (W → FileState) → Words → Done W → Done W → Exit → Type 0
+EndsFor files given found state (Ok words) before after end =
+    ComesTo files given found state (map (λ word. string_bytes word) words.items) (hint_of words.items) before after end
+EndsFor files given found state (Err error) before after end = (given.1 ≡ given.0) × (found.1 ≡ found.0) × IsUnread (error_kind error) before after end
 
--- The whole program, over a system of these files, lists' files of these contents, and this answer on the words of the command line: the words are
+-- The whole program, over a system of these files, lists' files that show this state, and this answer on the words of the command line: the words are
 -- read, they come to their end, and the exit status is that end's. `given` are the answers on files that were given before the program, and those that
--- are given after it: what is said of a run's report holds for all files that agree with those given in it.
-pub record ExitsWith {W : Type 0} (files : Option Files) (given : Given) (contents : W → Held) (args : Args) (before after : Done W) (status : ℕ) : Type 0 where
+-- are given after it: what is said of a run's report holds for all files that agree with those given in it. `found` are the failures of the system before the
+-- program and after it: by them, and by those that the acts show of the list's file and of the log, the fault of the run is told.
+pub record ExitsWith {W : Type 0} (files : Option Files) (given : Given) (found : Change) (state : W → FileState) (args : Args) (before after : Done W)
+    (status : ℕ) : Type 0 where
   pub words : Words
   pub end : Exit
   pub reads : AreWordsOf args words
-  pub ends : EndsFor files given contents words before after end
+  pub ends : EndsFor files given found state words before after end
   pub exits : status ≡ status_at end

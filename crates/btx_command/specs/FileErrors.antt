@@ -1,9 +1,11 @@
 -- What a file that failed means.
-use Rattle.std.specs.Prelude.{Bool, false, true, Option, None, Some, Result, Ok, Err}
+use Rattle.std.specs.Prelude.{◌&&◌, Bool, false, true, Option, None, Some, Result, Ok, Err}
 use Rattle.std.specs.IoError.{error_kind}
 use Rattle.std.specs.declared.io.Error.{Error}
 use Rattle.std.specs.declared.io.ErrorKind.{ErrorKind}
 use Rattle.std.specs.declared.io.ErrorKind.TheVariants.{Interrupted, OutOfMemory}
+use Rattle.btx_text.specs.declared.failures.Failures.{Failures}
+use Rattle.btx_text.specs.refinement.Counts.{failures_of}
 use Rattle.btx_aux.specs.declared.fetch_fault.FetchFault.{FetchFault}
 use Rattle.btx_aux.specs.declared.fetch_fault.FetchFault.TheVariants as fetch_fault
 use Rattle.btx_run.specs.declared.run_fault.RunFault.{RunFault}
@@ -29,6 +31,10 @@ is_device_kind _ = true
 abbrev pub is_device_read : {T : Type 0} → Result T Error → Bool
 is_device_read (Ok value) = false
 is_device_read (Err error) = is_device_kind (error_kind error)
+
+-- the failures of a finder over a system, which counts them: the last fetch failed, and that was the system's last call
+abbrev pub failures_of_fetches : Failures → Bool → Failures
+failures_of_fetches system last_failed = failures_of system.count (last_failed && system.last_failed)
 
 -- for the program, where an output couldn't be created or written: memory was refused, or the device failed
 abbrev pub output_fault : ErrorKind → RunFault

@@ -4,9 +4,8 @@ ghost use Rattle.std.specs.IoError.{error_kind};
 ghost use Rattle.std.specs.Option.{option_map};
 ghost use Rattle.btx_aux.specs.language.Fetches.{is_device_fetch};
 ghost use Rattle.btx_aux.specs.language.Files.{file_of};
-ghost use Rattle.btx_text.specs.language.Counts.{count_after};
-ghost use Rattle.btx_text.specs.refinement.Counts.{failures_of};
-ghost use Rattle.btx_command.specs.FileErrors.{unopened};
+ghost use Rattle.btx_text.specs.refinement.Counts.{RisesIf};
+ghost use Rattle.btx_command.specs.FileErrors.{failures_of_fetches, unopened};
 ghost use Rattle.btx_command.specs.FolderFiles.{folder_files};
 
 use crate::paths::path_in;
@@ -60,19 +59,17 @@ impl<'a, S: System> DirectoryFinder<'a, S> {
         &self.system
     }
 
-    /// Answers the history.
-    pub fn into_history(self) -> History
-    where
-        S: Drop,
-        ensures { result ≡ self.entry.history }
+    /// Gives the system and the history back.
+    pub fn into_parts(self) -> (S, History)
+        ensures { result ≡ (self.entry.system, self.entry.history) }
     {
         let DirectoryFinder {
-            system: _,
+            system,
             directory: _,
             history,
             last_failed: _,
         } = self;
-        history
+        (system, history)
     }
 }
 
@@ -89,7 +86,7 @@ fn read_in<S: System>(
     ensures found { into.old.items ≡ [] → IfSome (S.content system.old) (λ files.
         IfOk result (λ found. folder_files directory.now files name.now ≡ file_of found into.new.items)) }
     ensures stays { S.content system.new ≡ S.content system.old }
-    ensures counts { S.failures system.new ≡ count_after (is_device_fetch result) (S.failures system.old) }
+    ensures counts { RisesIf (is_device_fetch result) (S.failures system.old, S.failures system.new) }
 {
     let Ok(name) = str::from_utf8(name) else {
         return Ok(false);
@@ -121,7 +118,7 @@ impl<S: System> Finder for DirectoryFinder<'_, S> {
 
     ghost answers = { λ finder. finder.history };
 
-    ghost failures = { λ finder. failures_of (S.failures finder.system) finder.last_failed };
+    ghost failures = { λ finder. failures_of_fetches (S.failures finder.system) finder.last_failed };
 
     fn fetch(
         &mut self,

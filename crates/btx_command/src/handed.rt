@@ -1,7 +1,10 @@
 //! What was handed to the system, as proofs see it.
-ghost use Rattle.std.specs.Prelude.{◌≡◌, ◌++◌, ℕ, List, []};
+ghost use Rattle.std.specs.Prelude.{◌≡◌, ◌++◌, ℕ, Bool, List, []};
 ghost use Rattle.std.specs.Borrow.{ftrue};
-ghost use Rattle.btx_command.specs.Acts.{Act};
+ghost use Rattle.btx_text.specs.declared.failures.Failures.{Failures};
+ghost use Rattle.btx_text.specs.language.Counts.{failures_after};
+ghost use Rattle.btx_text.specs.refinement.Counts.{no_failures};
+ghost use Rattle.btx_command.specs.Acts.{Act, TakenFile};
 
 use std::marker::Model;
 
@@ -39,10 +42,37 @@ impl Handed {
     }
 }
 
+/// The calls of a file, by how often one failed and whether the last one did. Only proofs speak of them: at run time there is nothing here.
+#[derive(Drop)]
+pub struct Calls {
+    pub ghost failures: { Failures },
+}
+
+impl Model for Calls {
+    ghost also_owns = { λ _. ftrue };
+}
+
+impl Calls {
+    /// No call yet.
+    pub fn new() -> Calls
+        ensures { result.failures ≡ no_failures }
+    {
+        Calls {}
+    }
+
+    /// These calls, and then one more; whether it failed a proof says by what is seen.
+    pub fn and<T>(&self, seen: &T) -> Calls
+        ghost failed: { Bool }
+        ensures { result.failures ≡ failures_after failed self.now.failures }
+    {
+        Calls {}
+    }
+}
+
 /// What was done outside. Only proofs speak of it: at run time there is nothing here.
 #[derive(Drop)]
 pub struct Acts {
-    pub ghost done: { List (Act (List ℕ)) },
+    pub ghost done: { List (Act TakenFile) },
 }
 
 impl Model for Acts {
@@ -59,7 +89,7 @@ impl Acts {
 
     /// These acts, and then others, which a proof picks by what is seen.
     pub fn and<T>(&self, seen: &T) -> Acts
-        ghost more: { List (Act (List ℕ)) }
+        ghost more: { List (Act TakenFile) }
         ensures { result.done ≡ self.now.done ++ more }
     {
         Acts {}

@@ -1,8 +1,9 @@
 //! A job of a folder.
-ghost use Rattle.std.specs.Prelude.{◌≡◌, ◌≤◌, IfOk, true};
+ghost use Rattle.std.specs.Prelude.{◌≡◌, ◌≤◌, IfErr, IfOk, string_bytes, true};
 ghost use Rattle.btx_run.specs.language.RunFaults.{CountsOfRun};
 ghost use Rattle.btx_command.specs.Jobs.{DoesJob, DoesWith, HandsLog, IsReportOfSome, ListsJob, RunsJob, both_done};
 ghost use Rattle.btx_command.specs.ListFiles.{keeps_old};
+ghost use Rattle.btx_command.specs.Paths.{list_path, log_path};
 ghost use Rattle.btx_command.specs.Printing.{printed_log};
 ghost use Rattle.btx_command.specs.Status.{first_fault};
 
@@ -13,6 +14,7 @@ use crate::outputs::Outputs;
 use crate::paths::path_of;
 use crate::system::System;
 use btx_run::{Finder, History, Over, Report, RunFault, Sink, run};
+use btx_text::Failures;
 use std::alloc::Global;
 use std::mem;
 
@@ -48,17 +50,18 @@ fn both_done(first: Result<(), RunFault>, second: Result<(), RunFault>) -> Resul
     Ok(())
 }
 
-// Hands the log to the file of this path and then, also where that failed, what is to be printed to standard output. The first fault is
-// answered.
+// Hands the log, with the failures of the writes that kept it, to the file of this path and then, also where that failed, what is to be printed to standard
+// output. The first fault is answered.
 fn write_log<O: Outputs>(
     outputs: &mut O,
     settings: &Settings<'_>,
     path: &str,
     log: &[u8],
+    kept: Failures,
 ) -> Result<(), RunFault>
-    ensures { HandsLog settings.now path.now log.now (O.acts outputs.old) (O.acts outputs.new) result }
+    ensures { HandsLog settings.now path.now log.now kept (O.acts outputs.old) (O.acts outputs.new) result }
 {
-    let stored = outputs.store_log(path, log);
+    let stored = outputs.store_log(path, log, kept);
     let printed = outputs.print(printed_log(settings, log));
     both_done(stored, printed)
 }
@@ -83,7 +86,7 @@ fn list_job<F: Finder, W: EmptiedFile, L: Sink>(
     list: &mut ListFile<W>,
     log: &mut L,
 ) -> Result<Report, RunFault>
-    ensures { ListsJob (F.content finder.old) (F.answers finder.old, F.answers finder.new) W.contents settings.now (F.failures finder.old, F.failures finder.new) list.old list.new (L.received log.old, L.received log.new) (L.failures log.old, L.failures log.new) result }
+    ensures { ListsJob (F.content finder.old) (F.answers finder.old, F.answers finder.new) W.state settings.now (F.failures finder.old, F.failures finder.new) list.old list.new (L.received log.old, L.received log.new) (L.failures log.old, L.failures log.new) result }
 {
     let ran = run_over(alloc, settings, finder, list, log);
     let finished = list.finish(&ran);
@@ -100,32 +103,49 @@ fn do_job<F: Finder, O: Outputs>(
     outputs: &mut O,
     log_path: &str,
 ) -> Result<Report, RunFault>
-    ensures { DoesWith (F.content finder.old) (F.answers finder.old, F.answers finder.new) O.List.contents settings.now (F.failures finder.old, F.failures finder.new) log_path.now file (O.acts outputs.old) (O.acts outputs.new) result }
+    ensures { DoesWith (F.content finder.old) (F.answers finder.old, F.answers finder.new) O.List.state settings.now (F.failures finder.old, F.failures finder.new) log_path.now file (O.acts outputs.old) (O.acts outputs.new) result }
 {
     let mut log = Over::new(Vec::new(alloc));
     let mut list = ListFile::new(file);
     let listed = list_job(alloc, settings, finder, &mut list, &mut log);
     outputs.close_list(list.into_file());
-    let written = write_log(outputs, settings, log_path, log.writer.as_slice());
+    let kept = log.failures;
+    let written = write_log(outputs, settings, log_path, log.writer.as_slice(), kept);
     first_fault(listed, written)
 }
 
+// The paths of the job's list and of its log.
+fn paths_of(alloc: Global, settings: &Settings<'_>) -> Result<(String, String), RunFault>
+    ensures paths { IfOk result (λ paths. (string_bytes paths.0 ≡ list_path settings.now) × (string_bytes paths.1 ≡ log_path settings.now)) }
+    ensures memory { IfErr result (λ fault. fault ≡ RunFault.Memory) }
+{
+    let list_path = path_of(alloc, settings, ".bbl")?;
+    let log_path = path_of(alloc, settings, ".blg")?;
+    Ok((list_path, log_path))
+}
+
 /// Does the job over the files of its folder: writes `JOB.bbl`, `JOB.blg` and, where the settings aren't terse, to standard output the log again.
-/// The log is written also after a fault, except where `JOB.bbl` can't be opened or memory is refused for the two paths. The first fault is answered.
+/// The log is written also after a fault, except where `JOB.bbl` can't be opened or memory is refused for the two paths. The first fault is answered,
+/// and the system handed back.
 pub fn run_job<S: System + Drop, O: Outputs>(
     alloc: Global,
     settings: &Settings<'_>,
     system: S,
     history: &mut History,
     outputs: &mut O,
-) -> Result<Report, RunFault>
-    ensures does { DoesJob (S.content system) (history.old, history.new) O.List.contents settings.now (O.acts outputs.old) (O.acts outputs.new) result }
-    ensures bound { IfOk result (λ report. report.steps ≤ settings.now.options.budget) }
-    ensures product { IfOk result (IsReportOfSome settings.now) }
+) -> (S, Result<Report, RunFault>)
+    ensures does { DoesJob (S.content system) (history.old, history.new) O.List.state settings.now (S.failures system, S.failures result.0) (O.acts outputs.old) (O.acts outputs.new) result.1 }
+    ensures bound { IfOk result.1 (λ report. report.steps ≤ settings.now.options.budget) }
+    ensures product { IfOk result.1 (IsReportOfSome settings.now) }
 {
-    let list_path = path_of(alloc, settings, ".bbl")?;
-    let log_path = path_of(alloc, settings, ".blg")?;
-    let file = outputs.open_list(list_path.as_str())?;
+    let (list_path, log_path) = match paths_of(alloc, settings) {
+        Ok(paths) => paths,
+        Err(fault) => return (system, Err(fault)),
+    };
+    let file = match outputs.open_list(list_path.as_str()) {
+        Ok(file) => file,
+        Err(fault) => return (system, Err(fault)),
+    };
     outputs.empty_log(log_path.as_str());
     let given = mem::replace(history, History::new(alloc));
     let mut finder = DirectoryFinder::new(system, settings.directory, given);
@@ -137,6 +157,7 @@ pub fn run_job<S: System + Drop, O: Outputs>(
         outputs,
         log_path.as_str(),
     );
-    *history = finder.into_history();
-    answer
+    let (system, given) = finder.into_parts();
+    *history = given;
+    (system, answer)
 }

@@ -2,12 +2,14 @@
 ghost use Rattle.std.specs.Prelude.{◌≡◌, ◌↔◌, ◌++◌, [], ◌∷◌, true, IfOk, IsOkAnd, OnOk};
 ghost use Rattle.std.specs.Fs.{IsFile, file_type};
 ghost use Rattle.std.specs.Io.KnownBytes.{Appends};
+ghost use Rattle.btx_text.specs.refinement.Counts.{no_failures};
 ghost use Rattle.btx_command.specs.Acts.{ClosedList, WereDone, Done, EmptiedLog, OpenedList, Printed, StoredLog, ReportedFault, ReportedText};
 
 use crate::handed::{Acts, Handed};
 use crate::list_file::{EmptiedFile, SystemFile};
 use crate::outcome::output_fault;
 use btx_run::RunFault;
+use btx_text::Failures;
 use std::fs::{File, Metadata, OpenOptions};
 use std::io::Write;
 use std::rt::Files;
@@ -34,9 +36,9 @@ pub trait Outputs {
     fn empty_log(&mut self, path: &str)
         ensures { WereDone (acts self.old) (acts self.new) (EmptiedLog path.now ∷ []) };
 
-    /// Stores a log in the file of this path.
-    fn store_log(&mut self, path: &str, log: &[u8]) -> Result<(), RunFault>
-        ensures { WereDone (acts self.old) (acts self.new) (StoredLog path.now log.now result ∷ []) };
+    /// Stores a log in the file of this path. `kept` are the failures of the writes that kept the log in memory, which are noted only.
+    fn store_log(&mut self, path: &str, log: &[u8], kept: Failures) -> Result<(), RunFault>
+        ensures { WereDone (acts self.old) (acts self.new) (StoredLog path.now log.now kept result ∷ []) };
 
     /// Prints a text to standard output.
     fn print(&mut self, text: &[u8]) -> Result<(), RunFault>
@@ -87,7 +89,7 @@ fn is_ordinary(metadata: &io::Result<Metadata>) -> bool
 
 // Opens the list's file of this path, and makes it where there is none. What it holds stays.
 fn open_kept<R: Files>(files: &R, path: &str) -> Result<SystemFile<R::File>, RunFault>
-    ensures { IfOk result (λ file. file ≡ []) }
+    ensures { IfOk result (λ file. file ≡ record { bytes = []; failures = no_failures }) }
 {
     let file = OpenOptions::new()
         .write(true)
@@ -149,9 +151,9 @@ impl<R: Files + Print + Eprint> Outputs for SystemOutputs<'_, R> {
         self.acts = self.acts.and(&path.as_bytes());
     }
 
-    fn store_log(&mut self, path: &str, log: &[u8]) -> Result<(), RunFault> {
+    fn store_log(&mut self, path: &str, log: &[u8], kept: Failures) -> Result<(), RunFault> {
         let stored = store(self.rt, path, log);
-        self.acts = self.acts.and(&(path.as_bytes(), log, stored));
+        self.acts = self.acts.and(&(path.as_bytes(), log, kept, stored));
         stored
     }
 

@@ -70,22 +70,22 @@ fn report_answer<O: Outputs>(outputs: &mut O, answer: Result<Report, RunFault>) 
     Exit::of(answer)
 }
 
-// Does what the words ask for, over the files of a system, and gives the program's end.
+// Does what the words ask for, over the files of a system, which is handed back, and gives the program's end.
 fn answer<S: System + Drop, O: Outputs>(
     alloc: Global,
     system: S,
     history: &mut History,
     outputs: &mut O,
     words: &[String],
-) -> Exit
-    ensures { ComesTo (S.content system) (history.old, history.new) O.List.contents (map (λ word. string_bytes word) words.now) (hint_of words.now) (O.acts outputs.old) (O.acts outputs.new) result }
+) -> (S, Exit)
+    ensures { ComesTo (S.content system) (history.old, history.new) (S.failures system, S.failures result.0) O.List.state (map (λ word. string_bytes word) words.now) (hint_of words.now) (O.acts outputs.old) (O.acts outputs.new) result.1 }
 {
     match settings(alloc, words) {
         Ok(settings) => {
-            let answer = run_job(alloc, &settings, system, history, outputs);
-            report_answer(outputs, answer)
+            let (system, answer) = run_job(alloc, &settings, system, history, outputs);
+            (system, report_answer(outputs, answer))
         }
-        Err(refusal) => report_refusal(outputs, &refusal, hint(words)),
+        Err(refusal) => (system, report_refusal(outputs, &refusal, hint(words))),
     }
 }
 
@@ -102,19 +102,19 @@ fn report_unread<O: Outputs>(outputs: &mut O, error: &io::Error) -> Exit
     }
 }
 
-// Does what the words ask for, or reports why they couldn't be read, and gives the program's end.
+// Does what the words ask for, or reports why they couldn't be read, and gives the system and the program's end.
 fn end_of<S: System + Drop, O: Outputs>(
     alloc: Global,
     system: S,
     history: &mut History,
     outputs: &mut O,
     words: io::Result<Vec<String>>,
-) -> Exit
-    ensures { EndsFor (S.content system) (history.old, history.new) O.List.contents words (O.acts outputs.old) (O.acts outputs.new) result }
+) -> (S, Exit)
+    ensures { EndsFor (S.content system) (history.old, history.new) (S.failures system, S.failures result.0) O.List.state words (O.acts outputs.old) (O.acts outputs.new) result.1 }
 {
     match words {
         Ok(words) => answer(alloc, system, history, outputs, words.as_slice()),
-        Err(error) => report_unread(outputs, &error),
+        Err(error) => (system, report_unread(outputs, &error)),
     }
 }
 
@@ -125,17 +125,18 @@ fn exit_code(exit: Exit) -> ExitCode
     ExitCode::from(exit.status())
 }
 
-/// Runs the whole program over the files of `system`: does what the words of the command line ask for, and answers the exit code. `args` is the
-/// system's answer when it was asked for these words, the program's name first. Each fault is reported to `outputs`, and has its exit code.
+/// Runs the whole program over the files of `system`: does what the words of the command line ask for, and answers the system and the exit code. `args` is
+/// the system's answer when it was asked for these words, the program's name first. Each fault is reported to `outputs`, and has its exit code.
 pub fn run_command_line<S: System + Drop, O: Outputs>(
     alloc: Global,
     system: S,
     history: &mut History,
     outputs: &mut O,
     args: io::Result<Args>,
-) -> ExitCode
-    ensures { ExitsWith (S.content system) (history.old, history.new) O.List.contents args (O.acts outputs.old) (O.acts outputs.new) (exit_status result) }
+) -> (S, ExitCode)
+    ensures { ExitsWith (S.content system) (history.old, history.new) (S.failures system, S.failures result.0) O.List.state args (O.acts outputs.old) (O.acts outputs.new) (exit_status result.1) }
 {
     let words = words(alloc, args);
-    exit_code(end_of(alloc, system, history, outputs, words))
+    let (system, end) = end_of(alloc, system, history, outputs, words);
+    (system, exit_code(end))
 }

@@ -4,7 +4,7 @@ ghost use Rattle.std.specs.IoError.{error_kind};
 ghost use Rattle.std.specs.Io.{ReadsAtMost};
 ghost use Rattle.std.specs.Io.KnownBytes.{ReadConsumes};
 ghost use Rattle.btx_aux.specs.language.Fetches.{is_device_fetch};
-ghost use Rattle.btx_text.specs.language.Counts.{count_after};
+ghost use Rattle.btx_text.specs.refinement.Counts.{RisesIf};
 ghost use Rattle.btx_command.specs.FileErrors.{read_fault};
 ghost use Rattle.btx_command.specs.FolderFiles.{most_read};
 
@@ -32,7 +32,7 @@ fn read_fault(error: &io::Error) -> Option<FetchFault>
 }
 
 // Reads bytes of an open file, once, or again as often as a signal interrupts the reading; 2^64 such signals don't come. The fault is the device's exactly
-// where it failed this reading.
+// where it failed this reading, which is then the last call of the system.
 fn read_some<S: System>(
     system: &mut S,
     file: &mut S::File,
@@ -41,7 +41,7 @@ fn read_some<S: System>(
     ensures bound { ReadsAtMost result into.new }
     ensures bytes { ReadConsumes (S.File.remaining file.old) (S.File.remaining file.new) result into.new }
     ensures stays { S.content system.new ≡ S.content system.old }
-    ensures counts { S.failures system.new ≡ count_after (is_device_fetch result) (S.failures system.old) }
+    ensures counts { RisesIf (is_device_fetch result) (S.failures system.old, S.failures system.new) }
 {
     for _ in 0..u64::MAX {
         match system.read(file, into) {
@@ -65,7 +65,7 @@ pub fn read_front<S: System>(
 ) -> Result<(), FetchFault>
     ensures bytes { OnOk result (IfSome (S.File.remaining file) (λ bytes. into.new.items ≡ into.old.items ++ take most_read bytes)) }
     ensures stays { S.content system.new ≡ S.content system.old }
-    ensures counts { S.failures system.new ≡ count_after (is_device_fetch result) (S.failures system.old) }
+    ensures counts { RisesIf (is_device_fetch result) (S.failures system.old, S.failures system.new) }
 {
     let mut piece = [0; PIECE];
     let mut left = MOST_READ;

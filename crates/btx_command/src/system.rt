@@ -1,13 +1,16 @@
 //! A system with files that are read.
-ghost use Rattle.std.specs.Prelude.{◌≡◌, ℕ, IfErr, IfOk, IfSome, None, Option};
+ghost use Rattle.std.specs.Prelude.{◌≡◌, false, IfErr, IfOk, IfSome, None, Option};
 ghost use Rattle.std.specs.IoError.{error_kind};
 ghost use Rattle.std.specs.Io.{ReadsAtMost};
 ghost use Rattle.std.specs.Io.KnownBytes.{ReadConsumes};
 ghost use Rattle.btx_aux.specs.language.Files.{Files};
-ghost use Rattle.btx_text.specs.language.Counts.{count_after};
+ghost use Rattle.btx_text.specs.declared.failures.Failures.{Failures};
+ghost use Rattle.btx_text.specs.language.Counts.{failures_after};
+ghost use Rattle.btx_text.specs.refinement.Counts.{no_failures};
 ghost use Rattle.btx_command.specs.FileErrors.{is_device_read};
 ghost use Rattle.btx_command.specs.FolderFiles.{Holds, IsMissedBy};
 
+use btx_text::Failures;
 use std::io::{ErrorKind, Read};
 use std::{fs, io, rt};
 
@@ -19,13 +22,15 @@ pub trait System {
     /// What the files hold, by their paths, for a system whose content is known.
     ghost content: { Self → Option Files };
 
-    /// How often the device has failed a reading; a `u64`, which goes from its greatest value to 0.
-    ghost failures: { Self → ℕ };
+    /// How often the device has failed a reading, and whether it did at the last call, be it an opening or a reading.
+    ghost failures: { Self → Failures };
 
-    /// Opens a file, which is then read from its first byte on.
-    fn open(&self, path: &str) -> io::Result<Self::File>
-        ensures opened { IfSome (content self.now) (λ files. IfOk result (λ file. Holds files path.now (Self.File.remaining file))) }
-        ensures missed { IfSome (content self.now) (λ files. IfErr result (λ error. IsMissedBy files path.now (error_kind error))) };
+    /// Opens a file, which is then read from its first byte on. That a file can't be opened is no failure of the device: there is no such file.
+    fn open(&mut self, path: &str) -> io::Result<Self::File>
+        ensures opened { IfSome (content self.old) (λ files. IfOk result (λ file. Holds files path.now (Self.File.remaining file))) }
+        ensures missed { IfSome (content self.old) (λ files. IfErr result (λ error. IsMissedBy files path.now (error_kind error))) }
+        ensures stays { content self.new ≡ content self.old }
+        ensures counts { failures self.new ≡ failures_after false (failures self.old) };
 
     /// Reads bytes of an open file, once. The count of failures rises, by one, exactly where the device failed this reading: for want of memory, or
     /// where a signal interrupted it, it stays.
@@ -33,13 +38,13 @@ pub trait System {
         ensures bound { ReadsAtMost result into.new }
         ensures bytes { ReadConsumes (Self.File.remaining file.old) (Self.File.remaining file.new) result into.new }
         ensures stays { content self.new ≡ content self.old }
-        ensures counts { failures self.new ≡ count_after (is_device_read result) (failures self.old) };
+        ensures counts { failures self.new ≡ failures_after (is_device_read result) (failures self.old) };
 }
 
 /// The real system.
 pub struct RealSystem<'a, R> {
     rt: &'a R,
-    failures: u64,
+    failures: Failures,
 }
 
 impl<R> Drop for RealSystem<'_, R> {
@@ -51,13 +56,16 @@ impl<R> Drop for RealSystem<'_, R> {
 impl<'a, R: rt::Files> RealSystem<'a, R> {
     /// Makes the real system, over the runtime `rt`.
     pub fn new(rt: &'a R) -> Self
-        ensures { result.failures ≡ 0 }
+        ensures { result.failures ≡ no_failures }
     {
-        RealSystem { rt, failures: 0 }
+        RealSystem {
+            rt,
+            failures: Failures::none(),
+        }
     }
 
-    /// Answers how often the device has failed a reading. The count begins again at 0 after `u64::MAX`.
-    pub fn failures(&self) -> u64
+    /// Answers how often the device has failed a reading, and whether it did at the last call.
+    pub fn failures(&self) -> Failures
         ensures { result ≡ self.now.failures }
     {
         self.failures
@@ -84,15 +92,14 @@ impl<R: rt::Files> System for RealSystem<'_, R> {
 
     ghost failures = { λ system. system.failures };
 
-    fn open(&self, path: &str) -> io::Result<R::File> {
+    fn open(&mut self, path: &str) -> io::Result<R::File> {
+        self.failures.note(false);
         fs::open(self.rt, path)
     }
 
     fn read(&mut self, file: &mut R::File, into: &mut [u8]) -> io::Result<usize> {
         let answer = file.read(into);
-        if is_device_read(&answer) {
-            self.failures = self.failures.wrapping_add(1);
-        }
+        self.failures.note(is_device_read(&answer));
         answer
     }
 }

@@ -23,7 +23,8 @@ fn gives(rt: &HostRuntime, directory: &str, row: &Row<'_>) -> Result<bool, Alloc
     let answer = finder.fetch(rt.alloc(), row.name, &mut into);
     Ok(
         answer == row.answer
-            && finder.system().failures() == row.failures
+            && finder.system().failures().count == row.failures
+            && finder.system().failures().last_failed == (row.failures > 0)
             && into.as_slice() == row.bytes,
     )
 }

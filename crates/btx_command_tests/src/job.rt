@@ -47,13 +47,14 @@ fn status_in(rt: &HostRuntime, directory: &str) -> Result<u8, RunFault> {
     let settings = settings_in(directory);
     let mut history = History::new(rt.alloc());
     let mut outputs = SystemOutputs::new(rt);
-    status_of(run_job(
+    let (_system, answer) = run_job(
         rt.alloc(),
         &settings,
         RealSystem::new(rt),
         &mut history,
         &mut outputs,
-    ))
+    );
+    status_of(answer)
 }
 
 // Whether an output of the job has this text.

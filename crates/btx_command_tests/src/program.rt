@@ -12,7 +12,7 @@ fn exits_with(rt: &HostRuntime, args: io::Result<Args>, status: u8) -> bool {
     let mut history = History::new(rt.alloc());
     let mut outputs = SystemOutputs::new(rt);
     let system = RealSystem::new(rt);
-    let code = run_command_line(rt.alloc(), system, &mut history, &mut outputs, args);
+    let (_system, code) = run_command_line(rt.alloc(), system, &mut history, &mut outputs, args);
     code == ExitCode::from(status)
 }
 

@@ -5,4 +5,5 @@ use Rattle.btx_c.proofs.needs.ask_each.Given as goal
 
 -- what was asked so far and the lines for the other names are all that is to be asked
 abbrev pub invariant-loop-name : goal.invariant-loop-name
-invariant-loop-name l = l.initial.asked.items ++ lines_for l.index (texts_of l.names) ≡ l.asked.items ++ lines_for l.index (texts_of (drop l.name-index l.names))
+invariant-loop-name l = l.initial.asked.items ++ lines_for l.index (texts_of l.names) ≡ l.asked.items
+    ++ lines_for l.index (texts_of (drop l.name-index l.names))

@@ -12,7 +12,10 @@ use Rattle.btx_c.proofs.run.run_handed.Goals as goal
 pub returns-clause-ok : goal.returns-clause-ok
 returns-clause-ok g c =
     let files = all_files c.args.files.now g.others in
-    let Whole : Report → Type 0 = λ report. Completes report (Some [], Some []) (Some c.run_into-ended.new.list.bytes.items, Some c.run_into-ended.new.log.bytes.items) (product files c.args.name.now c.args.options.now) in
+    let Whole : Report → Type 0 = λ report. Completes report (Some [], Some []) (
+      Some c.run_into-ended.new.list.bytes.items,
+      Some c.run_into-ended.new.log.bytes.items,
+    ) (product files c.args.name.now c.args.options.now) in
     subst (λ (outcome : Result Report Cause). IfOk outcome Whole) (sym c.outcome_of-outcome.ensures)
     (ok_of Whole c.run_into-ended.result _ _ (rw (c.new-list.ensures, c.new-log.ensures) at c.run_into-ended.ensures.ok))
 

@@ -30,5 +30,9 @@ returns c =
 -- where memory is refused the words of `--text` may stand anywhere
 pub returns-in_err-bibtex_command-clause-faults : goal.returns-in_err-bibtex_command-clause-faults
 returns-in_err-bibtex_command-clause-faults c =
-    let modes : Modes = record { ref_ptr = (0, 0); now = record { ref_ptr = (0, 0); now = codes "bytes" } ∷ record { ref_ptr = (0, 0); now = codes "utf8" } ∷ [] } in
+    let modes : Modes = record {
+      ref_ptr = (0, 0);
+      now = record { ref_ptr = (0, 0); now = codes "bytes" } ∷ record { ref_ptr = (0, 0); now = codes "utf8" }
+          ∷ [];
+    } in
     (bibtex_command modes, (modes, refl, refl), search rules)

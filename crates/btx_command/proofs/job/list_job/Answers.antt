@@ -10,7 +10,7 @@ returns g c = record {
   counts = c.run_over-ran.ensures.counts;
   finishes = c.finish-finished.ensures;
   untouched =
-      ended_untouched g.W.Write.contents c.run_over-ran.result c.args.list.now c.run_over-ran.new.bbl c.finish-finished.new.self c.finish-finished.result
+      ended_untouched g.W.EmptiedFile.state c.run_over-ran.result c.args.list.now c.run_over-ran.new.bbl c.finish-finished.new.self c.finish-finished.result
       c.run_over-ran.ensures.untouched c.finish-finished.ensures;
   first = c.first_fault.ensures;
 }

@@ -7,7 +7,8 @@ pub returns-clause-rule : goal.returns-clause-rule
 returns-clause-rule c =
     let given = c.value_parser.ensures.given in
     let named : rule_of c.value_name.result ≡ _ = ap rule_of c.value_name.ensures
-    ∙ ap (λ (r : Rule). record r { value_names = 1 }) (ap rule_of c.long.ensures ∙ ap (λ (r : Rule). record r { long = Some (codes "text") }) c.new.ensures.rule) in
+    ∙ ap (λ (r : Rule). record r { value_names = 1 })
+    (ap rule_of c.long.ensures ∙ ap (λ (r : Rule). record r { long = Some (codes "text") }) c.new.ensures.rule) in
     let parsed = ap rule_of c.value_parser.ensures.others
     ∙ ap₂ (λ (r : Rule) p. record r { parser = p }) named (given.1 ∙ ap (λ p. Some p) given.2) in (
       _,

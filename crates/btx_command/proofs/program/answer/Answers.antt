@@ -8,9 +8,9 @@ returns-in-Ok g c = record {
   settings = c.in-Ok.ensures.read;
   refused = c.in-Ok.ensures.refused;
   answered = record {
-    answer = c.run_job-answer.result;
-    done = g.O.Outputs.acts c.run_job-answer.new.outputs;
-    does = c.run_job-answer.ensures.does;
+    answer = c.run_job-system.result.1;
+    done = g.O.Outputs.acts c.run_job-system.new.outputs;
+    does = c.run_job-system.ensures.does;
     reports = c.report_answer.ensures.acts;
     ends = c.report_answer.ensures.exit;
   };

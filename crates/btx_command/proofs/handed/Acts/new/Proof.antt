@@ -25,8 +25,6 @@ use Rattle.btx_command.specs.contracts.handed.Acts.new as f
 use Rattle.btx_command.proofs.handed.Acts.new.Statement as stated
 use Rattle.btx_command.proofs.handed.Acts.new.Code as code
 use Rattle.btx_command.specs.contracts.handed.Acts as made
-use Rattle.std.specs.Prelude.{ℕ, List}
-use Rattle.btx_command.specs.Acts.{Act}
 
 abbrev stayed : Stays (f.ended).signature.params (f.ended).kept
 stayed = tt

@@ -25,7 +25,6 @@ use Rattle.btx_command.specs.contracts.handed.Handed.new as f
 use Rattle.btx_command.proofs.handed.Handed.new.Statement as stated
 use Rattle.btx_command.proofs.handed.Handed.new.Code as code
 use Rattle.btx_command.specs.contracts.handed.Handed as made
-use Rattle.std.specs.Prelude.{ℕ, List}
 
 abbrev stayed : Stays (f.ended).signature.params (f.ended).kept
 stayed = tt
