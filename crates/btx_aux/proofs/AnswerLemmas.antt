@@ -1,5 +1,6 @@
 -- What is known by a finder's answers, part after part, and files that answer so.
-use Rattle.std.proofs.Common.{◌≡◌, ℕ, Bool, false, if◌then◌else◌, List, [], ◌∷◌, ◌++◌, Option, None, Some, Result, Ok, Err, OnErr, IfSome, refl, sym, ap, ◌∙◌, subst, append_assoc, append-nil}
+use Rattle.std.proofs.Common.{◌≡◌, ℕ, Bool, false, if◌then◌else◌, List, [], ◌∷◌, ◌++◌, Option, None, Some, Result, Ok, Err, OnErr, IfSome, refl, sym, ap, ◌∙◌}
+use Rattle.std.proofs.Common.{subst, append_assoc, append-nil}
 use Rattle.std.proofs.lemmas.List.{map-append}
 use Rattle.std.proofs.lemmas.Cmp.{nat_list_eq_equiv}
 use Rattle.std.proofs.lemmas.Map.Keys.{IsDistinct-head, IsDistinct-tail}
@@ -44,7 +45,8 @@ module _ {content : Option Files} {before after : List FinderAnswer} {Asks : Lis
     of_any (Some files) = tt
 
   -- what follows from a part
-  pub by_map : {Asks' : List (List ℕ) → Type 0} {Claim' : Files → Type 0} → ByAnswers content before after Asks' Claim' → ((names : List (List ℕ)) → Asks' names → Asks names)
+  pub by_map : {Asks' : List (List ℕ) → Type 0} {Claim' : Files → Type 0} → ByAnswers content before after Asks' Claim'
+      → ((names : List (List ℕ)) → Asks' names → Asks names)
       → ((files : Files) → Claim' files → Claim files) → ByAnswers content before after Asks Claim
   by_map part asks holds = record {
     answers = part.answers;
@@ -55,16 +57,20 @@ module _ {content : Option Files} {before after : List FinderAnswer} {Asks : Lis
   }
 
   -- what follows from two parts, one after the other
-  pub by_both : {later : Option Files} {between : List FinderAnswer} {Asks₁ Asks₂ : List (List ℕ) → Type 0} {Claim₁ Claim₂ : Files → Type 0} → later ≡ content → ByAnswers content before between Asks₁ Claim₁ → ByAnswers later between after Asks₂ Claim₂
-      → ((xs ys : List (List ℕ)) → Asks₁ xs → Asks₂ ys → Asks (xs ++ ys)) → ((files : Files) → Claim₁ files → Claim₂ files → Claim files) → ByAnswers content before after Asks Claim
+  pub by_both : {later : Option Files} {between : List FinderAnswer} {Asks₁ Asks₂ : List (List ℕ) → Type 0} {Claim₁ Claim₂ : Files → Type 0} → later ≡ content
+      → ByAnswers content before between Asks₁ Claim₁ → ByAnswers later between after Asks₂ Claim₂
+      → ((xs ys : List (List ℕ)) → Asks₁ xs → Asks₂ ys → Asks (xs ++ ys)) → ((files : Files) → Claim₁ files → Claim₂ files → Claim files)
+      → ByAnswers content before after Asks Claim
   by_both same first second asks holds = record {
     answers = first.answers ++ second.answers;
     given = second.given ∙ ap (λ (xs : List FinderAnswer). xs ++ second.answers) first.given ∙ append_assoc before first.answers second.answers;
     shown = shown_both content first.shown (subst (λ (content : Option Files). IfSome content (λ files. Agree files second.answers)) same second.shown);
     asks = subst Asks (sym (map-append (λ (given : FinderAnswer). given.name) first.answers second.answers)) (asks _ _ first.asks second.asks);
-    holds = λ files agree. holds files (first.holds files (all-front _ first.answers second.answers agree)) (second.holds files (all-back _ first.answers second.answers agree));
+    holds = λ files agree. holds files (first.holds files (all-front _ first.answers second.answers agree))
+        (second.holds files (all-back _ first.answers second.answers agree));
   } where
-    shown_both : (content : Option Files) → IfSome content (λ files. Agree files first.answers) → IfSome content (λ files. Agree files second.answers) → IfSome content (λ files. Agree files (first.answers ++ second.answers))
+    shown_both : (content : Option Files) → IfSome content (λ files. Agree files first.answers) → IfSome content (λ files. Agree files second.answers)
+        → IfSome content (λ files. Agree files (first.answers ++ second.answers))
     shown_both None a b = tt
     shown_both (Some files) a b = all-both _ first.answers second.answers a b
 
@@ -76,7 +82,9 @@ module _ {content : Option Files} {before after : List FinderAnswer} {Asks : Lis
     of (Some files) agree = part.holds files agree
 
 -- a file was asked for
-pub by_fetch : {content : Option Files} {before after : List FinderAnswer} (name : List ℕ) (bytes : Option (List ℕ)) → after ≡ before ++ record { name = name; bytes = bytes } ∷ [] → IfSome content (λ files. files name ≡ bytes) → ByAnswers content before after (λ names. names ≡ name ∷ []) (λ files. files name ≡ bytes)
+pub by_fetch : {content : Option Files} {before after : List FinderAnswer} (name : List ℕ) (bytes : Option (List ℕ))
+    → after ≡ before ++ record { name = name; bytes = bytes } ∷ [] → IfSome content (λ files. files name ≡ bytes)
+    → ByAnswers content before after (λ names. names ≡ name ∷ []) (λ files. files name ≡ bytes)
 by_fetch {content} name bytes given shown = record {
   answers = record { name = name; bytes = bytes } ∷ [];
   given = given;
@@ -84,7 +92,8 @@ by_fetch {content} name bytes given shown = record {
   asks = refl;
   holds = λ files agree. agree.0;
 } where
-  of : (content : Option Files) → IfSome content (λ files. files name ≡ bytes) → IfSome content (λ files. Agree files (record { name = name; bytes = bytes } ∷ []))
+  of : (content : Option Files) → IfSome content (λ files. files name ≡ bytes)
+      → IfSome content (λ files. Agree files (record { name = name; bytes = bytes } ∷ []))
   of None is = tt
   of (Some files) is = (is, tt)
 
@@ -95,7 +104,8 @@ abbrev pub files_answered : List FinderAnswer → Files
 files_answered [] name = None
 files_answered (given ∷ answers) name = if bytes_eq given.name name then given.bytes else files_answered answers name
 
-others_agree : (given : FinderAnswer) (files : Files) (answers : List FinderAnswer) → AllByRecursion (λ name. bytes_eq given.name name ≡ false) (names_asked answers) → Agree files answers
+others_agree : (given : FinderAnswer) (files : Files) (answers : List FinderAnswer)
+    → AllByRecursion (λ name. bytes_eq given.name name ≡ false) (names_asked answers) → Agree files answers
     → Agree (λ name. if bytes_eq given.name name then given.bytes else files name) answers
 others_agree given files [] apart agree = tt
 others_agree given files (other ∷ answers) apart agree =
@@ -106,9 +116,11 @@ pub files_agree : (answers : List FinderAnswer) → IsDistinct bytes_eq (names_a
 files_agree [] distinct = tt
 files_agree (given ∷ answers) distinct = (
   ap (λ (b : Bool). if b then given.bytes else files_answered answers given.name) (nat_list_eq_equiv.refl given.name),
-  others_agree given (files_answered answers) answers (IsDistinct-head bytes_eq given.name (names_asked answers) distinct) (files_agree answers (IsDistinct-tail bytes_eq given.name (names_asked answers) distinct)),
+  others_agree given (files_answered answers) answers (IsDistinct-head bytes_eq given.name (names_asked answers) distinct)
+      (files_agree answers (IsDistinct-tail bytes_eq given.name (names_asked answers) distinct)),
 )
 
 -- where none was asked for twice there are files of which the claim holds
-pub some_files : {content : Option Files} {before after : List FinderAnswer} {Claim : Files → Type 0} → ByAnswers content before after (λ names. IsDistinct bytes_eq names) Claim → (files : Files) × Claim files
+pub some_files : {content : Option Files} {before after : List FinderAnswer} {Claim : Files → Type 0}
+    → ByAnswers content before after (λ names. IsDistinct bytes_eq names) Claim → (files : Files) × Claim files
 some_files part = (files_answered part.answers, part.holds (files_answered part.answers) (files_agree part.answers part.asks))

@@ -1,5 +1,6 @@
 -- The names that a reading of `.aux` files asks for.
-use Rattle.std.proofs.Common.{◌≡◌, ℕ, zero, suc, ◌-◌, ◌≤◌, ◌&&◌, not, Bool, true, false, if◌then◌else◌, List, [], ◌∷◌, ◌++◌, map, fold, Option, None, Some, inl, inr, refl, sym, ap, ◌∙◌, arith, subst, append_assoc, append-nil}
+use Rattle.std.proofs.Common.{◌≡◌, ℕ, zero, suc, ◌-◌, ◌≤◌, ◌&&◌, not, Bool, true, false, if◌then◌else◌, List, [], ◌∷◌, ◌++◌, map, fold, Option, None, Some, inl}
+use Rattle.std.proofs.Common.{inr, refl, sym, ap, ◌∙◌, arith, subst, append_assoc, append-nil}
 use Rattle.std.specs.Prelude.{codes}
 use Rattle.std.specs.List.{IsDistinct}
 use Rattle.std.specs.Option.{option_or}
@@ -49,7 +50,8 @@ new_none known = record {
 
 pub new_behind : (before between xs ys : Names) → AddsNames before between xs → AsksNew between ys → AsksNew before (xs ++ ys)
 new_behind before between xs ys adds new = record {
-  once = λ distinct. subst (λ (names : Names). IsDistinct bytes_eq names) (ap (λ (names : Names). names ++ ys) adds.added ∙ append_assoc before xs ys) (new.once (adds.once distinct));
+  once = λ distinct. subst (λ (names : Names). IsDistinct bytes_eq names) (ap (λ (names : Names). names ++ ys) adds.added ∙ append_assoc before xs ys)
+      (new.once (adds.once distinct));
   endings = all-both _ xs ys adds.endings new.endings;
 }
 
@@ -66,7 +68,8 @@ module _ (file : List ℕ) (line : ℕ) where
   cites_names draft [] = refl
   cites_names draft (piece ∷ pieces) = cites_names (learned draft (event_at file line (Cites piece))) pieces
 
-  input_grows : (draft : Draft) (piece : Piece) → Grows draft.files (option_or (asked_of draft.files (Includes piece)) None) (learned draft (event_at file line (Includes piece))).files
+  input_grows : (draft : Draft) (piece : Piece) → Grows draft.files (option_or (asked_of draft.files (Includes piece)) None)
+      (learned draft (event_at file line (Includes piece))).files
   unfolding learned
   input_grows draft (Taken name) = by_ending (has_ending (codes ".aux") name) (is_among draft.files name) refl refl where
     by_ending : (ends there : Bool) → has_ending (codes ".aux") name ≡ ends → is_among draft.files name ≡ there
@@ -76,16 +79,19 @@ module _ (file : List ℕ) (line : ℕ) where
     by_ending false there ending among = refl
   input_grows draft (Cut slip) = refl
 
-  command_grows : (draft : Draft) (command : Option Command) (argument : List ℕ) → Grows draft.files (asked_in draft.files (words_of_command command argument)) (learned_words file line draft (words_of_command command argument)).files
+  command_grows : (draft : Draft) (command : Option Command) (argument : List ℕ) → Grows draft.files (asked_in draft.files (words_of_command command argument))
+      (learned_words file line draft (words_of_command command argument)).files
   unfolding learned
   command_grows draft None argument = refl
   command_grows draft (Some Citation) argument =
-      subst (λ (asked : Option (List ℕ)). Grows draft.files asked (learned_words file line draft (map Cites (pieces_of true argument))).files) (sym (asked_in-Cites draft.files (pieces_of true argument))) (cites_names draft (pieces_of true argument))
+      subst (λ (asked : Option (List ℕ)). Grows draft.files asked (learned_words file line draft (map Cites (pieces_of true argument))).files)
+      (sym (asked_in-Cites draft.files (pieces_of true argument))) (cites_names draft (pieces_of true argument))
   command_grows draft (Some Bibdata) argument = refl
   command_grows draft (Some Bibstyle) argument = refl
   command_grows draft (Some Input) argument = input_grows draft (piece_of argument)
 
-  grows_at : (draft : Draft) (brace : Option ℕ) (text : List ℕ) → Grows draft.files (asked_in draft.files (words_at brace text)) (learned_words file line draft (words_at brace text)).files
+  grows_at : (draft : Draft) (brace : Option ℕ) (text : List ℕ)
+      → Grows draft.files (asked_in draft.files (words_at brace text)) (learned_words file line draft (words_at brace text)).files
   grows_at draft None text = refl
   grows_at draft (Some brace) text = command_grows draft _ _
 
@@ -94,35 +100,42 @@ module _ (file : List ℕ) (line : ℕ) where
   line_grows draft text = grows_at draft _ text
 
   -- a line that asks for no file
-  pub quiet_adds : (draft after : Draft) (text : List ℕ) → after ≡ learned_words file line draft (words_of text) → None ≡ asked_in draft.files (words_of text) → AddsNames draft.files after.files []
+  pub quiet_adds : (draft after : Draft) (text : List ℕ) → after ≡ learned_words file line draft (words_of text) → None ≡ asked_in draft.files (words_of text)
+      → AddsNames draft.files after.files []
   quiet_adds draft after text is none =
       let grows : Grows draft.files None (learned_words file line draft (words_of text)).files =
       subst (λ (asked : Option (List ℕ)). Grows draft.files asked (learned_words file line draft (words_of text)).files) (sym none) (line_grows draft text) in
       adds_none draft.files after.files (ap (λ (d : Draft). d.files) is ∙ grows)
 
   -- a line that asks for one: its name is new
-  asking_one : (draft between : Draft) (text name : List ℕ) → between ≡ learned_words file line draft (words_of text) → Some name ≡ asked_in draft.files (words_of text) → AddsNames draft.files between.files (name ∷ [])
+  asking_one : (draft between : Draft) (text name : List ℕ) → between ≡ learned_words file line draft (words_of text)
+      → Some name ≡ asked_in draft.files (words_of text) → AddsNames draft.files between.files (name ∷ [])
   asking_one draft between text name is asked =
       let grows : Grows draft.files (Some name) (learned_words file line draft (words_of text)).files =
       subst (λ (asked : Option (List ℕ)). Grows draft.files asked (learned_words file line draft (words_of text)).files) (sym asked) (line_grows draft text) in
       let named : between.files ≡ draft.files ++ name ∷ [] = ap (λ (d : Draft). d.files) is ∙ grows.0 in
       record {
         added = named;
-        once = λ distinct. subst (λ (names : Names). IsDistinct bytes_eq names) (sym named) (IsDistinct-push nat_list_eq_equiv draft.files name distinct grows.2);
+        once = λ distinct. subst (λ (names : Names). IsDistinct bytes_eq names) (sym named)
+            (IsDistinct-push nat_list_eq_equiv draft.files name distinct grows.2);
         endings = (grows.1, tt);
       }
 
-  pub asking_adds : (draft between after : Draft) (text name : List ℕ) → between ≡ learned_words file line draft (words_of text) → Some name ≡ asked_in draft.files (words_of text)
+  pub asking_adds : (draft between after : Draft) (text name : List ℕ) → between ≡ learned_words file line draft (words_of text)
+      → Some name ≡ asked_in draft.files (words_of text)
       → (names : Names) → AsksFirst name between.files after.files names → AddsNames draft.files after.files names
   asking_adds draft between after text name is asked names first =
-      subst (AddsNames draft.files after.files) (sym first.is) (adds_both draft.files between.files after.files (name ∷ []) first.later (asking_one draft between text name is asked) first.adds)
+      subst (AddsNames draft.files after.files) (sym first.is)
+      (adds_both draft.files between.files after.files (name ∷ []) first.later (asking_one draft between text name is asked) first.adds)
 
   -- the same up to a fault
-  pub asking_new : (draft between : Draft) (text name : List ℕ) → between ≡ learned_words file line draft (words_of text) → Some name ≡ asked_in draft.files (words_of text)
+  pub asking_new : (draft between : Draft) (text name : List ℕ) → between ≡ learned_words file line draft (words_of text)
+      → Some name ≡ asked_in draft.files (words_of text)
       → (names : Names) → AsksOneAtMost name between.files names → AsksNew draft.files names
   asking_new draft between text name is asked names (inl none) = subst (AsksNew draft.files) (sym none) (new_none draft.files)
   asking_new draft between text name is asked names (inr one) =
-      subst (AsksNew draft.files) (sym one.is) (new_behind draft.files between.files (name ∷ []) one.later (asking_one draft between text name is asked) one.new)
+      subst (AsksNew draft.files) (sym one.is) (new_behind draft.files between.files (name ∷ []) one.later (asking_one draft between text name is asked)
+      one.new)
 
 -- ---- a file
 
@@ -130,7 +143,8 @@ module _ (file : List ℕ) (line : ℕ) where
 pub missing_asks : (draft after : Draft) (file : List ℕ) (line : ℕ) (name : List ℕ) → after ≡ learned draft (event_at file line (Absent name))
     → (names : Names) → names ≡ name ∷ [] → AsksFirst name draft.files after.files names
 unfolding learned
-missing_asks draft after file line name is names asked = record { later = []; is = asked; adds = adds_none draft.files after.files (ap (λ (d : Draft). d.files) is) }
+missing_asks draft after file line name is names asked =
+    record { later = []; is = asked; adds = adds_none draft.files after.files (ap (λ (d : Draft). d.files) is) }
 
 inside_opens : (before : Names) (name : List ℕ) (room : ℕ) → room ≤ 19 → names_opened before name room ≡ before
 inside_opens before name room le = by (20 - room) (omega arith) where
@@ -152,16 +166,19 @@ pub full_adds : (before : Names) (name : List ℕ) (room : ℕ) → room ≡ 0 �
 full_adds before name room none = adds_none (names_opened before name room) before (sym (inside_opens before name room (omega arith)))
 
 -- one that is opened
-pub opened_names : (draft after : Draft) (name : List ℕ) (room : ℕ) → after ≡ learned draft (event_at name 0 (Opens (20 - room))) → after.files ≡ names_opened draft.files name room
+pub opened_names : (draft after : Draft) (name : List ℕ) (room : ℕ) → after ≡ learned draft (event_at name 0 (Opens (20 - room)))
+    → after.files ≡ names_opened draft.files name room
 unfolding learned
 opened_names draft after name room is = ap (λ (d : Draft). d.files) is
 
-pub long_adds : (draft after : Draft) (name : List ℕ) (room : ℕ) → after ≡ learned draft (event_at name 0 (Opens (20 - room))) → AddsNames (names_opened draft.files name room) after.files []
+pub long_adds : (draft after : Draft) (name : List ℕ) (room : ℕ) → after ≡ learned draft (event_at name 0 (Opens (20 - room)))
+    → AddsNames (names_opened draft.files name room) after.files []
 long_adds draft after name room is = adds_none _ after.files (opened_names draft after name room is)
 
 pub read_adds : (draft between after : Draft) (name : List ℕ) (room : ℕ) → between ≡ learned draft (event_at name 0 (Opens (20 - room)))
     → (names : Names) → AddsNames between.files after.files names → AddsNames (names_opened draft.files name room) after.files names
-read_adds draft between after name room is names adds = subst (λ (before : Names). AddsNames before after.files names) (opened_names draft between name room is) adds
+read_adds draft between after name room is names adds = subst (λ (before : Names). AddsNames before after.files names) (opened_names draft between name room is)
+    adds
 
 -- the same up to a fault
 pub one_alone : (name : List ℕ) (known names : Names) → names ≡ name ∷ [] → AsksOneAtMost name known names
@@ -201,8 +218,15 @@ top_found top draft after none xs ys asked adds =
     }
 
 -- the same up to a fault
-pub top_begun : (top : List ℕ) (draft : Draft) → draft ≡ blank → (xs ys : Names) → xs ≡ top ∷ [] → AsksNew (names_opened draft.files top 20) ys → AsksTopAtMost top (xs ++ ys)
+pub top_begun : (top : List ℕ) (draft : Draft) → draft ≡ blank → (xs ys : Names) → xs ≡ top ∷ [] → AsksNew (names_opened draft.files top 20) ys
+    → AsksTopAtMost top (xs ++ ys)
 top_begun top draft none xs ys asked new =
     let new' : AsksNew (top ∷ []) ys = subst (λ (d : Draft). AsksNew (names_opened d.files top 20) ys) none new in
     let whole : xs ++ ys ≡ top ∷ ys = ap (λ (names : Names). names ++ ys) asked in
-    inr (record { later = ys; is = whole; once = subst (λ (names : Names). IsDistinct bytes_eq names) (sym whole) (new'.once (distinct-one top)); endings = new'.endings })
+    inr (record {
+      later = ys;
+      is = whole;
+      once = subst (λ (names : Names). IsDistinct bytes_eq names) (sym whole) (new'.once (distinct-one top));
+      endings =
+          new'.endings;
+    })

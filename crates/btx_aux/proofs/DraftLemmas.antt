@@ -1,5 +1,6 @@
 -- What a single event makes of what is known.
-use Rattle.std.proofs.Common.{◌≡◌, ℕ, zero, suc, arith, ◌||◌, Bool, true, false, cond, List, [], ◌∷◌, ◌++◌, map, fold, Option, None, Some, is_some, refl, sym, ap, ◌∙◌, append_assoc, append-nil}
+use Rattle.std.proofs.Common.{◌≡◌, ℕ, zero, suc, arith, ◌||◌, Bool, true, false, cond, List, [], ◌∷◌, ◌++◌, map, fold, Option, None, Some, is_some, refl, sym}
+use Rattle.std.proofs.Common.{ap, ◌∙◌, append_assoc, append-nil}
 use Rattle.std.specs.Prelude.{codes}
 use Rattle.std.specs.Str.{bytes_eq}
 use Rattle.std.specs.List.{find, list_any, flat_map}
@@ -28,21 +29,24 @@ is_listed test (x ∷ xs) = at (test x) (is_listed test xs) where
   at false h = h
 
 module _ (draft : Draft) (file : List ℕ) (line : ℕ) (key : List ℕ) where
-  pub learned-key_new : is_star key ≡ false → None ≡ listed_as draft.keys key → learned draft (event_at file line (Cites (Taken key))) ≡ record draft { keys = draft.keys ++ key ∷ [] }
+  pub learned-key_new : is_star key ≡ false → None ≡ listed_as draft.keys key → learned draft (event_at file line (Cites (Taken key)))
+      ≡ record draft { keys = draft.keys ++ key ∷ [] }
   unfolding learned
   learned-key_new star none =
       let none' : listed_as draft.keys key ≡ None = sym none in
       let new : list_any (is_same_key key) draft.keys ≡ false = is_listed (is_same_key key) draft.keys ∙ ap (λ (o : Option (List ℕ)). is_some o) none' in
       rw (star, none', new) refl
 
-  pub learned-key_same : (earlier : List ℕ) → is_star key ≡ false → Some earlier ≡ listed_as draft.keys key → bytes_eq earlier key ≡ true → learned draft (event_at file line (Cites (Taken key))) ≡ draft
+  pub learned-key_same : (earlier : List ℕ) → is_star key ≡ false → Some earlier ≡ listed_as draft.keys key → bytes_eq earlier key ≡ true
+      → learned draft (event_at file line (Cites (Taken key))) ≡ draft
   unfolding learned
   learned-key_same earlier star found same =
       let found' : listed_as draft.keys key ≡ Some earlier = sym found in
       let old : list_any (is_same_key key) draft.keys ≡ true = is_listed (is_same_key key) draft.keys ∙ ap (λ (o : Option (List ℕ)). is_some o) found' in
       rw (star, found', old, same) refl
 
-  pub learned-key_other : (earlier : List ℕ) → is_star key ≡ false → Some earlier ≡ listed_as draft.keys key → bytes_eq earlier key ≡ false → learned draft (event_at file line (Cites (Taken key))) ≡ complained draft (CaseMismatch earlier key) line file
+  pub learned-key_other : (earlier : List ℕ) → is_star key ≡ false → Some earlier ≡ listed_as draft.keys key → bytes_eq earlier key ≡ false
+      → learned draft (event_at file line (Cites (Taken key))) ≡ complained draft (CaseMismatch earlier key) line file
   unfolding learned
   learned-key_other earlier star found other =
       let found' : listed_as draft.keys key ≡ Some earlier = sym found in
@@ -59,7 +63,8 @@ pub ruleset line_steps = (asked_in-Cites)
 
 -- ---- a `\bibdata` line
 
-map_more : (file : List ℕ) (line : ℕ) (xs ys : List AuxComplaint) → map (λ (c : AuxComplaint). Wrong c line file) (xs ++ ys) ≡ map (λ (c : AuxComplaint). Wrong c line file) xs ++ map (λ (c : AuxComplaint). Wrong c line file) ys
+map_more : (file : List ℕ) (line : ℕ) (xs ys : List AuxComplaint) → map (λ (c : AuxComplaint). Wrong c line file) (xs ++ ys)
+    ≡ map (λ (c : AuxComplaint). Wrong c line file) xs ++ map (λ (c : AuxComplaint). Wrong c line file) ys
 map_more file line [] ys = refl
 map_more file line (x ∷ xs) ys = ap (λ (notes : List AuxNote). Wrong x line file ∷ notes) (map_more file line xs ys)
 
@@ -77,27 +82,32 @@ with_notes-append log (x ∷ xs) (y ∷ ys) =
 -- the databases of some pieces at once
 abbrev all_at_once : List ℕ → ℕ → Draft → List Piece → Draft
 all_at_once file line draft pieces =
-    complaining file line (record draft { databases = fold with_name_once draft.databases (flat_map (taken_with (codes ".bib")) pieces) }) (database_complaints draft.databases pieces)
+    complaining file line (record draft { databases = fold with_name_once draft.databases (flat_map (taken_with (codes ".bib")) pieces) })
+    (database_complaints draft.databases pieces)
 
-complaining_twice : (file : List ℕ) (line : ℕ) (draft : Draft) (xs ys : List AuxComplaint) → complaining file line (complaining file line draft xs) ys ≡ complaining file line draft (xs ++ ys)
+complaining_twice : (file : List ℕ) (line : ℕ) (draft : Draft) (xs ys : List AuxComplaint) → complaining file line (complaining file line draft xs) ys
+    ≡ complaining file line draft (xs ++ ys)
 complaining_twice file line draft xs ys =
     ap (λ (log : List Line). record draft { log = log })
     (with_notes-append draft.log (map (λ (c : AuxComplaint). Wrong c line file) xs) (map (λ (c : AuxComplaint). Wrong c line file) ys)
     ∙ ap (with_notes draft.log) (sym (map_more file line xs ys)))
 
-with_databases-once : (file : List ℕ) (line : ℕ) (draft : Draft) (pieces : List Piece) → with_databases file line draft pieces ≡ all_at_once file line draft pieces
+with_databases-once : (file : List ℕ) (line : ℕ) (draft : Draft) (pieces : List Piece) → with_databases file line draft pieces
+    ≡ all_at_once file line draft pieces
 with_databases-once file line draft [] = refl
 with_databases-once file line draft (Taken name ∷ pieces) =
     let database = with_ending (codes ".bib") name in
     let after = record draft { databases = fold with_name_once draft.databases (flat_map (taken_with (codes ".bib")) (Taken name ∷ pieces)) } in
     with_databases-once file line (with_database file line draft name) pieces
-    ∙ complaining_twice file line after (only_if (is_among draft.databases database) (RepeatedDatabase database)) (database_complaints (with_name_once draft.databases database) pieces)
+    ∙ complaining_twice file line after (only_if (is_among draft.databases database) (RepeatedDatabase database))
+    (database_complaints (with_name_once draft.databases database) pieces)
 with_databases-once file line draft (Cut slip ∷ pieces) =
     let after = record draft { databases = fold with_name_once draft.databases (flat_map (taken_with (codes ".bib")) pieces) } in
     with_databases-once file line (complaining file line draft (Slipped slip ∷ [])) pieces
     ∙ complaining_twice file line after (Slipped slip ∷ []) (database_complaints draft.databases pieces)
 
-pub learned-bibdata : (file : List ℕ) (line : ℕ) (draft : Draft) (pieces : List Piece) (none : List (List ℕ)) → none ≡ [] → draft.has_bibdata ≡ false → with_databases file line (record draft { databases = none; has_bibdata = true }) pieces ≡ learned draft (event_at file line (Databases pieces))
+pub learned-bibdata : (file : List ℕ) (line : ℕ) (draft : Draft) (pieces : List Piece) (none : List (List ℕ)) → none ≡ [] → draft.has_bibdata ≡ false
+    → with_databases file line (record draft { databases = none; has_bibdata = true }) pieces ≡ learned draft (event_at file line (Databases pieces))
 unfolding learned
 learned-bibdata file line draft pieces none empty first =
     ap (λ (databases : List (List ℕ)). with_databases file line (record draft { databases = databases; has_bibdata = true }) pieces) empty
@@ -105,12 +115,14 @@ learned-bibdata file line draft pieces none empty first =
 
 -- ---- a file that is opened
 
-pub learned-Opens_top : (draft : Draft) (name : List ℕ) (level : ℕ) → level ≡ 0 → learned draft (event_at name 0 (Opens level)) ≡ record draft { files = with_name_once draft.files name; log = draft.log ++ aux_note_line (TopFile name) ∷ [] }
+pub learned-Opens_top : (draft : Draft) (name : List ℕ) (level : ℕ) → level ≡ 0 → learned draft (event_at name 0 (Opens level))
+    ≡ record draft { files = with_name_once draft.files name; log = draft.log ++ aux_note_line (TopFile name) ∷ [] }
 unfolding learned
 learned-Opens_top draft name zero is = refl
 learned-Opens_top draft name (suc level) is = absurd (omega arith)
 
-pub learned-Opens_level : (draft : Draft) (name : List ℕ) (level : ℕ) → (level ≡ 0 → ⊥) → learned draft (event_at name 0 (Opens level)) ≡ record draft { log = draft.log ++ aux_note_line (LevelFile level name) ∷ [] }
+pub learned-Opens_level : (draft : Draft) (name : List ℕ) (level : ℕ) → (level ≡ 0 → ⊥) → learned draft (event_at name 0 (Opens level))
+    ≡ record draft { log = draft.log ++ aux_note_line (LevelFile level name) ∷ [] }
 unfolding learned
 learned-Opens_level draft name zero is = absurd (is refl)
 learned-Opens_level draft name (suc level) is = refl

@@ -1,5 +1,6 @@
 -- What is known after all events is what the events come to.
-use Rattle.std.proofs.Common.{◌≡◌, ℕ, zero, suc, ◌-◌, ◌||◌, Bool, true, false, if◌then◌else◌, List, [], ◌∷◌, ◌++◌, map, fold, length, Option, None, Some, is_some, refl, sym, ap, ◌∙◌, append_assoc, append-nil}
+use Rattle.std.proofs.Common.{◌≡◌, ℕ, zero, suc, ◌-◌, ◌||◌, Bool, true, false, if◌then◌else◌, List, [], ◌∷◌, ◌++◌, map, fold, length, Option, None, Some}
+use Rattle.std.proofs.Common.{is_some, refl, sym, ap, ◌∙◌, append_assoc, append-nil}
 use Rattle.std.specs.List.{flat_map}
 use Rattle.std.specs.Option.{option_or}
 use Rattle.std.proofs.lemmas.Grind.{fold-append}
@@ -12,7 +13,8 @@ use Rattle.btx_aux.specs.language.Grammar.{Piece, Opens, Absent, Full, TooLong, 
 use Rattle.btx_aux.specs.language.Events.{AuxEvent, event_at, files_named, asked_of, FileEvents, followed, expanded, opened, until_end, job_events, said}
 use Rattle.btx_text.specs.language.LogLines.{Line}
 use Rattle.btx_aux.specs.language.Notes.{AuxNote}
-use Rattle.btx_aux.specs.language.Job.{gathered, first_of, cited_keys, star_by, all_of, bibdata_by, bibdata_of, databases_in, bibstyle_by, bibstyle_of, notes_at, closing_notes, end_of, job_of_files}
+use Rattle.btx_aux.specs.language.Job.{gathered, first_of, cited_keys, star_by, all_of, bibdata_by, bibdata_of, databases_in, bibstyle_by, bibstyle_of}
+use Rattle.btx_aux.specs.language.Job.{notes_at, closing_notes, end_of, job_of_files}
 use Rattle.btx_aux.specs.refinement.Drafts.{blank, with_notes, first_or, databases_after, style_after, ending_after, learned}
 use Rattle.btx_aux.specs.refinement.Reads.{after, Opening, included, asked_for, run, within, opened_by, topped, closed}
 use Rattle.btx_aux.proofs.DraftLemmas.{lines_more}
@@ -28,7 +30,8 @@ flat_map-push : {A B : Type 0} (f : A → List B) (xs : List A) (x : A) → flat
 flat_map-push f [] x = append-nil (f x)
 flat_map-push f (y ∷ ys) x = ap (λ (rest : List _). f y ++ rest) (flat_map-push f ys x) ∙ sym (append_assoc (f y) (flat_map f ys) (f x))
 
-gathered-push : {T : Type 0} (judge : List AuxEvent → AuxEvent → List T) (earlier events : List AuxEvent) (event : AuxEvent) → gathered judge earlier (events ++ event ∷ []) ≡ gathered judge earlier events ++ judge (earlier ++ events) event
+gathered-push : {T : Type 0} (judge : List AuxEvent → AuxEvent → List T) (earlier events : List AuxEvent) (event : AuxEvent)
+    → gathered judge earlier (events ++ event ∷ []) ≡ gathered judge earlier events ++ judge (earlier ++ events) event
 gathered-push judge earlier [] event = append-nil (judge earlier event) ∙ ap (λ (e : List AuxEvent). judge e event) (sym (append-nil earlier))
 gathered-push judge earlier (x ∷ xs) event =
     ap (λ (rest : List _). judge earlier x ++ rest) (gathered-push judge (earlier ++ x ∷ []) xs event)
@@ -76,13 +79,16 @@ only_end end.TooManyOpen = refl
 only_end end.TopMissing = refl
 only_end end.FileLimit = refl
 
-end_by_test : (e : End) (b : Bool) (rest longer last : End) → is_whole e ≡ b → (is_whole rest ≡ true → longer ≡ ending_after last rest) → is_whole (if b then rest else e) ≡ true → (if b then longer else e) ≡ ending_after last (if b then rest else e)
+end_by_test : (e : End) (b : Bool) (rest longer last : End) → is_whole e ≡ b → (is_whole rest ≡ true → longer ≡ ending_after last rest)
+    → is_whole (if b then rest else e) ≡ true → (if b then longer else e) ≡ ending_after last (if b then rest else e)
 end_by_test e true rest longer last is pushed whole = pushed whole
 end_by_test e false rest longer last is pushed whole = cc
 
-end_of-push : (events : List AuxEvent) (event : AuxEvent) → is_whole (end_of events) ≡ true → end_of (events ++ event ∷ []) ≡ ending_after (end_by event.word) (end_of events)
+end_of-push : (events : List AuxEvent) (event : AuxEvent) → is_whole (end_of events) ≡ true → end_of (events ++ event ∷ [])
+    ≡ ending_after (end_by event.word) (end_of events)
 end_of-push [] event whole = only_end (end_by event.word)
-end_of-push (x ∷ xs) event whole = end_by_test (end_by x.word) (is_whole (end_by x.word)) (end_of xs) (end_of (xs ++ event ∷ [])) (end_by event.word) refl (end_of-push xs event) whole
+end_of-push (x ∷ xs) event whole = end_by_test (end_by x.word) (is_whole (end_by x.word)) (end_of xs) (end_of (xs ++ event ∷ [])) (end_by event.word) refl
+    (end_of-push xs event) whole
 
 -- what the events come to, as what is known after them
 abbrev draft_of : List AuxEvent → Draft
@@ -111,7 +117,8 @@ draft_by keys all databases has_bibdata style has_bibstyle files log ending = re
   ending = ending;
 }
 
-same_draft : (k k' : List (List ℕ)) (a a' : Option ℕ) (d d' : List (List ℕ)) (b b' : Bool) (s s' : Option (List ℕ)) (h h' : Bool) (f f' : List (List ℕ)) (l l' : List Line) (e e' : End)
+same_draft : (k k' : List (List ℕ)) (a a' : Option ℕ) (d d' : List (List ℕ)) (b b' : Bool) (s s' : Option (List ℕ)) (h h' : Bool) (f f' : List (List ℕ))
+    (l l' : List Line) (e e' : End)
     → k ≡ k' → a ≡ a' → d ≡ d' → b ≡ b' → s ≡ s' → h ≡ h' → f ≡ f' → l ≡ l' → e ≡ e' → draft_by k a d b s h f l e ≡ draft_by k' a' d' b' s' h' f' l' e'
 same_draft k k' a a' d d' b b' s s' h h' f f' l l' e e' k= a= d= b= s= h= f= l= e= =
     ap (λ (x : List (List ℕ)). draft_by x a d b s h f l e) k=
@@ -129,7 +136,8 @@ module _ (events : List AuxEvent) (event : AuxEvent) where
   keys_of-push = ap (fold with_key []) (flat_map-push cited events event) ∙ fold-append with_key [] (flat_map cited events) (cited event)
 
   files_named-push : files_named (events ++ event ∷ []) ≡ fold with_name_once (files_named events) (file_named event)
-  files_named-push = ap (fold with_name_once []) (flat_map-push file_named events event) ∙ fold-append with_name_once [] (flat_map file_named events) (file_named event)
+  files_named-push = ap (fold with_name_once []) (flat_map-push file_named events event)
+      ∙ fold-append with_name_once [] (flat_map file_named events) (file_named event)
 
   all_of-push : all_of (events ++ event ∷ []) ≡ first_or (first_of (star_by event.word (length (cited_keys events)))) (all_of events)
   all_of-push =
@@ -147,7 +155,8 @@ module _ (events : List AuxEvent) (event : AuxEvent) where
       ap (λ (xs : List Piece). first_of xs) (flat_map-push (λ (e : AuxEvent). bibstyle_by e.word) events event)
       ∙ first_of-append (flat_map (λ (e : AuxEvent). bibstyle_by e.word) events) (bibstyle_by event.word)
 
-  log-push : map aux_note_line (gathered notes_at [] (events ++ event ∷ [])) ≡ with_notes (map aux_note_line (gathered notes_at [] events)) (notes_at events event)
+  log-push : map aux_note_line (gathered notes_at [] (events ++ event ∷ [])) ≡ with_notes (map aux_note_line (gathered notes_at [] events))
+      (notes_at events event)
   log-push =
       ap (map aux_note_line) (gathered-push notes_at [] events event)
       ∙ lines_more (gathered notes_at [] events) (notes_at events event)
@@ -203,13 +212,17 @@ after-draft_of : (front : List AuxEvent) (event : AuxEvent) → is_whole (end_of
 after-draft_of front event whole = rw whole (learned-draft_of front event whole)
 
 stop_at : (b : Bool) (front events : List AuxEvent) (event : AuxEvent) → is_whole (end_by event.word) ≡ b → is_whole (end_of front) ≡ true
-    → (is_whole (end_of (front ++ event ∷ [])) ≡ true → fold after (draft_of (front ++ event ∷ [])) events ≡ draft_of ((front ++ event ∷ []) ++ until_end events))
+    → (is_whole (end_of (front ++ event ∷ [])) ≡ true → fold after (draft_of (front ++ event ∷ [])) events
+    ≡ draft_of ((front ++ event ∷ []) ++ until_end events))
     → fold after (draft_of (front ++ event ∷ [])) events ≡ draft_of (front ++ (if b then event ∷ until_end events else event ∷ []))
 stop_at true front events event goes whole more =
-    let on : is_whole (end_of (front ++ event ∷ [])) ≡ true = ap is_whole (end_of-push front event whole) ∙ whole_by (end_by event.word) (end_of front) goes whole in
+    let on : is_whole (end_of (front ++ event ∷ [])) ≡ true = ap is_whole (end_of-push front event whole)
+    ∙ whole_by (end_by event.word) (end_of front) goes whole in
     more on ∙ ap draft_of (append_assoc front (event ∷ []) (until_end events))
 stop_at false front events event ends whole more =
-    let off : is_whole (end_of (front ++ event ∷ [])) ≡ false = ap is_whole (end_of-push front event whole ∙ ap (ending_after (end_by event.word)) (is_whole-Whole (end_of front) whole)) ∙ ended_by (end_by event.word) ends in
+    let off : is_whole (end_of (front ++ event ∷ [])) ≡ false =
+    ap is_whole (end_of-push front event whole ∙ ap (ending_after (end_by event.word)) (is_whole-Whole (end_of front) whole))
+    ∙ ended_by (end_by event.word) ends in
     still-ended (draft_of (front ++ event ∷ [])) events off
 
 known_from : (front events : List AuxEvent) → is_whole (end_of front) ≡ true → fold after (draft_of front) events ≡ draft_of (front ++ until_end events)
@@ -221,7 +234,8 @@ known_from front (event ∷ events) whole =
 known-until_end : (events : List AuxEvent) → known events ≡ draft_of (until_end events)
 known-until_end events = known_from [] events refl
 
-none_ended : (b : Bool) (event : AuxEvent) (events cut : List AuxEvent) → is_whole (end_by event.word) ≡ b → (is_whole (end_of cut) ≡ true → cut ≡ events) → is_whole (end_of (if b then event ∷ cut else event ∷ [])) ≡ true → (if b then event ∷ cut else event ∷ []) ≡ event ∷ events
+none_ended : (b : Bool) (event : AuxEvent) (events cut : List AuxEvent) → is_whole (end_by event.word) ≡ b → (is_whole (end_of cut) ≡ true → cut ≡ events)
+    → is_whole (end_of (if b then event ∷ cut else event ∷ [])) ≡ true → (if b then event ∷ cut else event ∷ []) ≡ event ∷ events
 none_ended true event events cut goes same whole = ap (λ (es : List AuxEvent). event ∷ es) (same (rw goes at whole))
 none_ended false event events cut ends same whole =
     let no : is_whole (end_by event.word) ≡ true = rw ends at whole in cc
@@ -252,38 +266,47 @@ in_row front event more rest =
     ap (λ (es : List AuxEvent). es ++ rest) (append_assoc front (event ∷ []) more) ∙ append_assoc front (event ∷ more) rest
 
 module _ (files : Files) (opening : Opening) (reading : FileEvents) (agrees : Agrees opening reading) (still : Still opening) where
-  found-agrees : (events : List AuxEvent) (event : AuxEvent) (name : List ℕ) (text : Option (List ℕ)) → included opening (known events) event.file event.line name text ≡ known (events ++ input_events reading events event name text)
+  found-agrees : (events : List AuxEvent) (event : AuxEvent) (name : List ℕ) (text : Option (List ℕ))
+      → included opening (known events) event.file event.line name text ≡ known (events ++ input_events reading events event name text)
   unfolding included
   found-agrees events event name None = known-push events (event_at event.file event.line (Absent name))
   found-agrees events event name (Some text) = agrees events name text
 
-  followed-agrees : (events : List AuxEvent) (event : AuxEvent) (asked : Option (List ℕ)) → asked_for files opening (known events) event.file event.line asked ≡ known (events ++ followed files reading events event asked)
+  followed-agrees : (events : List AuxEvent) (event : AuxEvent) (asked : Option (List ℕ)) → asked_for files opening (known events) event.file event.line asked
+      ≡ known (events ++ followed files reading events event asked)
   followed-agrees events event None = ap known (sym (append-nil events))
   followed-agrees events event (Some name) = found-agrees events event name (files name)
 
   at_test : (b : Bool) (events : List AuxEvent) (event : AuxEvent) (said : List AuxEvent) → is_whole (known events).ending ≡ b
-      → (let front = events ++ event ∷ [] in let more = followed files reading front event (asked_of (files_named events) event.word) in run files opening (known (front ++ more)) said ≡ known ((front ++ more) ++ expanded files reading (front ++ more) said))
+      → (let front = events ++ event ∷ [] in let more = followed files reading front event (asked_of (files_named events) event.word) in
+      run files opening (known (front ++ more)) said ≡ known ((front ++ more) ++ expanded files reading (front ++ more) said))
       → run files opening (known events) (event ∷ said) ≡ known (events ++ expanded files reading events (event ∷ said))
   unfolding run
   at_test true events event said whole onward =
       let front = events ++ event ∷ [] in
       let asked = asked_of (files_named events) event.word in
       let more = followed files reading front event asked in
-      ap (λ (d : Draft). run files opening (asked_for files opening d event.file event.line (asked_of (known events).files event.word)) said) (known-push events event)
-      ∙ ap (λ (names : List (List ℕ)). run files opening (asked_for files opening (known front) event.file event.line (asked_of names event.word)) said) (known-files events whole)
+      ap (λ (d : Draft). run files opening (asked_for files opening d event.file event.line (asked_of (known events).files event.word)) said)
+      (known-push events event)
+      ∙ ap (λ (names : List (List ℕ)). run files opening (asked_for files opening (known front) event.file event.line (asked_of names event.word)) said)
+      (known-files events whole)
       ∙ ap (λ (d : Draft). run files opening d said) (followed-agrees front event asked)
       ∙ onward
       ∙ ap known (in_row events event more (expanded files reading (front ++ more) said))
   at_test false events event said ended onward =
       run-still files opening still (known events) (event ∷ said) ended
-      ∙ sym (fold-append after blank events (expanded files reading events (event ∷ said)) ∙ still-ended (known events) (expanded files reading events (event ∷ said)) ended)
+      ∙ sym (fold-append after blank events (expanded files reading events (event ∷ said))
+      ∙ still-ended (known events) (expanded files reading events (event ∷ said)) ended)
 
   run-agrees : (events said : List AuxEvent) → run files opening (known events) said ≡ known (events ++ expanded files reading events said)
   unfolding run
   run-agrees events [] = ap known (sym (append-nil events))
-  run-agrees events (event ∷ said) = at_test (is_whole (known events).ending) events event said refl (run-agrees ((events ++ event ∷ []) ++ followed files reading (events ++ event ∷ []) event (asked_of (files_named events) event.word)) said)
+  run-agrees events (event ∷ said) = at_test (is_whole (known events).ending) events event said refl
+      (run-agrees ((events ++ event ∷ []) ++ followed files reading (events ++ event ∷ []) event (asked_of (files_named events) event.word)) said)
 
-inside-agrees : (long : Bool) (files : Files) (opening : Opening) (reading : FileEvents) → Agrees opening reading → Still opening → (events : List AuxEvent) (name text : List ℕ) → within long files opening (known events) name text ≡ known (events ++ inside long files reading events name text)
+inside-agrees : (long : Bool) (files : Files) (opening : Opening) (reading : FileEvents) → Agrees opening reading → Still opening
+    → (events : List AuxEvent) (name text : List ℕ) → within long files opening (known events) name text
+    ≡ known (events ++ inside long files reading events name text)
 unfolding within
 inside-agrees true files opening reading agrees still events name text = known-push events (event_at name 0 TooLong)
 inside-agrees false files opening reading agrees still events name text = run-agrees files opening reading agrees still events (said name text)
@@ -308,7 +331,8 @@ closed-draft_of : (events : List AuxEvent) → closed (draft_of events) ≡ job_
 closed-draft_of events =
     let job = job_of events in
     ap (λ (log : List Line). record job { log = log })
-    (sym (lines_more (gathered notes_at [] events) (closing_notes (end_of events) (cited_keys events) (all_of events) (is_some (bibdata_of events)) (is_some (bibstyle_of events)))))
+    (sym (lines_more (gathered notes_at [] events)
+    (closing_notes (end_of events) (cited_keys events) (all_of events) (is_some (bibdata_of events)) (is_some (bibstyle_of events)))))
 
 -- what is known after the top file is what the events of the job come to
 pub closed-topped : (files : Files) (top : List ℕ) → closed (topped files top (files top)) ≡ job_of_files files top
@@ -319,11 +343,13 @@ closed-topped files top =
 
 -- ---- the top file
 
-pub topped-missing : (files : Files) (top : List ℕ) (draft : Draft) → draft ≡ blank → files top ≡ None → record draft { ending = end.TopMissing } ≡ topped files top (files top)
+pub topped-missing : (files : Files) (top : List ℕ) (draft : Draft) → draft ≡ blank → files top ≡ None → record draft { ending = end.TopMissing }
+    ≡ topped files top (files top)
 unfolding topped learned
 topped-missing files top draft is missing = rw missing (ap (λ (d : Draft). record d { ending = end.TopMissing }) is)
 
-pub topped-found : (files : Files) (top bytes text : List ℕ) (draft new : Draft) → draft ≡ blank → files top ≡ Some bytes → text ≡ bytes → new ≡ opened_by files 20 draft top text → new ≡ topped files top (files top)
+pub topped-found : (files : Files) (top bytes text : List ℕ) (draft new : Draft) → draft ≡ blank → files top ≡ Some bytes → text ≡ bytes
+    → new ≡ opened_by files 20 draft top text → new ≡ topped files top (files top)
 unfolding topped
 topped-found files top bytes text draft new is there same goes =
     rw there (goes ∙ ap (λ (d : Draft). opened_by files 20 d top text) is ∙ ap (opened_by files 20 blank top) same)

@@ -1,5 +1,6 @@
 -- The names of a job's files: their endings keep them apart, and none of its databases is named twice.
-use Rattle.std.proofs.Common.{◌≡◌, ℕ, ◌-◌, Bool, true, false, if◌then◌else◌, List, [], ◌∷◌, ◌++◌, fold, length, drop, Option, None, Some, refl, sym, ap, ◌∙◌, subst}
+use Rattle.std.proofs.Common.{◌≡◌, ℕ, ◌-◌, Bool, true, false, if◌then◌else◌, List, [], ◌∷◌, ◌++◌, fold, length, drop, Option, None, Some, refl, sym, ap, ◌∙◌}
+use Rattle.std.proofs.Common.{subst}
 use Rattle.std.specs.Prelude.{codes}
 use Rattle.std.specs.List.{AllByRecursion, IsDistinct, flat_map}
 use Rattle.std.specs.Str.{bytes_eq}
@@ -35,11 +36,13 @@ with_ending-ends ending name = by (has_ending ending name) refl where
 -- ---- names apart
 
 -- names that pass a test, and names that don't
-pub distinct-both : (test : List ℕ → Bool) (xs ys : List (List ℕ)) → AllByRecursion (λ name. test name ≡ true) xs → AllByRecursion (λ name. test name ≡ false) ys
+pub distinct-both : (test : List ℕ → Bool) (xs ys : List (List ℕ)) → AllByRecursion (λ name. test name ≡ true) xs
+    → AllByRecursion (λ name. test name ≡ false) ys
     → IsDistinct bytes_eq xs → IsDistinct bytes_eq ys → IsDistinct bytes_eq (xs ++ ys)
 distinct-both test [] ys pass fail once once' = once'
 distinct-both test (x ∷ xs) ys pass fail once once' =
-    IsDistinct-cons bytes_eq x (xs ++ ys) (all-both _ xs ys (IsDistinct-head bytes_eq x xs once) (others ys fail)) (distinct-both test xs ys pass.1 fail (IsDistinct-tail bytes_eq x xs once) once') where
+    IsDistinct-cons bytes_eq x (xs ++ ys) (all-both _ xs ys (IsDistinct-head bytes_eq x xs once) (others ys fail))
+    (distinct-both test xs ys pass.1 fail (IsDistinct-tail bytes_eq x xs once) once') where
       apart : (b : Bool) (y : List ℕ) → bytes_eq x y ≡ b → test y ≡ false → b ≡ false
       apart true y same fails = sym pass.0 ∙ ap test ((bytes_eq-Decides x y).0 same) ∙ fails
       apart false y same fails = refl
@@ -70,7 +73,8 @@ all-with_name P names name all one = by (is_among names name) where
   by true = all
   by false = all-both P names (name ∷ []) all (one, tt)
 
-all-more : (P : List ℕ → Type 0) (more names : List (List ℕ)) → AllByRecursion P names → AllByRecursion P more → AllByRecursion P (fold with_name_once names more)
+all-more : (P : List ℕ → Type 0) (more names : List (List ℕ)) → AllByRecursion P names → AllByRecursion P more
+    → AllByRecursion P (fold with_name_once names more)
 all-more P [] names all others = all
 all-more P (name ∷ more) names all others = all-more P more (with_name_once names name) (all-with_name P names name all others.0) others.1
 

@@ -16,7 +16,8 @@ pub texts_of-push : (names : List Bytes) (name : Bytes) → texts_of (names ++ n
 texts_of-push [] name = refl
 texts_of-push (first ∷ names) name = ap (λ (rest : List (List ℕ)). first.items ∷ rest) (texts_of-push names name)
 
-texts_of-if : (b : Bool) (names : List Bytes) (name : Bytes) → texts_of (if b then names else names ++ name ∷ []) ≡ (if b then texts_of names else texts_of names ++ name.items ∷ [])
+texts_of-if : (b : Bool) (names : List Bytes) (name : Bytes) → texts_of (if b then names else names ++ name ∷ [])
+    ≡ (if b then texts_of names else texts_of names ++ name.items ∷ [])
 texts_of-if true names name = refl
 texts_of-if false names name = texts_of-push names name
 

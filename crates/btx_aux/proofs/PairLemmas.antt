@@ -12,6 +12,8 @@ option_or-none None = refl
 option_or-none (Some x) = refl
 
 -- a further pair, if it has the name, and else those before
-pub files_of_pairs-push : (pairs : List (List ℕ × List ℕ)) (pair : List ℕ × List ℕ) (name : List ℕ) → files_of_pairs (pairs ++ pair ∷ []) name ≡ option_or (file_of_pair pair name) (files_of_pairs pairs name)
+pub files_of_pairs-push : (pairs : List (List ℕ × List ℕ)) (pair : List ℕ × List ℕ) (name : List ℕ) → files_of_pairs (pairs ++ pair ∷ []) name
+    ≡ option_or (file_of_pair pair name) (files_of_pairs pairs name)
 files_of_pairs-push [] pair name = sym (option_or-none (file_of_pair pair name))
-files_of_pairs-push (first ∷ pairs) pair name = ap (λ o. option_or o (file_of_pair first name)) (files_of_pairs-push pairs pair name) ∙ sym (option_or-assoc (file_of_pair pair name) (files_of_pairs pairs name) (file_of_pair first name))
+files_of_pairs-push (first ∷ pairs) pair name = ap (λ o. option_or o (file_of_pair first name)) (files_of_pairs-push pairs pair name)
+    ∙ sym (option_or-assoc (file_of_pair pair name) (files_of_pairs pairs name) (file_of_pair first name))

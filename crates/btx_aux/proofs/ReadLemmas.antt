@@ -1,5 +1,6 @@
 -- What a line, an include and a file make of what is known.
-use Rattle.std.proofs.Common.{◌≡◌, ℕ, zero, suc, ◌+◌, ◌-◌, ◌≤◌, Bool, true, false, cond, eqb, List, [], ◌∷◌, ◌++◌, map, length, Option, None, Some, not, refl, sym, ap, ◌∙◌, arith}
+use Rattle.std.proofs.Common.{◌≡◌, ℕ, zero, suc, ◌+◌, ◌-◌, ◌≤◌, Bool, true, false, cond, eqb, List, [], ◌∷◌, ◌++◌, map, length, Option, None, Some, not, refl}
+use Rattle.std.proofs.Common.{sym, ap, ◌∙◌, arith}
 use Rattle.std.specs.Option.{option_or}
 use Rattle.btx_aux.specs.declared.draft.Draft.{Draft}
 use Rattle.btx_aux.specs.declared.command.Command.{Command}
@@ -26,7 +27,8 @@ module _ (files : Files) (opening : Opening) where
   after-whole draft event whole = rw whole refl
 
   -- the words of a `\citation`
-  run-Cites : (file : List ℕ) (line : ℕ) (draft : Draft) (pieces : List Piece) → is_whole draft.ending ≡ true → run files opening draft (map (event_at file line) (map Cites pieces)) ≡ learned_words file line draft (map Cites pieces)
+  run-Cites : (file : List ℕ) (line : ℕ) (draft : Draft) (pieces : List Piece) → is_whole draft.ending ≡ true
+      → run files opening draft (map (event_at file line) (map Cites pieces)) ≡ learned_words file line draft (map Cites pieces)
   unfolding run learned
   run-Cites file line draft [] whole = refl
   run-Cites file line draft (piece ∷ pieces) whole =
@@ -39,17 +41,21 @@ module _ (files : Files) (opening : Opening) where
 
   run_command : (file : List ℕ) (line : ℕ) (draft : Draft) (command : Option Command) (argument : List ℕ) → is_whole draft.ending ≡ true
       → run files opening draft (map (event_at file line) (words_of_command command argument))
-      ≡ asked_for files opening (learned_words file line draft (words_of_command command argument)) file line (asked_in draft.files (words_of_command command argument))
+      ≡ asked_for files opening (learned_words file line draft (words_of_command command argument)) file line
+      (asked_in draft.files (words_of_command command argument))
   unfolding run
   run_command file line draft None argument whole = refl
   run_command file line draft (Some Citation) argument whole =
       run-Cites file line draft (pieces_of true argument) whole
-      ∙ ap (asked_for files opening (learned_words file line draft (map Cites (pieces_of true argument))) file line) (sym (asked_in-Cites draft.files (pieces_of true argument)))
+      ∙ ap (asked_for files opening (learned_words file line draft (map Cites (pieces_of true argument))) file line)
+      (sym (asked_in-Cites draft.files (pieces_of true argument)))
   run_command file line draft (Some Bibdata) argument whole = after-whole draft (event_at file line (Databases (pieces_of true argument))) whole
   run_command file line draft (Some Bibstyle) argument whole = after-whole draft (event_at file line (Styles (piece_of argument))) whole
   run_command file line draft (Some Input) argument whole =
-      ap (λ (d : Draft). asked_for files opening d file line (asked_of draft.files (Includes (piece_of argument)))) (after-whole draft (event_at file line (Includes (piece_of argument))) whole)
-      ∙ ap (asked_for files opening (learned draft (event_at file line (Includes (piece_of argument)))) file line) (sym (or_none (asked_of draft.files (Includes (piece_of argument)))))
+      ap (λ (d : Draft). asked_for files opening d file line (asked_of draft.files (Includes (piece_of argument))))
+      (after-whole draft (event_at file line (Includes (piece_of argument))) whole)
+      ∙ ap (asked_for files opening (learned draft (event_at file line (Includes (piece_of argument)))) file line)
+      (sym (or_none (asked_of draft.files (Includes (piece_of argument)))))
 
   run_at : (file : List ℕ) (number : ℕ) (draft : Draft) (brace : Option ℕ) (line : List ℕ) → is_whole draft.ending ≡ true
       → run files opening draft (map (event_at file number) (words_at brace line))
@@ -98,7 +104,8 @@ unfolding learned
 cites_whole file line draft [] = refl
 cites_whole file line draft (piece ∷ pieces) = cites_whole file line (learned draft (event_at file line (Cites piece))) pieces
 
-pub bibdata_whole : (file : List ℕ) (line : ℕ) (draft : Draft) (pieces : List Piece) → (learned draft (event_at file line (Databases pieces))).ending ≡ draft.ending
+pub bibdata_whole : (file : List ℕ) (line : ℕ) (draft : Draft) (pieces : List Piece) → (learned draft (event_at file line (Databases pieces))).ending
+    ≡ draft.ending
 unfolding learned
 bibdata_whole file line draft pieces = refl
 
@@ -117,12 +124,14 @@ module _ (files : Files) where
     after-ended : (draft : Draft) (event : AuxEvent) → is_whole draft.ending ≡ false → after draft event ≡ draft
     after-ended draft event ended = rw ended refl
 
-    included-ended : (draft : Draft) (file : List ℕ) (line : ℕ) (name : List ℕ) (text : Option (List ℕ)) → is_whole draft.ending ≡ false → included opening draft file line name text ≡ draft
+    included-ended : (draft : Draft) (file : List ℕ) (line : ℕ) (name : List ℕ) (text : Option (List ℕ)) → is_whole draft.ending ≡ false
+        → included opening draft file line name text ≡ draft
     unfolding included
     included-ended draft file line name None ended = rw ended refl
     included-ended draft file line name (Some text) ended = still draft name text ended
 
-    asked_for-ended : (draft : Draft) (file : List ℕ) (line : ℕ) (asked : Option (List ℕ)) → is_whole draft.ending ≡ false → asked_for files opening draft file line asked ≡ draft
+    asked_for-ended : (draft : Draft) (file : List ℕ) (line : ℕ) (asked : Option (List ℕ)) → is_whole draft.ending ≡ false
+        → asked_for files opening draft file line asked ≡ draft
     asked_for-ended draft file line None ended = refl
     asked_for-ended draft file line (Some name) ended = included-ended draft file line name (files name) ended
 
@@ -134,7 +143,8 @@ module _ (files : Files) where
         ∙ asked_for-ended draft event.file event.line (asked_of draft.files event.word) ended in
         ap (λ (d : Draft). run files opening d events) here ∙ run-still draft events ended
 
-  within-ended : (long : Bool) (opening : Opening) → ((draft : Draft) (name text : List ℕ) → is_whole draft.ending ≡ false → opening draft name text ≡ draft) → (draft : Draft) (name text : List ℕ) → is_whole draft.ending ≡ false → within long files opening draft name text ≡ draft
+  within-ended : (long : Bool) (opening : Opening) → ((draft : Draft) (name text : List ℕ) → is_whole draft.ending ≡ false → opening draft name text ≡ draft)
+      → (draft : Draft) (name text : List ℕ) → is_whole draft.ending ≡ false → within long files opening draft name text ≡ draft
   unfolding within
   within-ended true opening still draft name text ended = rw ended refl
   within-ended false opening still draft name text ended = run-still opening still draft _ ended
@@ -170,20 +180,23 @@ module _ (files : Files) where
   included-found room draft after file line name bytes text there same is = rw there (is ∙ ap (opened_by files room draft name) same)
 
   -- a file that has no room
-  pub opened_by-full : (room : ℕ) (draft : Draft) (name text : List ℕ) → room ≡ 0 → is_whole draft.ending ≡ true → record draft { ending = end.TooManyOpen } ≡ opened_by files room draft name text
+  pub opened_by-full : (room : ℕ) (draft : Draft) (name text : List ℕ) → room ≡ 0 → is_whole draft.ending ≡ true → record draft { ending = end.TooManyOpen }
+      ≡ opened_by files room draft name text
   unfolding opened_by learned
   opened_by-full zero draft name text none whole = rw whole refl
   opened_by-full (suc room) draft name text none whole = absurd (omega arith)
 
   -- one that is opened
-  opened_by-room : (room : ℕ) (draft opening : Draft) (name text : List ℕ) → (room ≡ 0 → ⊥) → is_whole draft.ending ≡ true → opening ≡ learned draft (event_at name 0 (Opens (20 - room)))
+  opened_by-room : (room : ℕ) (draft opening : Draft) (name text : List ℕ) → (room ≡ 0 → ⊥) → is_whole draft.ending ≡ true
+      → opening ≡ learned draft (event_at name 0 (Opens (20 - room)))
       → within (is_too_long text) files (opened_by files (room - 1)) opening name text ≡ opened_by files room draft name text
   unfolding opened_by
   opened_by-room zero draft opening name text some whole is = absurd (some refl)
   opened_by-room (suc room) draft opening name text some whole is =
       let level : 20 - suc room ≡ 19 - room = omega arith in
       let left : suc room - 1 ≡ room = omega arith in
-      let is' : opening ≡ after draft (event_at name 0 (Opens (19 - room))) = is ∙ ap (λ (level : ℕ). learned draft (event_at name 0 (Opens level))) level ∙ rw whole refl in
+      let is' : opening ≡ after draft (event_at name 0 (Opens (19 - room))) = is ∙ ap (λ (level : ℕ). learned draft (event_at name 0 (Opens level))) level
+      ∙ rw whole refl in
       ap (λ (r : ℕ). within (is_too_long text) files (opened_by files r) opening name text) left
       ∙ ap (λ (d : Draft). within (is_too_long text) files (opened_by files room) d name text) is'
 
@@ -194,7 +207,8 @@ module _ (files : Files) where
   unfolding within learned
   opened_by-long room draft opening name text some whole still is long =
       let whole' : is_whole opening.ending ≡ true = ap is_whole still ∙ whole in
-      let here : record opening { ending = end.FileLimit } ≡ within (is_too_long text) files (opened_by files (room - 1)) opening name text = rw long (rw whole' refl) in
+      let here : record opening { ending = end.FileLimit } ≡ within (is_too_long text) files (opened_by files (room - 1)) opening name text =
+      rw long (rw whole' refl) in
       here ∙ opened_by-room room draft opening name text some whole is
 
   -- and is read
@@ -247,6 +261,8 @@ unfalse true h = refl
 unfalse false h = cc
 
 -- no line is left
-pub run-none : (files : Files) (opening : Opening) (draft whole : Draft) (file : List ℕ) (number : ℕ) (left : List (List ℕ)) → left ≡ [] → run files opening draft (said_from file number left) ≡ whole → draft ≡ whole
+pub run-none : (files : Files) (opening : Opening) (draft whole : Draft) (file : List ℕ) (number : ℕ) (left : List (List ℕ)) → left ≡ []
+    → run files opening draft (said_from file number left) ≡ whole → draft ≡ whole
 unfolding run
-run-none files opening draft whole file number left none total = ap (λ (ls : List (List ℕ)). run files opening draft (said_from file number ls)) (sym none) ∙ total
+run-none files opening draft whole file number left none total = ap (λ (ls : List (List ℕ)). run files opening draft (said_from file number ls)) (sym none)
+    ∙ total

@@ -8,7 +8,8 @@ use Rattle.btx_aux.specs.declared.command.Slip.TheVariants.{WhiteSpace, Unclosed
 use Rattle.btx_aux.specs.laws.Pairs.{files_of_pairs}
 use Rattle.btx_aux.specs.language.Grammar.{pieces_of, aux_command_named, words_of}
 use Rattle.btx_aux.specs.language.Events.{AuxEvent, said, job_events}
-use Rattle.btx_aux.specs.language.Notes.{AuxComplaint, Slipped, AnotherBibdata, AnotherBibstyle, CaseMismatch, SecondStar, WrongExtension, AlreadyMet, NotOpened, RepeatedDatabase, AuxNote, TopFile, LevelFile, Wrong, NoCitations, NoBibdata, NoBibstyle}
+use Rattle.btx_aux.specs.language.Notes.{AuxComplaint, Slipped, AnotherBibdata, AnotherBibstyle, CaseMismatch, SecondStar, WrongExtension, AlreadyMet}
+use Rattle.btx_aux.specs.language.Notes.{NotOpened, RepeatedDatabase, AuxNote, TopFile, LevelFile, Wrong, NoCitations, NoBibdata, NoBibstyle}
 use Rattle.btx_aux.specs.language.Job.{cited_keys, all_of, notes_of, end_of}
 use Rattle.btx_aux.specs.refinement.Job.{databases_of, style_name_of}
 
@@ -74,7 +75,8 @@ unfolding job_events said words_of aux_command_named pieces_of line_pieces trimm
 unclosed_before_white = refl
 
 -- a line without a brace is ignored; braces in a piece aren't matched; a second `*` is logged
-no_brace : alone (codes "\\citation\n\\citation{k} x\n\\citation{*,a{b,*}") ≡ base_with (codes "a{b" ∷ []) (Some 0) (error_at 2 (Slipped StuffAfter) ∷ error_at 3 SecondStar ∷ [])
+no_brace : alone (codes "\\citation\n\\citation{k} x\n\\citation{*,a{b,*}")
+    ≡ base_with (codes "a{b" ∷ []) (Some 0) (error_at 2 (Slipped StuffAfter) ∷ error_at 3 SecondStar ∷ [])
 unfolding job_events said words_of aux_command_named pieces_of line_pieces trimmed
 no_brace = refl
 
@@ -84,7 +86,8 @@ unfolding job_events said words_of aux_command_named pieces_of line_pieces trimm
 empty_pieces = refl
 
 -- each repetition of another spelling is logged again
-repeated_spelling : alone (codes "\\citation{k,K,k,K}") ≡ base_with (codes "k" ∷ []) None (error_at 1 (CaseMismatch (codes "k") (codes "K")) ∷ error_at 1 (CaseMismatch (codes "k") (codes "K")) ∷ [])
+repeated_spelling : alone (codes "\\citation{k,K,k,K}")
+    ≡ base_with (codes "k" ∷ []) None (error_at 1 (CaseMismatch (codes "k") (codes "K")) ∷ error_at 1 (CaseMismatch (codes "k") (codes "K")) ∷ [])
 unfolding job_events said words_of aux_command_named pieces_of line_pieces trimmed
 repeated_spelling = refl
 
@@ -118,14 +121,15 @@ unfolding job_events said words_of aux_command_named pieces_of line_pieces trimm
 database_twice = refl
 
 -- a comma is part of the one piece of a `\bibstyle` and of an `\@input`; of a second `\bibstyle` line nothing else is logged
-one_piece : shown (job_events (files_of_pairs ((top, codes "\\citation{k}\n\\bibdata{d.bib}\n\\bibstyle{s,t.bst}\n\\@input{a,b.aux}\n\\bibstyle{u u}") ∷ [])) top) ≡ (
-  codes "k" ∷ [],
-  None,
-  codes "d.bib" ∷ [],
-  Some (codes "s,t.bst"),
-  found_top ∷ error_at 4 (NotOpened (codes "a,b.aux")) ∷ error_at 5 AnotherBibstyle ∷ [],
-  end.Whole,
-)
+one_piece : shown (job_events (files_of_pairs ((top, codes "\\citation{k}\n\\bibdata{d.bib}\n\\bibstyle{s,t.bst}\n\\@input{a,b.aux}\n\\bibstyle{u u}") ∷ []))
+    top) ≡ (
+      codes "k" ∷ [],
+      None,
+      codes "d.bib" ∷ [],
+      Some (codes "s,t.bst"),
+      found_top ∷ error_at 4 (NotOpened (codes "a,b.aux")) ∷ error_at 5 AnotherBibstyle ∷ [],
+      end.Whole,
+    )
 unfolding job_events said words_of aux_command_named pieces_of line_pieces trimmed
 one_piece = refl
 
@@ -137,7 +141,8 @@ nothing = refl
 -- a file that inputs the top one again
 through_another : shown (job_events (files_of_pairs (
     (top, codes "\\@input{a.aux}\n\\citation{k}\n\\bibdata{d}\n\\bibstyle{s}\n")
-    ∷ (codes "a.aux", codes "\\citation{k}\n\\@input{job.aux}\n") ∷ [])) top) ≡ base_with (codes "k" ∷ []) None (LevelFile 1 (codes "a.aux") ∷ Wrong (AlreadyMet top) 2 (codes "a.aux") ∷ [])
+    ∷ (codes "a.aux", codes "\\citation{k}\n\\@input{job.aux}\n") ∷ [])) top)
+    ≡ base_with (codes "k" ∷ []) None (LevelFile 1 (codes "a.aux") ∷ Wrong (AlreadyMet top) 2 (codes "a.aux") ∷ [])
 unfolding job_events said words_of aux_command_named pieces_of line_pieces trimmed
 through_another = refl
 

@@ -24,7 +24,8 @@ OnEnd P (Broken complaint inside) = P inside.items
 abbrev OnInside : (List Item → Type 0) → Turn Inside BodyEnd → Type 0
 OnInside P turn = OnTurn (λ s. P s.items) (OnEnd P) turn
 
-items_named : (P : List Item → Type 0) → OnMessages P → (token : Callee → Token) (name : List ℕ) (s : Inside) (o : Option Callee) → P s.items → P (with_named token name s o).items
+items_named : (P : List Item → Type 0) → OnMessages P → (token : Callee → Token) (name : List ℕ) (s : Inside) (o : Option Callee) → P s.items
+    → P (with_named token name s o).items
 items_named P each token name s None h = each _ _ s.items h
 items_named P each token name s (Some c) h = h
 

@@ -16,9 +16,11 @@ part_more ts us r le h =
     ap (take (r.to - r.from)) (drop-append-le r.from ts us (omega arith))
     ∙ take-append-le (r.to - r.from) (drop r.from ts) us (omega (arith, length-drop r.from ts))
 
-parts_more : (ts us : List Token) (rs : List Range) → AllByRecursion (λ r. (r.from ≤ r.to) × (r.to ≤ length ts)) rs → map (tokens_in (ts ++ us)) rs ≡ map (tokens_in ts) rs
+parts_more : (ts us : List Token) (rs : List Range) → AllByRecursion (λ r. (r.from ≤ r.to) × (r.to ≤ length ts)) rs → map (tokens_in (ts ++ us)) rs
+    ≡ map (tokens_in ts) rs
 parts_more ts us [] h = refl
-parts_more ts us (r ∷ rs) h = ap (λ x. x ∷ map (tokens_in (ts ++ us)) rs) (part_more ts us r h.0.0 h.0.1) ∙ ap (λ xs. tokens_in ts r ∷ xs) (parts_more ts us rs h.1)
+parts_more ts us (r ∷ rs) h = ap (λ x. x ∷ map (tokens_in (ts ++ us)) rs) (part_more ts us r h.0.0 h.0.1)
+    ∙ ap (λ xs. tokens_in ts r ∷ xs) (parts_more ts us rs h.1)
 
 -- the new part is all that was added
 last_part : (ts us : List Token) (n m : ℕ) → n ≡ length ts → m ≡ length ts + length us → take (m - n) (drop n (ts ++ us)) ≡ us
@@ -27,7 +29,8 @@ last_part ts us n m e g =
     ap (λ i. take i (drop n (ts ++ us))) k ∙ ap (λ i. take (length us) (drop i (ts ++ us))) e ∙ ap (take (length us)) (drop-append_seam ts us)
     ∙ ap (take (length us)) (sym (append-nil us)) ∙ take-append_seam us []
 
-pub added : (ts us : List Token) (rs : List Range) (n m : ℕ) → All (λ r. (r.from ≤ r.to) × (r.to ≤ length ts)) rs → n ≡ length ts → m ≡ length ts + length us → map (tokens_in (ts ++ us)) (rs ++ record { from = n; to = m } ∷ []) ≡ map (tokens_in ts) rs ++ us ∷ []
+pub added : (ts us : List Token) (rs : List Range) (n m : ℕ) → All (λ r. (r.from ≤ r.to) × (r.to ≤ length ts)) rs → n ≡ length ts → m ≡ length ts + length us
+    → map (tokens_in (ts ++ us)) (rs ++ record { from = n; to = m } ∷ []) ≡ map (tokens_in ts) rs ++ us ∷ []
 added ts us rs n m h e g =
     map-append (tokens_in (ts ++ us)) rs (record { from = n; to = m } ∷ [])
     ∙ ap (λ xs. xs ++ tokens_in (ts ++ us) (record { from = n; to = m }) ∷ []) (parts_more ts us rs (recursion_from_All _ rs h))

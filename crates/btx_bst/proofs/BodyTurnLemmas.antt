@@ -8,7 +8,8 @@ use Rattle.btx_bst.specs.refinement.Weights.{body_weight}
 use Rattle.btx_bst.specs.language.Places.{Place, ink, size}
 use Rattle.btx_bst.specs.language.Fronts.{word_len, digits_len, quote_len, is_word_end}
 use Rattle.btx_bst.specs.language.Complaints.{TextAfter, EndOfFile}
-use Rattle.btx_bst.specs.language.Words.{BodyWord, Open, Close, String, Integer, Quoted, Name, Faulty, Unended, Ended, front, Met, word_front, integer_at, integer_front, integer_before, signed, digits_value, string_at, string_ended, met_at, met_in}
+use Rattle.btx_bst.specs.language.Words.{BodyWord, Open, Close, String, Integer, Quoted, Name, Faulty, Unended, Ended, front, Met, word_front, integer_at}
+use Rattle.btx_bst.specs.language.Words.{integer_front, integer_before, signed, digits_value, string_at, string_ended, met_at, met_in}
 use Rattle.btx_bst.specs.language.Names.{Names, named}
 use Rattle.btx_bst.specs.language.Turns.{Turn, Again, Ends, after_turn}
 use Rattle.btx_bst.specs.language.BodyText.{Inside, BodyEnd, Whole, Broken, with_named, closed_inside, word_turn, body_turn, body_end}
@@ -40,22 +41,28 @@ integer_before-len line rest (Some z) h = at (is_word_end rest) where
   at true = h
   at false = omega (arith, drop-len (word_len rest) rest)
 
-integer_of-len : (line : List ℕ) (minus : Bool) (rest : List ℕ) (n : ℕ) → length rest ≤ length line → length (integer_front line minus rest n).rest ≤ length line
+integer_of-len : (line : List ℕ) (minus : Bool) (rest : List ℕ) (n : ℕ) → length rest ≤ length line → length (integer_front line minus rest n).rest
+    ≤ length line
 integer_of-len line minus rest zero h = drop-len (word_len line) line
-integer_of-len line minus rest (suc n) h = integer_before-len line (drop (suc n) rest) (signed minus (digits_value (take (suc n) rest))) (omega (arith, drop-len (suc n) rest))
+integer_of-len line minus rest (suc n) h = integer_before-len line (drop (suc n) rest) (signed minus (digits_value (take (suc n) rest)))
+    (omega (arith, drop-len (suc n) rest))
 
 integer_at-len : (s : List ℕ) → length (integer_at s).rest ≤ length s
 unfolding integer_at
 integer_at-len [] = omega arith
 integer_at-len (b ∷ bs) = at (b == 45) where
-  at : (t : Bool) → length (cond t (integer_front (b ∷ bs) true bs (digits_len bs)) (integer_front (b ∷ bs) false (b ∷ bs) (digits_len (b ∷ bs)))).rest ≤ suc (length bs)
+  at : (t : Bool) → length (cond t (integer_front (b ∷ bs) true bs (digits_len bs)) (integer_front (b ∷ bs) false (b ∷ bs) (digits_len (b ∷ bs)))).rest
+      ≤ suc (length bs)
   at true = integer_of-len (b ∷ bs) true bs (digits_len bs) (omega arith)
   at false = integer_of-len (b ∷ bs) false (b ∷ bs) (digits_len (b ∷ bs)) (omega arith)
 
 word_front-len : (b : ℕ) (bs : List ℕ) → length (word_front b bs).rest ≤ length bs
 unfolding word_front
 word_front-len b bs = at (b == 123) (b == 125) (b == 34) (b == 35) (b == 39) where
-  at : (t u v x w : Bool) → length (cond t (front Open bs) (cond u (front Close bs) (cond v (string_at bs) (cond x (integer_at bs) (cond w (front (Quoted (take (word_len bs) bs)) (drop (word_len bs) bs)) (front (Name (b ∷ take (word_len bs) bs)) (drop (word_len bs) bs))))))).rest ≤ length bs
+  at : (t u v x w : Bool) → length (cond t (front Open bs)
+      (cond u (front Close bs) (cond v (string_at bs)
+      (cond x (integer_at bs) (cond w (front (Quoted (take (word_len bs) bs)) (drop (word_len bs) bs))
+      (front (Name (b ∷ take (word_len bs) bs)) (drop (word_len bs) bs))))))).rest ≤ length bs
   at true u v x w = omega arith
   at false true v x w = omega arith
   at false false true x w = string_at-len bs
@@ -98,7 +105,8 @@ closed_inside-size : (s : Inside) (around : List FunctionBody) (n : ℕ) → siz
 closed_inside-size s [] n h = omega arith
 closed_inside-size s (outer ∷ around) n h = h
 
-word_turn-size : (names : Names) (s : Inside) (w : BodyWord) (n : ℕ) → size s.place ≤ n → (is_ended w ≡ false → size s.place < n) → BodyTurn n (word_turn names s w)
+word_turn-size : (names : Names) (s : Inside) (w : BodyWord) (n : ℕ) → size s.place ≤ n → (is_ended w ≡ false → size s.place < n)
+    → BodyTurn n (word_turn names s w)
 word_turn-size names s Open n h k = k refl
 word_turn-size names s Close n h k = closed_inside-size s s.around n (k refl)
 word_turn-size names s (String text) n h k = k refl
@@ -159,7 +167,8 @@ closed_inside-weight : (s : Inside) (around : List FunctionBody) (n : ℕ) → s
 closed_inside-weight s [] n h = omega arith
 closed_inside-weight s (outer ∷ around) n h = omega (arith, length-append s.bodies (s.tokens ∷ []))
 
-word_turn-weight : (names : Names) (s : Inside) (w : BodyWord) (n : ℕ) → weight_of s ≤ n → (is_ended w ≡ false → suc (weight_of s) ≤ n) → TurnWeighs n (word_turn names s w)
+word_turn-weight : (names : Names) (s : Inside) (w : BodyWord) (n : ℕ) → weight_of s ≤ n → (is_ended w ≡ false → suc (weight_of s) ≤ n)
+    → TurnWeighs n (word_turn names s w)
 word_turn-weight names s Open n h k = h
 word_turn-weight names s Close n h k = closed_inside-weight s s.around n (k refl)
 word_turn-weight names s (String text) n h k = let l = k refl in omega (arith, l, length-append s.texts (text ∷ []))

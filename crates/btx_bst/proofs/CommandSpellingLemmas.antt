@@ -1,5 +1,6 @@
 -- What a command is spelled like is what it is read as.
-use Rattle.std.proofs.Common.{◌≡◌, ℕ, zero, suc, ◌+◌, ◌<◌, ◌==◌, Bool, true, false, cond, List, [], ◌∷◌, ◌++◌, length, refl, sym, ap, ◌∙◌, arith, ◌⊎◌, inl, inr, Option, Some, None}
+use Rattle.std.proofs.Common.{◌≡◌, ℕ, zero, suc, ◌+◌, ◌<◌, ◌==◌, Bool, true, false, cond, List, [], ◌∷◌, ◌++◌, length, refl, sym, ap, ◌∙◌, arith, ◌⊎◌, inl, inr}
+use Rattle.std.proofs.Common.{Option, Some, None}
 use Rattle.std.specs.Prelude.{◌||◌, codes}
 use Rattle.std.specs.Str.{bytes_eq}
 use Rattle.std.proofs.lemmas.Slice.Eq.{bytes_eq-Decides}
@@ -19,17 +20,21 @@ use Rattle.btx_bst.specs.language.CommandWords.{command_word_of}
 use Rattle.btx_bst.specs.language.Names.{Names, named, with_name}
 use Rattle.btx_bst.specs.language.Style.{Style}
 use Rattle.btx_bst.specs.language.Turns.{Ends}
-use Rattle.btx_bst.specs.language.Lists.{brace_in, opening, closing, name_in, next_name, quoted_in, quoted_at, letters_at, listing, Listed, listed, name_turn, list_turn_in, list_turn, list_end, list_read, list_at}
+use Rattle.btx_bst.specs.language.Lists.{brace_in, opening, closing, name_in, next_name, quoted_in, quoted_at, letters_at, listing, Listed, listed, name_turn}
+use Rattle.btx_bst.specs.language.Lists.{list_turn_in, list_turn, list_end, list_read, list_at}
 use Rattle.btx_bst.specs.language.BodyText.{BodyEnd, Whole, Broken, body_end}
 use Rattle.btx_bst.specs.language.Outcomes.{CommandOutcome, outcome, after_read, with_item}
-use Rattle.btx_bst.specs.language.Commands.{after_list, entry_command, function_command, function_ended, has_read, read_command, run_command, run_of, sort_command, declare, macro_command, function_in, command_at, command_named, after_listed, inside_at}
+use Rattle.btx_bst.specs.language.Commands.{after_list, entry_command, function_command, function_ended, has_read, read_command, run_command, run_of}
+use Rattle.btx_bst.specs.language.Commands.{sort_command, declare, macro_command, function_in, command_at, command_named, after_listed, inside_at}
 use Rattle.btx_bst.specs.language.Predefined.{predefined}
 use Rattle.btx_bst.specs.language.StyleText.{StyleState, style_state, command_outcome, style_from, style_of, resumed}
 use Rattle.btx_bst.specs.laws.Spelling.{complaint_in, made_by, made_till, Division, IsBroken}
 use Rattle.btx_bst.specs.laws.ItemSpelling.{AreFull, IsEnd}
 use Rattle.btx_bst.specs.laws.Written.{AreNew, declared, made_in, with_made_function}
 use Rattle.btx_bst.specs.laws.TokenSpelling.{Gap, BehindGap, IsMissing, StyleSignHere, StyleNameHere, TextHere, LettersHere}
-use Rattle.btx_bst.specs.laws.CommandSpelling.{Rule, AndThen, Opened, Closed, Where, Unless, New, HasMeaning, Makes, AreNames, is_list_byte, EndsList, InList, Lists, HasBody, Executes, Behind, IsWordOf, Named, CommandHere, Skips, GoesOn, IsStyle, ReadingLaw, OneReadingLaw}
+use Rattle.btx_bst.specs.laws.CommandSpelling.{Rule, AndThen, Opened, Closed, Where, Unless, New, HasMeaning, Makes, AreNames, is_list_byte, EndsList, InList}
+use Rattle.btx_bst.specs.laws.CommandSpelling.{Lists, HasBody, Executes, Behind, IsWordOf, Named, CommandHere, Skips, GoesOn, IsStyle, ReadingLaw}
+use Rattle.btx_bst.specs.laws.CommandSpelling.{OneReadingLaw}
 use Rattle.btx_bst.proofs.ListLemmas.{Sized, name_at-size, list_end-again, list_end-ends}
 use Rattle.btx_bst.proofs.StyleLemmas.{style_from-again, style_from-ends, item_turn-less}
 use Rattle.btx_bst.proofs.SpellingLemmas.{spelled, broken, divided}
@@ -54,49 +59,63 @@ same R f g e h = record { met = λ s p. rw (sym (e s p)) (h.met s p); one = λ s
 
 -- ---- how rules are made
 
-then_met : {A : Type 0} (R : Place → Read A → Type 0) (rest : A → Rule) (go : A → Style → Place → CommandOutcome) → ((a : A) → Gives (rest a) (go a)) → (s : Style) (p : Place) (x : Read A) → R p x → AndThen R rest s p (after_read s x (λ a q. go a s q))
+then_met : {A : Type 0} (R : Place → Read A → Type 0) (rest : A → Rule) (go : A → Style → Place → CommandOutcome) → ((a : A) → Gives (rest a) (go a))
+    → (s : Style) (p : Place) (x : Read A) → R p x → AndThen R rest s p (after_read s x (λ a q. go a s q))
 then_met R rest go g s p (Took a q) k = inl (a, q, k, (g a).met s q)
 then_met R rest go g s p (Slip c q) k = inr (c, q, k, refl)
 
-then_one : {A : Type 0} (R : Place → Read A → Type 0) (r : Place → Read A) (rest : A → Rule) (go : A → Style → Place → CommandOutcome) → Agrees R r → ((a : A) → Gives (rest a) (go a)) → (s : Style) (p : Place) (o : CommandOutcome) → AndThen R rest s p o → after_read s (r p) (λ a q. go a s q) ≡ o
+then_one : {A : Type 0} (R : Place → Read A → Type 0) (r : Place → Read A) (rest : A → Rule) (go : A → Style → Place → CommandOutcome) → Agrees R r
+    → ((a : A) → Gives (rest a) (go a)) → (s : Style) (p : Place) (o : CommandOutcome) → AndThen R rest s p o → after_read s (r p) (λ a q. go a s q) ≡ o
 then_one {A} R r rest go h g s p o (inl k) = ap (λ (x : Read A). after_read s x (λ a q. go a s q)) (h.one p (Took k.0 k.1) k.2) ∙ (g k.0).one s k.1 o k.3
 then_one {A} R r rest go h g s p o (inr k) = ap (λ (x : Read A). after_read s x (λ a q. go a s q)) (h.one p (Slip k.0 k.1) k.2) ∙ sym k.3
 
-then_gives : {A : Type 0} (R : Place → Read A → Type 0) (r : Place → Read A) (rest : A → Rule) (go : A → Style → Place → CommandOutcome) → Agrees R r → ((a : A) → Gives (rest a) (go a)) → Gives (AndThen R rest) (λ s p. after_read s (r p) (λ a q. go a s q))
+then_gives : {A : Type 0} (R : Place → Read A → Type 0) (r : Place → Read A) (rest : A → Rule) (go : A → Style → Place → CommandOutcome) → Agrees R r
+    → ((a : A) → Gives (rest a) (go a)) → Gives (AndThen R rest) (λ s p. after_read s (r p) (λ a q. go a s q))
 then_gives R r rest go h g = record { met = λ s p. then_met R rest go g s p (r p) (h.met p); one = then_one R r rest go h g }
 
 opened : (rest : Rule) (go : Style → Place → CommandOutcome) → Gives rest go → Gives (Opened rest) (λ s p. after_read s (opening p) (λ x q. go s q))
-opened rest go g = then_gives (BehindGap (StyleSignHere 123 NoOpen)) opening (λ x. rest) (λ x. go) (spaced (StyleSignHere 123 NoOpen) (λ p. brace_in 123 NoOpen p p.line) (sign_agrees 123 NoOpen)) (λ x. g)
+opened rest go g = then_gives (BehindGap (StyleSignHere 123 NoOpen)) opening (λ x. rest) (λ x. go)
+    (spaced (StyleSignHere 123 NoOpen) (λ p. brace_in 123 NoOpen p p.line) (sign_agrees 123 NoOpen)) (λ x. g)
 
 closed : (rest : Rule) (go : Style → Place → CommandOutcome) → Gives rest go → Gives (Closed rest) (λ s p. after_read s (closing p) (λ x q. go s q))
-closed rest go g = then_gives (BehindGap (StyleSignHere 125 NoClose)) closing (λ x. rest) (λ x. go) (spaced (StyleSignHere 125 NoClose) (λ p. brace_in 125 NoClose p p.line) (sign_agrees 125 NoClose)) (λ x. g)
+closed rest go g = then_gives (BehindGap (StyleSignHere 125 NoClose)) closing (λ x. rest) (λ x. go)
+    (spaced (StyleSignHere 125 NoClose) (λ p. brace_in 125 NoClose p p.line) (sign_agrees 125 NoClose)) (λ x. g)
 
-a_name : (rest : List ℕ → Rule) (go : List ℕ → Style → Place → CommandOutcome) → ((name : List ℕ) → Gives (rest name) (go name)) → Gives (AndThen (BehindGap StyleNameHere) rest) (λ s p. after_read s (next_name p) (λ name q. go name s q))
+a_name : (rest : List ℕ → Rule) (go : List ℕ → Style → Place → CommandOutcome) → ((name : List ℕ) → Gives (rest name) (go name))
+    → Gives (AndThen (BehindGap StyleNameHere) rest) (λ s p. after_read s (next_name p) (λ name q. go name s q))
 a_name rest go g = then_gives (BehindGap StyleNameHere) next_name rest go (spaced StyleNameHere (λ p. name_in p p.line) name_agrees) g
 
-where_met : (test : Style → Bool) (wrong : Complaint) (rest : Rule) (go : Style → Place → CommandOutcome) → Gives rest go → (s : Style) (p : Place) (t : Bool) → test s ≡ t → Where test wrong rest s p (cond t (go s p) (outcome (Some wrong) s p))
+where_met : (test : Style → Bool) (wrong : Complaint) (rest : Rule) (go : Style → Place → CommandOutcome) → Gives rest go → (s : Style) (p : Place) (t : Bool)
+    → test s ≡ t → Where test wrong rest s p (cond t (go s p) (outcome (Some wrong) s p))
 where_met test wrong rest go g s p true e = inl (e, g.met s p)
 where_met test wrong rest go g s p false e = inr (e, refl)
 
-where_one : (test : Style → Bool) (wrong : Complaint) (rest : Rule) (go : Style → Place → CommandOutcome) → Gives rest go → (s : Style) (p : Place) (o : CommandOutcome) → Where test wrong rest s p o → cond (test s) (go s p) (outcome (Some wrong) s p) ≡ o
+where_one : (test : Style → Bool) (wrong : Complaint) (rest : Rule) (go : Style → Place → CommandOutcome) → Gives rest go
+    → (s : Style) (p : Place) (o : CommandOutcome) → Where test wrong rest s p o → cond (test s) (go s p) (outcome (Some wrong) s p) ≡ o
 where_one test wrong rest go g s p o (inl k) = ap (λ (t : Bool). cond t (go s p) (outcome (Some wrong) s p)) k.0 ∙ g.one s p o k.1
 where_one test wrong rest go g s p o (inr k) = ap (λ (t : Bool). cond t (go s p) (outcome (Some wrong) s p)) k.0 ∙ sym k.1
 
-where_gives : (test : Style → Bool) (wrong : Complaint) (rest : Rule) (go : Style → Place → CommandOutcome) → Gives rest go → Gives (Where test wrong rest) (λ s p. cond (test s) (go s p) (outcome (Some wrong) s p))
+where_gives : (test : Style → Bool) (wrong : Complaint) (rest : Rule) (go : Style → Place → CommandOutcome) → Gives rest go
+    → Gives (Where test wrong rest) (λ s p. cond (test s) (go s p) (outcome (Some wrong) s p))
 where_gives test wrong rest go g = record { met = λ s p. where_met test wrong rest go g s p (test s) refl; one = where_one test wrong rest go g }
 
-unless_met : (test : Style → Bool) (wrong : Complaint) (rest : Rule) (go : Style → Place → CommandOutcome) → Gives rest go → (s : Style) (p : Place) (t : Bool) → test s ≡ t → Unless test wrong rest s p (cond t (outcome (Some wrong) s p) (go s p))
+unless_met : (test : Style → Bool) (wrong : Complaint) (rest : Rule) (go : Style → Place → CommandOutcome) → Gives rest go → (s : Style) (p : Place) (t : Bool)
+    → test s ≡ t → Unless test wrong rest s p (cond t (outcome (Some wrong) s p) (go s p))
 unless_met test wrong rest go g s p true e = inl (e, refl)
 unless_met test wrong rest go g s p false e = inr (e, g.met s p)
 
-unless_one : (test : Style → Bool) (wrong : Complaint) (rest : Rule) (go : Style → Place → CommandOutcome) → Gives rest go → (s : Style) (p : Place) (o : CommandOutcome) → Unless test wrong rest s p o → cond (test s) (outcome (Some wrong) s p) (go s p) ≡ o
+unless_one : (test : Style → Bool) (wrong : Complaint) (rest : Rule) (go : Style → Place → CommandOutcome) → Gives rest go
+    → (s : Style) (p : Place) (o : CommandOutcome) → Unless test wrong rest s p o → cond (test s) (outcome (Some wrong) s p) (go s p) ≡ o
 unless_one test wrong rest go g s p o (inl k) = ap (λ (t : Bool). cond t (outcome (Some wrong) s p) (go s p)) k.0 ∙ sym k.1
 unless_one test wrong rest go g s p o (inr k) = ap (λ (t : Bool). cond t (outcome (Some wrong) s p) (go s p)) k.0 ∙ g.one s p o k.1
 
-unless_gives : (test : Style → Bool) (wrong : Complaint) (rest : Rule) (go : Style → Place → CommandOutcome) → Gives rest go → Gives (Unless test wrong rest) (λ s p. cond (test s) (outcome (Some wrong) s p) (go s p))
+unless_gives : (test : Style → Bool) (wrong : Complaint) (rest : Rule) (go : Style → Place → CommandOutcome) → Gives rest go
+    → Gives (Unless test wrong rest) (λ s p. cond (test s) (outcome (Some wrong) s p) (go s p))
 unless_gives test wrong rest go g = record { met = λ s p. unless_met test wrong rest go g s p (test s) refl; one = unless_one test wrong rest go g }
 
-new_gives : {A : Type 0} (meaning : Style → Option A) (wrong : Complaint) (rest : Rule) (f : Style → Place → Option A → CommandOutcome) → ((s : Style) (p : Place) (a : A) → f s p (Some a) ≡ outcome (Some wrong) s p) → Gives rest (λ s p. f s p None) → Gives (New meaning wrong rest) (λ s p. f s p (meaning s))
+new_gives : {A : Type 0} (meaning : Style → Option A) (wrong : Complaint) (rest : Rule) (f : Style → Place → Option A → CommandOutcome)
+    → ((s : Style) (p : Place) (a : A) → f s p (Some a) ≡ outcome (Some wrong) s p) → Gives rest (λ s p. f s p None)
+    → Gives (New meaning wrong rest) (λ s p. f s p (meaning s))
 new_gives {A} meaning wrong rest f e g = record { met = λ s p. met s p (meaning s) refl; one = one } where
   met : (s : Style) (p : Place) (m : Option A) → meaning s ≡ m → New meaning wrong rest s p (f s p m)
   met s p None h = inl (h, g.met s p)
@@ -106,7 +125,9 @@ new_gives {A} meaning wrong rest f e g = record { met = λ s p. met s p (meaning
   one s p o (inl k) = ap (f s p) k.0 ∙ g.one s p o k.1
   one s p o (inr k) = ap (f s p) k.1 ∙ e s p k.0 ∙ sym k.2
 
-known_gives : {A : Type 0} (meaning : Style → Option A) (wrong : Complaint) (rest : A → Rule) (f : Style → Place → Option A → CommandOutcome) → ((s : Style) (p : Place) → f s p None ≡ outcome (Some wrong) s p) → ((a : A) → Gives (rest a) (λ s p. f s p (Some a))) → Gives (HasMeaning meaning wrong rest) (λ s p. f s p (meaning s))
+known_gives : {A : Type 0} (meaning : Style → Option A) (wrong : Complaint) (rest : A → Rule) (f : Style → Place → Option A → CommandOutcome)
+    → ((s : Style) (p : Place) → f s p None ≡ outcome (Some wrong) s p) → ((a : A) → Gives (rest a) (λ s p. f s p (Some a)))
+    → Gives (HasMeaning meaning wrong rest) (λ s p. f s p (meaning s))
 known_gives {A} meaning wrong rest f e g = record { met = λ s p. met s p (meaning s) refl; one = one } where
   met : (s : Style) (p : Place) (m : Option A) → meaning s ≡ m → HasMeaning meaning wrong rest s p (f s p m)
   met s p None h = inr (h, e s p)
@@ -127,12 +148,14 @@ brace_at p q h = (spaced (StyleSignHere 125 NoClose) (λ r. brace_in 125 NoClose
 name_at_one : (p : Place) (x : Read (List ℕ)) → BehindGap StyleNameHere p x → next_name p ≡ x
 name_at_one p x h = (spaced StyleNameHere (λ r. name_in r r.line) name_agrees).one p x h
 
-turn_name : (k : Kind) (known : Names) (p : Place) (c d : Complaint) (q : Place) → closing p ≡ Slip d (ink p) → next_name p ≡ Slip c q → list_turn k (listing known p) ≡ Ends (listed (Some c) known q)
+turn_name : (k : Kind) (known : Names) (p : Place) (c d : Complaint) (q : Place) → closing p ≡ Slip d (ink p) → next_name p ≡ Slip c q
+    → list_turn k (listing known p) ≡ Ends (listed (Some c) known q)
 unfolding list_turn
 turn_name k known p c d q e f =
     ap (list_turn_in k known) e ∙ ap (λ (r : Place). name_turn k known (name_in r r.line)) (ink_twice p) ∙ ap (name_turn k known) f
 
-turn_old : (k : Kind) (known : Names) (name : List ℕ) (p q : Place) (old : Callee) → next_name p ≡ Took name q → named known name ≡ Some old → list_turn k (listing known p) ≡ Ends (listed (Some (Defined name)) known q)
+turn_old : (k : Kind) (known : Names) (name : List ℕ) (p q : Place) (old : Callee) → next_name p ≡ Took name q → named known name ≡ Some old
+    → list_turn k (listing known p) ≡ Ends (listed (Some (Defined name)) known q)
 unfolding list_turn
 turn_old k known name p q old e f =
     ap (list_turn_in k known) (name_no_brace (ink p) q (ink p).line name e) ∙ ap (λ (r : Place). name_turn k known (name_in r r.line)) (ink_twice p)
@@ -164,7 +187,8 @@ no_name : (c : Complaint) (line : List ℕ) → IsMissing is_list_byte NoName c 
 no_name c [] m = m
 no_name c (b ∷ bs) m = (or_right (b == 125) (begins_name b) m.0, m.1)
 
-turn_missing : (k : Kind) (known : Names) (p q : Place) (c : Complaint) → Gap p q → IsMissing is_list_byte NoName c q.line → list_turn k (listing known p) ≡ Ends (listed (Some c) known q)
+turn_missing : (k : Kind) (known : Names) (p q : Place) (c : Complaint) → Gap p q → IsMissing is_list_byte NoName c q.line → list_turn k (listing known p)
+    ≡ Ends (listed (Some c) known q)
 turn_missing k known p q c g m =
     let e = gap_one p q g in
     turn_name k known p c (said q.line) q
@@ -176,7 +200,8 @@ ended k known p l (inl h) = turn_closed k known p h.0 (brace_at p h.0 h.1) ∙ a
 ended k known p l (inr (inl h)) = turn_missing k known p h.1 h.0 h.2 h.3 ∙ ap Ends (sym h.4)
 ended k known p l (inr (inr h)) = turn_old k known h.0 p h.1 h.2 (name_at_one p (Took h.0 h.1) h.3) h.4 ∙ ap Ends (sym h.5)
 
-in_one_names : (k : Kind) (names : List (List ℕ)) (known : Names) (p q : Place) (l : Listed) → AreNames names p q → AreNew k names known → EndsList (declared k names known) q l → list_end k (listing known p) ≡ l
+in_one_names : (k : Kind) (names : List (List ℕ)) (known : Names) (p q : Place) (l : Listed) → AreNames names p q → AreNew k names known
+    → EndsList (declared k names known) q l → list_end k (listing known p) ≡ l
 in_one_names k [] known p q l h n e = ap (λ (r : Place). list_end k (listing known r)) h ∙ list_end-ends k (listing known q) l (ended k known q l e)
 in_one_names k (name ∷ names) known p q l h n e =
     list_end-again k (listing known p) (listing (with_name k (folded name) known) h.0) (listed_name k known name p h.0 (name_at_one p (Took name h.0) h.1) n.0)
@@ -192,11 +217,13 @@ or_false : (t u : Bool) → t ≡ false → u ≡ false → (t || u) ≡ false
 or_false true u e f = absurd (cc)
 or_false false u e f = f
 
-both_missing : (c d : Complaint) (line : List ℕ) → IsMissing (λ b. b == 125) NoClose d line → IsMissing begins_name NoName c line → IsMissing is_list_byte NoName c line
+both_missing : (c d : Complaint) (line : List ℕ) → IsMissing (λ b. b == 125) NoClose d line → IsMissing begins_name NoName c line
+    → IsMissing is_list_byte NoName c line
 both_missing c d [] m n = n
 both_missing c d (b ∷ bs) m n = (or_false (b == 125) (begins_name b) m.0 n.0, n.1)
 
-missing_list : (k : Kind) (known : Names) (p i j : Place) (c d : Complaint) → Gap p i → IsMissing (λ b. b == 125) NoClose d i.line → Gap p j → IsMissing begins_name NoName c j.line → AList k known p
+missing_list : (k : Kind) (known : Names) (p i j : Place) (c d : Complaint) → Gap p i → IsMissing (λ b. b == 125) NoClose d i.line → Gap p j
+    → IsMissing begins_name NoName c j.line → AList k known p
 missing_list k known p i j c d g m h n =
     let same_place : i ≡ j = sym (gap_one p i g) ∙ gap_one p j h in
     let m2 : IsMissing (λ b. b == 125) NoClose d j.line = rw (sym same_place) m in
@@ -205,17 +232,20 @@ missing_list k known p i j c d g m h n =
 name_less : (p q : Place) (name : List ℕ) → next_name p ≡ Took name q → size q < size p
 name_less p q name e = let h : Sized (size p) (Took name q) = rw e at (name_at-size p) in h
 
-named_list : (k : Kind) (known : Names) (p q : Place) (name : List ℕ) (o : Option Callee) → BehindGap StyleNameHere p (Took name q) → named known name ≡ o → ((known : Names) → AList k known q) → AList k known p
+named_list : (k : Kind) (known : Names) (p q : Place) (name : List ℕ) (o : Option Callee) → BehindGap StyleNameHere p (Took name q) → named known name ≡ o
+    → ((known : Names) → AList k known q) → AList k known p
 named_list k known p q name (Some old) h e more = (listed (Some (Defined name)) known q, ([], p, refl, tt, inr (inr (name, q, old, h, e, refl))))
 named_list k known p q name None h e more =
     let m = more (with_name k (folded name) known) in
     (m.0, (name ∷ m.1.0, m.1.1, (q, h, m.1.2), (e, m.1.3), m.1.4))
 
-name_list : (k : Kind) (known : Names) (p i : Place) (d : Complaint) (x : Read (List ℕ)) → Gap p i → IsMissing (λ b. b == 125) NoClose d i.line → BehindGap StyleNameHere p x → next_name p ≡ x → ((q : Place) → size q < size p → (known : Names) → AList k known q) → AList k known p
+name_list : (k : Kind) (known : Names) (p i : Place) (d : Complaint) (x : Read (List ℕ)) → Gap p i → IsMissing (λ b. b == 125) NoClose d i.line
+    → BehindGap StyleNameHere p x → next_name p ≡ x → ((q : Place) → size q < size p → (known : Names) → AList k known q) → AList k known p
 name_list k known p i d (Slip c q) g m h e more = missing_list k known p i h.0 c d g m h.1 h.2.1
 name_list k known p i d (Took name q) g m h e more = named_list k known p q name (named known name) h refl (more q (name_less p q name e))
 
-brace_list : (k : Kind) (known : Names) (p : Place) (x : Read (Unit {0})) → BehindGap (StyleSignHere 125 NoClose) p x → ((q : Place) → size q < size p → (known : Names) → AList k known q) → AList k known p
+brace_list : (k : Kind) (known : Names) (p : Place) (x : Read (Unit {0})) → BehindGap (StyleSignHere 125 NoClose) p x
+    → ((q : Place) → size q < size p → (known : Names) → AList k known q) → AList k known p
 brace_list k known p (Took none q) h more = (listed None known q, ([], p, refl, tt, inl (q, h, refl)))
 brace_list k known p (Slip d q) h more =
     name_list k known p h.0 d (next_name p) h.1 h.2.1 ((spaced StyleNameHere (λ r. name_in r r.line) name_agrees).met p) refl more
@@ -223,7 +253,8 @@ brace_list k known p (Slip d q) h more =
 list_within : (n : ℕ) (k : Kind) (known : Names) (p : Place) → size p < n → AList k known p
 list_within zero k known p h = absurd (omega arith)
 list_within (suc n) k known p h =
-    brace_list k known p (closing p) ((spaced (StyleSignHere 125 NoClose) (λ r. brace_in 125 NoClose r r.line) (sign_agrees 125 NoClose)).met p) (λ q l known. list_within n k known q (omega arith))
+    brace_list k known p (closing p) ((spaced (StyleSignHere 125 NoClose) (λ r. brace_in 125 NoClose r r.line) (sign_agrees 125 NoClose)).met p)
+    (λ q l known. list_within n k known q (omega arith))
 
 in_met : (k : Kind) (known : Names) (p : Place) → InList k known p (list_end k (listing known p))
 in_met k known p =
@@ -233,44 +264,56 @@ in_met k known p =
 abbrev Inner : Kind → Rule → Rule
 Inner kind rest style from o =
     ((known : Names) × (to : Place) × InList kind style.names from (listed None known to) × rest (record style { names = known }) to o)
-    ⊎ ((complaint : Complaint) × (known : Names) × (to : Place) × InList kind style.names from (listed (Some complaint) known to) × (o ≡ outcome (Some complaint) (record style { names = known }) to))
+    ⊎ ((complaint : Complaint) × (known : Names) × (to : Place) × InList kind style.names from (listed (Some complaint) known to)
+    × (o ≡ outcome (Some complaint) (record style { names = known }) to))
 
-inner_met : (k : Kind) (rest : Rule) (go : Style → Place → CommandOutcome) → Gives rest go → (s : Style) (p : Place) (c : Option Complaint) (known : Names) (q : Place) → InList k s.names p (listed c known q) → Inner k rest s p (after_listed c (record s { names = known }) q go)
+inner_met : (k : Kind) (rest : Rule) (go : Style → Place → CommandOutcome) → Gives rest go
+    → (s : Style) (p : Place) (c : Option Complaint) (known : Names) (q : Place) → InList k s.names p (listed c known q)
+    → Inner k rest s p (after_listed c (record s { names = known }) q go)
 inner_met k rest go g s p None known q h = inl (known, q, h, g.met (record s { names = known }) q)
 inner_met k rest go g s p (Some c) known q h = inr (c, known, q, h, refl)
 
-inner_one : (k : Kind) (rest : Rule) (go : Style → Place → CommandOutcome) → Gives rest go → (s : Style) (p : Place) (o : CommandOutcome) → Inner k rest s p o → after_list s (list_end k (listing s.names p)) go ≡ o
-inner_one k rest go g s p o (inl h) = ap (λ (l : Listed). after_list s l go) (in_one k s.names p (listed None h.0 h.1) h.2) ∙ g.one (record s { names = h.0 }) h.1 o h.3
+inner_one : (k : Kind) (rest : Rule) (go : Style → Place → CommandOutcome) → Gives rest go → (s : Style) (p : Place) (o : CommandOutcome) → Inner k rest s p o
+    → after_list s (list_end k (listing s.names p)) go ≡ o
+inner_one k rest go g s p o (inl h) = ap (λ (l : Listed). after_list s l go) (in_one k s.names p (listed None h.0 h.1) h.2)
+    ∙ g.one (record s { names = h.0 }) h.1 o h.3
 inner_one k rest go g s p o (inr h) = ap (λ (l : Listed). after_list s l go) (in_one k s.names p (listed (Some h.0) h.1 h.2) h.3) ∙ sym h.4
 
-inner_gives : (k : Kind) (rest : Rule) (go : Style → Place → CommandOutcome) → Gives rest go → Gives (Inner k rest) (λ s p. after_list s (list_end k (listing s.names p)) go)
+inner_gives : (k : Kind) (rest : Rule) (go : Style → Place → CommandOutcome) → Gives rest go
+    → Gives (Inner k rest) (λ s p. after_list s (list_end k (listing s.names p)) go)
 inner_gives k rest go g = record {
   met = λ s p. let l = list_end k (listing s.names p) in inner_met k rest go g s p l.complaint l.listing.names l.listing.place (in_met k s.names p);
   one = inner_one k rest go g;
 }
 
-list_opened : (k : Kind) (s : Style) (go : Style → Place → CommandOutcome) (r : Read (Unit {0})) → after_read s r (λ x q. after_list s (list_end k (listing s.names q)) go) ≡ after_list s (list_read k s.names r) go
+list_opened : (k : Kind) (s : Style) (go : Style → Place → CommandOutcome) (r : Read (Unit {0}))
+    → after_read s r (λ x q. after_list s (list_end k (listing s.names q)) go) ≡ after_list s (list_read k s.names r) go
 list_opened k s go (Took x q) = refl
 list_opened k s go (Slip c q) = refl
 
-lists_gives : (k : Kind) (rest : Rule) (go : Style → Place → CommandOutcome) → Gives rest go → Gives (Lists k rest) (λ s p. after_list s (list_at k s.names p) go)
+lists_gives : (k : Kind) (rest : Rule) (go : Style → Place → CommandOutcome) → Gives rest go
+    → Gives (Lists k rest) (λ s p. after_list s (list_at k s.names p) go)
 lists_gives k rest go g =
-    same (Lists k rest) (λ s p. after_read s (opening p) (λ x q. after_list s (list_end k (listing s.names q)) go)) (λ s p. after_list s (list_at k s.names p) go)
+    same (Lists k rest) (λ s p. after_read s (opening p) (λ x q. after_list s (list_end k (listing s.names q)) go))
+    (λ s p. after_list s (list_at k s.names p) go)
     (λ s p. list_opened k s go (opening p)) (opened (Inner k rest) (λ s p. after_list s (list_end k (listing s.names p)) go) (inner_gives k rest go g))
 
 -- ---- bodies
 
-body_broken : (s : Style) (name : List ℕ) (c : Complaint) (q : Place) (items : List Item) (e : BodyEnd) → IsBroken c q items e → function_ended s name e ≡ outcome (Some c) (record s { items = items }) q
+body_broken : (s : Style) (name : List ℕ) (c : Complaint) (q : Place) (items : List Item) (e : BodyEnd) → IsBroken c q items e
+    → function_ended s name e ≡ outcome (Some c) (record s { items = items }) q
 body_broken s name c q items (Whole i) h = absurd h
 body_broken s name c q items (Broken d i) h =
     ap (λ (x : Complaint). outcome (Some x) (record s { items = i.items }) i.place) h.0
     ∙ ap (λ (x : Place). outcome (Some c) (record s { items = i.items }) x) h.1
     ∙ ap (λ (x : List Item). outcome (Some c) (record s { items = x }) q) h.2
 
-body_one : (name : List ℕ) (s : Style) (p : Place) (o : CommandOutcome) → HasBody name s p o → function_ended s (folded name) (body_end s.names (inside_at s p)) ≡ o
+body_one : (name : List ℕ) (s : Style) (p : Place) (o : CommandOutcome) → HasBody name s p o → function_ended s (folded name) (body_end s.names (inside_at s p))
+    ≡ o
 body_one name s p o (inl h) = ap (function_ended s (folded name)) (spelled s.names h.0 p h.1 (made_in s) (parts-spelled h.0 p h.1 h.2)) ∙ sym h.3
 body_one name s p o (inr h) =
-    body_broken s (folded name) (complaint_in h.0) h.1 (made_till s.names h.0 (made_in s)).items (body_end s.names (inside_at s p)) (broken s.names h.0 p h.1 (made_in s) (break-spelled h.0 p h.1 h.2)) ∙ sym h.3
+    body_broken s (folded name) (complaint_in h.0) h.1 (made_till s.names h.0 (made_in s)).items (body_end s.names (inside_at s p))
+    (broken s.names h.0 p h.1 (made_in s) (break-spelled h.0 p h.1 h.2)) ∙ sym h.3
 
 body_met : (name : List ℕ) (s : Style) (p : Place) → HasBody name s p (function_ended s (folded name) (body_end s.names (inside_at s p)))
 body_met name s p = at (divided p) where
@@ -291,7 +334,8 @@ entry_gives : Gives (Behind command.Entry) entry_command
 unfolding entry_command
 entry_gives =
     unless_gives (λ s. s.has_entry) (Another command.Entry) _ entry_lists
-    (lists_gives kind.Field _ _ (lists_gives kind.EntryInteger _ _ (lists_gives kind.EntryString _ _ (makes_gives (λ s. with_item item.Entry (record s { has_entry = true }))))))
+    (lists_gives kind.Field _ _ (lists_gives kind.EntryInteger _ _
+    (lists_gives kind.EntryString _ _ (makes_gives (λ s. with_item item.Entry (record s { has_entry = true }))))))
 
 function_gives : Gives (Behind command.Function) function_command
 unfolding function_command
@@ -309,7 +353,8 @@ run_gives : (c : Command) (make : Callee → Item) → Gives (Executes c make) (
 unfolding run_command
 run_gives c make =
     where_gives has_read (BeforeRead c) _ _ (opened _ _ (a_name _ _ (λ name.
-    known_gives (λ s. function_in (named s.names name)) (Unknown name) _ (λ s p o. run_of make s name p o) (λ s p. refl) (λ callee. closed _ _ (makes_gives (with_item (make callee)))))))
+    known_gives (λ s. function_in (named s.names name)) (Unknown name) _ (λ s p o. run_of make s name p o) (λ s p. refl)
+    (λ callee. closed _ _ (makes_gives (with_item (make callee)))))))
 
 sort_gives : Gives (Behind command.Sort) sort_command
 unfolding sort_command
@@ -359,7 +404,8 @@ abbrev IsItsWord : List ℕ → Option Command → Type 0
 IsItsWord name None = Unit {0}
 IsItsWord name (Some c) = name ≡ folded (command_word_of c)
 
-its_word : (name lit : List ℕ) (c : Command) (rest : Option Command) → lit ≡ folded (command_word_of c) → IsItsWord name rest → IsItsWord name (cond (bytes_eq name lit) (Some c) rest)
+its_word : (name lit : List ℕ) (c : Command) (rest : Option Command) → lit ≡ folded (command_word_of c) → IsItsWord name rest
+    → IsItsWord name (cond (bytes_eq name lit) (Some c) rest)
 its_word name lit c rest e h = at (bytes_eq name lit) refl where
   at : (t : Bool) → bytes_eq name lit ≡ t → IsItsWord name (cond t (Some c) rest)
   at true f = (bytes_eq-Decides name lit).0 f ∙ e
@@ -380,7 +426,8 @@ is_named letters c e = ap command_named e ∙ word_named c
 not_named : (letters : List ℕ) → command_named (folded letters) ≡ None → (c : Command) → IsWordOf c letters → ⊥
 not_named letters e c h = let f = is_named letters c h in absurd (cc)
 
-word_met : (letters : List ℕ) (s : Style) (p : Place) (o : Option Command) → command_named (folded letters) ≡ o → IsItsWord (folded letters) o → Named letters s p (word_outcome s p letters o)
+word_met : (letters : List ℕ) (s : Style) (p : Place) (o : Option Command) → command_named (folded letters) ≡ o → IsItsWord (folded letters) o
+    → Named letters s p (word_outcome s p letters o)
 word_met letters s p None e h = inr (not_named letters e, refl)
 word_met letters s p (Some c) e h = inl (c, h, (command_gives c).met s p)
 
@@ -401,7 +448,8 @@ outcome_gives =
 
 skips_one : (p q : Place) → Skips p q → skipped p ≡ q
 skips_one p q h = at h.2 where
-  at : ((after : List (List ℕ)) × (p.after ≡ h.0 ++ [] ∷ after) × (q ≡ place_at (p.number + length h.0 + 1) [] after)) ⊎ ((p.after ≡ h.0) × (q ≡ place_at (p.number + length h.0) [] [])) → skipped p ≡ q
+  at : ((after : List (List ℕ)) × (p.after ≡ h.0 ++ [] ∷ after) × (q ≡ place_at (p.number + length h.0 + 1) [] after))
+      ⊎ ((p.after ≡ h.0) × (q ≡ place_at (p.number + length h.0) [] [])) → skipped p ≡ q
   at (inl k) = ap (skipped_from p.number) k.1 ∙ skipped-lines p.number p.line h.0 k.0 h.1 ∙ sym k.2
   at (inr k) = ap (skipped_from p.number) k.0 ∙ skipped-to_end p.number p.line h.0 h.1 ∙ sym k.1
 
@@ -488,7 +536,8 @@ one_list from [] (o ∷ os) a b h k = absurd (k.3 (ap (λ (r : Place). r.line) (
 one_list from (o ∷ os) [] a b h k = absurd (h.3 (ap (λ (r : Place). r.line) (one_place from.place h.0 k.0 h.2 k.1) ∙ k.2))
 one_list from (o ∷ os) (x ∷ xs) a b h k =
     let same_outcome : o ≡ x = sym (command_one from.style from.place h.0 o h.2 h.4) ∙ command_one from.style from.place k.0 x k.2 k.4 in
-    let same_next : h.1 ≡ k.1 = sym (goes_one o.complaint o.style o.place h.1 h.5) ∙ ap resumed_after same_outcome ∙ goes_one x.complaint x.style x.place k.1 k.5 in
+    let same_next : h.1 ≡ k.1 = sym (goes_one o.complaint o.style o.place h.1 h.5) ∙ ap resumed_after same_outcome
+    ∙ goes_one x.complaint x.style x.place k.1 k.5 in
     ap (λ (y : CommandOutcome). y ∷ os) same_outcome ∙ ap (λ (ys : List CommandOutcome). x ∷ ys) (one_list k.1 os xs a b (rw (sym same_next) h.6) k.6)
 
 pub one-reading : OneReadingLaw

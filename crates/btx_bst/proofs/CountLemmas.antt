@@ -24,11 +24,14 @@ use Rattle.btx_bst.specs.laws.StyleText.{unread_style}
 functions_push : (is : List Item) (x : Item) → functions_in (is ++ x ∷ []) ≡ functions_behind (functions_in is) x
 functions_push is x = fold-append functions_behind 0 is (x ∷ [])
 
-before_push : (n : ℕ) (is : List Item) (x : Item) → before_read_in n (is ++ x ∷ []) ≡ option_or (before_read_in n is) (before_read_in (fold functions_behind n is) (x ∷ []))
+before_push : (n : ℕ) (is : List Item) (x : Item) → before_read_in n (is ++ x ∷ [])
+    ≡ option_or (before_read_in n is) (before_read_in (fold functions_behind n is) (x ∷ []))
 unfolding before_read_in
 before_push n [] x = refl
 before_push n (i ∷ is) x = at (is_read i) (before_push (functions_behind n i) is x) where
-  at : (t : Bool) → before_read_in (functions_behind n i) (is ++ x ∷ []) ≡ option_or (before_read_in (functions_behind n i) is) (before_read_in (fold functions_behind (functions_behind n i) is) (x ∷ [])) → cond t (Some n) (before_read_in (functions_behind n i) (is ++ x ∷ [])) ≡ option_or (cond t (Some n) (before_read_in (functions_behind n i) is)) (before_read_in (fold functions_behind (functions_behind n i) is) (x ∷ []))
+  at : (t : Bool) → before_read_in (functions_behind n i) (is ++ x ∷ []) ≡ option_or (before_read_in (functions_behind n i) is)
+      (before_read_in (fold functions_behind (functions_behind n i) is) (x ∷ [])) → cond t (Some n) (before_read_in (functions_behind n i) (is ++ x ∷ []))
+      ≡ option_or (cond t (Some n) (before_read_in (functions_behind n i) is)) (before_read_in (fold functions_behind (functions_behind n i) is) (x ∷ []))
   at true h = refl
   at false h = h
 
@@ -57,7 +60,8 @@ abbrev IsCounted : Style → Type 0
 IsCounted s = Counted (length s.bodies) s.before_read s.items
 
 -- an item that neither is READ nor defines a function
-counted_push : (n : ℕ) (b : Option ℕ) (is : List Item) (x : Item) → ((m : ℕ) → functions_behind m x ≡ m) → is_read x ≡ false → Counted n b is → Counted n b (is ++ x ∷ [])
+counted_push : (n : ℕ) (b : Option ℕ) (is : List Item) (x : Item) → ((m : ℕ) → functions_behind m x ≡ m) → is_read x ≡ false → Counted n b is
+    → Counted n b (is ++ x ∷ [])
 counted_push n b is x e f h = record {
   all = h.all ∙ sym (e (functions_in is)) ∙ sym (functions_push is x);
   first = h.first ∙ sym (before_plain is x f);
@@ -75,7 +79,8 @@ counted_read n b is e h = record {
 counted_ended : (s : Style) (name : List ℕ) (r : BodyEnd) → OnEnd (Counted (length s.bodies) s.before_read) r → IsCounted (function_ended s name r).style
 counted_ended s name (Broken c i) h = h
 counted_ended s name (Whole i) h = record {
-  all = let e : length (i.bodies ++ i.tokens ∷ []) ≡ suc (length i.bodies) = omega (arith, length-append i.bodies (i.tokens ∷ [])) in e ∙ sym (functions_push i.items (item.Function (length i.bodies)));
+  all = let e : length (i.bodies ++ i.tokens ∷ []) ≡ suc (length i.bodies) = omega (arith, length-append i.bodies (i.tokens ∷ [])) in e
+      ∙ sym (functions_push i.items (item.Function (length i.bodies)));
   first = h.first ∙ sym (before_plain i.items (item.Function (length i.bodies)) refl);
 }
 
@@ -89,7 +94,8 @@ counted_keeps = record {
   on_names = λ s k p h. h;
   on_entry = λ s e h. counted_push (length s.bodies) s.before_read s.items item.Entry (λ m. refl) refl h;
   on_read = λ s e f h. counted_read (length s.bodies) s.before_read s.items (no_read s.before_read f) h;
-  on_function = λ s name p e h. counted_ended s (folded name) (body_end s.names (inside_at s p)) (body_items (Counted (length s.bodies) s.before_read) (counted_message (length s.bodies) s.before_read) s.names (inside_at s p) h);
+  on_function = λ s name p e h. counted_ended s (folded name) (body_end s.names (inside_at s p))
+      (body_items (Counted (length s.bodies) s.before_read) (counted_message (length s.bodies) s.before_read) s.names (inside_at s p) h);
   on_execute = λ s name c r e h. counted_push (length s.bodies) s.before_read s.items (item.Execute c) (λ m. refl) refl h;
   on_iterate = λ s name c r e h. counted_push (length s.bodies) s.before_read s.items (item.Iterate c) (λ m. refl) refl h;
   on_reverse = λ s name c r e h. counted_push (length s.bodies) s.before_read s.items (item.Reverse c) (λ m. refl) refl h;

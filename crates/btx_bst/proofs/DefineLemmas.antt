@@ -10,7 +10,11 @@ use Rattle.btx_bst.specs.refinement.Views.{OpenBodies, open_bodies, inside_of_re
 use Rattle.btx_bst.proofs.StyleLemmas.{broken-grows}
 use Rattle.btx_bst.specs.refinement.Bodies.{FunctionBody}
 
-pub defined-broken : (style : Style) (lowered : List ℕ) (p : Place) (o : OpenBodies) (c : Complaint) (t : Inside) (n m : ℕ) (bodies : List FunctionBody) (texts : List (List ℕ)) → o ≡ open_bodies [] [] → Broken c t ≡ body_end style.names (inside_of_reader p o style.bodies style.texts style.items) → n ≡ length style.bodies → bodies ≡ take n t.bodies → m ≡ length style.texts → texts ≡ take m t.texts → outcome (Some c) (record style { bodies = bodies; texts = texts; items = t.items }) t.place ≡ function_ended style lowered (body_end style.names (inside_at style p))
+pub defined-broken : (style : Style) (lowered : List ℕ) (p : Place) (o : OpenBodies) (c : Complaint) (t : Inside) (n m : ℕ) (bodies : List FunctionBody)
+    (texts : List (List ℕ)) → o ≡ open_bodies [] [] → Broken c t ≡ body_end style.names (inside_of_reader p o style.bodies style.texts style.items)
+    → n ≡ length style.bodies → bodies ≡ take n t.bodies → m ≡ length style.texts → texts ≡ take m t.texts
+    → outcome (Some c) (record style { bodies = bodies; texts = texts; items = t.items }) t.place
+    ≡ function_ended style lowered (body_end style.names (inside_at style p))
 defined-broken style lowered p o c t n m bodies texts new e count cut count_texts cut_texts =
     let e' : Broken c t ≡ body_end style.names (inside_at style p) = rw new at e in
     let grows = broken-grows style.names (inside_at style p) t c e' in

@@ -34,10 +34,28 @@ pushed (y ∷ xs) ys zero x e = e
 pushed (y ∷ xs) ys (suc k) x e = pushed xs ys k x e
 
 first_named : (k : Kind) (name : List ℕ) (a : Names) → StandFirst a → StandFirst (with_name k name a)
-first_named kind.Field name a h = record { parent = pushed a.fields (name ∷ []) 0 _ h.parent; sort_key = h.sort_key; entry_limit = h.entry_limit; global_limit = h.global_limit }
+first_named kind.Field name a h = record {
+  parent = pushed a.fields (name ∷ []) 0 _ h.parent;
+  sort_key = h.sort_key;
+  entry_limit = h.entry_limit;
+  global_limit =
+      h.global_limit;
+}
 first_named kind.EntryInteger name a h = record { parent = h.parent; sort_key = h.sort_key; entry_limit = h.entry_limit; global_limit = h.global_limit }
-first_named kind.EntryString name a h = record { parent = h.parent; sort_key = pushed a.entry_strings (name ∷ []) 0 _ h.sort_key; entry_limit = h.entry_limit; global_limit = h.global_limit }
-first_named kind.GlobalInteger name a h = record { parent = h.parent; sort_key = h.sort_key; entry_limit = pushed a.global_integers (name ∷ []) 0 _ h.entry_limit; global_limit = pushed a.global_integers (name ∷ []) 1 _ h.global_limit }
+first_named kind.EntryString name a h = record {
+  parent = h.parent;
+  sort_key = pushed a.entry_strings (name ∷ []) 0 _ h.sort_key;
+  entry_limit = h.entry_limit;
+  global_limit = h.global_limit;
+}
+first_named kind.GlobalInteger name a h =
+    record {
+      parent = h.parent;
+      sort_key = h.sort_key;
+      entry_limit = pushed a.global_integers (name ∷ []) 0 _ h.entry_limit;
+      global_limit =
+          pushed a.global_integers (name ∷ []) 1 _ h.global_limit;
+    }
 first_named kind.GlobalString name a h = record { parent = h.parent; sort_key = h.sort_key; entry_limit = h.entry_limit; global_limit = h.global_limit }
 
 abbrev FirstTurn : Turn Listing Listed → Type 0
@@ -93,4 +111,9 @@ pub first-names : StandFirst predefined → FirstNamesLaw
 first-names first file text =
     let clear = (clear-style file text).1 in
     let h : IsFirstIn (style_of file text) = kept-style IsFirstIn first_keeps file text first in
-    record { parent = clear.of_fields 0 _ h.parent; sort_key = clear.of_entry_strings 0 _ h.sort_key; entry_limit = clear.of_global_integers 0 _ h.entry_limit; global_limit = clear.of_global_integers 1 _ h.global_limit }
+    record {
+      parent = clear.of_fields 0 _ h.parent;
+      sort_key = clear.of_entry_strings 0 _ h.sort_key;
+      entry_limit = clear.of_global_integers 0 _ h.entry_limit;
+      global_limit = clear.of_global_integers 1 _ h.global_limit;
+    }

@@ -1,5 +1,6 @@
 -- Names with a further one.
-use Rattle.std.proofs.Common.{◌≡◌, ℕ, zero, suc, ◌+◌, ◌-◌, ◌≤◌, Bool, true, false, cond, List, [], ◌∷◌, ◌++◌, length, Option, None, Some, Result, Ok, Err, OnOk, OnErr, refl, sym, ap, ◌∙◌, arith}
+use Rattle.std.proofs.Common.{◌≡◌, ℕ, zero, suc, ◌+◌, ◌-◌, ◌≤◌, Bool, true, false, cond, List, [], ◌∷◌, ◌++◌, length, Option, None, Some, Result, Ok, Err, OnOk}
+use Rattle.std.proofs.Common.{OnErr, refl, sym, ap, ◌∙◌, arith}
 use Rattle.std.specs.Prelude.{position, replicate}
 use Rattle.std.specs.Option.{option_map, option_or}
 use Rattle.std.specs.Str.{bytes_eq}
@@ -20,14 +21,19 @@ use Rattle.btx_bst.specs.refinement.Names.{number_in, padded, has_name}
 
 -- ---- the place of the first that passes
 
-from_push : {A : Type 0} (p : A → Bool) (i : ℕ) (xs : List A) (y : A) → position_from p i (xs ++ y ∷ []) ≡ option_or (position_from p i xs) (cond (p y) (Some (i + length xs)) None)
+from_push : {A : Type 0} (p : A → Bool) (i : ℕ) (xs : List A) (y : A) → position_from p i (xs ++ y ∷ [])
+    ≡ option_or (position_from p i xs) (cond (p y) (Some (i + length xs)) None)
 from_push p i [] y = ap (λ (n : ℕ). cond (p y) (Some n) None) (let e : i ≡ i + 0 = omega arith in e)
-from_push p i (x ∷ xs) y = at (p x) (from_push p (i + 1) xs y ∙ ap (λ (n : ℕ). option_or (position_from p (i + 1) xs) (cond (p y) (Some n) None)) (let e : i + 1 + length xs ≡ i + suc (length xs) = omega arith in e)) where
-  at : (t : Bool) → position_from p (i + 1) (xs ++ y ∷ []) ≡ option_or (position_from p (i + 1) xs) (cond (p y) (Some (i + suc (length xs))) None) → cond t (Some i) (position_from p (i + 1) (xs ++ y ∷ [])) ≡ option_or (cond t (Some i) (position_from p (i + 1) xs)) (cond (p y) (Some (i + suc (length xs))) None)
-  at true h = refl
-  at false h = h
+from_push p i (x ∷ xs) y = at (p x) (from_push p (i + 1) xs y ∙ ap (λ (n : ℕ). option_or (position_from p (i + 1) xs) (cond (p y) (Some n) None))
+    (let e : i + 1 + length xs ≡ i + suc (length xs) = omega arith in e)) where
+      at : (t : Bool) → position_from p (i + 1) (xs ++ y ∷ []) ≡ option_or (position_from p (i + 1) xs) (cond (p y) (Some (i + suc (length xs))) None)
+          → cond t (Some i) (position_from p (i + 1) (xs ++ y ∷ [])) ≡ option_or (cond t (Some i) (position_from p (i + 1) xs))
+          (cond (p y) (Some (i + suc (length xs))) None)
+      at true h = refl
+      at false h = h
 
-position-push : {A : Type 0} (p : A → Bool) (xs : List A) (y : A) (n : ℕ) → n ≡ length xs → position p (xs ++ y ∷ []) ≡ option_or (position p xs) (cond (p y) (Some n) None)
+position-push : {A : Type 0} (p : A → Bool) (xs : List A) (y : A) (n : ℕ) → n ≡ length xs → position p (xs ++ y ∷ [])
+    ≡ option_or (position p xs) (cond (p y) (Some n) None)
 position-push p xs y n e =
     position_from-zero p (xs ++ y ∷ []) ∙ from_push p 0 xs y
     ∙ ap (λ (o : Option ℕ). option_or o (cond (p y) (Some (0 + length xs)) None)) (sym (position_from-zero p xs))
@@ -96,7 +102,9 @@ place-g : (a b c d e f g : Option Callee) → chain a b c d e f g ≡ None → (
 place-g a b c d e f g h = let k = none_of a b c d e f g h in (k.no_g, λ x. rw (k.no_a, k.no_b, k.no_c, k.no_d, k.no_e, k.no_f) refl)
 
 -- a look-up with one more at its place
-at-place : (look : Option Callee → Option Callee) (f : ℕ → Callee) (o : Option ℕ) (n : ℕ) (t : Bool) → (t ≡ true → look (option_map f o) ≡ None) → (look (option_map f o) ≡ None → (option_map f o ≡ None) × ((x : Callee) → look (Some x) ≡ Some x)) → look (more f o t n) ≡ option_or (look (option_map f o)) (cond t (Some (f n)) None)
+at-place : (look : Option Callee → Option Callee) (f : ℕ → Callee) (o : Option ℕ) (n : ℕ) (t : Bool) → (t ≡ true → look (option_map f o) ≡ None)
+    → (look (option_map f o) ≡ None → (option_map f o ≡ None) × ((x : Callee) → look (Some x) ≡ Some x))
+    → look (more f o t n) ≡ option_or (look (option_map f o)) (cond t (Some (f n)) None)
 at-place look f o n false none open_at = ap look (more-false f o n) ∙ sym (or-none (look (option_map f o)))
 at-place look f o n true none open_at =
     let e = none refl in
@@ -106,47 +114,98 @@ at-place look f o n true none open_at =
 abbrev built : List ℕ → Option Callee
 built m = option_map callee.BuiltIn (built_in_of m)
 
-pub further-function : (names : Names) (name : List ℕ) (n : ℕ) → n ≡ length names.functions → named_lower names name ≡ None → IsFurther names (record names { functions = names.functions ++ Some name ∷ [] }) name (User n)
+pub further-function : (names : Names) (name : List ℕ) (n : ℕ) → n ≡ length names.functions → named_lower names name ≡ None
+    → IsFurther names (record names { functions = names.functions ++ Some name ∷ [] }) name (User n)
 unfolding named_lower
 further-function names name n len none m =
-    ap (λ (o : Option ℕ). chain (built m) (option_map User o) (option_map Field (number_in names.fields m)) (option_map EntryInteger (number_in names.entry_integers m)) (option_map EntryString (number_in names.entry_strings m)) (option_map GlobalInteger (number_in names.global_integers m)) (option_map GlobalString (number_in names.global_strings m))) (position-push (has_name m) names.functions (Some name) n len)
-    ∙ at-place (λ (o : Option Callee). chain (built m) (o) (option_map Field (number_in names.fields m)) (option_map EntryInteger (number_in names.entry_integers m)) (option_map EntryString (number_in names.entry_strings m)) (option_map GlobalInteger (number_in names.global_integers m)) (option_map GlobalString (number_in names.global_strings m))) User (position (has_name m) names.functions) n (bytes_eq m name) (λ h. unknown_too names m name h none)
-    (place-b (built m) (option_map User (position (has_name m) names.functions)) (option_map Field (number_in names.fields m)) (option_map EntryInteger (number_in names.entry_integers m)) (option_map EntryString (number_in names.entry_strings m)) (option_map GlobalInteger (number_in names.global_integers m)) (option_map GlobalString (number_in names.global_strings m)))
+    ap (λ (o : Option ℕ). chain (built m) (option_map User o) (option_map Field (number_in names.fields m))
+    (option_map EntryInteger (number_in names.entry_integers m)) (option_map EntryString (number_in names.entry_strings m))
+    (option_map GlobalInteger (number_in names.global_integers m)) (option_map GlobalString (number_in names.global_strings m)))
+    (position-push (has_name m) names.functions (Some name) n len)
+    ∙ at-place (λ (o : Option Callee). chain (built m) (o) (option_map Field (number_in names.fields m))
+    (option_map EntryInteger (number_in names.entry_integers m)) (option_map EntryString (number_in names.entry_strings m))
+    (option_map GlobalInteger (number_in names.global_integers m)) (option_map GlobalString (number_in names.global_strings m))) User
+    (position (has_name m) names.functions) n (bytes_eq m name) (λ h. unknown_too names m name h none)
+    (place-b (built m) (option_map User (position (has_name m) names.functions)) (option_map Field (number_in names.fields m))
+    (option_map EntryInteger (number_in names.entry_integers m)) (option_map EntryString (number_in names.entry_strings m))
+    (option_map GlobalInteger (number_in names.global_integers m)) (option_map GlobalString (number_in names.global_strings m)))
 
-pub further-field : (names : Names) (name : List ℕ) (n : ℕ) → n ≡ length names.fields → named_lower names name ≡ None → IsFurther names (record names { fields = names.fields ++ name ∷ [] }) name (Field n)
+pub further-field : (names : Names) (name : List ℕ) (n : ℕ) → n ≡ length names.fields → named_lower names name ≡ None
+    → IsFurther names (record names { fields = names.fields ++ name ∷ [] }) name (Field n)
 unfolding named_lower
 further-field names name n len none m =
-    ap (λ (o : Option ℕ). chain (built m) (option_map User (position (has_name m) names.functions)) (option_map Field o) (option_map EntryInteger (number_in names.entry_integers m)) (option_map EntryString (number_in names.entry_strings m)) (option_map GlobalInteger (number_in names.global_integers m)) (option_map GlobalString (number_in names.global_strings m))) (position-push (bytes_eq m) names.fields (name) n len)
-    ∙ at-place (λ (o : Option Callee). chain (built m) (option_map User (position (has_name m) names.functions)) (o) (option_map EntryInteger (number_in names.entry_integers m)) (option_map EntryString (number_in names.entry_strings m)) (option_map GlobalInteger (number_in names.global_integers m)) (option_map GlobalString (number_in names.global_strings m))) Field (number_in names.fields m) n (bytes_eq m name) (λ h. unknown_too names m name h none)
-    (place-c (built m) (option_map User (position (has_name m) names.functions)) (option_map Field (number_in names.fields m)) (option_map EntryInteger (number_in names.entry_integers m)) (option_map EntryString (number_in names.entry_strings m)) (option_map GlobalInteger (number_in names.global_integers m)) (option_map GlobalString (number_in names.global_strings m)))
+    ap (λ (o : Option ℕ). chain (built m) (option_map User (position (has_name m) names.functions)) (option_map Field o)
+    (option_map EntryInteger (number_in names.entry_integers m)) (option_map EntryString (number_in names.entry_strings m))
+    (option_map GlobalInteger (number_in names.global_integers m)) (option_map GlobalString (number_in names.global_strings m)))
+    (position-push (bytes_eq m) names.fields (name) n len)
+    ∙ at-place (λ (o : Option Callee). chain (built m) (option_map User (position (has_name m) names.functions)) (o)
+    (option_map EntryInteger (number_in names.entry_integers m)) (option_map EntryString (number_in names.entry_strings m))
+    (option_map GlobalInteger (number_in names.global_integers m)) (option_map GlobalString (number_in names.global_strings m))) Field
+    (number_in names.fields m) n (bytes_eq m name) (λ h. unknown_too names m name h none)
+    (place-c (built m) (option_map User (position (has_name m) names.functions)) (option_map Field (number_in names.fields m))
+    (option_map EntryInteger (number_in names.entry_integers m)) (option_map EntryString (number_in names.entry_strings m))
+    (option_map GlobalInteger (number_in names.global_integers m)) (option_map GlobalString (number_in names.global_strings m)))
 
-pub further-entry_integer : (names : Names) (name : List ℕ) (n : ℕ) → n ≡ length names.entry_integers → named_lower names name ≡ None → IsFurther names (record names { entry_integers = names.entry_integers ++ name ∷ [] }) name (EntryInteger n)
+pub further-entry_integer : (names : Names) (name : List ℕ) (n : ℕ) → n ≡ length names.entry_integers → named_lower names name ≡ None
+    → IsFurther names (record names { entry_integers = names.entry_integers ++ name ∷ [] }) name (EntryInteger n)
 unfolding named_lower
 further-entry_integer names name n len none m =
-    ap (λ (o : Option ℕ). chain (built m) (option_map User (position (has_name m) names.functions)) (option_map Field (number_in names.fields m)) (option_map EntryInteger o) (option_map EntryString (number_in names.entry_strings m)) (option_map GlobalInteger (number_in names.global_integers m)) (option_map GlobalString (number_in names.global_strings m))) (position-push (bytes_eq m) names.entry_integers (name) n len)
-    ∙ at-place (λ (o : Option Callee). chain (built m) (option_map User (position (has_name m) names.functions)) (option_map Field (number_in names.fields m)) (o) (option_map EntryString (number_in names.entry_strings m)) (option_map GlobalInteger (number_in names.global_integers m)) (option_map GlobalString (number_in names.global_strings m))) EntryInteger (number_in names.entry_integers m) n (bytes_eq m name) (λ h. unknown_too names m name h none)
-    (place-d (built m) (option_map User (position (has_name m) names.functions)) (option_map Field (number_in names.fields m)) (option_map EntryInteger (number_in names.entry_integers m)) (option_map EntryString (number_in names.entry_strings m)) (option_map GlobalInteger (number_in names.global_integers m)) (option_map GlobalString (number_in names.global_strings m)))
+    ap (λ (o : Option ℕ). chain (built m) (option_map User (position (has_name m) names.functions)) (option_map Field (number_in names.fields m))
+    (option_map EntryInteger o) (option_map EntryString (number_in names.entry_strings m)) (option_map GlobalInteger (number_in names.global_integers m))
+    (option_map GlobalString (number_in names.global_strings m))) (position-push (bytes_eq m) names.entry_integers (name) n len)
+    ∙ at-place (λ (o : Option Callee). chain (built m) (option_map User (position (has_name m) names.functions)) (option_map Field (number_in names.fields m))
+    (o) (option_map EntryString (number_in names.entry_strings m)) (option_map GlobalInteger (number_in names.global_integers m))
+    (option_map GlobalString (number_in names.global_strings m))) EntryInteger (number_in names.entry_integers m) n (bytes_eq m name)
+    (λ h. unknown_too names m name h none)
+    (place-d (built m) (option_map User (position (has_name m) names.functions)) (option_map Field (number_in names.fields m))
+    (option_map EntryInteger (number_in names.entry_integers m)) (option_map EntryString (number_in names.entry_strings m))
+    (option_map GlobalInteger (number_in names.global_integers m)) (option_map GlobalString (number_in names.global_strings m)))
 
-pub further-entry_string : (names : Names) (name : List ℕ) (n : ℕ) → n ≡ length names.entry_strings → named_lower names name ≡ None → IsFurther names (record names { entry_strings = names.entry_strings ++ name ∷ [] }) name (EntryString n)
+pub further-entry_string : (names : Names) (name : List ℕ) (n : ℕ) → n ≡ length names.entry_strings → named_lower names name ≡ None
+    → IsFurther names (record names { entry_strings = names.entry_strings ++ name ∷ [] }) name (EntryString n)
 unfolding named_lower
 further-entry_string names name n len none m =
-    ap (λ (o : Option ℕ). chain (built m) (option_map User (position (has_name m) names.functions)) (option_map Field (number_in names.fields m)) (option_map EntryInteger (number_in names.entry_integers m)) (option_map EntryString o) (option_map GlobalInteger (number_in names.global_integers m)) (option_map GlobalString (number_in names.global_strings m))) (position-push (bytes_eq m) names.entry_strings (name) n len)
-    ∙ at-place (λ (o : Option Callee). chain (built m) (option_map User (position (has_name m) names.functions)) (option_map Field (number_in names.fields m)) (option_map EntryInteger (number_in names.entry_integers m)) (o) (option_map GlobalInteger (number_in names.global_integers m)) (option_map GlobalString (number_in names.global_strings m))) EntryString (number_in names.entry_strings m) n (bytes_eq m name) (λ h. unknown_too names m name h none)
-    (place-e (built m) (option_map User (position (has_name m) names.functions)) (option_map Field (number_in names.fields m)) (option_map EntryInteger (number_in names.entry_integers m)) (option_map EntryString (number_in names.entry_strings m)) (option_map GlobalInteger (number_in names.global_integers m)) (option_map GlobalString (number_in names.global_strings m)))
+    ap (λ (o : Option ℕ). chain (built m) (option_map User (position (has_name m) names.functions)) (option_map Field (number_in names.fields m))
+    (option_map EntryInteger (number_in names.entry_integers m)) (option_map EntryString o) (option_map GlobalInteger (number_in names.global_integers m))
+    (option_map GlobalString (number_in names.global_strings m))) (position-push (bytes_eq m) names.entry_strings (name) n len)
+    ∙ at-place (λ (o : Option Callee). chain (built m) (option_map User (position (has_name m) names.functions)) (option_map Field (number_in names.fields m))
+    (option_map EntryInteger (number_in names.entry_integers m)) (o) (option_map GlobalInteger (number_in names.global_integers m))
+    (option_map GlobalString (number_in names.global_strings m))) EntryString (number_in names.entry_strings m) n (bytes_eq m name)
+    (λ h. unknown_too names m name h none)
+    (place-e (built m) (option_map User (position (has_name m) names.functions)) (option_map Field (number_in names.fields m))
+    (option_map EntryInteger (number_in names.entry_integers m)) (option_map EntryString (number_in names.entry_strings m))
+    (option_map GlobalInteger (number_in names.global_integers m)) (option_map GlobalString (number_in names.global_strings m)))
 
-pub further-global_integer : (names : Names) (name : List ℕ) (n : ℕ) → n ≡ length names.global_integers → named_lower names name ≡ None → IsFurther names (record names { global_integers = names.global_integers ++ name ∷ [] }) name (GlobalInteger n)
+pub further-global_integer : (names : Names) (name : List ℕ) (n : ℕ) → n ≡ length names.global_integers → named_lower names name ≡ None
+    → IsFurther names (record names { global_integers = names.global_integers ++ name ∷ [] }) name (GlobalInteger n)
 unfolding named_lower
 further-global_integer names name n len none m =
-    ap (λ (o : Option ℕ). chain (built m) (option_map User (position (has_name m) names.functions)) (option_map Field (number_in names.fields m)) (option_map EntryInteger (number_in names.entry_integers m)) (option_map EntryString (number_in names.entry_strings m)) (option_map GlobalInteger o) (option_map GlobalString (number_in names.global_strings m))) (position-push (bytes_eq m) names.global_integers (name) n len)
-    ∙ at-place (λ (o : Option Callee). chain (built m) (option_map User (position (has_name m) names.functions)) (option_map Field (number_in names.fields m)) (option_map EntryInteger (number_in names.entry_integers m)) (option_map EntryString (number_in names.entry_strings m)) (o) (option_map GlobalString (number_in names.global_strings m))) GlobalInteger (number_in names.global_integers m) n (bytes_eq m name) (λ h. unknown_too names m name h none)
-    (place-f (built m) (option_map User (position (has_name m) names.functions)) (option_map Field (number_in names.fields m)) (option_map EntryInteger (number_in names.entry_integers m)) (option_map EntryString (number_in names.entry_strings m)) (option_map GlobalInteger (number_in names.global_integers m)) (option_map GlobalString (number_in names.global_strings m)))
+    ap (λ (o : Option ℕ). chain (built m) (option_map User (position (has_name m) names.functions)) (option_map Field (number_in names.fields m))
+    (option_map EntryInteger (number_in names.entry_integers m)) (option_map EntryString (number_in names.entry_strings m)) (option_map GlobalInteger o)
+    (option_map GlobalString (number_in names.global_strings m))) (position-push (bytes_eq m) names.global_integers (name) n len)
+    ∙ at-place (λ (o : Option Callee). chain (built m) (option_map User (position (has_name m) names.functions)) (option_map Field (number_in names.fields m))
+    (option_map EntryInteger (number_in names.entry_integers m)) (option_map EntryString (number_in names.entry_strings m)) (o)
+    (option_map GlobalString (number_in names.global_strings m))) GlobalInteger (number_in names.global_integers m) n (bytes_eq m name)
+    (λ h. unknown_too names m name h none)
+    (place-f (built m) (option_map User (position (has_name m) names.functions)) (option_map Field (number_in names.fields m))
+    (option_map EntryInteger (number_in names.entry_integers m)) (option_map EntryString (number_in names.entry_strings m))
+    (option_map GlobalInteger (number_in names.global_integers m)) (option_map GlobalString (number_in names.global_strings m)))
 
-pub further-global_string : (names : Names) (name : List ℕ) (n : ℕ) → n ≡ length names.global_strings → named_lower names name ≡ None → IsFurther names (record names { global_strings = names.global_strings ++ name ∷ [] }) name (GlobalString n)
+pub further-global_string : (names : Names) (name : List ℕ) (n : ℕ) → n ≡ length names.global_strings → named_lower names name ≡ None
+    → IsFurther names (record names { global_strings = names.global_strings ++ name ∷ [] }) name (GlobalString n)
 unfolding named_lower
 further-global_string names name n len none m =
-    ap (λ (o : Option ℕ). chain (built m) (option_map User (position (has_name m) names.functions)) (option_map Field (number_in names.fields m)) (option_map EntryInteger (number_in names.entry_integers m)) (option_map EntryString (number_in names.entry_strings m)) (option_map GlobalInteger (number_in names.global_integers m)) (option_map GlobalString o)) (position-push (bytes_eq m) names.global_strings (name) n len)
-    ∙ at-place (λ (o : Option Callee). chain (built m) (option_map User (position (has_name m) names.functions)) (option_map Field (number_in names.fields m)) (option_map EntryInteger (number_in names.entry_integers m)) (option_map EntryString (number_in names.entry_strings m)) (option_map GlobalInteger (number_in names.global_integers m)) (o)) GlobalString (number_in names.global_strings m) n (bytes_eq m name) (λ h. unknown_too names m name h none)
-    (place-g (built m) (option_map User (position (has_name m) names.functions)) (option_map Field (number_in names.fields m)) (option_map EntryInteger (number_in names.entry_integers m)) (option_map EntryString (number_in names.entry_strings m)) (option_map GlobalInteger (number_in names.global_integers m)) (option_map GlobalString (number_in names.global_strings m)))
+    ap (λ (o : Option ℕ). chain (built m) (option_map User (position (has_name m) names.functions)) (option_map Field (number_in names.fields m))
+    (option_map EntryInteger (number_in names.entry_integers m)) (option_map EntryString (number_in names.entry_strings m))
+    (option_map GlobalInteger (number_in names.global_integers m)) (option_map GlobalString o))
+    (position-push (bytes_eq m) names.global_strings (name) n len)
+    ∙ at-place (λ (o : Option Callee). chain (built m) (option_map User (position (has_name m) names.functions)) (option_map Field (number_in names.fields m))
+    (option_map EntryInteger (number_in names.entry_integers m)) (option_map EntryString (number_in names.entry_strings m))
+    (option_map GlobalInteger (number_in names.global_integers m)) (o)) GlobalString (number_in names.global_strings m) n (bytes_eq m name)
+    (λ h. unknown_too names m name h none)
+    (place-g (built m) (option_map User (position (has_name m) names.functions)) (option_map Field (number_in names.fields m))
+    (option_map EntryInteger (number_in names.entry_integers m)) (option_map EntryString (number_in names.entry_strings m))
+    (option_map GlobalInteger (number_in names.global_integers m)) (option_map GlobalString (number_in names.global_strings m)))
 
 -- nameless functions change nothing
 from_pad : {A : Type 0} (p : A → Bool) (i : ℕ) (xs : List A) (k : ℕ) (y : A) → p y ≡ false → position_from p i (xs ++ replicate k y) ≡ position_from p i xs
@@ -161,12 +220,16 @@ position-pad m xs k =
 pub named-pad : (names : Names) (k : ℕ) (m : List ℕ) → named_lower (record names { functions = names.functions ++ replicate k None }) m ≡ named_lower names m
 unfolding named_lower
 named-pad names k m =
-    ap (λ (o : Option ℕ). chain (built m) (option_map User o) (option_map Field (number_in names.fields m)) (option_map EntryInteger (number_in names.entry_integers m)) (option_map EntryString (number_in names.entry_strings m)) (option_map GlobalInteger (number_in names.global_integers m)) (option_map GlobalString (number_in names.global_strings m)))
+    ap (λ (o : Option ℕ). chain (built m) (option_map User o) (option_map Field (number_in names.fields m))
+    (option_map EntryInteger (number_in names.entry_integers m)) (option_map EntryString (number_in names.entry_strings m))
+    (option_map GlobalInteger (number_in names.global_integers m)) (option_map GlobalString (number_in names.global_strings m)))
     (position-pad m names.functions k)
 
 -- ---- the table with a further name, or as it was
 
-pub put-keeps : {A E : Type 0} (known : List A → Names) (xs ys : List A) (x : A) (es fs : Entries) (key : Vec ℕ Global) (name : List ℕ) (c : Callee) (r : Result (Unit {0}) E) → IsTable es (known xs) → key.items ≡ name → IsFurther (known xs) (known (xs ++ x ∷ [])) name c → OnOk r (fs ≡ es ++ (key, c) ∷ []) → OnOk r (ys ≡ xs ++ x ∷ []) → OnErr r (fs ≡ es) → OnErr r (ys ≡ xs) → IsTable fs (known ys)
+pub put-keeps : {A E : Type 0} (known : List A → Names) (xs ys : List A) (x : A) (es fs : Entries) (key : Vec ℕ Global) (name : List ℕ) (c : Callee)
+    (r : Result (Unit {0}) E) → IsTable es (known xs) → key.items ≡ name → IsFurther (known xs) (known (xs ++ x ∷ [])) name c
+    → OnOk r (fs ≡ es ++ (key, c) ∷ []) → OnOk r (ys ≡ xs ++ x ∷ []) → OnErr r (fs ≡ es) → OnErr r (ys ≡ xs) → IsTable fs (known ys)
 put-keeps known xs ys x es fs key name c (Ok u) table e further a b g h =
     let k : IsFurther (known xs) (known (xs ++ x ∷ [])) key.items c = rw e further in
     rw b (table-push es fs (known xs) (known (xs ++ x ∷ [])) key c table a k)
@@ -174,10 +237,12 @@ put-keeps known xs ys x es fs key name c (Err u) table e further a b g h = rw (g
 
 -- ---- nameless functions before a further one
 
-pub named-padded : (names : Names) (more : List (Option (List ℕ))) (m : List ℕ) → IsPadded names.functions more → named_lower (record names { functions = more }) m ≡ named_lower names m
+pub named-padded : (names : Names) (more : List (Option (List ℕ))) (m : List ℕ) → IsPadded names.functions more
+    → named_lower (record names { functions = more }) m ≡ named_lower names m
 named-padded names more m p = ap (λ (functions : List (Option (List ℕ))). named_lower (record names { functions = functions }) m) p.1 ∙ named-pad names p.0 m
 
-pub pad-keeps : (names : Names) (more : List (Option (List ℕ))) (es : Entries) → IsTable es names → IsPadded names.functions more → IsTable es (record names { functions = more })
+pub pad-keeps : (names : Names) (more : List (Option (List ℕ))) (es : Entries) → IsTable es names → IsPadded names.functions more
+    → IsTable es (record names { functions = more })
 pad-keeps names more es table p m = table m ∙ sym (named-padded names more m p)
 
 pub padded-length : (n : ℕ) (functions : List (Option (List ℕ))) → length functions ≤ n → length (padded n functions) ≡ n

@@ -1,5 +1,6 @@
 -- Integers.
-use Rattle.std.proofs.Common.{◌≡◌, ℕ, zero, suc, ◌+◌, ◌-◌, ◌*◌, ◌<◌, ◌≤◌, Bool, true, false, cond, List, [], ◌∷◌, length, drop, get_or, refl, sym, ap, ◌∙◌, arith, ◌⊎◌, inl, inr}
+use Rattle.std.proofs.Common.{◌≡◌, ℕ, zero, suc, ◌+◌, ◌-◌, ◌*◌, ◌<◌, ◌≤◌, Bool, true, false, cond, List, [], ◌∷◌, length, drop, get_or, refl, sym, ap, ◌∙◌}
+use Rattle.std.proofs.Common.{arith, ◌⊎◌, inl, inr}
 use Rattle.std.specs.Prelude.{nat_lt, Some, None, pos, negsuc, min}
 use Rattle.std.specs.List.{fold}
 use Rattle.std.proofs.lemmas.List.{drop_more, drop_all}
@@ -37,12 +38,14 @@ cap_near n = at (nat_lt n cap) refl where
 abbrev pub capped_from : ℕ → List ℕ → ℕ
 capped_from n digits = min (fold with_digit n digits) cap
 
-pub value-next : (digits : List ℕ) (i v w : ℕ) → i < length digits → w ≡ min (v * 10 + (get_or digits i 0 - 48)) cap → capped_from w (drop (i + 1) digits) ≡ capped_from v (drop i digits)
+pub value-next : (digits : List ℕ) (i v w : ℕ) → i < length digits → w ≡ min (v * 10 + (get_or digits i 0 - 48)) cap → capped_from w (drop (i + 1) digits)
+    ≡ capped_from v (drop i digits)
 value-next digits i v w h e =
     let d = get_or digits i 0 in
     let ds = drop (i + 1) digits in
     let f : ℕ → ℕ = λ k. capped_from k ds in
-    ap f e ∙ near_min _ _ (near_fold ds (min (with_digit v d) cap) (with_digit v d) (cap_near (with_digit v d))) ∙ ap (capped_from v) (sym (drop_more digits i 0 h))
+    ap f e ∙ near_min _ _ (near_fold ds (min (with_digit v d) cap) (with_digit v d) (cap_near (with_digit v d)))
+    ∙ ap (capped_from v) (sym (drop_more digits i 0 h))
 
 pub value-last : (digits : List ℕ) (i v : ℕ) → length digits ≤ i → v ≤ cap → capped_from v (drop i digits) ≡ v
 value-last digits i v h k = rw (drop_all i digits h) (omega arith)

@@ -3,7 +3,8 @@ use Rattle.std.proofs.Common.{◌≡◌, ℕ, zero, suc, ◌⊎◌, inl, inr, Li
 use Rattle.std.specs.Prelude.{slice_get}
 use Rattle.btx_bst.specs.language.Items.{Item}
 
-pub push_cases : {A : Type 0} (xs : List A) (y : A) (k : ℕ) (m : A) → slice_get (xs ++ y ∷ []) k ≡ Some m → (slice_get xs k ≡ Some m) ⊎ ((k ≡ length xs) × (y ≡ m))
+pub push_cases : {A : Type 0} (xs : List A) (y : A) (k : ℕ) (m : A) → slice_get (xs ++ y ∷ []) k ≡ Some m → (slice_get xs k ≡ Some m)
+    ⊎ ((k ≡ length xs) × (y ≡ m))
 push_cases [] y zero m e = inr (refl, cc)
 push_cases [] y (suc k) m e = absurd (cc)
 push_cases (x ∷ xs) y zero m e = inl e

@@ -40,7 +40,8 @@ given (Faulty c line ∷ more) from end h =
 abbrev Giving : StyleState → Type 0
 Giving from = (steps : List SpelledCommand) × (end : Style) × GivesStyle steps from end
 
-giving_step : (from : StyleState) (c : Option Complaint) (style : Style) (p : Place) → (IsEnd from.place → ⊥) → command_outcome from.style (ink from.place) ≡ outcome c style p → ((t : StyleState) → size t.place < size from.place → Giving t) → Giving from
+giving_step : (from : StyleState) (c : Option Complaint) (style : Style) (p : Place) → (IsEnd from.place → ⊥) → command_outcome from.style (ink from.place)
+    ≡ outcome c style p → ((t : StyleState) → size t.place < size from.place → Giving t) → Giving from
 giving_step from None style p h e more =
     let l = item_turn-less from (style_state style p) (more_turn from (outcome None style p) h e) in
     let g = more (style_state style p) l in

@@ -16,7 +16,8 @@ use Rattle.btx_bst.specs.language.Style.{Style}
 use Rattle.btx_bst.specs.language.BodyText.{body_end}
 use Rattle.btx_bst.specs.language.Lists.{opening, closing, next_name, quoted_at, letters_at, list_at}
 use Rattle.btx_bst.specs.language.Outcomes.{CommandOutcome, outcome, after_read, with_item}
-use Rattle.btx_bst.specs.language.Commands.{after_list, entry_command, function_command, function_ended, has_read, read_command, run_command, run_of, sort_command, declare, macro_command, function_in, command_at, command_named, after_listed, inside_at}
+use Rattle.btx_bst.specs.language.Commands.{after_list, entry_command, function_command, function_ended, has_read, read_command, run_command, run_of}
+use Rattle.btx_bst.specs.language.Commands.{sort_command, declare, macro_command, function_in, command_at, command_named, after_listed, inside_at}
 use Rattle.btx_bst.specs.language.StyleText.{StyleState, style_state, command_outcome, item_in, item_turn, style_from, style_of, resumed}
 use Rattle.btx_bst.specs.language.Predefined.{predefined}
 use Rattle.btx_bst.proofs.TurnLemmas.{OnTurn, turns-keep}
@@ -40,24 +41,29 @@ pub record Keeps (P : Style → Type 0) : Type 0 where
   pub on_names : (s : Style) (kind : Kind) (p : Place) → P s → P (record s { names = (list_at kind s.names p).listing.names })
   pub on_entry : (s : Style) → s.has_entry ≡ false → P s → P (with_item item.Entry (record s { has_entry = true }))
   pub on_read : (s : Style) → s.has_entry ≡ true → has_read s ≡ false → P s → P (with_item item.Read (record s { before_read = Some (length s.bodies) }))
-  pub on_function : (s : Style) (name : List ℕ) (p : Place) → named s.names name ≡ None → P s → P (function_ended s (folded name) (body_end s.names (inside_at s p))).style
+  pub on_function : (s : Style) (name : List ℕ) (p : Place) → named s.names name ≡ None → P s
+      → P (function_ended s (folded name) (body_end s.names (inside_at s p))).style
   pub on_execute : OnRun P item.Execute
   pub on_iterate : OnRun P item.Iterate
   pub on_reverse : OnRun P item.Reverse
   pub on_sort : (s : Style) → has_read s ≡ true → P s → P (with_item item.Sort s)
   pub on_integers : OnItem P item.Integers
   pub on_strings : OnItem P item.Strings
-  pub on_macro : (s : Style) (name text : List ℕ) → has_read s ≡ false → macro_lower s.macros (folded name) ≡ None → P s → P (with_item item.Macro (record s { macros = s.macros ++ (folded name, text) ∷ [] }))
+  pub on_macro : (s : Style) (name text : List ℕ) → has_read s ≡ false → macro_lower s.macros (folded name) ≡ None → P s
+      → P (with_item item.Macro (record s { macros = s.macros ++ (folded name, text) ∷ [] }))
 
-after : {A : Type 0} (P : Style → Type 0) (s : Style) (r : Read A) (go : A → Place → CommandOutcome) → P s → ((x : A) (p : Place) → P (go x p).style) → P (after_read s r go).style
+after : {A : Type 0} (P : Style → Type 0) (s : Style) (r : Read A) (go : A → Place → CommandOutcome) → P s → ((x : A) (p : Place) → P (go x p).style)
+    → P (after_read s r go).style
 after P s (Took x p) go h k = k x p
 after P s (Slip c p) go h k = h
 
-listed_after : (P : Style → Type 0) (c : Option Complaint) (s : Style) (p : Place) (go : Style → Place → CommandOutcome) → P s → P (go s p).style → P (after_listed c s p go).style
+listed_after : (P : Style → Type 0) (c : Option Complaint) (s : Style) (p : Place) (go : Style → Place → CommandOutcome) → P s → P (go s p).style
+    → P (after_listed c s p go).style
 listed_after P None s p go h k = k
 listed_after P (Some c) s p go h k = h
 
-list_after : (P : Style → Type 0) → Keeps P → (s : Style) (kind : Kind) (p : Place) (go : Style → Place → CommandOutcome) → P s → ((t : Style) (q : Place) → t.has_entry ≡ s.has_entry → P t → P (go t q).style) → P (after_list s (list_at kind s.names p) go).style
+list_after : (P : Style → Type 0) → Keeps P → (s : Style) (kind : Kind) (p : Place) (go : Style → Place → CommandOutcome) → P s
+    → ((t : Style) (q : Place) → t.has_entry ≡ s.has_entry → P t → P (go t q).style) → P (after_list s (list_at kind s.names p) go).style
 list_after P keeps s kind p go h k =
     let l = list_at kind s.names p in
     let t : Style = record s { names = l.listing.names } in
@@ -75,7 +81,8 @@ kept_entry P keeps s p h = at s.has_entry refl where
       list_after P keeps u kind.EntryString r _ g (λ v z c i.
       keeps.on_entry v (rw (c, b, a) e) i)))
 
-kept_function_of : (P : Style → Type 0) → Keeps P → (s : Style) (name : List ℕ) (p : Place) (o : Option Callee) → named s.names name ≡ o → P s → P (function_of s name p o).style
+kept_function_of : (P : Style → Type 0) → Keeps P → (s : Style) (name : List ℕ) (p : Place) (o : Option Callee) → named s.names name ≡ o → P s
+    → P (function_of s name p o).style
 kept_function_of P keeps s name p (Some other) e h = h
 kept_function_of P keeps s name p None e h =
     after P s (closing p) _ h (λ x q.
@@ -90,12 +97,15 @@ kept_function P keeps s p h =
 kept_read : (P : Style → Type 0) → Keeps P → (s : Style) (p : Place) → P s → P (read_command s p).style
 unfolding read_command
 kept_read P keeps s p h = at (has_read s) s.has_entry refl refl where
-  at : (t u : Bool) → has_read s ≡ t → s.has_entry ≡ u → P (cond t (outcome (Some (Another command.Read)) s p) (cond u (outcome None (with_item item.Read (record s { before_read = Some (length s.bodies) })) p) (outcome (Some BeforeEntry) s p))).style
+  at : (t u : Bool) → has_read s ≡ t → s.has_entry ≡ u
+      → P (cond t (outcome (Some (Another command.Read)) s p)
+      (cond u (outcome None (with_item item.Read (record s { before_read = Some (length s.bodies) })) p) (outcome (Some BeforeEntry) s p))).style
   at true u e f = h
   at false true e f = keeps.on_read s f e h
   at false false e f = h
 
-kept_run_of : (P : Style → Type 0) (make : Callee → Item) → OnRun P make → (s : Style) (name : List ℕ) (p : Place) (o : Option Callee) → has_read s ≡ true → function_in (named s.names name) ≡ o → P s → P (run_of make s name p o).style
+kept_run_of : (P : Style → Type 0) (make : Callee → Item) → OnRun P make → (s : Style) (name : List ℕ) (p : Place) (o : Option Callee) → has_read s ≡ true
+    → function_in (named s.names name) ≡ o → P s → P (run_of make s name p o).style
 kept_run_of P make each s name p None r e h = h
 kept_run_of P make each s name p (Some c) r e h = after P s (closing p) _ h (λ x q. each s name c r e h)
 
@@ -119,7 +129,8 @@ kept_declare : (P : Style → Type 0) → Keeps P → (kind : Kind) (i : Item) �
 unfolding declare
 kept_declare P keeps kind i each s p h = list_after P keeps s kind p _ h (λ t q e f. each t f)
 
-kept_macro_of : (P : Style → Type 0) → Keeps P → (s : Style) (name : List ℕ) (p : Place) (o : Option (List ℕ)) → has_read s ≡ false → macro_lower s.macros (folded name) ≡ o → P s → P (macro_of s name p o).style
+kept_macro_of : (P : Style → Type 0) → Keeps P → (s : Style) (name : List ℕ) (p : Place) (o : Option (List ℕ)) → has_read s ≡ false
+    → macro_lower s.macros (folded name) ≡ o → P s → P (macro_of s name p o).style
 kept_macro_of P keeps s name p (Some other) unread e h = h
 kept_macro_of P keeps s name p None unread e h =
     after P s (closing p) _ h (λ x q.
@@ -168,4 +179,5 @@ pub kept-style : (P : Style → Type 0) → Keeps P → (file text : List ℕ) �
 unfolding style_of style_from item_turn
 kept-style P keeps file text h =
     let s : StyleState = style_state (unread_style file predefined) (beginning text) in
-    turns-keep (λ (t : StyleState). P t.style) P item_turn style_so_far (λ t k. kept_item P keeps t.style (ink t.place) (ink t.place).line k) (λ t k. k) (suc (size s.place)) s h
+    turns-keep (λ (t : StyleState). P t.style) P item_turn style_so_far (λ t k. kept_item P keeps t.style (ink t.place) (ink t.place).line k) (λ t k. k)
+    (suc (size s.place)) s h

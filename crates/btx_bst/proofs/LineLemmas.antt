@@ -1,7 +1,8 @@
 -- The texts of log lines.
 use Rattle.std.proofs.Common.{append_assoc, ◌≡◌, ◌++◌, refl}
 use Rattle.std.proofs.lemmas.Result.{IfOk-equal}
-use Rattle.btx_bst.specs.language.Complaints.{Complaint, NoCommand, NotCommand, NoOpen, NoClose, NoName, Defined, Unknown, BadInteger, TextAfter, NoQuoteEnd, Another, BeforeRead, BeforeEntry, AfterRead, NoQuote, EndOfFile}
+use Rattle.btx_bst.specs.language.Complaints.{Complaint, NoCommand, NotCommand, NoOpen, NoClose, NoName, Defined, Unknown, BadInteger, TextAfter, NoQuoteEnd}
+use Rattle.btx_bst.specs.language.Complaints.{Another, BeforeRead, BeforeEntry, AfterRead, NoQuote, EndOfFile}
 use Rattle.btx_bst.specs.language.MessageTexts.{complaint_text}
 use Rattle.btx_bst.specs.refinement.MessageTexts.{before_shown, shown_of, after_shown}
 

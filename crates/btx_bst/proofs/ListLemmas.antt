@@ -1,5 +1,6 @@
 -- Lists of names, name by name.
-use Rattle.std.proofs.Common.{◌≡◌, ℕ, zero, suc, ◌+◌, ◌<◌, ◌≤◌, Bool, true, false, cond, List, [], ◌∷◌, length, take, drop, refl, ◌==◌, arith, Option, Some, None}
+use Rattle.std.proofs.Common.{◌≡◌, ℕ, zero, suc, ◌+◌, ◌<◌, ◌≤◌, Bool, true, false, cond, List, [], ◌∷◌, length, take, drop, refl, ◌==◌, arith, Option, Some}
+use Rattle.std.proofs.Common.{None}
 use Rattle.std.proofs.lemmas.List.{length-drop, length-append}
 use Rattle.btx_text.specs.language.Keys.{folded}
 use Rattle.btx_bst.specs.declared.callee.Callee.{Callee}
@@ -12,7 +13,8 @@ use Rattle.btx_bst.specs.language.Complaints.{Complaint, NoQuote}
 use Rattle.btx_bst.specs.language.Reads.{Read, Took, Slip}
 use Rattle.btx_bst.specs.language.Names.{Names, named, with_name}
 use Rattle.btx_bst.specs.language.Turns.{Turn, Again, Ends, after_turn}
-use Rattle.btx_bst.specs.language.Lists.{brace_in, opening, closing, front_of, name_in, next_name, quoted_text, quoted_in, quoted_at, Listing, listing, Listed, list_read, list_at, name_turn, list_turn_in, list_turn, list_end}
+use Rattle.btx_bst.specs.language.Lists.{brace_in, opening, closing, front_of, name_in, next_name, quoted_text, quoted_in, quoted_at, Listing, listing, Listed}
+use Rattle.btx_bst.specs.language.Lists.{list_read, list_at, name_turn, list_turn_in, list_turn, list_end}
 use Rattle.btx_bst.proofs.TurnLemmas.{OnTurn, turns-next, turns-keep}
 use Rattle.btx_bst.proofs.SizeLemmas.{ink-size}
 use Rattle.btx_bst.specs.refinement.Lists.{unlisted, with_new}
@@ -141,11 +143,13 @@ Weighs n functions s = (size s.place + names_weight s.names ≤ n) × (s.names.f
 abbrev TurnWeighs : ℕ → List (Option (List ℕ)) → Turn Listing Listed → Type 0
 TurnWeighs n functions t = OnTurn (Weighs n functions) (λ r. Weighs n functions r.listing) t
 
-with_new-weight : (kind : Kind) (names : Names) (name : List ℕ) (p : Place) (o : Option Callee) (n : ℕ) → size p + suc (names_weight names) ≤ n → TurnWeighs n names.functions (with_new kind names name p o)
+with_new-weight : (kind : Kind) (names : Names) (name : List ℕ) (p : Place) (o : Option Callee) (n : ℕ) → size p + suc (names_weight names) ≤ n
+    → TurnWeighs n names.functions (with_new kind names name p o)
 with_new-weight kind names name p None n h = (omega (arith, h, with_name-weight kind (folded name) names), with_name-functions kind (folded name) names)
 with_new-weight kind names name p (Some other) n h = (omega arith, refl)
 
-name_turn-weight : (kind : Kind) (names : Names) (n : ℕ) (m : ℕ) (r : Read (List ℕ)) → Sized m r → m + names_weight names ≤ n → TurnWeighs n names.functions (name_turn kind names r)
+name_turn-weight : (kind : Kind) (names : Names) (n : ℕ) (m : ℕ) (r : Read (List ℕ)) → Sized m r → m + names_weight names ≤ n
+    → TurnWeighs n names.functions (name_turn kind names r)
 name_turn-weight kind names n m (Slip c p) h k = (omega arith, refl)
 name_turn-weight kind names n m (Took name p) h k = with_new-weight kind names name p (named names name) n (omega arith)
 

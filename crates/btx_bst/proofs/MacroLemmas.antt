@@ -43,7 +43,8 @@ behind_push t is x no_read no_later h = record {
   read_at k (inl e) = h.read_out k e
   read_at k (inr e) = absurd (no_read e.1)
 
-  at : (j k : ℕ) → (slice_get is j ≡ Some item.Macro) ⊎ ((j ≡ length is) × (x ≡ item.Macro)) → (slice_get is k ≡ Some item.Read) ⊎ ((k ≡ length is) × (x ≡ item.Read)) → j < k
+  at : (j k : ℕ) → (slice_get is j ≡ Some item.Macro) ⊎ ((j ≡ length is) × (x ≡ item.Macro)) → (slice_get is k ≡ Some item.Read)
+      ⊎ ((k ≡ length is) × (x ≡ item.Read)) → j < k
   at j k (inl e) (inl f) = h.before j k e f
   at j k (inr e) (inl f) = absurd (no_truth t (no_later e.1) (h.read_out k f))
   at j k e (inr f) = absurd (no_read f.1)
@@ -53,17 +54,20 @@ behind_read is h = record {
   read_out = λ k e. refl;
   before = λ j k e f. at j k (push_cases is item.Read j item.Macro e) (push_cases is item.Read k item.Read f);
 } where
-  at : (j k : ℕ) → (slice_get is j ≡ Some item.Macro) ⊎ ((j ≡ length is) × (item.Read ≡ item.Macro)) → (slice_get is k ≡ Some item.Read) ⊎ ((k ≡ length is) × (item.Read ≡ item.Read)) → j < k
+  at : (j k : ℕ) → (slice_get is j ≡ Some item.Macro) ⊎ ((j ≡ length is) × (item.Read ≡ item.Macro)) → (slice_get is k ≡ Some item.Read)
+      ⊎ ((k ≡ length is) × (item.Read ≡ item.Read)) → j < k
   at j k (inl e) (inl f) = h.before j k e f
   at j k (inl e) (inr f) = omega (arith, f.0, slice_get_within is j item.Macro e)
   at j k (inr e) f = absurd (let g = e.1 in cc)
 
 -- ---- meanings
 
-lookup_push : (macros : Macros) (name text m : List ℕ) → macro_lower (macros ++ (name, text) ∷ []) m ≡ option_or (macro_lower macros m) (cond (bytes_eq m name) (Some text) None)
+lookup_push : (macros : Macros) (name text m : List ℕ) → macro_lower (macros ++ (name, text) ∷ []) m
+    ≡ option_or (macro_lower macros m) (cond (bytes_eq m name) (Some text) None)
 lookup_push [] name text m = refl
 lookup_push (e ∷ es) name text m = at (bytes_eq m e.0) (lookup_push es name text m) where
-  at : (t : Bool) → macro_lower (es ++ (name, text) ∷ []) m ≡ option_or (macro_lower es m) (cond (bytes_eq m name) (Some text) None) → cond t (Some e.1) (macro_lower (es ++ (name, text) ∷ []) m) ≡ option_or (cond t (Some e.1) (macro_lower es m)) (cond (bytes_eq m name) (Some text) None)
+  at : (t : Bool) → macro_lower (es ++ (name, text) ∷ []) m ≡ option_or (macro_lower es m) (cond (bytes_eq m name) (Some text) None)
+      → cond t (Some e.1) (macro_lower (es ++ (name, text) ∷ []) m) ≡ option_or (cond t (Some e.1) (macro_lower es m)) (cond (bytes_eq m name) (Some text) None)
   at true h = refl
   at false h = h
 
@@ -85,7 +89,8 @@ meant_push macros name text none h = record {
   texts = λ k m meaning e. text_at k m meaning (push_cases macros (name, text) k (m, meaning) e);
   one = λ j k m a b e f. at j k m a b (push_cases macros (name, text) j (m, a) e) (push_cases macros (name, text) k (m, b) f);
 } where
-  text_at : (k : ℕ) (m meaning : List ℕ) → (slice_get macros k ≡ Some (m, meaning)) ⊎ ((k ≡ length macros) × (◌≡◌ {A = Pair} (name, text) (m, meaning))) → macro_lower (macros ++ (name, text) ∷ []) m ≡ Some meaning
+  text_at : (k : ℕ) (m meaning : List ℕ) → (slice_get macros k ≡ Some (m, meaning)) ⊎ ((k ≡ length macros) × (◌≡◌ {A = Pair} (name, text) (m, meaning)))
+      → macro_lower (macros ++ (name, text) ∷ []) m ≡ Some meaning
   text_at k m meaning (inl e) =
       lookup_push macros name text m ∙ ap (λ (o : Option (List ℕ)). option_or o (cond (bytes_eq m name) (Some text) None)) (h.texts k m meaning e)
   text_at k m meaning (inr e) =
@@ -94,10 +99,13 @@ meant_push macros name text none h = record {
       ∙ ap (λ (o : Option (List ℕ)). option_or o (cond (bytes_eq name name) (Some text) None)) none
       ∙ ap (λ (t : Bool). cond t (Some text) None) (same name) ∙ ap (λ (p : Pair). Some p.1) e.1
 
-  at : (j k : ℕ) (m a b : List ℕ) → (slice_get macros j ≡ Some (m, a)) ⊎ ((j ≡ length macros) × (◌≡◌ {A = Pair} (name, text) (m, a))) → (slice_get macros k ≡ Some (m, b)) ⊎ ((k ≡ length macros) × (◌≡◌ {A = Pair} (name, text) (m, b))) → j ≡ k
+  at : (j k : ℕ) (m a b : List ℕ) → (slice_get macros j ≡ Some (m, a)) ⊎ ((j ≡ length macros) × (◌≡◌ {A = Pair} (name, text) (m, a)))
+      → (slice_get macros k ≡ Some (m, b)) ⊎ ((k ≡ length macros) × (◌≡◌ {A = Pair} (name, text) (m, b))) → j ≡ k
   at j k m a b (inl e) (inl f) = h.one j k m a b e f
-  at j k m a b (inl e) (inr f) = absurd (found_no_more (macro_lower macros m) a (ap (macro_lower macros) (sym (ap (λ (p : Pair). p.0) f.1)) ∙ none) (h.texts j m a e))
-  at j k m a b (inr e) (inl f) = absurd (found_no_more (macro_lower macros m) b (ap (macro_lower macros) (sym (ap (λ (p : Pair). p.0) e.1)) ∙ none) (h.texts k m b f))
+  at j k m a b (inl e) (inr f) = absurd (found_no_more (macro_lower macros m) a (ap (macro_lower macros) (sym (ap (λ (p : Pair). p.0) f.1)) ∙ none)
+      (h.texts j m a e))
+  at j k m a b (inr e) (inl f) = absurd (found_no_more (macro_lower macros m) b (ap (macro_lower macros) (sym (ap (λ (p : Pair). p.0) e.1)) ∙ none)
+      (h.texts k m b f))
   at j k m a b (inr e) (inr f) = e.0 ∙ sym f.0
 
 -- ---- styles
@@ -121,7 +129,8 @@ place_keeps = record {
   on_names = λ s k p h. h;
   on_entry = λ s e h. place_push item.Entry (record s { has_entry = true }) (λ k. absurd (cc)) (λ k. absurd (cc)) h;
   on_read = λ s e f h. (behind_read s.items (rw f at h.0), h.1);
-  on_function = λ s name p e h. place_ended s (folded name) (body_end s.names (inside_at s p)) (body_items (Behind (has_read s)) (behind_message (has_read s)) s.names (inside_at s p) h.0) h;
+  on_function = λ s name p e h. place_ended s (folded name) (body_end s.names (inside_at s p))
+      (body_items (Behind (has_read s)) (behind_message (has_read s)) s.names (inside_at s p) h.0) h;
   on_execute = λ s name c r e h. place_push (item.Execute c) s (λ k. absurd (cc)) (λ k. absurd (cc)) h;
   on_iterate = λ s name c r e h. place_push (item.Iterate c) s (λ k. absurd (cc)) (λ k. absurd (cc)) h;
   on_reverse = λ s name c r e h. place_push (item.Reverse c) s (λ k. absurd (cc)) (λ k. absurd (cc)) h;

@@ -1,5 +1,6 @@
 -- The name of anything names it.
-use Rattle.std.proofs.Common.{◌≡◌, ℕ, zero, suc, ◌-◌, ◌<◌, ◌≤◌, ◌⊎◌, inl, inr, Bool, true, cond, List, [], ◌∷◌, ◌++◌, length, refl, sym, ap, ◌∙◌, arith, Option, None, Some}
+use Rattle.std.proofs.Common.{◌≡◌, ℕ, zero, suc, ◌-◌, ◌<◌, ◌≤◌, ◌⊎◌, inl, inr, Bool, true, cond, List, [], ◌∷◌, ◌++◌, length, refl, sym, ap, ◌∙◌, arith, Option}
+use Rattle.std.proofs.Common.{None, Some}
 use Rattle.std.specs.Prelude.{slice_get, slice_index_or, replicate, codes}
 use Rattle.std.specs.Option.{option_or}
 use Rattle.std.specs.Str.{bytes_eq}
@@ -7,7 +8,10 @@ use Rattle.std.proofs.lemmas.Slice.Eq.{bytes_eq-Decides}
 use Rattle.std.proofs.lemmas.Option.{slice_get-get_or, same_Some}
 use Rattle.btx_text.specs.language.Keys.{folded}
 use Rattle.btx_bst.specs.declared.built_in.BuiltIn.{BuiltIn}
-use Rattle.btx_bst.specs.declared.built_in.BuiltIn.TheVariants.{Equals, Greater, Less, Plus, Minus, Concatenate, Assign, AddPeriod, CallType, ChangeCase, ChrToInt, Cite, Duplicate, Empty, FormatName, If, IntToChr, IntToStr, Missing, NewLine, NumNames, Pop, Preamble, Purify, Quote, Skip, Stack, Substring, Swap, TextLength, TextPrefix, Top, Warning, While, Width, Write}
+use Rattle.btx_bst.specs.declared.built_in.BuiltIn.TheVariants.{Equals, Greater, Less, Plus, Minus, Concatenate, Assign, AddPeriod, CallType, ChangeCase}
+use Rattle.btx_bst.specs.declared.built_in.BuiltIn.TheVariants.{ChrToInt, Cite, Duplicate, Empty, FormatName, If, IntToChr, IntToStr, Missing, NewLine}
+use Rattle.btx_bst.specs.declared.built_in.BuiltIn.TheVariants.{NumNames, Pop, Preamble, Purify, Quote, Skip, Stack, Substring, Swap, TextLength, TextPrefix}
+use Rattle.btx_bst.specs.declared.built_in.BuiltIn.TheVariants.{Top, Warning, While, Width, Write}
 use Rattle.btx_bst.specs.declared.built_in.BuiltIn.TheVariants as built_in
 use Rattle.btx_bst.specs.declared.callee.Callee.{Callee}
 use Rattle.btx_bst.specs.declared.callee.Callee.TheVariants.{User, Field, EntryInteger, EntryString, GlobalInteger, GlobalString}
@@ -28,7 +32,8 @@ use Rattle.btx_bst.specs.language.StyleText.{style_of}
 use Rattle.btx_bst.specs.laws.Meanings.{HasName, MeaningsLaw, OneMeaningLaw}
 use Rattle.btx_bst.proofs.TurnLemmas.{OnTurn, turns-keep}
 use Rattle.btx_bst.proofs.TableLemmas.{IsFurther}
-use Rattle.btx_bst.proofs.FurtherLemmas.{further-function, further-field, further-entry_integer, further-entry_string, further-global_integer, further-global_string, named-pad, padded-length}
+use Rattle.btx_bst.proofs.FurtherLemmas.{further-function, further-field, further-entry_integer, further-entry_string, further-global_integer}
+use Rattle.btx_bst.proofs.FurtherLemmas.{further-global_string, named-pad, padded-length}
 use Rattle.btx_bst.proofs.ItemLemmas.{push_cases}
 use Rattle.btx_bst.proofs.KeepLemmas.{Keeps, kept-style}
 use Rattle.btx_bst.proofs.ReferenceLemmas.{FineEnd, FineStyle, fine_keeps, fine_start, fine_function_body}
@@ -55,19 +60,23 @@ new_look a b name m c d g none e f =
     ap (named_lower b) (sym e) ∙ g name ∙ ap (λ (o : Option Callee). option_or o (cond (bytes_eq name name) (Some c) None)) none
     ∙ ap (λ (t : Bool). cond t (Some c) None) (same name) ∙ ap (λ (x : Callee). Some x) f
 
-found_keep : (a b : Names) (f : ℕ → Callee) (xs : List (List ℕ)) (name : List ℕ) (c : Callee) → IsFurther a b name c → Found (named_lower a) f xs → Found (named_lower b) f xs
+found_keep : (a b : Names) (f : ℕ → Callee) (xs : List (List ℕ)) (name : List ℕ) (c : Callee) → IsFurther a b name c → Found (named_lower a) f xs
+    → Found (named_lower b) f xs
 found_keep a b f xs name c g t k m e = kept_look a b name m c (f k) g (t k m e)
 
-found_push : (a b : Names) (f : ℕ → Callee) (xs : List (List ℕ)) (name : List ℕ) → IsFurther a b name (f (length xs)) → named_lower a name ≡ None → Found (named_lower a) f xs → Found (named_lower b) f (xs ++ name ∷ [])
+found_push : (a b : Names) (f : ℕ → Callee) (xs : List (List ℕ)) (name : List ℕ) → IsFurther a b name (f (length xs)) → named_lower a name ≡ None
+    → Found (named_lower a) f xs → Found (named_lower b) f (xs ++ name ∷ [])
 found_push a b f xs name g none t k m e = at (push_cases xs name k m e) where
   at : (slice_get xs k ≡ Some m) ⊎ ((k ≡ length xs) × (name ≡ m)) → named_lower b m ≡ Some (f k)
   at (inl h) = found_keep a b f xs name (f (length xs)) g t k m h
   at (inr h) = new_look a b name m (f (length xs)) (f k) g none h.1 (ap f (sym h.0))
 
-functions_keep : (a b : Names) (xs : List (Option (List ℕ))) (name : List ℕ) (c : Callee) → IsFurther a b name c → FoundFunctions (named_lower a) xs → FoundFunctions (named_lower b) xs
+functions_keep : (a b : Names) (xs : List (Option (List ℕ))) (name : List ℕ) (c : Callee) → IsFurther a b name c → FoundFunctions (named_lower a) xs
+    → FoundFunctions (named_lower b) xs
 functions_keep a b xs name c g t k m e = kept_look a b name m c (User k) g (t k m e)
 
-functions_push : (a b : Names) (xs : List (Option (List ℕ))) (name : List ℕ) (n : ℕ) → n ≡ length xs → IsFurther a b name (User n) → named_lower a name ≡ None → FoundFunctions (named_lower a) xs → FoundFunctions (named_lower b) (xs ++ Some name ∷ [])
+functions_push : (a b : Names) (xs : List (Option (List ℕ))) (name : List ℕ) (n : ℕ) → n ≡ length xs → IsFurther a b name (User n) → named_lower a name ≡ None
+    → FoundFunctions (named_lower a) xs → FoundFunctions (named_lower b) (xs ++ Some name ∷ [])
 functions_push a b xs name n l g none t k m e = at (push_cases xs (Some name) k (Some m) e) where
   at : (slice_get xs k ≡ Some (Some m)) ⊎ ((k ≡ length xs) × (◌≡◌ {A = Option (List ℕ)} (Some name) (Some m))) → named_lower b m ≡ Some (User k)
   at (inl h) = functions_keep a b xs name (User n) g t k m h
@@ -94,38 +103,110 @@ found_name : (a : Names) (k : Kind) (name : List ℕ) → named_lower a name ≡
 found_name a kind.Field name none t =
     let b = with_name kind.Field name a in
     let g = further-field a name (length a.fields) refl none in
-    record { of_functions = functions_keep a b a.functions name _ g t.of_functions; of_fields = found_push a b Field a.fields name g none t.of_fields; of_entry_integers = found_keep a b EntryInteger a.entry_integers name _ g t.of_entry_integers; of_entry_strings = found_keep a b EntryString a.entry_strings name _ g t.of_entry_strings; of_global_integers = found_keep a b GlobalInteger a.global_integers name _ g t.of_global_integers; of_global_strings = found_keep a b GlobalString a.global_strings name _ g t.of_global_strings }
+    record {
+      of_functions = functions_keep a b a.functions name _ g t.of_functions;
+      of_fields = found_push a b Field a.fields name g none t.of_fields;
+      of_entry_integers = found_keep a b EntryInteger a.entry_integers name _ g t.of_entry_integers;
+      of_entry_strings =
+          found_keep a b EntryString a.entry_strings name _ g t.of_entry_strings;
+      of_global_integers =
+          found_keep a b GlobalInteger a.global_integers name _ g t.of_global_integers;
+      of_global_strings =
+          found_keep a b GlobalString a.global_strings name _ g t.of_global_strings;
+    }
 found_name a kind.EntryInteger name none t =
     let b = with_name kind.EntryInteger name a in
     let g = further-entry_integer a name (length a.entry_integers) refl none in
-    record { of_functions = functions_keep a b a.functions name _ g t.of_functions; of_fields = found_keep a b Field a.fields name _ g t.of_fields; of_entry_integers = found_push a b EntryInteger a.entry_integers name g none t.of_entry_integers; of_entry_strings = found_keep a b EntryString a.entry_strings name _ g t.of_entry_strings; of_global_integers = found_keep a b GlobalInteger a.global_integers name _ g t.of_global_integers; of_global_strings = found_keep a b GlobalString a.global_strings name _ g t.of_global_strings }
+    record {
+      of_functions = functions_keep a b a.functions name _ g t.of_functions;
+      of_fields = found_keep a b Field a.fields name _ g t.of_fields;
+      of_entry_integers = found_push a b EntryInteger a.entry_integers name g none t.of_entry_integers;
+      of_entry_strings =
+          found_keep a b EntryString a.entry_strings name _ g t.of_entry_strings;
+      of_global_integers =
+          found_keep a b GlobalInteger a.global_integers name _ g t.of_global_integers;
+      of_global_strings =
+          found_keep a b GlobalString a.global_strings name _ g t.of_global_strings;
+    }
 found_name a kind.EntryString name none t =
     let b = with_name kind.EntryString name a in
     let g = further-entry_string a name (length a.entry_strings) refl none in
-    record { of_functions = functions_keep a b a.functions name _ g t.of_functions; of_fields = found_keep a b Field a.fields name _ g t.of_fields; of_entry_integers = found_keep a b EntryInteger a.entry_integers name _ g t.of_entry_integers; of_entry_strings = found_push a b EntryString a.entry_strings name g none t.of_entry_strings; of_global_integers = found_keep a b GlobalInteger a.global_integers name _ g t.of_global_integers; of_global_strings = found_keep a b GlobalString a.global_strings name _ g t.of_global_strings }
+    record {
+      of_functions = functions_keep a b a.functions name _ g t.of_functions;
+      of_fields = found_keep a b Field a.fields name _ g t.of_fields;
+      of_entry_integers = found_keep a b EntryInteger a.entry_integers name _ g t.of_entry_integers;
+      of_entry_strings =
+          found_push a b EntryString a.entry_strings name g none t.of_entry_strings;
+      of_global_integers =
+          found_keep a b GlobalInteger a.global_integers name _ g t.of_global_integers;
+      of_global_strings =
+          found_keep a b GlobalString a.global_strings name _ g t.of_global_strings;
+    }
 found_name a kind.GlobalInteger name none t =
     let b = with_name kind.GlobalInteger name a in
     let g = further-global_integer a name (length a.global_integers) refl none in
-    record { of_functions = functions_keep a b a.functions name _ g t.of_functions; of_fields = found_keep a b Field a.fields name _ g t.of_fields; of_entry_integers = found_keep a b EntryInteger a.entry_integers name _ g t.of_entry_integers; of_entry_strings = found_keep a b EntryString a.entry_strings name _ g t.of_entry_strings; of_global_integers = found_push a b GlobalInteger a.global_integers name g none t.of_global_integers; of_global_strings = found_keep a b GlobalString a.global_strings name _ g t.of_global_strings }
+    record {
+      of_functions = functions_keep a b a.functions name _ g t.of_functions;
+      of_fields = found_keep a b Field a.fields name _ g t.of_fields;
+      of_entry_integers = found_keep a b EntryInteger a.entry_integers name _ g t.of_entry_integers;
+      of_entry_strings =
+          found_keep a b EntryString a.entry_strings name _ g t.of_entry_strings;
+      of_global_integers =
+          found_push a b GlobalInteger a.global_integers name g none t.of_global_integers;
+      of_global_strings =
+          found_keep a b GlobalString a.global_strings name _ g t.of_global_strings;
+    }
 found_name a kind.GlobalString name none t =
     let b = with_name kind.GlobalString name a in
     let g = further-global_string a name (length a.global_strings) refl none in
-    record { of_functions = functions_keep a b a.functions name _ g t.of_functions; of_fields = found_keep a b Field a.fields name _ g t.of_fields; of_entry_integers = found_keep a b EntryInteger a.entry_integers name _ g t.of_entry_integers; of_entry_strings = found_keep a b EntryString a.entry_strings name _ g t.of_entry_strings; of_global_integers = found_keep a b GlobalInteger a.global_integers name _ g t.of_global_integers; of_global_strings = found_push a b GlobalString a.global_strings name g none t.of_global_strings }
+    record {
+      of_functions = functions_keep a b a.functions name _ g t.of_functions;
+      of_fields = found_keep a b Field a.fields name _ g t.of_fields;
+      of_entry_integers = found_keep a b EntryInteger a.entry_integers name _ g t.of_entry_integers;
+      of_entry_strings =
+          found_keep a b EntryString a.entry_strings name _ g t.of_entry_strings;
+      of_global_integers =
+          found_keep a b GlobalInteger a.global_integers name _ g t.of_global_integers;
+      of_global_strings =
+          found_push a b GlobalString a.global_strings name g none t.of_global_strings;
+    }
 
 found_padded : (a : Names) (n : ℕ) → AllFound a → AllFound (record a { functions = padded n a.functions })
 found_padded a n t =
     let c = n - length a.functions in
-    record { of_functions = λ k m e. named-pad a c m ∙ t.of_functions k m (pad_cases a.functions c k m e); of_fields = λ k m e. named-pad a c m ∙ t.of_fields k m e; of_entry_integers = λ k m e. named-pad a c m ∙ t.of_entry_integers k m e; of_entry_strings = λ k m e. named-pad a c m ∙ t.of_entry_strings k m e; of_global_integers = λ k m e. named-pad a c m ∙ t.of_global_integers k m e; of_global_strings = λ k m e. named-pad a c m ∙ t.of_global_strings k m e }
+    record {
+      of_functions = λ k m e. named-pad a c m ∙ t.of_functions k m (pad_cases a.functions c k m e);
+      of_fields = λ k m e. named-pad a c m
+          ∙ t.of_fields k m e;
+      of_entry_integers = λ k m e. named-pad a c m ∙ t.of_entry_integers k m e;
+      of_entry_strings = λ k m e. named-pad a c m
+          ∙ t.of_entry_strings k m e;
+      of_global_integers = λ k m e. named-pad a c m ∙ t.of_global_integers k m e;
+      of_global_strings = λ k m e. named-pad a c m
+          ∙ t.of_global_strings k m e;
+    }
 
-found_after : (a : Names) (n : ℕ) (name : List ℕ) → n ≡ length a.functions → named_lower a name ≡ None → AllFound a → AllFound (record a { functions = a.functions ++ Some name ∷ [] })
+found_after : (a : Names) (n : ℕ) (name : List ℕ) → n ≡ length a.functions → named_lower a name ≡ None → AllFound a
+    → AllFound (record a { functions = a.functions ++ Some name ∷ [] })
 found_after a n name l none t =
     let b : Names = record a { functions = a.functions ++ Some name ∷ [] } in
     let g = further-function a name n l none in
-    record { of_functions = functions_push a b a.functions name n l g none t.of_functions; of_fields = found_keep a b Field a.fields name _ g t.of_fields; of_entry_integers = found_keep a b EntryInteger a.entry_integers name _ g t.of_entry_integers; of_entry_strings = found_keep a b EntryString a.entry_strings name _ g t.of_entry_strings; of_global_integers = found_keep a b GlobalInteger a.global_integers name _ g t.of_global_integers; of_global_strings = found_keep a b GlobalString a.global_strings name _ g t.of_global_strings }
+    record {
+      of_functions = functions_push a b a.functions name n l g none t.of_functions;
+      of_fields = found_keep a b Field a.fields name _ g t.of_fields;
+      of_entry_integers = found_keep a b EntryInteger a.entry_integers name _ g t.of_entry_integers;
+      of_entry_strings =
+          found_keep a b EntryString a.entry_strings name _ g t.of_entry_strings;
+      of_global_integers =
+          found_keep a b GlobalInteger a.global_integers name _ g t.of_global_integers;
+      of_global_strings =
+          found_keep a b GlobalString a.global_strings name _ g t.of_global_strings;
+    }
 
 found_function : (a : Names) (n : ℕ) (name : List ℕ) → length a.functions ≤ n → named_lower a name ≡ None → AllFound a → AllFound (with_function n name a)
 found_function a n name l none t =
-    found_after (record a { functions = padded n a.functions }) n name (sym (padded-length n a.functions l)) (named-pad a (n - length a.functions) name ∙ none) (found_padded a n t)
+    found_after (record a { functions = padded n a.functions }) n name (sym (padded-length n a.functions l)) (named-pad a (n - length a.functions) name ∙ none)
+    (found_padded a n t)
 
 -- ---- lists of names that are read
 
@@ -159,7 +240,8 @@ found_list k a (Took x p) t = found_end k (listing a p) t
 abbrev pub Clear : Style → Type 0
 Clear s = FineStyle s × AllFound s.names
 
-clear_ended : (s : Style) (name : List ℕ) (r : BodyEnd) → named_lower s.names name ≡ None → Clear s → FineEnd s.names (length s.bodies) r → AllFound (function_ended s name r).style.names
+clear_ended : (s : Style) (name : List ℕ) (r : BodyEnd) → named_lower s.names name ≡ None → Clear s → FineEnd s.names (length s.bodies) r
+    → AllFound (function_ended s name r).style.names
 clear_ended s name (Broken c i) none h f = h.1
 clear_ended s name (Whole i) none h f =
     let l = h.0.no_later in
@@ -172,7 +254,11 @@ clear_keeps = record {
   on_names = λ s k p h. (fine_keeps.on_names s k p h.0, found_list k s.names (opening p) h.1);
   on_entry = λ s e h. (fine_keeps.on_entry s e h.0, h.1);
   on_read = λ s e g h. (fine_keeps.on_read s e g h.0, h.1);
-  on_function = λ s name p e h. (fine_keeps.on_function s name p e h.0, clear_ended s (folded name) (body_end s.names (inside_at s p)) e h (fine_function_body s p h.0));
+  on_function = λ s name p e h. (
+    fine_keeps.on_function s name p e h.0,
+    clear_ended s (folded name) (body_end s.names (inside_at s p)) e h
+        (fine_function_body s p h.0),
+  );
   on_execute = λ s name c r e h. (fine_keeps.on_execute s name c r e h.0, h.1);
   on_iterate = λ s name c r e h. (fine_keeps.on_iterate s name c r e h.0, h.1);
   on_reverse = λ s name c r e h. (fine_keeps.on_reverse s name c r e h.0, h.1);
@@ -187,7 +273,8 @@ found_one : (f : ℕ → Callee) (name : List ℕ) → named_lower predefined na
 found_one f name h zero m e = ap (named_lower predefined) (sym (same_Some name m e)) ∙ h
 found_one f name h (suc k) m e = absurd (cc)
 
-found_two : (f : ℕ → Callee) (first second : List ℕ) → named_lower predefined first ≡ Some (f 0) → named_lower predefined second ≡ Some (f 1) → Found (named_lower predefined) f (first ∷ second ∷ [])
+found_two : (f : ℕ → Callee) (first second : List ℕ) → named_lower predefined first ≡ Some (f 0) → named_lower predefined second ≡ Some (f 1)
+    → Found (named_lower predefined) f (first ∷ second ∷ [])
 found_two f first second h g zero m e = ap (named_lower predefined) (sym (same_Some first m e)) ∙ h
 found_two f first second h g (suc zero) m e = ap (named_lower predefined) (sym (same_Some second m e)) ∙ g
 found_two f first second h g (suc (suc k)) m e = absurd (cc)
@@ -252,7 +339,8 @@ word_named : (a : Names) (b : BuiltIn) → named_lower a (built_in_name b) ≡ S
 unfolding named_lower
 word_named a b = rw (built_in_word b) refl
 
-at_number : (look : List ℕ → Option Callee) (f : ℕ → Callee) (xs : List (List ℕ)) (k : ℕ) → Found look f xs → k < length xs → look (slice_index_or xs k []) ≡ Some (f k)
+at_number : (look : List ℕ → Option Callee) (f : ℕ → Callee) (xs : List (List ℕ)) (k : ℕ) → Found look f xs → k < length xs → look (slice_index_or xs k [])
+    ≡ Some (f k)
 at_number look f xs k t l = t k (slice_index_or xs k []) (slice_get-get_or xs k [] l)
 
 function_there : (xs : List (Option (List ℕ))) (k : ℕ) (m : List ℕ) → slice_index_or xs k None ≡ Some m → slice_get xs k ≡ Some (Some m)

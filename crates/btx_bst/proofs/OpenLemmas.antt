@@ -6,7 +6,8 @@ use Rattle.btx_bst.specs.refinement.Views.{open_bodies}
 use Rattle.btx_bst.specs.refinement.Pending.{innermost, around_in, opened_in, StartsNest}
 
 -- one more token
-pub opened-push : (ts : List Token) (t : Token) (starts : List ℕ) → StartsNest ts starts → opened_in (ts ++ t ∷ []) starts ≡ open_bodies (innermost ts starts ++ t ∷ []) (around_in ts starts)
+pub opened-push : (ts : List Token) (t : Token) (starts : List ℕ) → StartsNest ts starts → opened_in (ts ++ t ∷ []) starts
+    ≡ open_bodies (innermost ts starts ++ t ∷ []) (around_in ts starts)
 opened-push ts t [] h = refl
 opened-push ts t (s ∷ starts) h =
     let e = drop-append-le s ts (t ∷ []) h.0 in
@@ -19,7 +20,8 @@ cut-push ts t [] h = tt
 cut-push ts t (s ∷ starts) h = (omega (arith, h.0, length-append ts (t ∷ [])), rw (take-append-le s ts (t ∷ []) h.0) h.1)
 
 -- one more function
-pub opened-open : (ts : List Token) (starts : List ℕ) (n : ℕ) → n ≡ length ts → opened_in ts (n ∷ starts) ≡ open_bodies [] (innermost ts starts ∷ around_in ts starts)
+pub opened-open : (ts : List Token) (starts : List ℕ) (n : ℕ) → n ≡ length ts → opened_in ts (n ∷ starts)
+    ≡ open_bodies [] (innermost ts starts ∷ around_in ts starts)
 opened-open ts starts n e =
     ap (λ (xs : List Token). open_bodies xs (innermost (take n ts) starts ∷ around_in (take n ts) starts)) (drop_all n ts (omega arith))
     ∙ ap (λ (xs : List Token). open_bodies [] (innermost xs starts ∷ around_in xs starts)) (take_all n ts (omega arith))

@@ -27,7 +27,9 @@ record Ordered (entered taken : Bool) (is : List Item) : Type 0 where
   order : (i first : Item) (k : ℕ) → slice_get is k ≡ Some i → needs i ≡ Some first → (j : ℕ) × (j < k) × (slice_get is j ≡ Some first)
 
 -- one more item, which is new if it takes effect once
-once_push : (is : List Item) (x : Item) → (IsOnce x → There x is → ⊥) → ((i : Item) (j k : ℕ) → IsOnce i → slice_get is j ≡ Some i → slice_get is k ≡ Some i → j ≡ k) → (i : Item) (j k : ℕ) → IsOnce i → slice_get (is ++ x ∷ []) j ≡ Some i → slice_get (is ++ x ∷ []) k ≡ Some i → j ≡ k
+once_push : (is : List Item) (x : Item) → (IsOnce x → There x is → ⊥)
+    → ((i : Item) (j k : ℕ) → IsOnce i → slice_get is j ≡ Some i → slice_get is k ≡ Some i → j ≡ k) → (i : Item) (j k : ℕ) → IsOnce i
+    → slice_get (is ++ x ∷ []) j ≡ Some i → slice_get (is ++ x ∷ []) k ≡ Some i → j ≡ k
 once_push is x fresh once i j k o e f = at (push_cases is x j i e) (push_cases is x k i f) where
   at : (slice_get is j ≡ Some i) ⊎ ((j ≡ length is) × (x ≡ i)) → (slice_get is k ≡ Some i) ⊎ ((k ≡ length is) × (x ≡ i)) → j ≡ k
   at (inl a) (inl b) = once i j k o a b
@@ -35,7 +37,9 @@ once_push is x fresh once i j k o e f = at (push_cases is x j i e) (push_cases i
   at (inr a) (inl b) = absurd (fresh (rw a.1 o) (k, rw a.1 b))
   at (inr a) (inr b) = a.0 ∙ sym b.0
 
-order_push : (is : List Item) (x : Item) → ((first : Item) → needs x ≡ Some first → There first is) → ((i first : Item) (k : ℕ) → slice_get is k ≡ Some i → needs i ≡ Some first → (j : ℕ) × (j < k) × (slice_get is j ≡ Some first)) → (i first : Item) (k : ℕ) → slice_get (is ++ x ∷ []) k ≡ Some i → needs i ≡ Some first → (j : ℕ) × (j < k) × (slice_get (is ++ x ∷ []) j ≡ Some first)
+order_push : (is : List Item) (x : Item) → ((first : Item) → needs x ≡ Some first → There first is)
+    → ((i first : Item) (k : ℕ) → slice_get is k ≡ Some i → needs i ≡ Some first → (j : ℕ) × (j < k) × (slice_get is j ≡ Some first)) → (i first : Item) (k : ℕ)
+    → slice_get (is ++ x ∷ []) k ≡ Some i → needs i ≡ Some first → (j : ℕ) × (j < k) × (slice_get (is ++ x ∷ []) j ≡ Some first)
 order_push is x need order i first k e f = at (push_cases is x k i e) where
   at : (slice_get is k ≡ Some i) ⊎ ((k ≡ length is) × (x ≡ i)) → (j : ℕ) × (j < k) × (slice_get (is ++ x ∷ []) j ≡ Some first)
   at (inl a) = let h = order i first k a f in (h.0, h.1, push_left is x h.0 first h.2)
@@ -46,7 +50,8 @@ order_push is x need order i first k e f = at (push_cases is x k i e) where
       (h.0, omega (arith, a.0, l), push_left is x h.0 first h.1)
 
 -- an item that is neither ENTRY nor READ
-ordered_push : (e t : Bool) (is : List Item) (x : Item) → ((item.Entry ≡ x) → ⊥) → ((item.Read ≡ x) → ⊥) → (IsOnce x → ⊥) → ((first : Item) → needs x ≡ Some first → There first is) → Ordered e t is → Ordered e t (is ++ x ∷ [])
+ordered_push : (e t : Bool) (is : List Item) (x : Item) → ((item.Entry ≡ x) → ⊥) → ((item.Read ≡ x) → ⊥) → (IsOnce x → ⊥)
+    → ((first : Item) → needs x ≡ Some first → There first is) → Ordered e t is → Ordered e t (is ++ x ∷ [])
 ordered_push e t is x no_entry no_read no_once need h = record {
   entry_in = λ k. there_more item.Entry x is (h.entry_in k);
   entry_out = λ k. entry_at (there_cases item.Entry x is k);
@@ -73,7 +78,8 @@ InOrder s = Ordered s.has_entry (has_read s) s.items
 
 order_ended : (s : Style) (name : List ℕ) (r : BodyEnd) → OnEnd (Ordered s.has_entry (has_read s)) r → InOrder (function_ended s name r).style
 order_ended s name (Broken c i) h = h
-order_ended s name (Whole i) h = ordered_push s.has_entry (has_read s) i.items (item.Function (length i.bodies)) (λ k. absurd (cc)) (λ k. absurd (cc)) (λ o. o) (λ first k. absurd (cc)) h
+order_ended s name (Whole i) h = ordered_push s.has_entry (has_read s) i.items (item.Function (length i.bodies)) (λ k. absurd (cc)) (λ k. absurd (cc)) (λ o. o)
+    (λ first k. absurd (cc)) h
 
 no_truth : (b : Bool) → b ≡ false → b ≡ true → ⊥
 no_truth b e f = absurd (cc)
@@ -91,7 +97,8 @@ order_entry s e h = record {
   read_at (inl k) = h.read_out k
   read_at (inr k) = absurd (cc)
 
-order_read : (s : Style) → s.has_entry ≡ true → has_read s ≡ false → InOrder s → InOrder (with_item item.Read (record s { before_read = Some (length s.bodies) }))
+order_read : (s : Style) → s.has_entry ≡ true → has_read s ≡ false → InOrder s
+    → InOrder (with_item item.Read (record s { before_read = Some (length s.bodies) }))
 order_read s e f h = record {
   entry_in = λ k. there_more item.Entry item.Read s.items (h.entry_in k);
   entry_out = λ k. e;
@@ -114,18 +121,31 @@ order_keeps = record {
   on_names = λ s k p h. h;
   on_entry = order_entry;
   on_read = order_read;
-  on_function = λ s name p e h. order_ended s (folded name) (body_end s.names (inside_at s p)) (body_items (Ordered s.has_entry (has_read s)) (λ c line is k. ordered_message s.has_entry (has_read s) is c line k) s.names (inside_at s p) h);
-  on_execute = λ s name c r e h. ordered_push s.has_entry (has_read s) s.items (item.Execute c) (λ k. absurd (cc)) (λ k. absurd (cc)) (λ o. o) (needs_read (item.Execute c) s refl r h) h;
-  on_iterate = λ s name c r e h. ordered_push s.has_entry (has_read s) s.items (item.Iterate c) (λ k. absurd (cc)) (λ k. absurd (cc)) (λ o. o) (needs_read (item.Iterate c) s refl r h) h;
-  on_reverse = λ s name c r e h. ordered_push s.has_entry (has_read s) s.items (item.Reverse c) (λ k. absurd (cc)) (λ k. absurd (cc)) (λ o. o) (needs_read (item.Reverse c) s refl r h) h;
+  on_function = λ s name p e h. order_ended s (folded name) (body_end s.names (inside_at s p))
+      (body_items (Ordered s.has_entry (has_read s)) (λ c line is k. ordered_message s.has_entry (has_read s) is c line k) s.names (inside_at s p) h);
+  on_execute = λ s name c r e h. ordered_push s.has_entry (has_read s) s.items (item.Execute c) (λ k. absurd (cc)) (λ k. absurd (cc)) (λ o. o)
+      (needs_read (item.Execute c) s refl r h) h;
+  on_iterate = λ s name c r e h. ordered_push s.has_entry (has_read s) s.items (item.Iterate c) (λ k. absurd (cc)) (λ k. absurd (cc)) (λ o. o)
+      (needs_read (item.Iterate c) s refl r h) h;
+  on_reverse = λ s name c r e h. ordered_push s.has_entry (has_read s) s.items (item.Reverse c) (λ k. absurd (cc)) (λ k. absurd (cc)) (λ o. o)
+      (needs_read (item.Reverse c) s refl r h) h;
   on_sort = λ s r h. ordered_push s.has_entry (has_read s) s.items item.Sort (λ k. absurd (cc)) (λ k. absurd (cc)) (λ o. o) (needs_read item.Sort s refl r h) h;
   on_integers = λ s h. order_plain item.Integers s (λ k. absurd (cc)) (λ k. absurd (cc)) (λ o. o) refl h;
   on_strings = λ s h. order_plain item.Strings s (λ k. absurd (cc)) (λ k. absurd (cc)) (λ o. o) refl h;
-  on_macro = λ s name text r e h. order_plain item.Macro (record s { macros = s.macros ++ (folded name, text) ∷ [] }) (λ k. absurd (cc)) (λ k. absurd (cc)) (λ o. o) refl h;
+  on_macro = λ s name text r e h. order_plain item.Macro (record s { macros = s.macros ++ (folded name, text) ∷ [] }) (λ k. absurd (cc)) (λ k. absurd (cc))
+      (λ o. o) refl h;
 }
 
 order_start : (file : List ℕ) → InOrder (unread_style file predefined)
-order_start file = record { entry_in = λ k. absurd (cc); entry_out = λ k. absurd (nothing item.Entry k); read_in = λ k. absurd (cc); read_out = λ k. absurd (nothing item.Read k); once = λ i j k o e f. absurd (cc); order = λ i first k e f. absurd (cc) } where
+order_start file = record {
+  entry_in = λ k. absurd (cc);
+  entry_out = λ k. absurd (nothing item.Entry k);
+  read_in = λ k. absurd (cc);
+  read_out =
+      λ k. absurd (nothing item.Read k);
+  once = λ i j k o e f. absurd (cc);
+  order = λ i first k e f. absurd (cc);
+} where
   nothing : (i : Item) → There i [] → ⊥
   nothing i h = let e = h.1 in absurd (cc)
 

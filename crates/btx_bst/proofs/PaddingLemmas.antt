@@ -30,7 +30,8 @@ pads-next first more count p h =
     let e : length (more ++ None ∷ []) - length first ≡ n + 1 = omega (arith, l) in
     record {
       same =
-          ap (λ (xs : Functions). xs ++ None ∷ []) p.same ∙ append_assoc first (replicate n None) (None ∷ []) ∙ ap (λ (xs : Functions). first ++ xs) (replicate_more n None)
+          ap (λ (xs : Functions). xs ++ None ∷ []) p.same ∙ append_assoc first (replicate n None) (None ∷ [])
+          ∙ ap (λ (xs : Functions). first ++ xs) (replicate_more n None)
           ∙ ap (λ (k : ℕ). first ++ replicate k None) (sym e);
       longer = omega (arith, l);
       within = omega (arith, l);

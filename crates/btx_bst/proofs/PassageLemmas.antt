@@ -1,5 +1,6 @@
 -- Nothing of a text is read twice, and nothing is left out.
-use Rattle.std.proofs.Common.{◌≡◌, ℕ, ℤ, zero, suc, ◌+◌, ◌==◌, Bool, true, false, cond, List, [], ◌∷◌, ◌++◌, length, take, drop, refl, sym, ap, ◌∙◌, arith, append_assoc, append-nil, Option, None, Some}
+use Rattle.std.proofs.Common.{◌≡◌, ℕ, ℤ, zero, suc, ◌+◌, ◌==◌, Bool, true, false, cond, List, [], ◌∷◌, ◌++◌, length, take, drop, refl, sym, ap, ◌∙◌, arith}
+use Rattle.std.proofs.Common.{append_assoc, append-nil, Option, None, Some}
 use Rattle.std.proofs.lemmas.List.{take-append-drop}
 use Rattle.btx_text.specs.language.Class.{is_white}
 use Rattle.btx_text.specs.language.Keys.{folded}
@@ -11,19 +12,23 @@ use Rattle.btx_bst.specs.declared.command.Command.TheVariants as command
 use Rattle.btx_bst.specs.declared.token.Token.{Token}
 use Rattle.btx_bst.specs.declared.token.Token.TheVariants.{Quote, Run}
 use Rattle.btx_bst.specs.language.Places.{Place, place_at, further, ink, ink_from, behind_white, line_or, skipped_from, size}
-use Rattle.btx_bst.specs.language.Complaints.{Complaint, NoCommand, NoOpen, NoClose, NoName, NoQuote, EndOfFile, TextAfter, Another, BeforeEntry, BeforeRead, AfterRead}
+use Rattle.btx_bst.specs.language.Complaints.{Complaint, NoCommand, NoOpen, NoClose, NoName, NoQuote, EndOfFile, TextAfter, Another, BeforeEntry, BeforeRead}
+use Rattle.btx_bst.specs.language.Complaints.{AfterRead}
 use Rattle.btx_bst.specs.language.Reads.{Read, Took, Slip}
 use Rattle.btx_bst.specs.language.Items as item
 use Rattle.btx_bst.specs.language.Items.{Item}
 use Rattle.btx_bst.specs.language.Fronts.{name_len, quote_len, word_len, digits_len, is_word_end}
-use Rattle.btx_bst.specs.language.Words.{BodyWord, Open, Close, String, Integer, Quoted, Name, Faulty, Unended, Ended, front, word_front, integer_at, integer_front, integer_before, string_at, string_ended, met_at, met_in}
+use Rattle.btx_bst.specs.language.Words.{BodyWord, Open, Close, String, Integer, Quoted, Name, Faulty, Unended, Ended, front, word_front, integer_at}
+use Rattle.btx_bst.specs.language.Words.{integer_front, integer_before, string_at, string_ended, met_at, met_in}
 use Rattle.btx_bst.specs.language.Names.{Names, named}
 use Rattle.btx_bst.specs.language.Style.{Style}
 use Rattle.btx_bst.specs.language.Turns.{Turn}
-use Rattle.btx_bst.specs.language.Lists.{brace_in, opening, closing, front_of, name_in, next_name, letters_at, quoted_text, quoted_in, quoted_at, Listing, listing, Listed, name_turn, list_turn_in, list_turn, list_end, list_read, list_at}
+use Rattle.btx_bst.specs.language.Lists.{brace_in, opening, closing, front_of, name_in, next_name, letters_at, quoted_text, quoted_in, quoted_at, Listing}
+use Rattle.btx_bst.specs.language.Lists.{listing, Listed, name_turn, list_turn_in, list_turn, list_end, list_read, list_at}
 use Rattle.btx_bst.specs.language.BodyText.{Inside, BodyEnd, Whole, Broken, with_named, closed_inside, word_turn, body_turn, body_end}
 use Rattle.btx_bst.specs.language.Outcomes.{CommandOutcome, outcome, after_read, with_item}
-use Rattle.btx_bst.specs.language.Commands.{after_list, entry_command, function_ended, function_command, has_read, read_command, function_in, run_of, run_command, sort_command, declare, macro_command, command_at, command_named, after_listed, inside_at}
+use Rattle.btx_bst.specs.language.Commands.{after_list, entry_command, function_ended, function_command, has_read, read_command, function_in, run_of}
+use Rattle.btx_bst.specs.language.Commands.{run_command, sort_command, declare, macro_command, command_at, command_named, after_listed, inside_at}
 use Rattle.btx_bst.specs.laws.Passages.{lines_text, text_from, Passage, InkLaw, CommandLaw, SkipLaw}
 use Rattle.btx_bst.proofs.TurnLemmas.{OnTurn, turns-keep}
 use Rattle.btx_bst.specs.refinement.Commands.{entry_lists, run_name, macro_name, function_of, macro_of}
@@ -87,7 +92,8 @@ white_ends (b ∷ bs) = at (is_white b) (b == 37) (white_ends bs) where
   at false true h = (b ∷ bs, sym (append-nil (b ∷ bs)))
   at false false h = ends_here (b ∷ bs)
 
-ink_at : (n : ℕ) (line x next : List ℕ) (after : List (List ℕ)) (later : Place) → EndsIn line x → Passage (place_at (n + 1) next after) later → Passage (place_at n line (next ∷ after)) (line_or n x (next ∷ after) later)
+ink_at : (n : ℕ) (line x next : List ℕ) (after : List (List ℕ)) (later : Place) → EndsIn line x → Passage (place_at (n + 1) next after) later
+    → Passage (place_at n line (next ∷ after)) (line_or n x (next ∷ after) later)
 ink_at n line [] next after later a h = pass_on _ (place_at (n + 1) next after) later (pass_line n line next after) h
 ink_at n line (b ∷ bs) next after later a h = pass_further (place_at n line (next ∷ after)) line (b ∷ bs) refl a
 
@@ -228,7 +234,10 @@ integer_ends (b ∷ bs) = at (b == 45) where
 word_ends : (b : ℕ) (bs : List ℕ) → EndsIn bs (word_front b bs).rest
 unfolding word_front
 word_ends b bs = at (b == 123) (b == 125) (b == 34) (b == 35) (b == 39) where
-  at : (t u v w x : Bool) → EndsIn bs (cond t (front Open bs) (cond u (front Close bs) (cond v (string_at bs) (cond w (integer_at bs) (cond x (front (Quoted (take (word_len bs) bs)) (drop (word_len bs) bs)) (front (Name (b ∷ take (word_len bs) bs)) (drop (word_len bs) bs))))))).rest
+  at : (t u v w x : Bool) → EndsIn bs
+      (cond t (front Open bs) (cond u (front Close bs)
+      (cond v (string_at bs) (cond w (integer_at bs)
+      (cond x (front (Quoted (take (word_len bs) bs)) (drop (word_len bs) bs)) (front (Name (b ∷ take (word_len bs) bs)) (drop (word_len bs) bs))))))).rest
   at true u v w x = ends_here bs
   at false true v w x = ends_here bs
   at false false true w x = string_ends bs
@@ -252,7 +261,8 @@ EndPasses p (Broken c s) = Passage p s.place
 abbrev BodyPasses : Place → Turn Inside BodyEnd → Type 0
 BodyPasses p t = OnTurn (λ s. Passage p s.place) (EndPasses p) t
 
-named_body_passes : (p : Place) (token : Callee → Token) (name : List ℕ) (s : Inside) (o : Option Callee) → Passage p s.place → Passage p (with_named token name s o).place
+named_body_passes : (p : Place) (token : Callee → Token) (name : List ℕ) (s : Inside) (o : Option Callee) → Passage p s.place
+    → Passage p (with_named token name s o).place
 named_body_passes p token name s None h = h
 named_body_passes p token name s (Some c) h = h
 
@@ -280,15 +290,18 @@ body_passes p names s h =
 
 -- ---- commands
 
-after_passes : {A : Type 0} (p : Place) (s : Style) (r : Read A) (go : A → Place → CommandOutcome) → ReadPasses p r → ((x : A) (q : Place) → Passage q (go x q).place) → Passage p (after_read s r go).place
+after_passes : {A : Type 0} (p : Place) (s : Style) (r : Read A) (go : A → Place → CommandOutcome) → ReadPasses p r
+    → ((x : A) (q : Place) → Passage q (go x q).place) → Passage p (after_read s r go).place
 after_passes p s (Took x q) go h each = pass_on p q _ h (each x q)
 after_passes p s (Slip c q) go h each = h
 
-listed_passes : (p : Place) (c : Option Complaint) (s : Style) (q : Place) (go : Style → Place → CommandOutcome) → Passage p q → ((t : Style) (r : Place) → Passage r (go t r).place) → Passage p (after_listed c s q go).place
+listed_passes : (p : Place) (c : Option Complaint) (s : Style) (q : Place) (go : Style → Place → CommandOutcome) → Passage p q
+    → ((t : Style) (r : Place) → Passage r (go t r).place) → Passage p (after_listed c s q go).place
 listed_passes p None s q go h each = pass_on p q _ h (each s q)
 listed_passes p (Some c) s q go h each = h
 
-after_list_passes : (k : Kind) (s : Style) (p : Place) (go : Style → Place → CommandOutcome) → ((t : Style) (r : Place) → Passage r (go t r).place) → Passage p (after_list s (list_at k s.names p) go).place
+after_list_passes : (k : Kind) (s : Style) (p : Place) (go : Style → Place → CommandOutcome) → ((t : Style) (r : Place) → Passage r (go t r).place)
+    → Passage p (after_list s (list_at k s.names p) go).place
 after_list_passes k s p go each =
     let l = list_at k s.names p in listed_passes p l.complaint (record s { names = l.listing.names }) l.listing.place go (list_passes p k s.names) each
 
@@ -321,7 +334,8 @@ function_passes s p =
 read_passes : (s : Style) (p : Place) → Passage p (read_command s p).place
 unfolding read_command
 read_passes s p = at (has_read s) s.has_entry where
-  at : (t u : Bool) → Passage p (cond t (outcome (Some (Another command.Read)) s p) (cond u (outcome None (with_item item.Read (record s { before_read = Some (length s.bodies) })) p) (outcome (Some BeforeEntry) s p))).place
+  at : (t u : Bool) → Passage p (cond t (outcome (Some (Another command.Read)) s p)
+      (cond u (outcome None (with_item item.Read (record s { before_read = Some (length s.bodies) })) p) (outcome (Some BeforeEntry) s p))).place
   at true u = pass_here p
   at false true = pass_here p
   at false false = pass_here p
@@ -384,6 +398,7 @@ word_outcome_passes s p word None = pass_here p
 word_outcome_passes s p word (Some c) = command_at_passes c s p
 
 pub command-law : CommandLaw
-command-law s p = after_passes p s (letters_at p) _ (front_passes NoCommand p p.line (letters_len p.line) refl) (λ word q. word_outcome_passes s q word (command_named (folded word)))
+command-law s p = after_passes p s (letters_at p) _ (front_passes NoCommand p p.line (letters_len p.line) refl)
+    (λ word q. word_outcome_passes s q word (command_named (folded word)))
 
 pub ruleset passage_laws = (ink-law, command-law, skip-law)

@@ -25,7 +25,8 @@ lines_len text = rw length-map (pieces-len text)
 pub ruleset line_steps = (lines_len)
 
 -- nothing is left of a line, and there is a next one
-pub ink-next : (n : ℕ) (s : List ℕ) (next : List ℕ) (after : List (List ℕ)) → length (behind_white s) ≡ 0 → ink_from n s (next ∷ after) ≡ ink_from (n + 1) next after
+pub ink-next : (n : ℕ) (s : List ℕ) (next : List ℕ) (after : List (List ℕ)) → length (behind_white s) ≡ 0 → ink_from n s (next ∷ after)
+    ≡ ink_from (n + 1) next after
 unfolding ink_from
 ink-next n s next after h = at (behind_white s) h where
   at : (x : List ℕ) → length x ≡ 0 → line_or n x (next ∷ after) (ink_from (n + 1) next after) ≡ ink_from (n + 1) next after
@@ -92,7 +93,8 @@ pieces-size : (text : List ℕ) → lines_size (line_pieces text) ≤ suc (lengt
 unfolding line_pieces lines_size
 pieces-size [] = omega arith
 pieces-size (b ∷ bs) = at (b == 10) (pieces-size bs) where
-  at : (t : Bool) → lines_size (line_pieces bs) ≤ suc (length bs) → lines_size (cond t ([] ∷ line_pieces bs) (onto_first b (line_pieces bs))) ≤ suc (suc (length bs))
+  at : (t : Bool) → lines_size (line_pieces bs) ≤ suc (length bs) → lines_size (cond t ([] ∷ line_pieces bs) (onto_first b (line_pieces bs)))
+      ≤ suc (suc (length bs))
   at true h = omega arith
   at false h = in_front-size b (line_pieces bs) (length bs) h
 

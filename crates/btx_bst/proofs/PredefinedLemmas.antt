@@ -19,7 +19,8 @@ pub new-entry_max : named_lower (with_name kind.EntryString (codes "sort.key$") 
 unfolding named_lower built_in_of built_ins
 new-entry_max = refl
 
-pub new-global_max : named_lower (with_name kind.GlobalInteger (codes "entry.max$") (with_name kind.EntryString (codes "sort.key$") (with_name kind.Field (codes "crossref") no_names))) (codes "global.max$") ≡ None
+pub new-global_max : named_lower (with_name kind.GlobalInteger (codes "entry.max$")
+    (with_name kind.EntryString (codes "sort.key$") (with_name kind.Field (codes "crossref") no_names))) (codes "global.max$") ≡ None
 unfolding named_lower built_in_of built_ins
 new-global_max = refl
 

@@ -24,7 +24,8 @@ use Rattle.btx_bst.specs.language.Names.{Names, named, named_lower, with_name, w
 use Rattle.btx_bst.specs.language.Style.{Style, as_type}
 use Rattle.btx_bst.specs.language.Turns.{Turn}
 use Rattle.btx_bst.specs.language.Words.{BodyWord, Open, Close, String, Integer, Quoted, Name, Faulty, Unended, Ended, met_at}
-use Rattle.btx_bst.specs.language.Lists.{opening, closing, next_name, Listing, listing, Listed, name_turn, list_turn_in, list_turn, list_end, list_read, list_at}
+use Rattle.btx_bst.specs.language.Lists.{opening, closing, next_name, Listing, listing, Listed, name_turn, list_turn_in, list_turn, list_end, list_read}
+use Rattle.btx_bst.specs.language.Lists.{list_at}
 use Rattle.btx_bst.specs.language.BodyText.{Inside, BodyEnd, Whole, Broken, with_named, closed_inside, word_turn, body_turn, body_end}
 use Rattle.btx_bst.specs.language.Outcomes.{with_item}
 use Rattle.btx_bst.specs.language.Commands.{function_ended, function_in, inside_at}
@@ -49,7 +50,14 @@ record Wider (a b : Names) : Type 0 where
   global_strings : length a.global_strings ≤ length b.global_strings
 
 same-width : (a : Names) → Wider a a
-same-width a = record { fields = omega arith; entry_integers = omega arith; entry_strings = omega arith; global_integers = omega arith; global_strings = omega arith }
+same-width a = record {
+  fields = omega arith;
+  entry_integers = omega arith;
+  entry_strings = omega arith;
+  global_integers = omega arith;
+  global_strings =
+      omega arith;
+}
 
 known_more : (a b : Names) (n m : ℕ) (c : Callee) → Wider a b → n ≤ m → IsKnown a n c → IsKnown b m c
 known_more a b n m (callee.BuiltIn x) w h k = tt
@@ -88,7 +96,8 @@ earlier_more : (a b : Names) (t u n : ℕ) (bodies : List FunctionBody) → Wide
 earlier_more a b t u n [] w g h = tt
 earlier_more a b t u n (body ∷ bodies) w g h = (all_more a b t u n n body w g (omega arith) h.0, earlier_more a b t u (suc n) bodies w g h.1)
 
-earlier_push : (a : Names) (t n m : ℕ) (bodies : List FunctionBody) (body : FunctionBody) → m ≡ n + length bodies → AreEarlier a t n bodies → AllRefer a t m body → AreEarlier a t n (bodies ++ body ∷ [])
+earlier_push : (a : Names) (t n m : ℕ) (bodies : List FunctionBody) (body : FunctionBody) → m ≡ n + length bodies → AreEarlier a t n bodies
+    → AllRefer a t m body → AreEarlier a t n (bodies ++ body ∷ [])
 earlier_push a t n m [] body e h k = (all_more a a t t m n body (same-width a) (omega arith) (omega arith) k, tt)
 earlier_push a t n m (first ∷ bodies) body e h k = (h.0, earlier_push a t (suc n) m bodies body (omega arith) h.1 k)
 
@@ -157,7 +166,8 @@ found_known : (a : Names) (n : ℕ) (name : List ℕ) → length a.functions ≤
 unfolding named_lower
 found_known a n name h =
     found_or a n _ _ (found_map a n callee.BuiltIn (built_in_of name) (λ i e. tt))
-    (found_or a n _ _ (found_map a n User (position (has_name name) a.functions) (λ i e. let l = (position-Some (has_name name) a.functions i None e).0 in omega arith))
+    (found_or a n _ _ (found_map a n User (position (has_name name) a.functions) (λ i e. let l = (position-Some (has_name name) a.functions i None e).0 in
+    omega arith))
     (found_or a n _ _ (found_map a n Field (number_in a.fields name) (λ i e. number_in-within a.fields name i e))
     (found_or a n _ _ (found_map a n EntryInteger (number_in a.entry_integers name) (λ i e. number_in-within a.entry_integers name i e))
     (found_or a n _ _ (found_map a n EntryString (number_in a.entry_strings name) (λ i e. number_in-within a.entry_strings name i e))
@@ -181,17 +191,34 @@ FineEnd names before (Broken complaint inside) = Fine names before inside
 abbrev FineTurn : Names → ℕ → Turn Inside BodyEnd → Type 0
 FineTurn names before t = OnTurn (Fine names before) (FineEnd names before) t
 
-fine_token : (a : Names) (b : ℕ) (s : Inside) (x : Token) → Refers a (length s.texts) (length s.bodies) x → Fine a b s → Fine a b (record s { tokens = s.tokens ++ x ∷ [] })
-fine_token a b s x k f = record { grown = f.grown; tokens_known = all_push a (length s.texts) (length s.bodies) s.tokens x f.tokens_known k; around_known = f.around_known; earlier = f.earlier; items_known = f.items_known }
+fine_token : (a : Names) (b : ℕ) (s : Inside) (x : Token) → Refers a (length s.texts) (length s.bodies) x → Fine a b s
+    → Fine a b (record s { tokens = s.tokens ++ x ∷ [] })
+fine_token a b s x k f = record {
+  grown = f.grown;
+  tokens_known = all_push a (length s.texts) (length s.bodies) s.tokens x f.tokens_known k;
+  around_known =
+      f.around_known;
+  earlier = f.earlier;
+  items_known = f.items_known;
+}
 
 fine_message : (a : Names) (b : ℕ) (s : Inside) (c : Complaint) (line : ℕ) → Fine a b s → Fine a b (record s { items = s.items ++ item.Message c line ∷ [] })
-fine_message a b s c line f = record { grown = f.grown; tokens_known = f.tokens_known; around_known = f.around_known; earlier = f.earlier; items_known = items_push b s.items (item.Message c line) f.items_known tt }
+fine_message a b s c line f = record {
+  grown = f.grown;
+  tokens_known = f.tokens_known;
+  around_known = f.around_known;
+  earlier = f.earlier;
+  items_known =
+      items_push b s.items (item.Message c line) f.items_known tt;
+}
 
-fine_named : (a : Names) (b : ℕ) (token : Callee → Token) (name : List ℕ) (s : Inside) (o : Option Callee) → ((t n : ℕ) (c : Callee) → IsKnown a n c → Refers a t n (token c)) → Fine a b s → FoundKnown a (length s.bodies) o → Fine a b (with_named token name s o)
+fine_named : (a : Names) (b : ℕ) (token : Callee → Token) (name : List ℕ) (s : Inside) (o : Option Callee)
+    → ((t n : ℕ) (c : Callee) → IsKnown a n c → Refers a t n (token c)) → Fine a b s → FoundKnown a (length s.bodies) o → Fine a b (with_named token name s o)
 fine_named a b token name s None h f k = fine_message a b s _ _ f
 fine_named a b token name s (Some c) h f k = fine_token a b s (token c) (h (length s.texts) (length s.bodies) c k) f
 
-fine_text : (a : Names) (b : ℕ) (s : Inside) (text : List ℕ) → Fine a b s → Fine a b (record s { tokens = s.tokens ++ Text (length s.texts) ∷ []; texts = s.texts ++ text ∷ [] })
+fine_text : (a : Names) (b : ℕ) (s : Inside) (text : List ℕ) → Fine a b s
+    → Fine a b (record s { tokens = s.tokens ++ Text (length s.texts) ∷ []; texts = s.texts ++ text ∷ [] })
 fine_text a b s text f =
     let t = length s.texts in
     let u = length (s.texts ++ text ∷ []) in
@@ -223,8 +250,16 @@ fine_closed a b s (outer ∷ around) e f =
       items_known = f.items_known;
     }
 
-fine_word : (a : Names) (b : ℕ) (s : Inside) (w : BodyWord) → ((n : ℕ) (name : List ℕ) → b ≤ n → FoundKnown a n (named a name)) → Fine a b s → FineTurn a b (word_turn a s w)
-fine_word a b s Open found f = record { grown = f.grown; tokens_known = tt; around_known = (f.tokens_known, f.around_known); earlier = f.earlier; items_known = f.items_known }
+fine_word : (a : Names) (b : ℕ) (s : Inside) (w : BodyWord) → ((n : ℕ) (name : List ℕ) → b ≤ n → FoundKnown a n (named a name)) → Fine a b s
+    → FineTurn a b (word_turn a s w)
+fine_word a b s Open found f = record {
+  grown = f.grown;
+  tokens_known = tt;
+  around_known = (f.tokens_known, f.around_known);
+  earlier = f.earlier;
+  items_known =
+      f.items_known;
+}
 fine_word a b s Close found f = fine_closed a b s s.around refl f
 fine_word a b s (String text) found f = fine_text a b s text f
 fine_word a b s (Integer value) found f = fine_token a b s (token.Integer value) tt f
@@ -239,7 +274,8 @@ unfolding body_end body_turn
 fine_body a b s h f =
     let found : (n : ℕ) (name : List ℕ) → b ≤ n → FoundKnown a n (named a name) = λ n name l. found_known a n (folded name) (omega arith) in
     turns-keep (Fine a b) (FineEnd a b) (body_turn a) (Broken EndOfFile)
-    (λ t k. fine_word a b (record t { place = (met_at t.place).place }) (met_at t.place).word found (record { grown = k.grown; tokens_known = k.tokens_known; around_known = k.around_known; earlier = k.earlier; items_known = k.items_known }))
+    (λ t k. fine_word a b (record t { place = (met_at t.place).place }) (met_at t.place).word found
+    (record { grown = k.grown; tokens_known = k.tokens_known; around_known = k.around_known; earlier = k.earlier; items_known = k.items_known }))
     (λ t k. k) (suc (size s.place)) s f
 
 -- ---- lists of names
@@ -250,20 +286,65 @@ Further a b = Wider a b × (length b.functions ≤ length a.functions)
 
 wider_name : (a b : Names) (k : Kind) (name : List ℕ) → Further a b → Further a (with_name k name b)
 wider_name a b kind.Field name h =
-    let w = h.0 in let l = w.fields in
-    (record { fields = omega (arith, length-append b.fields (name ∷ [])); entry_integers = w.entry_integers; entry_strings = w.entry_strings; global_integers = w.global_integers; global_strings = w.global_strings }, h.1)
+    let w = h.0 in let l = w.fields in (
+      record {
+        fields = omega (arith, length-append b.fields (name ∷ []));
+        entry_integers = w.entry_integers;
+        entry_strings = w.entry_strings;
+        global_integers =
+            w.global_integers;
+        global_strings = w.global_strings;
+      },
+      h.1,
+    )
 wider_name a b kind.EntryInteger name h =
-    let w = h.0 in let l = w.entry_integers in
-    (record { fields = w.fields; entry_integers = omega (arith, length-append b.entry_integers (name ∷ [])); entry_strings = w.entry_strings; global_integers = w.global_integers; global_strings = w.global_strings }, h.1)
+    let w = h.0 in let l = w.entry_integers in (
+      record {
+        fields = w.fields;
+        entry_integers = omega (arith, length-append b.entry_integers (name ∷ []));
+        entry_strings = w.entry_strings;
+        global_integers =
+            w.global_integers;
+        global_strings = w.global_strings;
+      },
+      h.1,
+    )
 wider_name a b kind.EntryString name h =
-    let w = h.0 in let l = w.entry_strings in
-    (record { fields = w.fields; entry_integers = w.entry_integers; entry_strings = omega (arith, length-append b.entry_strings (name ∷ [])); global_integers = w.global_integers; global_strings = w.global_strings }, h.1)
+    let w = h.0 in let l = w.entry_strings in (
+      record {
+        fields = w.fields;
+        entry_integers = w.entry_integers;
+        entry_strings = omega (arith, length-append b.entry_strings (name ∷ []));
+        global_integers =
+            w.global_integers;
+        global_strings = w.global_strings;
+      },
+      h.1,
+    )
 wider_name a b kind.GlobalInteger name h =
-    let w = h.0 in let l = w.global_integers in
-    (record { fields = w.fields; entry_integers = w.entry_integers; entry_strings = w.entry_strings; global_integers = omega (arith, length-append b.global_integers (name ∷ [])); global_strings = w.global_strings }, h.1)
+    let w = h.0 in let l = w.global_integers in (
+      record {
+        fields = w.fields;
+        entry_integers = w.entry_integers;
+        entry_strings = w.entry_strings;
+        global_integers =
+            omega (arith, length-append b.global_integers (name ∷ []));
+        global_strings = w.global_strings;
+      },
+      h.1,
+    )
 wider_name a b kind.GlobalString name h =
-    let w = h.0 in let l = w.global_strings in
-    (record { fields = w.fields; entry_integers = w.entry_integers; entry_strings = w.entry_strings; global_integers = w.global_integers; global_strings = omega (arith, length-append b.global_strings (name ∷ [])) }, h.1)
+    let w = h.0 in let l = w.global_strings in (
+      record {
+        fields = w.fields;
+        entry_integers = w.entry_integers;
+        entry_strings = w.entry_strings;
+        global_integers = w.global_integers;
+        global_strings =
+            omega (arith, length-append b.global_strings (name ∷ []));
+      },
+      h.1,
+    )
 
 abbrev FurtherTurn : Names → Turn Listing Listed → Type 0
 FurtherTurn a t = OnTurn (λ s. Further a s.names) (λ r. Further a r.listing.names) t
@@ -313,7 +394,12 @@ fine_names s k p f =
 
 padded-len : (n : ℕ) (functions : List (Option (List ℕ))) (name : List ℕ) → length functions ≤ n → length (padded n functions ++ Some name ∷ []) ≡ suc n
 padded-len n functions name h =
-    omega (arith, length-append (padded n functions) (Some name ∷ []), length-append functions (replicate (n - length functions) None), length-replicate {A = Option (List ℕ)} (n - length functions) None)
+    omega (
+      arith,
+      length-append (padded n functions) (Some name ∷ []),
+      length-append functions (replicate (n - length functions) None),
+      length-replicate {A = Option (List ℕ)} (n - length functions) None,
+    )
 
 fine_ended : (s : Style) (name : List ℕ) (r : BodyEnd) → FineStyle s → FineEnd s.names (length s.bodies) r → FineStyle (function_ended s name r).style
 fine_ended s name (Broken c i) h f = record { no_later = h.no_later; earlier = h.earlier; items_known = f.items_known }
@@ -325,16 +411,24 @@ fine_ended s name (Whole i) h f =
     let g = f.grown in
     let l = h.no_later in
     let names = with_function n name s.names in
-    let w : Wider s.names names = record { fields = omega arith; entry_integers = omega arith; entry_strings = omega arith; global_integers = omega arith; global_strings = omega arith } in
+    let w : Wider s.names names = record {
+      fields = omega arith;
+      entry_integers = omega arith;
+      entry_strings = omega arith;
+      global_integers = omega arith;
+      global_strings = omega arith;
+    } in
     record {
       no_later = omega (arith, padded-len n s.names.functions name (omega arith));
-      earlier = earlier_push names t 0 n i.bodies i.tokens (omega arith) (earlier_more s.names names t t 0 i.bodies w (omega arith) f.earlier) (all_more s.names names t t n n i.tokens w (omega arith) (omega arith) f.tokens_known);
+      earlier = earlier_push names t 0 n i.bodies i.tokens (omega arith) (earlier_more s.names names t t 0 i.bodies w (omega arith) f.earlier)
+          (all_more s.names names t t n n i.tokens w (omega arith) (omega arith) f.tokens_known);
       items_known = items_push m i.items (item.Function n) (items_more (length s.bodies) m i.items (omega arith) f.items_known) (omega arith);
     }
 
 pub fine_function_body : (s : Style) (p : Place) → FineStyle s → FineEnd s.names (length s.bodies) (body_end s.names (inside_at s p))
 fine_function_body s p h =
-    fine_body s.names (length s.bodies) (inside_at s p) h.no_later (record { grown = omega arith; tokens_known = tt; around_known = tt; earlier = h.earlier; items_known = h.items_known })
+    fine_body s.names (length s.bodies) (inside_at s p) h.no_later
+    (record { grown = omega arith; tokens_known = tt; around_known = tt; earlier = h.earlier; items_known = h.items_known })
 
 fine_function : (s : Style) (name : List ℕ) (p : Place) → FineStyle s → FineStyle (function_ended s (folded name) (body_end s.names (inside_at s p))).style
 fine_function s name p h = fine_ended s (folded name) (body_end s.names (inside_at s p)) h (fine_function_body s p h)
@@ -356,8 +450,10 @@ pub fine_keeps : Keeps FineStyle
 fine_keeps = record {
   on_message = λ c line s f. fine_item (item.Message c line) s tt f;
   on_names = fine_names;
-  on_entry = λ s e f. fine_item item.Entry (record s { has_entry = true }) tt (record { no_later = f.no_later; earlier = f.earlier; items_known = f.items_known });
-  on_read = λ s e g f. fine_item item.Read (record s { before_read = Some (length s.bodies) }) tt (record { no_later = f.no_later; earlier = f.earlier; items_known = f.items_known });
+  on_entry = λ s e f. fine_item item.Entry (record s { has_entry = true }) tt
+      (record { no_later = f.no_later; earlier = f.earlier; items_known = f.items_known });
+  on_read = λ s e g f. fine_item item.Read (record s { before_read = Some (length s.bodies) }) tt
+      (record { no_later = f.no_later; earlier = f.earlier; items_known = f.items_known });
   on_function = λ s name p e f. fine_function s name p f;
   on_execute = λ s name c r e f. fine_item (item.Execute c) s (fine_run s name c e f) f;
   on_iterate = λ s name c r e f. fine_item (item.Iterate c) s (fine_run s name c e f) f;
@@ -365,7 +461,8 @@ fine_keeps = record {
   on_sort = λ s r f. fine_item item.Sort s tt f;
   on_integers = λ s f. fine_item item.Integers s tt f;
   on_strings = λ s f. fine_item item.Strings s tt f;
-  on_macro = λ s name text r e f. fine_item item.Macro (record s { macros = s.macros ++ (folded name, text) ∷ [] }) tt (record { no_later = f.no_later; earlier = f.earlier; items_known = f.items_known });
+  on_macro = λ s name text r e f. fine_item item.Macro (record s { macros = s.macros ++ (folded name, text) ∷ [] }) tt
+      (record { no_later = f.no_later; earlier = f.earlier; items_known = f.items_known });
 }
 
 pub fine_start : (file : List ℕ) → FineStyle (unread_style file predefined)
@@ -412,10 +509,12 @@ type_known a n (Some count) (Some (GlobalString k)) number e h = absurd (cc)
 
 pub refers_within : (s : Style) → FineStyle s → RefersWithin s
 refers_within s f = record {
-  bodies = λ number place token e. token_at s.names (length s.texts) number (slice_index_or s.bodies number []) place token (body_at s.names (length s.texts) 0 number s.bodies number (omega arith) f.earlier) e;
+  bodies = λ number place token e. token_at s.names (length s.texts) number (slice_index_or s.bodies number []) place token
+      (body_at s.names (length s.texts) 0 number s.bodies number (omega arith) f.earlier) e;
   commands = λ place item e. item_at (length s.bodies) s.items place item f.items_known e;
   names = λ name c e. known_found s.names (length s.bodies) (named_lower s.names name) c e (found_known s.names (length s.bodies) name f.no_later);
-  types = λ name number e. type_known s.names (length s.bodies) s.before_read (named_lower s.names name) number e (found_known s.names (length s.bodies) name f.no_later);
+  types = λ name number e. type_known s.names (length s.bodies) s.before_read (named_lower s.names name) number e
+      (found_known s.names (length s.bodies) name f.no_later);
 }
 
 pub style-refers_within : (file text : List ℕ) → RefersWithin (style_of file text)

@@ -45,7 +45,8 @@ unfolding size
 front-shorter p zero = omega arith
 front-shorter p (suc k) = omega (arith, length-drop (suc k) p.line)
 
-letters-size : (r : Result (Bor (List ℕ)) Complaint) (p q : Place) → Sized (suc (size p)) (read_text r q) → (k : ℕ) → read_text r q ≡ front_of NoCommand p p.line k → size q ≤ size p
+letters-size : (r : Result (Bor (List ℕ)) Complaint) (p q : Place) → Sized (suc (size p)) (read_text r q) → (k : ℕ)
+    → read_text r q ≡ front_of NoCommand p p.line k → size q ≤ size p
 unfolding size
 letters-size (Ok x) p q h k e = omega arith
 letters-size (Err c) p q h zero e = let s : q ≡ p = cc in rw s (omega arith)
@@ -56,11 +57,13 @@ letters-shorter r p q e =
     let h : Sized (suc (size p)) (read_text r q) = rw e (front-shorter p (letters_len p.line)) in
     letters-size r p q h (letters_len p.line) e
 
-listed-weight : (o : Option Complaint) (more : Names) (q : Place) (n : ℕ) (functions : List (Option (List ℕ))) → Weighs n functions (listed_view o more q).listing → size q + names_weight more ≤ n
+listed-weight : (o : Option Complaint) (more : Names) (q : Place) (n : ℕ) (functions : List (Option (List ℕ)))
+    → Weighs n functions (listed_view o more q).listing → size q + names_weight more ≤ n
 listed-weight None more q n functions h = h.0
 listed-weight (Some c) more q n functions h = h.0
 
-pub list-room : (o : Option Complaint) (kind : Kind) (names more : Names) (p q : Place) → listed_view o more q ≡ list_at kind names p → size q + names_weight more ≤ size p + names_weight names
+pub list-room : (o : Option Complaint) (kind : Kind) (names more : Names) (p q : Place) → listed_view o more q ≡ list_at kind names p
+    → size q + names_weight more ≤ size p + names_weight names
 list-room o kind names more p q e =
     let h : Weighs (size p + names_weight names) names.functions (listed_view o more q).listing = rw e (list_at-weight kind names p) in
     listed-weight o more q (size p + names_weight names) names.functions h
@@ -77,6 +80,7 @@ body-room None names s t e = grown-end names s (Whole t) e
 body-room (Some c) names s t e = grown-end names s (Broken (complaint_view c) t) e
 
 -- a style of which nothing has been read has room
-pub start-room : (style : Style) (file : List ℕ) (names : Names) (p : Place) (text : List ℕ) → style ≡ unread_style file names → names ≡ predefined → p ≡ beginning text → length text ≤ greatest_file → HasRoom style p
+pub start-room : (style : Style) (file : List ℕ) (names : Names) (p : Place) (text : List ℕ) → style ≡ unread_style file names → names ≡ predefined
+    → p ≡ beginning text → length text ≤ greatest_file → HasRoom style p
 start-room style file names p text e n b h =
     let s : HasRoom (unread_style file predefined) (beginning text) = (omega (arith, beginning-size text, h), omega arith) in rw (e, n, b) s

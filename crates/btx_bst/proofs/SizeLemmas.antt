@@ -16,7 +16,8 @@ ink_from-size : (n : ℕ) (s : List ℕ) (after : List (List ℕ)) → size (ink
 unfolding ink_from size lines_size
 ink_from-size n s [] = omega (arith, white-len s)
 ink_from-size n s (next ∷ after) = at (behind_white s) (white-len s) (ink_from-size (n + 1) next after) where
-  at : (x : List ℕ) → length x ≤ length s → size (ink_from (n + 1) next after) ≤ length next + lines_size after → size (line_or n x (next ∷ after) (ink_from (n + 1) next after)) ≤ length s + suc (length next + lines_size after)
+  at : (x : List ℕ) → length x ≤ length s → size (ink_from (n + 1) next after) ≤ length next + lines_size after
+      → size (line_or n x (next ∷ after) (ink_from (n + 1) next after)) ≤ length s + suc (length next + lines_size after)
   at [] h k = omega arith
   at (b ∷ bs) h k = omega arith
 

@@ -13,7 +13,8 @@ stays c h = grind (arith, nat_tests)
 pub folded-same : (name : List ℕ) → has_capital name ≡ false → folded name ≡ name
 folded-same [] h = refl
 folded-same (c ∷ cs) h = at (is_ascii_uppercase c) refl h (folded-same cs) where
-  at : (b : Bool) → is_ascii_uppercase c ≡ b → (b || list_any is_ascii_uppercase cs) ≡ false → (has_capital cs ≡ false → folded cs ≡ cs) → folded (c ∷ cs) ≡ c ∷ cs
+  at : (b : Bool) → is_ascii_uppercase c ≡ b → (b || list_any is_ascii_uppercase cs) ≡ false → (has_capital cs ≡ false → folded cs ≡ cs)
+      → folded (c ∷ cs) ≡ c ∷ cs
   at true e k more = cc
   at false e k more = ap (λ d. d ∷ folded cs) (stays c e) ∙ ap (λ ds. c ∷ ds) (more k)
 

@@ -1,5 +1,6 @@
 -- Styles, item by item.
-use Rattle.std.proofs.Common.{◌≡◌, ℕ, zero, suc, ◌+◌, ◌-◌, ◌<◌, ◌≤◌, Bool, true, false, cond, List, [], ◌∷◌, ◌++◌, length, take, drop, refl, ap, arith, Option, Some, None}
+use Rattle.std.proofs.Common.{◌≡◌, ℕ, zero, suc, ◌+◌, ◌-◌, ◌<◌, ◌≤◌, Bool, true, false, cond, List, [], ◌∷◌, ◌++◌, length, take, drop, refl, ap, arith, Option}
+use Rattle.std.proofs.Common.{Some, None}
 use Rattle.std.specs.Prelude.{is_some, replicate}
 use Rattle.std.proofs.lemmas.List.{length-drop, length-append, take-append-le, length-replicate}
 use Rattle.btx_text.specs.language.Keys.{folded}
@@ -21,7 +22,8 @@ use Rattle.btx_bst.specs.language.Lists.{opening, closing, next_name, quoted_at,
 use Rattle.btx_bst.specs.language.BodyText.{Inside, BodyEnd, Whole, Broken, with_named, closed_inside, word_turn, body_turn, body_end}
 use Rattle.btx_bst.specs.language.Style.{Style}
 use Rattle.btx_bst.specs.language.Outcomes.{CommandOutcome, outcome, after_read, with_item}
-use Rattle.btx_bst.specs.language.Commands.{after_list, entry_command, function_command, function_ended, read_command, run_command, run_of, sort_command, declare, macro_command, function_in, command_at, command_named, after_listed, inside_at}
+use Rattle.btx_bst.specs.language.Commands.{after_list, entry_command, function_command, function_ended, read_command, run_command, run_of, sort_command}
+use Rattle.btx_bst.specs.language.Commands.{declare, macro_command, function_in, command_at, command_named, after_listed, inside_at}
 use Rattle.btx_bst.specs.language.StyleText.{StyleState, item_in, item_turn, style_from, resumed}
 use Rattle.btx_bst.specs.refinement.Weights.{names_weight, weight, HasRoom}
 use Rattle.btx_bst.proofs.TurnLemmas.{OnTurn, turns-next, turns-keep}
@@ -84,15 +86,18 @@ Adds bodies texts s = Begins bodies s.bodies × Begins texts s.texts
 abbrev Grows : List FunctionBody → List (List ℕ) → Turn Inside BodyEnd → Type 0
 Grows bodies texts t = OnTurn (Adds bodies texts) (λ r. Adds bodies texts (inside_of r)) t
 
-with_named-adds : (token : Callee → Token) (name : List ℕ) (bodies : List FunctionBody) (texts : List (List ℕ)) (s : Inside) (o : Option Callee) → Adds bodies texts s → Adds bodies texts (with_named token name s o)
+with_named-adds : (token : Callee → Token) (name : List ℕ) (bodies : List FunctionBody) (texts : List (List ℕ)) (s : Inside) (o : Option Callee)
+    → Adds bodies texts s → Adds bodies texts (with_named token name s o)
 with_named-adds token name bodies texts s None h = h
 with_named-adds token name bodies texts s (Some callee) h = h
 
-closed_inside-grows : (bodies : List FunctionBody) (texts : List (List ℕ)) (s : Inside) (around : List FunctionBody) → Adds bodies texts s → Grows bodies texts (closed_inside s around)
+closed_inside-grows : (bodies : List FunctionBody) (texts : List (List ℕ)) (s : Inside) (around : List FunctionBody) → Adds bodies texts s
+    → Grows bodies texts (closed_inside s around)
 closed_inside-grows bodies texts s [] h = h
 closed_inside-grows bodies texts s (outer ∷ around) h = (Begins-more bodies s.bodies s.tokens h.0, h.1)
 
-word_turn-grows : (names : Names) (bodies : List FunctionBody) (texts : List (List ℕ)) (s : Inside) (w : BodyWord) → Adds bodies texts s → Grows bodies texts (word_turn names s w)
+word_turn-grows : (names : Names) (bodies : List FunctionBody) (texts : List (List ℕ)) (s : Inside) (w : BodyWord) → Adds bodies texts s
+    → Grows bodies texts (word_turn names s w)
 word_turn-grows names bodies texts s Open h = h
 word_turn-grows names bodies texts s Close h = closed_inside-grows bodies texts s s.around h
 word_turn-grows names bodies texts s (String text) h = (h.0, Begins-more texts s.texts text h.1)
@@ -103,7 +108,8 @@ word_turn-grows names bodies texts s (Faulty c) h = h
 word_turn-grows names bodies texts s Unended h = h
 word_turn-grows names bodies texts s Ended h = h
 
-body_turn-grows : (names : Names) (bodies : List FunctionBody) (texts : List (List ℕ)) (s : Inside) → Adds bodies texts s → Grows bodies texts (body_turn names s)
+body_turn-grows : (names : Names) (bodies : List FunctionBody) (texts : List (List ℕ)) (s : Inside) → Adds bodies texts s
+    → Grows bodies texts (body_turn names s)
 unfolding body_turn
 body_turn-grows names bodies texts s h = word_turn-grows names bodies texts (record s { place = (met_at s.place).place }) (met_at s.place).word h
 
@@ -111,7 +117,10 @@ pub body_end-grows : (names : Names) (s : Inside) → Adds s.bodies s.texts (ins
 unfolding body_end
 body_end-grows names s =
     turns-keep (Adds s.bodies s.texts) (λ r. Adds s.bodies s.texts (inside_of r)) (body_turn names) (Broken EndOfFile)
-    (λ t h. body_turn-grows names s.bodies s.texts t h) (λ t h. h) (suc (size s.place)) s ((omega arith, take-whole s.bodies), (omega arith, take-whole s.texts))
+    (λ t h. body_turn-grows names s.bodies s.texts t h) (λ t h. h) (suc (size s.place)) s (
+      (omega arith, take-whole s.bodies),
+      (omega arith, take-whole s.texts),
+    )
 
 pub broken-grows : (names : Names) (s t : Inside) (c : Complaint) → Broken c t ≡ body_end names s → Adds s.bodies s.texts t
 broken-grows names s t c e = let h : Adds s.bodies s.texts (inside_of (Broken c t)) = rw (← e) at (body_end-grows names s) in h
@@ -119,7 +128,8 @@ broken-grows names s t c e = let h : Adds s.bodies s.texts (inside_of (Broken c 
 pub whole-grows : (names : Names) (s t : Inside) → Whole t ≡ body_end names s → Adds s.bodies s.texts t
 whole-grows names s t e = let h : Adds s.bodies s.texts (inside_of (Whole t)) = rw (← e) at (body_end-grows names s) in h
 
-pub whole-weight : (names : Names) (s t : Inside) → Whole t ≡ body_end names s → size t.place + length t.bodies + length t.texts ≤ size s.place + length s.bodies + length s.texts
+pub whole-weight : (names : Names) (s t : Inside) → Whole t ≡ body_end names s → size t.place + length t.bodies + length t.texts
+    ≤ size s.place + length s.bodies + length s.texts
 whole-weight names s t e = let h : size (inside_of (Whole t)).place + length (inside_of (Whole t)).bodies + length (inside_of (Whole t)).texts ≤ size s.place + length s.bodies + length s.texts = rw (← e) at (body_end-weight names s) in h
 
 -- ---- what is left after a command, and what the style weighs then
@@ -137,7 +147,8 @@ Base n m style = (n + counts style ≤ m) × (length style.names.functions ≤ l
 here : (c : Option Complaint) (style : Style) (p : Place) (n m : ℕ) → size p ≤ n → Base n m style → Within n m (outcome c style p)
 here c style p n m h b = (h, omega (arith, b.0), b.1)
 
-after_read-within : {A : Type 0} (style : Style) (r : Read A) (go : A → Place → CommandOutcome) (n m : ℕ) → Sized n r → Base n m style → ((x : A) (p : Place) → size p < n → Within n m (go x p)) → Within n m (after_read style r go)
+after_read-within : {A : Type 0} (style : Style) (r : Read A) (go : A → Place → CommandOutcome) (n m : ℕ) → Sized n r → Base n m style
+    → ((x : A) (p : Place) → size p < n → Within n m (go x p)) → Within n m (after_read style r go)
 after_read-within style (Took x p) go n m h b k = k x p h
 after_read-within style (Slip c p) go n m h b k = here (Some c) style p n m h b
 
@@ -145,11 +156,15 @@ weaker : {A : Type 0} (m n : ℕ) (r : Read A) → m ≤ n → Sized m r → Siz
 weaker m n (Took x p) h k = omega arith
 weaker m n (Slip c p) h k = omega arith
 
-after_listed-within : (c : Option Complaint) (style : Style) (p : Place) (go : Style → Place → CommandOutcome) (n m : ℕ) → size p ≤ n → size p + counts style ≤ m → length style.names.functions ≤ length style.bodies → Within n m (go style p) → Within n m (after_listed c style p go)
+after_listed-within : (c : Option Complaint) (style : Style) (p : Place) (go : Style → Place → CommandOutcome) (n m : ℕ) → size p ≤ n
+    → size p + counts style ≤ m → length style.names.functions ≤ length style.bodies → Within n m (go style p) → Within n m (after_listed c style p go)
 after_listed-within None style p go n m h w f k = k
 after_listed-within (Some c) style p go n m h w f k = (h, omega arith, f)
 
-after_list-within : (style : Style) (kind : Kind) (p : Place) (go : Style → Place → CommandOutcome) (n m : ℕ) → size p ≤ n → size p + counts style ≤ m → length style.names.functions ≤ length style.bodies → ((d : Style) (q : Place) → size q ≤ n → size q + counts d ≤ m → length d.names.functions ≤ length d.bodies → Within n m (go d q)) → Within n m (after_list style (list_at kind style.names p) go)
+after_list-within : (style : Style) (kind : Kind) (p : Place) (go : Style → Place → CommandOutcome) (n m : ℕ) → size p ≤ n → size p + counts style ≤ m
+    → length style.names.functions ≤ length style.bodies
+    → ((d : Style) (q : Place) → size q ≤ n → size q + counts d ≤ m → length d.names.functions ≤ length d.bodies → Within n m (go d q))
+    → Within n m (after_list style (list_at kind style.names p) go)
 after_list-within style kind p go n m h w f k =
     let l = list_at kind style.names p in
     let d : Style = record style { names = l.listing.names } in
@@ -171,20 +186,29 @@ entry-within style p f = at style.has_entry where
 
 padded-len : (n : ℕ) (functions : List (Option (List ℕ))) (name : List ℕ) → length functions ≤ n → length (padded n functions ++ Some name ∷ []) ≡ suc n
 padded-len n functions name h =
-    omega (arith, length-append (padded n functions) (Some name ∷ []), length-append functions (replicate (n - length functions) None), length-replicate {A = Option (List ℕ)} (n - length functions) None)
+    omega (
+      arith,
+      length-append (padded n functions) (Some name ∷ []),
+      length-append functions (replicate (n - length functions) None),
+      length-replicate {A = Option (List ℕ)} (n - length functions) None,
+    )
 
-function_ended-within : (style : Style) (name : List ℕ) (s : Inside) (n m : ℕ) → size s.place < n → Base n m style → s.bodies ≡ style.bodies → s.texts ≡ style.texts → Within n m (function_ended style name (body_end style.names s))
-function_ended-within style name s n m h b e g = at (body_end style.names s) (body_end-weight style.names s) (body_end-grows style.names s) (body_end-size style.names s) where
-  at : (r : BodyEnd) → size (inside_of r).place + length (inside_of r).bodies + length (inside_of r).texts ≤ size s.place + length s.bodies + length s.texts → Adds s.bodies s.texts (inside_of r) → size (place_of r) ≤ size s.place → Within n m (function_ended style name r)
-  at (Broken c i) w a z = (omega arith, omega (arith, b.0), b.1)
-  at (Whole i) w a z =
-      let eb : length s.bodies ≡ length style.bodies = ap (λ (xs : List FunctionBody). length xs) e in
-      let et : length s.texts ≡ length style.texts = ap (λ (xs : List (List ℕ)). length xs) g in
-      let f : length style.names.functions ≤ length i.bodies = omega (arith, a.0.0, eb, b.1) in
-      let l = length-append i.bodies (i.tokens ∷ []) in
-      (omega arith, omega (arith, l, eb, et, b.0), omega (arith, l, padded-len (length i.bodies) style.names.functions name f))
+function_ended-within : (style : Style) (name : List ℕ) (s : Inside) (n m : ℕ) → size s.place < n → Base n m style → s.bodies ≡ style.bodies
+    → s.texts ≡ style.texts → Within n m (function_ended style name (body_end style.names s))
+function_ended-within style name s n m h b e g = at (body_end style.names s) (body_end-weight style.names s) (body_end-grows style.names s)
+    (body_end-size style.names s) where
+      at : (r : BodyEnd) → size (inside_of r).place + length (inside_of r).bodies + length (inside_of r).texts ≤ size s.place + length s.bodies + length s.texts
+          → Adds s.bodies s.texts (inside_of r) → size (place_of r) ≤ size s.place → Within n m (function_ended style name r)
+      at (Broken c i) w a z = (omega arith, omega (arith, b.0), b.1)
+      at (Whole i) w a z =
+          let eb : length s.bodies ≡ length style.bodies = ap (λ (xs : List FunctionBody). length xs) e in
+          let et : length s.texts ≡ length style.texts = ap (λ (xs : List (List ℕ)). length xs) g in
+          let f : length style.names.functions ≤ length i.bodies = omega (arith, a.0.0, eb, b.1) in
+          let l = length-append i.bodies (i.tokens ∷ []) in
+          (omega arith, omega (arith, l, eb, et, b.0), omega (arith, l, padded-len (length i.bodies) style.names.functions name f))
 
-function_of-within : (style : Style) (name : List ℕ) (p : Place) (o : Option Callee) (n m : ℕ) → size p < n → Base n m style → Within n m (function_of style name p o)
+function_of-within : (style : Style) (name : List ℕ) (p : Place) (o : Option Callee) (n m : ℕ) → size p < n → Base n m style
+    → Within n m (function_of style name p o)
 function_of-within style name p (Some other) n m h b = here (Some (Defined name)) style p n m (omega arith) b
 function_of-within style name p None n m h b =
     after_read-within style (closing p) _ n m (weaker (size p) n (closing p) (omega arith) (closing-size p)) b (λ x q k.
@@ -202,23 +226,28 @@ function-within style p f =
 read-within : (style : Style) (p : Place) → length style.names.functions ≤ length style.bodies → Within (size p) (weight style p) (read_command style p)
 unfolding read_command
 read-within style p f = at (is_some style.before_read) style.has_entry where
-  at : (t u : Bool) → Within (size p) (weight style p) (cond t (outcome (Some (Another command.Read)) style p) (cond u (outcome None (with_item ReadItem (record style { before_read = Some (length style.bodies) })) p) (outcome (Some BeforeEntry) style p)))
+  at : (t u : Bool) → Within (size p) (weight style p)
+      (cond t (outcome (Some (Another command.Read)) style p)
+      (cond u (outcome None (with_item ReadItem (record style { before_read = Some (length style.bodies) })) p) (outcome (Some BeforeEntry) style p)))
   at true u = (omega arith, omega arith, f)
   at false true = (omega arith, omega arith, f)
   at false false = (omega arith, omega arith, f)
 
-run_of-within : (item : Callee → Item) (style : Style) (name : List ℕ) (p : Place) (o : Option Callee) (n m : ℕ) → size p ≤ n → Base n m style → Within n m (run_of item style name p o)
+run_of-within : (item : Callee → Item) (style : Style) (name : List ℕ) (p : Place) (o : Option Callee) (n m : ℕ) → size p ≤ n → Base n m style
+    → Within n m (run_of item style name p o)
 run_of-within item style name p None n m h b = here (Some (Unknown name)) style p n m h b
 run_of-within item style name p (Some callee) n m h b =
     after_read-within style (closing p) _ n m (weaker (size p) n (closing p) h (closing-size p)) b (λ x q k. (omega arith, omega (arith, b.0), b.1))
 
-run-within : (c : Command) (item : Callee → Item) (style : Style) (p : Place) → length style.names.functions ≤ length style.bodies → Within (size p) (weight style p) (run_command c item style p)
+run-within : (c : Command) (item : Callee → Item) (style : Style) (p : Place) → length style.names.functions ≤ length style.bodies
+    → Within (size p) (weight style p) (run_command c item style p)
 unfolding run_command
 run-within c item style p f = at (is_some style.before_read) where
   at : (t : Bool) → Within (size p) (weight style p) (cond t (run_name item style p) (outcome (Some (BeforeRead c)) style p))
   at true =
       after_read-within style (opening p) _ (size p) (weight style p) (opening-size p) (omega arith, f) (λ x q k.
-      after_read-within style (next_name q) _ (size p) (weight style p) (weaker (size q) (size p) (next_name q) (omega arith) (name_at-size q)) (omega arith, f) (λ name r l.
+      after_read-within style (next_name q) _ (size p) (weight style p) (weaker (size q) (size p) (next_name q) (omega arith) (name_at-size q)) (omega arith, f)
+      (λ name r l.
       run_of-within item style name r (function_in (named style.names name)) (size p) (weight style p) (omega arith) (omega arith, f)))
   at false = (omega arith, omega arith, f)
 
@@ -229,17 +258,20 @@ sort-within style p f = at (is_some style.before_read) where
   at true = (omega arith, omega arith, f)
   at false = (omega arith, omega arith, f)
 
-declare-within : (kind : Kind) (item : Item) (style : Style) (p : Place) → length style.names.functions ≤ length style.bodies → Within (size p) (weight style p) (declare kind item style p)
+declare-within : (kind : Kind) (item : Item) (style : Style) (p : Place) → length style.names.functions ≤ length style.bodies
+    → Within (size p) (weight style p) (declare kind item style p)
 unfolding declare
 declare-within kind item style p f = after_list-within style kind p _ (size p) (weight style p) (omega arith) (omega arith) f (λ d q h w g. (h, omega arith, g))
 
-macro_of-within : (style : Style) (name : List ℕ) (p : Place) (o : Option (List ℕ)) (n m : ℕ) → size p ≤ n → Base n m style → Within n m (macro_of style name p o)
+macro_of-within : (style : Style) (name : List ℕ) (p : Place) (o : Option (List ℕ)) (n m : ℕ) → size p ≤ n → Base n m style
+    → Within n m (macro_of style name p o)
 macro_of-within style name p (Some other) n m h b = here (Some (Defined name)) style p n m h b
 macro_of-within style name p None n m h b =
     after_read-within style (closing p) _ n m (weaker (size p) n (closing p) h (closing-size p)) b (λ x q k.
     after_read-within style (opening q) _ n m (weaker (size q) n (opening q) (omega arith) (opening-size q)) b (λ x r l.
     after_read-within style (quoted_at r) _ n m (weaker (size r) n (quoted_at r) (omega arith) (quoted_at-size r)) b (λ text s o.
-    after_read-within style (closing s) _ n m (weaker (size s) n (closing s) (omega arith) (closing-size s)) b (λ x t u. (omega arith, omega (arith, b.0), b.1)))))
+    after_read-within style (closing s) _ n m (weaker (size s) n (closing s) (omega arith) (closing-size s)) b
+    (λ x t u. (omega arith, omega (arith, b.0), b.1)))))
 
 macro-within : (style : Style) (p : Place) → length style.names.functions ≤ length style.bodies → Within (size p) (weight style p) (macro_command style p)
 unfolding macro_command
@@ -248,10 +280,12 @@ macro-within style p f = at (is_some style.before_read) where
   at true = (omega arith, omega arith, f)
   at false =
       after_read-within style (opening p) _ (size p) (weight style p) (opening-size p) (omega arith, f) (λ x q k.
-      after_read-within style (next_name q) _ (size p) (weight style p) (weaker (size q) (size p) (next_name q) (omega arith) (name_at-size q)) (omega arith, f) (λ name r l.
+      after_read-within style (next_name q) _ (size p) (weight style p) (weaker (size q) (size p) (next_name q) (omega arith) (name_at-size q)) (omega arith, f)
+      (λ name r l.
       macro_of-within style name r (macro_lower style.macros (folded name)) (size p) (weight style p) (omega arith) (omega arith, f)))
 
-command_at-within : (c : Command) (style : Style) (p : Place) → length style.names.functions ≤ length style.bodies → Within (size p) (weight style p) (command_at c style p)
+command_at-within : (c : Command) (style : Style) (p : Place) → length style.names.functions ≤ length style.bodies
+    → Within (size p) (weight style p) (command_at c style p)
 command_at-within command.Entry style p = entry-within style p
 command_at-within command.Function style p = function-within style p
 command_at-within command.Read style p = read-within style p
@@ -263,7 +297,8 @@ command_at-within command.Integers style p = declare-within _ _ style p
 command_at-within command.Strings style p = declare-within _ _ style p
 command_at-within command.Macro style p = macro-within style p
 
-word_outcome-within : (style : Style) (p : Place) (word : List ℕ) (o : Option Command) → length style.names.functions ≤ length style.bodies → Within (size p) (weight style p) (word_outcome style p word o)
+word_outcome-within : (style : Style) (p : Place) (word : List ℕ) (o : Option Command) → length style.names.functions ≤ length style.bodies
+    → Within (size p) (weight style p) (word_outcome style p word o)
 word_outcome-within style p word None f = (omega arith, omega arith, f)
 word_outcome-within style p word (Some c) f = command_at-within c style p f
 
@@ -275,7 +310,10 @@ resumed-within : (c : Option Complaint) (style : Style) (p : Place) (n m : ℕ) 
 resumed-within None style p n m h = h
 resumed-within (Some c) style p n m h = (omega (arith, h.0, skipped-size p), omega (arith, h.1, skipped-size p), h.2)
 
-front_of-within : (style : Style) (p : Place) (n k : ℕ) (go : List ℕ → Place → CommandOutcome) → size p ≤ n → 0 < length p.line → length style.names.functions ≤ length style.bodies → ((word : List ℕ) (q : Place) → Within (size q) (weight style q) (go word q)) → (size (resumed_after (after_read style (front_of NoCommand p p.line k) go)).place < n) × StateWithin n (weight style p) (resumed_after (after_read style (front_of NoCommand p p.line k) go))
+front_of-within : (style : Style) (p : Place) (n k : ℕ) (go : List ℕ → Place → CommandOutcome) → size p ≤ n → 0 < length p.line → length style.names.functions
+    ≤ length style.bodies → ((word : List ℕ) (q : Place) → Within (size q) (weight style q) (go word q))
+    → (size (resumed_after (after_read style (front_of NoCommand p p.line k) go)).place < n)
+    × StateWithin n (weight style p) (resumed_after (after_read style (front_of NoCommand p p.line k) go))
 unfolding size
 front_of-within style p n zero go h some f each =
     let a = skipped-size p in (omega arith, (omega arith, omega arith, f))
@@ -286,7 +324,8 @@ front_of-within style p n (suc k) go h some f each =
     let r = resumed-within o.complaint o.style o.place (size q) (weight style q) (each (take (suc k) p.line) q) in
     (omega (arith, l, r.0), (omega (arith, l, r.0), omega (arith, l, r.1), r.2))
 
-item_in-within : (style : Style) (p : Place) (line : List ℕ) (n : ℕ) → p.line ≡ line → size p ≤ n → length style.names.functions ≤ length style.bodies → OnTurn (λ t. (size t.place < n) × StateWithin n (weight style p) t) (λ (r : Style). Unit {0}) (item_in style p line)
+item_in-within : (style : Style) (p : Place) (line : List ℕ) (n : ℕ) → p.line ≡ line → size p ≤ n → length style.names.functions ≤ length style.bodies
+    → OnTurn (λ t. (size t.place < n) × StateWithin n (weight style p) t) (λ (r : Style). Unit {0}) (item_in style p line)
 item_in-within style p [] n e h f = tt
 item_in-within style p (b ∷ bs) n e h f =
     let some : 0 < length p.line = rw e (omega arith) in
@@ -294,15 +333,18 @@ item_in-within style p (b ∷ bs) n e h f =
 
 -- ---- each item leaves less, whatever the style
 
-after_read-size : {A : Type 0} (style : Style) (r : Read A) (go : A → Place → CommandOutcome) (n : ℕ) → Sized n r → ((x : A) (p : Place) → size p < n → size (go x p).place ≤ n) → size (after_read style r go).place ≤ n
+after_read-size : {A : Type 0} (style : Style) (r : Read A) (go : A → Place → CommandOutcome) (n : ℕ) → Sized n r
+    → ((x : A) (p : Place) → size p < n → size (go x p).place ≤ n) → size (after_read style r go).place ≤ n
 after_read-size style (Took x p) go n h k = k x p h
 after_read-size style (Slip c p) go n h k = h
 
-after_listed-size : (c : Option Complaint) (style : Style) (p : Place) (go : Style → Place → CommandOutcome) (n : ℕ) → size p ≤ n → ((d : Style) → size (go d p).place ≤ n) → size (after_listed c style p go).place ≤ n
+after_listed-size : (c : Option Complaint) (style : Style) (p : Place) (go : Style → Place → CommandOutcome) (n : ℕ) → size p ≤ n
+    → ((d : Style) → size (go d p).place ≤ n) → size (after_listed c style p go).place ≤ n
 after_listed-size None style p go n h k = k style
 after_listed-size (Some c) style p go n h k = h
 
-after_list-size : (style : Style) (kind : Kind) (p : Place) (go : Style → Place → CommandOutcome) (n : ℕ) → size p ≤ n → ((d : Style) (q : Place) → size q ≤ n → size (go d q).place ≤ n) → size (after_list style (list_at kind style.names p) go).place ≤ n
+after_list-size : (style : Style) (kind : Kind) (p : Place) (go : Style → Place → CommandOutcome) (n : ℕ) → size p ≤ n
+    → ((d : Style) (q : Place) → size q ≤ n → size (go d q).place ≤ n) → size (after_list style (list_at kind style.names p) go).place ≤ n
 after_list-size style kind p go n h k =
     let l = list_at kind style.names p in
     let less : size l.listing.place ≤ n = let s = list_at-size kind style.names p in omega arith in
@@ -327,7 +369,8 @@ function_of-size style name p (Some other) n h = h
 function_of-size style name p None n h =
     after_read-size style (closing p) _ n (weaker (size p) n (closing p) h (closing-size p)) (λ x q k.
     after_read-size style (opening q) _ n (weaker (size q) n (opening q) (omega arith) (opening-size q)) (λ x r l.
-    function_ended-size style (folded name) (body_end style.names (inside_at style r)) n (let s = body_end-size style.names (inside_at style r) in omega arith)))
+    function_ended-size style (folded name) (body_end style.names (inside_at style r)) n (let s = body_end-size style.names (inside_at style r) in
+    omega arith)))
 
 function-size : (style : Style) (p : Place) → size (function_command style p).place ≤ size p
 unfolding function_command
@@ -339,12 +382,15 @@ function-size style p =
 read-size : (style : Style) (p : Place) → size (read_command style p).place ≤ size p
 unfolding read_command
 read-size style p = at (is_some style.before_read) style.has_entry where
-  at : (t u : Bool) → size (cond t (outcome (Some (Another command.Read)) style p) (cond u (outcome None (with_item ReadItem (record style { before_read = Some (length style.bodies) })) p) (outcome (Some BeforeEntry) style p))).place ≤ size p
+  at : (t u : Bool) → size (cond t (outcome (Some (Another command.Read)) style p)
+      (cond u (outcome None (with_item ReadItem (record style { before_read = Some (length style.bodies) })) p) (outcome (Some BeforeEntry) style p))).place
+      ≤ size p
   at true u = omega arith
   at false true = omega arith
   at false false = omega arith
 
-run_of-size : (item : Callee → Item) (style : Style) (name : List ℕ) (p : Place) (o : Option Callee) (n : ℕ) → size p ≤ n → size (run_of item style name p o).place ≤ n
+run_of-size : (item : Callee → Item) (style : Style) (name : List ℕ) (p : Place) (o : Option Callee) (n : ℕ) → size p ≤ n
+    → size (run_of item style name p o).place ≤ n
 run_of-size item style name p None n h = h
 run_of-size item style name p (Some callee) n h =
     after_read-size style (closing p) _ n (weaker (size p) n (closing p) h (closing-size p)) (λ x q k. omega arith)
@@ -408,7 +454,8 @@ resumed-size : (c : Option Complaint) (style : Style) (p : Place) → size (resu
 resumed-size None style p = omega arith
 resumed-size (Some c) style p = omega (arith, skipped-size p)
 
-front_of-less : (style : Style) (p : Place) (n k : ℕ) (go : List ℕ → Place → CommandOutcome) → size p ≤ n → 0 < length p.line → ((word : List ℕ) (q : Place) → size (go word q).place ≤ size q) → size (resumed_after (after_read style (front_of NoCommand p p.line k) go)).place < n
+front_of-less : (style : Style) (p : Place) (n k : ℕ) (go : List ℕ → Place → CommandOutcome) → size p ≤ n → 0 < length p.line
+    → ((word : List ℕ) (q : Place) → size (go word q).place ≤ size q) → size (resumed_after (after_read style (front_of NoCommand p p.line k) go)).place < n
 unfolding size
 front_of-less style p n zero go h some each = omega (arith, skipped-size p)
 front_of-less style p n (suc k) go h some each =
@@ -416,7 +463,8 @@ front_of-less style p n (suc k) go h some each =
     let o = go (take (suc k) p.line) q in
     omega (arith, length-drop (suc k) p.line, each (take (suc k) p.line) q, resumed-size o.complaint o.style o.place)
 
-item_in-size : (style : Style) (p : Place) (line : List ℕ) (n : ℕ) → p.line ≡ line → size p ≤ n → OnTurn (λ t. size t.place < n) (λ (r : Style). Unit {0}) (item_in style p line)
+item_in-size : (style : Style) (p : Place) (line : List ℕ) (n : ℕ) → p.line ≡ line → size p ≤ n
+    → OnTurn (λ t. size t.place < n) (λ (r : Style). Unit {0}) (item_in style p line)
 item_in-size style p [] n e h = tt
 item_in-size style p (b ∷ bs) n e h =
     let some : 0 < length p.line = rw e (omega arith) in

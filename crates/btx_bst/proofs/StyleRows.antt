@@ -15,23 +15,300 @@ use Rattle.btx_bst.specs.laws.WorkedStyles.{commands, faults, bodies, words, com
 use Rattle.btx_bst.specs.language.MessageTexts.{complaint_text}
 
 pub commands-worked : AreRead commands
-unfolding style_of style_from item_turn turns_within behind_white ink_from skipped_from size lines_size len_till digits_value signed integer_at word_front list_turn list_end body_turn body_end command_named entry_command function_command read_command run_command sort_command declare macro_command named_lower built_in_of built_ins line_pieces trimmed
+unfolding style_of style_from item_turn turns_within behind_white ink_from skipped_from size lines_size len_till digits_value signed integer_at word_front
+    list_turn list_end body_turn body_end command_named entry_command function_command read_command run_command sort_command declare macro_command named_lower
+    built_in_of built_ins line_pieces trimmed
 commands-worked = (refl, (refl, (refl, (refl, (refl, (refl, (refl, (refl, (refl, (refl, (refl, (refl, (refl, (refl, (refl, (refl, (refl, tt)))))))))))))))))
 
 pub faults-worked : AreRead faults
-unfolding style_of style_from item_turn turns_within behind_white ink_from skipped_from size lines_size len_till digits_value signed integer_at word_front list_turn list_end body_turn body_end command_named entry_command function_command read_command run_command sort_command declare macro_command named_lower built_in_of built_ins line_pieces trimmed
-faults-worked = (refl, (refl, (refl, (refl, (refl, (refl, (refl, (refl, (refl, (refl, (refl, (refl, (refl, (refl, (refl, (refl, (refl, (refl, (refl, (refl, (refl, (refl, (refl, (refl, (refl, (refl, (refl, (refl, (refl, (refl, (refl, (refl, (refl, (refl, (refl, (refl, (refl, (refl, (refl, (refl, (refl, (refl, (refl, (refl, (refl, (refl, (refl, (refl, (refl, (refl, (refl, (refl, (refl, (refl, (refl, (refl, (refl, (refl, (refl, (refl, (refl, tt)))))))))))))))))))))))))))))))))))))))))))))))))))))))))))))
+unfolding style_of style_from item_turn turns_within behind_white ink_from skipped_from size lines_size len_till digits_value signed integer_at word_front
+    list_turn list_end body_turn body_end command_named entry_command function_command read_command run_command sort_command declare macro_command named_lower
+    built_in_of built_ins line_pieces trimmed
+faults-worked = (
+  refl,
+  (
+    refl,
+    (
+      refl,
+      (
+        refl,
+        (
+          refl,
+          (
+            refl,
+            (
+              refl,
+              (
+                refl,
+                (
+                  refl,
+                  (
+                    refl,
+                    (
+                      refl,
+                      (
+                        refl,
+                        (
+                          refl,
+                          (
+                            refl,
+                            (
+                              refl,
+                              (
+                                refl,
+                                (
+                                  refl,
+                                  (
+                                    refl,
+                                    (
+                                      refl,
+                                      (
+                                        refl,
+                                        (
+                                          refl,
+                                          (
+                                            refl,
+                                            (
+                                              refl,
+                                              (
+                                                refl,
+                                                (
+                                                  refl,
+                                                  (
+                                                    refl,
+                                                    (
+                                                      refl,
+                                                      (
+                                                        refl,
+                                                        (
+                                                          refl,
+                                                          (
+                                                            refl,
+                                                            (
+                                                              refl,
+                                                              (
+                                                                refl,
+                                                                (
+                                                                  refl,
+                                                                  (
+                                                                    refl,
+                                                                    (
+                                                                      refl,
+                                                                      (
+                                                                        refl,
+                                                                        (
+                                                                          refl,
+                                                                          (
+                                                                            refl,
+                                                                            (
+                                                                              refl,
+                                                                              (
+                                                                                refl,
+                                                                                (
+                                                                                  refl,
+                                                                                  (
+                                                                                    refl,
+                                                                                    (
+                                                                                      refl,
+                                                                                      (
+                                                                                        refl,
+                                                                                        (
+                                                                                          refl,
+                                                                                          (
+                                                                                            refl,
+                                                                                            (
+                                                                                              refl,
+                                                                                              (
+                                                                                                refl,
+                                                                                                (refl, (refl, (refl, (refl, (refl, (refl, (refl, (refl, (refl, (refl, (refl, (refl, (refl, tt))))))))))))),
+                                                                                              ),
+                                                                                            ),
+                                                                                          ),
+                                                                                        ),
+                                                                                      ),
+                                                                                    ),
+                                                                                  ),
+                                                                                ),
+                                                                              ),
+                                                                            ),
+                                                                          ),
+                                                                        ),
+                                                                      ),
+                                                                    ),
+                                                                  ),
+                                                                ),
+                                                              ),
+                                                            ),
+                                                          ),
+                                                        ),
+                                                      ),
+                                                    ),
+                                                  ),
+                                                ),
+                                              ),
+                                            ),
+                                          ),
+                                        ),
+                                      ),
+                                    ),
+                                  ),
+                                ),
+                              ),
+                            ),
+                          ),
+                        ),
+                      ),
+                    ),
+                  ),
+                ),
+              ),
+            ),
+          ),
+        ),
+      ),
+    ),
+  ),
+)
 
 pub bodies-worked : AreBodies bodies
-unfolding style_of style_from item_turn turns_within behind_white ink_from skipped_from size lines_size len_till digits_value signed integer_at word_front list_turn list_end body_turn body_end command_named entry_command function_command read_command run_command sort_command declare macro_command named_lower built_in_of built_ins line_pieces trimmed
+unfolding style_of style_from item_turn turns_within behind_white ink_from skipped_from size lines_size len_till digits_value signed integer_at word_front
+    list_turn list_end body_turn body_end command_named entry_command function_command read_command run_command sort_command declare macro_command named_lower
+    built_in_of built_ins line_pieces trimmed
 bodies-worked = (refl, refl, (refl, refl, (refl, refl, (refl, refl, (refl, refl, (refl, refl, (refl, refl, (refl, refl, tt))))))))
 
 pub words-worked : AreWords words
-unfolding style_of style_from item_turn turns_within behind_white ink_from skipped_from size lines_size len_till digits_value signed integer_at word_front list_turn list_end body_turn body_end command_named entry_command function_command read_command run_command sort_command declare macro_command named_lower built_in_of built_ins line_pieces trimmed
-words-worked = (refl, refl, (refl, refl, (refl, refl, (refl, refl, (refl, refl, (refl, refl, (refl, refl, (refl, refl, (refl, refl, (refl, refl, (refl, refl, (refl, refl, (refl, refl, (refl, refl, (refl, refl, (refl, refl, (refl, refl, (refl, refl, (refl, refl, (refl, refl, (refl, refl, (refl, refl, (refl, refl, (refl, refl, (refl, refl, (refl, refl, (refl, refl, (refl, refl, (refl, refl, (refl, refl, (refl, refl, (refl, refl, (refl, refl, (refl, refl, (refl, refl, (refl, refl, (refl, refl, tt)))))))))))))))))))))))))))))))))))))
+unfolding style_of style_from item_turn turns_within behind_white ink_from skipped_from size lines_size len_till digits_value signed integer_at word_front
+    list_turn list_end body_turn body_end command_named entry_command function_command read_command run_command sort_command declare macro_command named_lower
+    built_in_of built_ins line_pieces trimmed
+words-worked = (
+  refl,
+  refl,
+  (
+    refl,
+    refl,
+    (
+      refl,
+      refl,
+      (
+        refl,
+        refl,
+        (
+          refl,
+          refl,
+          (
+            refl,
+            refl,
+            (
+              refl,
+              refl,
+              (
+                refl,
+                refl,
+                (
+                  refl,
+                  refl,
+                  (
+                    refl,
+                    refl,
+                    (
+                      refl,
+                      refl,
+                      (
+                        refl,
+                        refl,
+                        (
+                          refl,
+                          refl,
+                          (
+                            refl,
+                            refl,
+                            (
+                              refl,
+                              refl,
+                              (
+                                refl,
+                                refl,
+                                (
+                                  refl,
+                                  refl,
+                                  (
+                                    refl,
+                                    refl,
+                                    (
+                                      refl,
+                                      refl,
+                                      (
+                                        refl,
+                                        refl,
+                                        (
+                                          refl,
+                                          refl,
+                                          (
+                                            refl,
+                                            refl,
+                                            (
+                                              refl,
+                                              refl,
+                                              (
+                                                refl,
+                                                refl,
+                                                (
+                                                  refl,
+                                                  refl,
+                                                  (
+                                                    refl,
+                                                    refl,
+                                                    (
+                                                      refl,
+                                                      refl,
+                                                      (
+                                                        refl,
+                                                        refl,
+                                                        (
+                                                          refl,
+                                                          refl,
+                                                          (refl, refl, (refl, refl, (refl, refl, (refl, refl, (refl, refl, (refl, refl, (refl, refl, (refl, refl, tt)))))))),
+                                                        ),
+                                                      ),
+                                                    ),
+                                                  ),
+                                                ),
+                                              ),
+                                            ),
+                                          ),
+                                        ),
+                                      ),
+                                    ),
+                                  ),
+                                ),
+                              ),
+                            ),
+                          ),
+                        ),
+                      ),
+                    ),
+                  ),
+                ),
+              ),
+            ),
+          ),
+        ),
+      ),
+    ),
+  ),
+)
 
 pub messages-worked : AreTexts complaint_texts
 unfolding complaint_text
-messages-worked = (refl, (refl, (refl, (refl, (refl, (refl, (refl, (refl, (refl, (refl, (refl, (refl, (refl, (refl, (refl, (refl, (refl, (refl, (refl, (refl, tt))))))))))))))))))))
+messages-worked = (
+  refl,
+  (
+    refl,
+    (
+      refl,
+      (refl, (refl, (refl, (refl, (refl, (refl, (refl, (refl, (refl, (refl, (refl, (refl, (refl, (refl, (refl, (refl, (refl, tt))))))))))))))))),
+    ),
+  ),
+)
 
 pub ruleset worked_rows = (commands-worked, faults-worked, bodies-worked, words-worked, messages-worked)

@@ -1,5 +1,6 @@
 -- What is spelled at a place is what is read there.
-use Rattle.std.proofs.Common.{◌≡◌, ℕ, zero, suc, ◌+◌, ◌==◌, Bool, true, false, cond, List, [], ◌∷◌, ◌++◌, length, take, drop, refl, sym, ap, ◌∙◌, append-nil, ◌⊎◌, inl, inr}
+use Rattle.std.proofs.Common.{◌≡◌, ℕ, zero, suc, ◌+◌, ◌==◌, Bool, true, false, cond, List, [], ◌∷◌, ◌++◌, length, take, drop, refl, sym, ap, ◌∙◌, append-nil}
+use Rattle.std.proofs.Common.{◌⊎◌, inl, inr}
 use Rattle.std.specs.Prelude.{not, ◌||◌, ◌&&◌}
 use Rattle.std.proofs.Math.Seq.{take-append_seam, drop-append_seam}
 use Rattle.std.proofs.lemmas.Bool.{eqb-true, eq-eqb}
@@ -10,7 +11,8 @@ use Rattle.btx_bst.specs.language.Complaints.{Complaint, NoCommand, NoName, NoQu
 use Rattle.btx_bst.specs.language.Reads.{Read, Took, Slip}
 use Rattle.btx_bst.specs.language.Fronts.{len_till, quote_len}
 use Rattle.btx_bst.specs.language.Lists.{brace_in, front_of, name_in, quoted_text, quoted_in, letters_at}
-use Rattle.btx_bst.specs.laws.TokenSpelling.{NoneIn, Begins, EndsBefore, IsUpTo, IsBlank, ends_gap, AllWhite, InkIn, GapFrom, Gap, BehindGap, IsMissing, StyleSignHere, StyleNameHere, IsNoText, TextHere, LettersHere}
+use Rattle.btx_bst.specs.laws.TokenSpelling.{NoneIn, Begins, EndsBefore, IsUpTo, IsBlank, ends_gap, AllWhite, InkIn, GapFrom, Gap, BehindGap, IsMissing}
+use Rattle.btx_bst.specs.laws.TokenSpelling.{StyleSignHere, StyleNameHere, IsNoText, TextHere, LettersHere}
 use Rattle.std.specs.Char.{is_ascii_digit}
 use Rattle.btx_bst.specs.laws.Fronts.{is_no_letter, ends_name, is_quote}
 use Rattle.btx_bst.specs.refinement.Fronts.{letters_len}
@@ -69,7 +71,8 @@ white_ink [] (b ∷ bs) w i = at (is_white b) (b == 37) i where
   at true u h = absurd (cc)
   at false true h = absurd (cc)
   at false false h = refl
-white_ink (b ∷ white) rest w i = ap (λ (x : Bool). cond x (behind_white (white ++ rest)) (cond (b == 37) [] (b ∷ (white ++ rest)))) w.0 ∙ white_ink white rest w.1 i
+white_ink (b ∷ white) rest w i = ap (λ (x : Bool). cond x (behind_white (white ++ rest)) (cond (b == 37) [] (b ∷ (white ++ rest)))) w.0
+    ∙ white_ink white rest w.1 i
 
 line_or_ink : (n : ℕ) (rest : List ℕ) (after : List (List ℕ)) (later : Place) → Begins ends_gap rest → line_or n rest after later ≡ place_at n rest after
 line_or_ink n [] after later i = absurd i
@@ -93,7 +96,8 @@ gap_one p q h = gap_one_from p.number p.line p.after q h
 
 -- a line is blank, or has whitespace and then something else
 abbrev Divides : List ℕ → List ℕ → Type 0
-Divides line behind = (IsBlank line × (behind ≡ [])) ⊎ ((white : List ℕ) × (rest : List ℕ) × AllWhite white × (line ≡ white ++ rest) × Begins ends_gap rest × (behind ≡ rest))
+Divides line behind = (IsBlank line × (behind ≡ []))
+    ⊎ ((white : List ℕ) × (rest : List ℕ) × AllWhite white × (line ≡ white ++ rest) × Begins ends_gap rest × (behind ≡ rest))
 
 divides : (line : List ℕ) → Divides line (behind_white line)
 unfolding behind_white
@@ -112,9 +116,18 @@ gap_met_from n line [] = at (behind_white line) (divides line) where
   at x (inl d) = inr (d.0, ap (λ (y : List ℕ). place_at n y []) d.1)
   at x (inr d) = inl (d.0, d.1, d.2, d.3, d.4, ap (λ (y : List ℕ). place_at n y []) d.5)
 gap_met_from n line (next ∷ after) = at (behind_white line) (divides line) (gap_met_from (n + 1) next after) where
-  at : (x : List ℕ) → Divides line x → GapFrom (n + 1) next after (ink_from (n + 1) next after) → GapFrom n line (next ∷ after) (line_or n x (next ∷ after) (ink_from (n + 1) next after))
+  at : (x : List ℕ) → Divides line x → GapFrom (n + 1) next after (ink_from (n + 1) next after)
+      → GapFrom n line (next ∷ after) (line_or n x (next ∷ after) (ink_from (n + 1) next after))
   at x (inl d) g = inr (d.0, rw d.1 g)
-  at x (inr d) g = inl (d.0, d.1, d.2, d.3, d.4, ap (λ (y : List ℕ). line_or n y (next ∷ after) (ink_from (n + 1) next after)) d.5 ∙ line_or_ink n d.1 (next ∷ after) (ink_from (n + 1) next after) d.4)
+  at x (inr d) g = inl (
+    d.0,
+    d.1,
+    d.2,
+    d.3,
+    d.4,
+    ap (λ (y : List ℕ). line_or n y (next ∷ after) (ink_from (n + 1) next after)) d.5
+        ∙ line_or_ink n d.1 (next ∷ after) (ink_from (n + 1) next after) d.4,
+  )
 
 pub gap_met : (p : Place) → Gap p (ink p)
 gap_met p = gap_met_from p.number p.line p.after
@@ -153,14 +166,20 @@ name_met : (p : Place) (line : List ℕ) → p.line ≡ line → StyleNameHere p
 unfolding len_till
 name_met p [] e = (refl, rw e refl)
 name_met p (b ∷ bs) e = at (is_ascii_digit b) (is_name_byte b) refl refl where
-  at : (d n : Bool) → is_ascii_digit b ≡ d → is_name_byte b ≡ n → StyleNameHere p (front_of NoName p (b ∷ bs) (cond d 0 (cond (not n) 0 (suc (len_till ends_name bs)))))
+  at : (d n : Bool) → is_ascii_digit b ≡ d → is_name_byte b ≡ n
+      → StyleNameHere p (front_of NoName p (b ∷ bs) (cond d 0 (cond (not n) 0 (suc (len_till ends_name bs)))))
   at true true f g = (refl, rw e (rw (f, g) refl, refl))
   at true false f g = (refl, rw e (rw (f, g) refl, refl))
   at false false f g = (refl, rw e (rw (f, g) refl, refl))
   at false true f g =
       let k = len_till ends_name bs in (
         drop k bs,
-        record { joined = e ∙ ap (λ (xs : List ℕ). b ∷ xs) (sym (take-append-drop k bs)); none = (rw g refl, none_front ends_name bs); ends = ends_back ends_name bs },
+        record {
+          joined = e ∙ ap (λ (xs : List ℕ). b ∷ xs) (sym (take-append-drop k bs));
+          none = (rw g refl, none_front ends_name bs);
+          ends =
+              ends_back ends_name bs;
+        },
         rw (f, g) refl,
         refl,
       )
@@ -170,7 +189,8 @@ name_no_digit true true h = absurd (cc)
 name_no_digit true false h = absurd (cc)
 name_no_digit false n h = refl
 
-name_front : (p : Place) (b : ℕ) (w rest : List ℕ) → NoneIn ends_name (b ∷ w) → EndsBefore ends_name rest → begins_name b ≡ true → name_in p (b ∷ (w ++ rest)) ≡ Took (b ∷ w) (further p rest)
+name_front : (p : Place) (b : ℕ) (w rest : List ℕ) → NoneIn ends_name (b ∷ w) → EndsBefore ends_name rest → begins_name b ≡ true → name_in p (b ∷ (w ++ rest))
+    ≡ Took (b ∷ w) (further p rest)
 name_front p b w rest none ends begins =
     let line = b ∷ (w ++ rest) in
     ap (λ (t : Bool). front_of NoName p line (cond t 0 (len_till ends_name line))) (name_no_digit (is_ascii_digit b) (is_name_byte b) begins)
@@ -215,7 +235,8 @@ no_quote p bs none =
 text_slip : (k : Complaint) (p q : Place) (line : List ℕ) → q ≡ p → IsNoText k line → quoted_in p line ≡ Slip k q
 text_slip k p q [] e m = ap (λ (x : Complaint). Slip x p) (sym m) ∙ ap (Slip k) (sym e)
 text_slip k p q (b ∷ bs) e m = at (b == 34) refl m.1 ∙ ap (λ (x : Complaint). Slip x p) (sym m.0) ∙ ap (Slip k) (sym e) where
-  at : (t : Bool) → (b == 34) ≡ t → ((b == 34) ≡ false) ⊎ NoneIn is_quote bs → cond t (quoted_text p (take (quote_len bs) bs) (drop (quote_len bs) bs)) (Slip NoQuote p) ≡ Slip NoQuote p
+  at : (t : Bool) → (b == 34) ≡ t → ((b == 34) ≡ false) ⊎ NoneIn is_quote bs → cond t (quoted_text p (take (quote_len bs) bs) (drop (quote_len bs) bs))
+      (Slip NoQuote p) ≡ Slip NoQuote p
   at false f h = refl
   at true f (inl g) = absurd (cc)
   at true f (inr none) = no_quote p bs none
@@ -224,7 +245,8 @@ text_front : (p : Place) (text rest : List ℕ) → NoneIn is_quote text → quo
 text_front p text rest none =
     let bs = text ++ 34 ∷ rest in
     let u : IsUpTo is_quote text bs (34 ∷ rest) = record { joined = refl; none = none; ends = refl } in
-    ap (λ (xs : List ℕ). quoted_text p xs (drop (quote_len bs) bs)) (upto_take is_quote text bs (34 ∷ rest) u) ∙ ap (quoted_text p text) (upto_drop is_quote text bs (34 ∷ rest) u)
+    ap (λ (xs : List ℕ). quoted_text p xs (drop (quote_len bs) bs)) (upto_take is_quote text bs (34 ∷ rest) u)
+    ∙ ap (quoted_text p text) (upto_drop is_quote text bs (34 ∷ rest) u)
 
 text_one : (p : Place) (x : Read (List ℕ)) → TextHere p x → quoted_in p p.line ≡ x
 text_one p (Took text q) h = ap (quoted_in p) h.1 ∙ text_front p text h.0 h.2 ∙ ap (Took text) (sym h.3)

@@ -1,5 +1,6 @@
 -- A word of a body is met where it is spelled.
-use Rattle.std.proofs.Common.{◌≡◌, ℕ, zero, suc, ◌+◌, ◌<◌, ◌==◌, ℤ, pos, negsuc, Bool, true, false, cond, List, [], ◌∷◌, ◌++◌, length, take, drop, refl, sym, ap, ◌∙◌, arith, append_assoc, append-nil, ◌⊎◌, inl, inr, Some, None}
+use Rattle.std.proofs.Common.{◌≡◌, ℕ, zero, suc, ◌+◌, ◌<◌, ◌==◌, ℤ, pos, negsuc, Bool, true, false, cond, List, [], ◌∷◌, ◌++◌, length, take, drop, refl, sym}
+use Rattle.std.proofs.Common.{ap, ◌∙◌, arith, append_assoc, append-nil, ◌⊎◌, inl, inr, Some, None}
 use Rattle.std.specs.Prelude.{not, ◌||◌, nat_lt}
 use Rattle.std.proofs.Math.Seq.{take-append_seam, drop-append_seam}
 use Rattle.std.proofs.lemmas.Bool.{eqb-true, ltb-true, lt-ltb}
@@ -8,10 +9,12 @@ use Rattle.btx_text.specs.language.Class.{is_white}
 use Rattle.btx_bst.specs.language.Places.{Place, place_at, further, ink}
 use Rattle.btx_bst.specs.language.Complaints.{BadInteger, TextAfter}
 use Rattle.btx_bst.specs.language.Fronts.{len_till, ends_word, word_len, quote_len, digits_len, is_word_end}
-use Rattle.btx_bst.specs.language.Words.{BodyWord, Open, Close, String, Integer, Quoted, Name, Faulty, Unended, Ended, Front, front, string_ended, string_at, digits_value, signed, integer_before, integer_front, integer_at, word_front, Met, met, met_in, met_at}
+use Rattle.btx_bst.specs.language.Words.{BodyWord, Open, Close, String, Integer, Quoted, Name, Faulty, Unended, Ended, Front, front, string_ended, string_at}
+use Rattle.btx_bst.specs.language.Words.{digits_value, signed, integer_before, integer_front, integer_at, word_front, Met, met, met_in, met_at}
 use Rattle.btx_bst.specs.laws.Spelling.{Parts, Nothing, Plain, Group, Spells, Fragment, Here, After, AfterGroup, Inner, Breaks}
 use Rattle.btx_bst.specs.laws.TokenSpelling.{NoneIn, Begins, EndsBefore, IsUpTo, ends_gap, GapFrom}
-use Rattle.btx_bst.specs.laws.WordSpelling.{IsBodyWord, IsNumeral, Fits, number_of, IsInteger, IsOverlong, IsNoInteger, IsString, begins_plainly, IsToken, NextWord, AreParts, BreakOff, TokensLaw}
+use Rattle.btx_bst.specs.laws.WordSpelling.{IsBodyWord, IsNumeral, Fits, number_of, IsInteger, IsOverlong, IsNoInteger, IsString, begins_plainly, IsToken}
+use Rattle.btx_bst.specs.laws.WordSpelling.{NextWord, AreParts, BreakOff, TokensLaw}
 use Rattle.btx_bst.proofs.TokenSpellingLemmas.{len_text, upto_take, upto_drop, upto_met, gap_one, gap_met}
 use Rattle.btx_bst.specs.laws.Fronts.{is_no_digit, is_quote}
 use Rattle.btx_bst.specs.refinement.Words.{string_before}
@@ -29,7 +32,8 @@ word_end_false (b ∷ more) line rest w h = ap is_word_end w.joined ∙ w.none.0
 -- what ends a word is no digit
 end_no_digit : (b : ℕ) → ends_word b ≡ true → is_no_digit b ≡ true
 end_no_digit b h = at (b == 32) (b == 9) (b == 13) (b == 125) (b == 37) refl refl refl refl refl h where
-  at : (s t r c p : Bool) → (b == 32) ≡ s → (b == 9) ≡ t → (b == 13) ≡ r → (b == 125) ≡ c → (b == 37) ≡ p → ((s || t || r) || c || p) ≡ true → is_no_digit b ≡ true
+  at : (s t r c p : Bool) → (b == 32) ≡ s → (b == 9) ≡ t → (b == 13) ≡ r → (b == 125) ≡ c → (b == 37) ≡ p → ((s || t || r) || c || p) ≡ true
+      → is_no_digit b ≡ true
   at true t r c p e f g i j k = ap is_no_digit (eqb-true b 32 e)
   at false true r c p e f g i j k = ap is_no_digit (eqb-true b 9 f)
   at false false true c p e f g i j k = ap is_no_digit (eqb-true b 13 g)
@@ -62,14 +66,17 @@ string_whole : (text line rest : List ℕ) → IsString text [] line rest → (p
 unfolding word_front
 string_whole text line rest h p =
     ap (met_in p) h.1 ∙ ap (λ (f : Front). met f.word (further p f.rest)) (string_front text h.0 h.2)
-    ∙ ap (λ (t : Bool). let f = cond t (front (String text) h.0) (front (Faulty TextAfter) (drop (word_len h.0) h.0)) in met f.word (further p f.rest)) (word_end_true h.0 (rw h.3.joined h.3.ends))
+    ∙ ap (λ (t : Bool). let f = cond t (front (String text) h.0) (front (Faulty TextAfter) (drop (word_len h.0) h.0)) in met f.word (further p f.rest))
+    (word_end_true h.0 (rw h.3.joined h.3.ends))
     ∙ ap (λ (xs : List ℕ). met (String text) (further p xs)) h.3.joined
 
-string_after : (text more line rest : List ℕ) → IsString text more line rest → (more ≡ [] → ⊥) → (p : Place) → met_in p line ≡ met (Faulty TextAfter) (further p rest)
+string_after : (text more line rest : List ℕ) → IsString text more line rest → (more ≡ [] → ⊥) → (p : Place)
+    → met_in p line ≡ met (Faulty TextAfter) (further p rest)
 unfolding word_front
 string_after text more line rest h k p =
     ap (met_in p) h.1 ∙ ap (λ (f : Front). met f.word (further p f.rest)) (string_front text h.0 h.2)
-    ∙ ap (λ (t : Bool). let f = cond t (front (String text) h.0) (front (Faulty TextAfter) (drop (word_len h.0) h.0)) in met f.word (further p f.rest)) (word_end_false more h.0 rest h.3 k)
+    ∙ ap (λ (t : Bool). let f = cond t (front (String text) h.0) (front (Faulty TextAfter) (drop (word_len h.0) h.0)) in met f.word (further p f.rest))
+    (word_end_false more h.0 rest h.3 k)
     ∙ ap (λ (xs : List ℕ). met (Faulty TextAfter) (further p xs)) (upto_drop ends_word more h.0 rest h.3)
 
 string_none : (rest : List ℕ) → NoneIn is_quote rest → string_at rest ≡ front Unended rest
@@ -150,7 +157,8 @@ read_behind false line (b ∷ bs) e k =
       no_minus true f = absurd (k refl f)
       no_minus false f = refl
 
-numeral_front : (line : List ℕ) (minus : Bool) (digits behind : List ℕ) → NoneIn is_no_digit digits → EndsBefore is_no_digit behind → (digits ≡ [] → ⊥) → integer_front line minus (digits ++ behind) (digits_len (digits ++ behind)) ≡ integer_before line behind (signed minus (digits_value digits))
+numeral_front : (line : List ℕ) (minus : Bool) (digits behind : List ℕ) → NoneIn is_no_digit digits → EndsBefore is_no_digit behind → (digits ≡ [] → ⊥)
+    → integer_front line minus (digits ++ behind) (digits_len (digits ++ behind)) ≡ integer_before line behind (signed minus (digits_value digits))
 numeral_front line minus [] behind none ends some = absurd (some refl)
 numeral_front line minus (d ∷ ds) behind none ends some =
     ap (integer_front line minus (d ∷ (ds ++ behind))) (len_text is_no_digit (d ∷ ds) behind none ends)
@@ -161,11 +169,13 @@ signed_append : (minus : Bool) (u rest : List ℕ) → signed_by minus u ++ rest
 signed_append true u rest = refl
 signed_append false u rest = refl
 
-no_minus_first : (minus : Bool) (digits behind : List ℕ) → NoneIn is_no_digit digits → (digits ≡ [] → ⊥) → minus ≡ false → Begins (λ b. b == 45) (digits ++ behind) → ⊥
+no_minus_first : (minus : Bool) (digits behind : List ℕ) → NoneIn is_no_digit digits → (digits ≡ [] → ⊥) → minus ≡ false
+    → Begins (λ b. b == 45) (digits ++ behind) → ⊥
 no_minus_first minus [] behind none some e h = some refl
 no_minus_first minus (d ∷ ds) behind none some e h = let f = digit_no_minus d none.0 in absurd (cc)
 
-numeral_read : (minus : Bool) (digits more word line rest : List ℕ) → IsBodyWord word line rest → IsNumeral minus digits more word → integer_at line ≡ integer_before line (more ++ rest) (signed minus (digits_value digits))
+numeral_read : (minus : Bool) (digits more word line rest : List ℕ) → IsBodyWord word line rest → IsNumeral minus digits more word
+    → integer_at line ≡ integer_before line (more ++ rest) (signed minus (digits_value digits))
 numeral_read minus digits more word line rest w n =
     let u : n.unsigned ++ rest ≡ digits ++ (more ++ rest) = ap (λ (xs : List ℕ). xs ++ rest) n.digits_first.joined ∙ append_assoc digits more rest in
     let e : line ≡ signed_by minus (digits ++ (more ++ rest)) =
@@ -180,7 +190,8 @@ none_unsigned : (minus : Bool) (u word : List ℕ) → signed_by minus u ≡ wor
 none_unsigned true u word e h = (carried ends_word (45 ∷ u) word e h).1
 none_unsigned false u word e h = carried ends_word u word e h
 
-more_word : (minus : Bool) (digits more word line rest : List ℕ) → IsBodyWord word line rest → IsNumeral minus digits more word → IsBodyWord more (more ++ rest) rest
+more_word : (minus : Bool) (digits more word line rest : List ℕ) → IsBodyWord word line rest → IsNumeral minus digits more word
+    → IsBodyWord more (more ++ rest) rest
 more_word minus digits more word line rest w n =
     let k : NoneIn ends_word (digits ++ more) = rw (sym n.digits_first.joined) (none_unsigned minus n.unsigned word n.signed w.none) in
     record { joined = refl; none = none_right ends_word digits more k; ends = w.ends }
@@ -197,10 +208,12 @@ integer_after word line rest w h =
     let value = number_of h.0 (digits_value h.1) in
     let m = more_word h.0 h.1 more word line rest w h.3 in
     numeral_read h.0 h.1 more word line rest w h.3 ∙ ap (integer_before line (more ++ rest)) (fits_signed h.0 (digits_value h.1) h.4)
-    ∙ ap (λ (t : Bool). cond t (front (Integer value) (more ++ rest)) (front (Faulty TextAfter) (drop (word_len (more ++ rest)) (more ++ rest)))) (word_end_false more (more ++ rest) rest m h.5)
+    ∙ ap (λ (t : Bool). cond t (front (Integer value) (more ++ rest)) (front (Faulty TextAfter) (drop (word_len (more ++ rest)) (more ++ rest))))
+    (word_end_false more (more ++ rest) rest m h.5)
     ∙ ap (front (Faulty TextAfter)) (upto_drop ends_word more (more ++ rest) rest m)
 
-none_read : (minus : Bool) (u word line rest : List ℕ) → IsBodyWord word line rest → signed_by minus u ≡ word → ReadBehind minus line (u ++ rest) → IsNoInteger word → integer_at line ≡ front (Faulty BadInteger) rest
+none_read : (minus : Bool) (u word line rest : List ℕ) → IsBodyWord word line rest → signed_by minus u ≡ word → ReadBehind minus line (u ++ rest)
+    → IsNoInteger word → integer_at line ≡ front (Faulty BadInteger) rest
 none_read minus u word line rest w e r never = at (take (digits_len u) u) (drop (digits_len u) u) (upto_met is_no_digit u) where
   bad : List ℕ
   bad = drop (word_len line) line
@@ -208,7 +221,8 @@ none_read minus u word line rest w e r never = at (take (digits_len u) u) (drop 
   at : (digits more : List ℕ) → IsUpTo is_no_digit digits u more → integer_at line ≡ front (Faulty BadInteger) rest
   at [] more d =
       let ends : EndsBefore is_no_digit u = rw d.joined d.ends in
-      r ∙ ap (integer_front line minus (u ++ rest)) (len_text is_no_digit [] (u ++ rest) tt (more_ends u rest ends w.ends)) ∙ ap (front (Faulty BadInteger)) (upto_drop ends_word word line rest w)
+      r ∙ ap (integer_front line minus (u ++ rest)) (len_text is_no_digit [] (u ++ rest) tt (more_ends u rest ends w.ends))
+      ∙ ap (front (Faulty BadInteger)) (upto_drop ends_word word line rest w)
   at (x ∷ xs) more d =
       let n : IsNumeral minus (x ∷ xs) more word = record { unsigned = u; signed = e; digits_first = d; some = λ k. absurd (cc) } in
       numeral_read minus (x ∷ xs) more word line rest w n
@@ -238,17 +252,21 @@ tail_of : List ℕ → List ℕ
 tail_of xs = drop 1 xs
 
 numeral_first : (digits more u : List ℕ) → IsUpTo is_no_digit digits u more → (digits ≡ [] → ⊥) → Begins (λ b. b == 45) u → ⊥
-numeral_first digits more u d some h = no_minus_first false digits more d.none some refl (let k : Begins (λ b. b == 45) (digits ++ more) = rw (sym d.joined) h in k)
+numeral_first digits more u d some h =
+    no_minus_first false digits more d.none some refl (let k : Begins (λ b. b == 45) (digits ++ more) = rw (sym d.joined) h in k)
 
-one_sign : (m minus : Bool) (digits more word u : List ℕ) → (n : IsNumeral m digits more word) → signed_by minus u ≡ word → Unsigned minus u → (m ≡ minus) × (n.unsigned ≡ u)
+one_sign : (m minus : Bool) (digits more word u : List ℕ) → (n : IsNumeral m digits more word) → signed_by minus u ≡ word → Unsigned minus u
+    → (m ≡ minus) × (n.unsigned ≡ u)
 unfolding tail_of
 one_sign true true digits more word u n e k = (refl, ap tail_of (n.signed ∙ sym e))
 one_sign false false digits more word u n e k = (refl, n.signed ∙ sym e)
 one_sign true false digits more word u n e k = absurd (k refl (let f : u ≡ 45 ∷ n.unsigned = e ∙ sym n.signed in rw f refl))
-one_sign false true digits more word u n e k = absurd (numeral_first digits more n.unsigned n.digits_first n.some (let f : n.unsigned ≡ 45 ∷ u = n.signed ∙ sym e in rw f refl))
+one_sign false true digits more word u n e k =
+    absurd (numeral_first digits more n.unsigned n.digits_first n.some (let f : n.unsigned ≡ 45 ∷ u = n.signed ∙ sym e in rw f refl))
 
 -- a numeral's digits are those that its word begins with
-same_digits : (m minus : Bool) (digits more word u : List ℕ) → IsNumeral m digits more word → signed_by minus u ≡ word → Unsigned minus u → (m ≡ minus) × (digits ≡ take (digits_len u) u)
+same_digits : (m minus : Bool) (digits more word u : List ℕ) → IsNumeral m digits more word → signed_by minus u ≡ word → Unsigned minus u
+    → (m ≡ minus) × (digits ≡ take (digits_len u) u)
 same_digits m minus digits more word u n e k =
     let o = one_sign m minus digits more word u n e k in
     (o.0, sym (upto_take is_no_digit digits n.unsigned more n.digits_first) ∙ ap (λ (xs : List ℕ). take (digits_len xs) xs) o.1)
@@ -260,7 +278,8 @@ fitting : (minus : Bool) (digits more word : List ℕ) → IsNumeral minus digit
 fitting minus digits [] word n f = inl (number_of minus (digits_value digits), (minus, digits, n, f, refl))
 fitting minus digits (b ∷ more) word n f = inr (inl (minus, digits, b ∷ more, n, f, λ e. absurd (cc)))
 
-not_fitting : (minus : Bool) (u digits word : List ℕ) → signed_by minus u ≡ word → Unsigned minus u → take (digits_len u) u ≡ digits → (Fits minus (digits_value digits) → ⊥) → IsNoInteger word
+not_fitting : (minus : Bool) (u digits word : List ℕ) → signed_by minus u ≡ word → Unsigned minus u → take (digits_len u) u ≡ digits
+    → (Fits minus (digits_value digits) → ⊥) → IsNoInteger word
 not_fitting minus u digits word e k t f m d r n g =
     let o = same_digits m minus d r word u n e k in
     let same : d ≡ digits = o.1 ∙ t in
@@ -271,7 +290,8 @@ no_digits minus u word e k t m d r n g = n.some ((same_digits m minus d r word u
 
 classed : (minus : Bool) (u word : List ℕ) → signed_by minus u ≡ word → Unsigned minus u → Classed word
 classed minus u word e k = at (take (digits_len u) u) (drop (digits_len u) u) refl (upto_met is_no_digit u) where
-  with_number : (digits more : List ℕ) → take (digits_len u) u ≡ digits → IsNumeral minus digits more word → Fits minus (digits_value digits) ⊎ (Fits minus (digits_value digits) → ⊥) → Classed word
+  with_number : (digits more : List ℕ) → take (digits_len u) u ≡ digits → IsNumeral minus digits more word → Fits minus (digits_value digits)
+      ⊎ (Fits minus (digits_value digits) → ⊥) → Classed word
   with_number digits more t n (inl f) = fitting minus digits more word n f
   with_number digits more t n (inr f) = inr (inr (not_fitting minus u digits word e k t f))
 
@@ -296,7 +316,8 @@ hash_read : (p : Place) (line behind : List ℕ) (f : Front) → line ≡ 35 ∷
 unfolding word_front
 hash_read p line behind f e g = ap (met_in p) e ∙ ap (met_front p) g
 
-named_front : (b : ℕ) (bs : List ℕ) → begins_plainly b ≡ true → (b == 125) ≡ false → word_front b bs ≡ front (Name (b ∷ take (word_len bs) bs)) (drop (word_len bs) bs)
+named_front : (b : ℕ) (bs : List ℕ) → begins_plainly b ≡ true → (b == 125) ≡ false
+    → word_front b bs ≡ front (Name (b ∷ take (word_len bs) bs)) (drop (word_len bs) bs)
 unfolding word_front
 named_front b bs h k = at (b == 123) (b == 125) (b == 34) (b == 35) (b == 39) h k where
   name : Front
@@ -305,7 +326,8 @@ named_front b bs h k = at (b == 123) (b == 125) (b == 34) (b == 35) (b == 39) h 
   quoted : Front
   quoted = front (Quoted (take (word_len bs) bs)) (drop (word_len bs) bs)
 
-  at : (o c q i s : Bool) → not (o || q || i || s) ≡ true → c ≡ false → cond o (front Open bs) (cond c (front Close bs) (cond q (string_at bs) (cond i (integer_at bs) (cond s quoted name)))) ≡ name
+  at : (o c q i s : Bool) → not (o || q || i || s) ≡ true → c ≡ false
+      → cond o (front Open bs) (cond c (front Close bs) (cond q (string_at bs) (cond i (integer_at bs) (cond s quoted name)))) ≡ name
   at true c q i s e f = absurd (cc)
   at false true q i s e f = absurd (cc)
   at false false true i s e f = absurd (cc)

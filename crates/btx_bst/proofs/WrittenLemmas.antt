@@ -1,5 +1,6 @@
 -- A style that is written without a fault is read as what its commands do.
-use Rattle.std.proofs.Common.{◌≡◌, ℕ, ◌+◌, ◌==◌, Bool, true, false, cond, List, [], ◌∷◌, ◌++◌, length, map, refl, sym, ap, ◌∙◌, append_assoc, append-nil, Option, None, Some}
+use Rattle.std.proofs.Common.{◌≡◌, ℕ, ◌+◌, ◌==◌, Bool, true, false, cond, List, [], ◌∷◌, ◌++◌, length, map, refl, sym, ap, ◌∙◌, append_assoc, append-nil}
+use Rattle.std.proofs.Common.{Option, None, Some}
 use Rattle.std.proofs.lemmas.Bool.{eqb-true}
 use Rattle.std.proofs.lemmas.List.{map-append}
 use Rattle.btx_text.specs.language.Class.{is_white}
@@ -22,12 +23,16 @@ use Rattle.btx_bst.specs.language.Words.{BodyWord}
 use Rattle.btx_bst.specs.language.Names.{Names, named, with_name}
 use Rattle.btx_bst.specs.language.Style.{Style}
 use Rattle.btx_bst.specs.language.Turns.{Again, Ends}
-use Rattle.btx_bst.specs.language.Lists.{brace_in, opening, closing, front_of, name_in, next_name, letters_at, listing, Listed, listed, name_turn, list_turn_in, list_turn, list_end, list_read, list_at}
+use Rattle.btx_bst.specs.language.Lists.{brace_in, opening, closing, front_of, name_in, next_name, letters_at, listing, Listed, listed, name_turn, list_turn_in}
+use Rattle.btx_bst.specs.language.Lists.{list_turn, list_end, list_read, list_at}
 use Rattle.btx_bst.specs.language.Outcomes.{CommandOutcome, outcome, after_read, with_item}
-use Rattle.btx_bst.specs.language.Commands.{after_list, entry_command, function_ended, function_command, read_command, run_of, run_command, sort_command, declare, macro_command, command_at}
+use Rattle.btx_bst.specs.language.Commands.{after_list, entry_command, function_ended, function_command, read_command, run_of, run_command, sort_command}
+use Rattle.btx_bst.specs.language.Commands.{declare, macro_command, command_at}
 use Rattle.btx_bst.specs.language.StyleText.{StyleState, command_outcome}
 use Rattle.btx_bst.specs.laws.Spelling.{Parts, Nothing, Plain, Group, Made, made_named, made_word, nameless_begun, nameless_defined, made_by}
-use Rattle.btx_bst.specs.laws.Written.{Written, Entry, Function, Read, Execute, Iterate, Reverse, Sort, Integers, Strings, Macro, command_written, SpellsNames, SpellsList, SpellsName, SpellsArguments, SpellsCommand, AreNew, declared, IsGoodWord, IsGoodBody, made_in, ExecutesFunction, MakesStyle, WrittenLaw, item_command, FaultlessLaw}
+use Rattle.btx_bst.specs.laws.Written.{Written, Entry, Function, Read, Execute, Iterate, Reverse, Sort, Integers, Strings, Macro, command_written, SpellsNames}
+use Rattle.btx_bst.specs.laws.Written.{SpellsList, SpellsName, SpellsArguments, SpellsCommand, AreNew, declared, IsGoodWord, IsGoodBody, made_in}
+use Rattle.btx_bst.specs.laws.Written.{ExecutesFunction, MakesStyle, WrittenLaw, item_command, FaultlessLaw}
 use Rattle.btx_bst.proofs.ListLemmas.{list_end-again, list_end-ends}
 use Rattle.btx_bst.proofs.StyleLemmas.{style_from-again}
 use Rattle.btx_bst.proofs.SpellingLemmas.{spelled}
@@ -43,12 +48,14 @@ white_twice : (line : List ℕ) → behind_white (behind_white line) ≡ behind_
 unfolding behind_white
 white_twice [] = refl
 white_twice (b ∷ bs) = at (is_white b) (b == 37) refl refl (white_twice bs) where
-  at : (t u : Bool) → is_white b ≡ t → (b == 37) ≡ u → behind_white (behind_white bs) ≡ behind_white bs → behind_white (cond t (behind_white bs) (cond u [] (b ∷ bs))) ≡ cond t (behind_white bs) (cond u [] (b ∷ bs))
+  at : (t u : Bool) → is_white b ≡ t → (b == 37) ≡ u → behind_white (behind_white bs) ≡ behind_white bs
+      → behind_white (cond t (behind_white bs) (cond u [] (b ∷ bs))) ≡ cond t (behind_white bs) (cond u [] (b ∷ bs))
   at true u e f h = h
   at false true e f h = refl
   at false false e f h = ap (λ (t : Bool). cond t (behind_white bs) (cond (b == 37) [] (b ∷ bs))) e ∙ ap (λ (t : Bool). cond t [] (b ∷ bs)) f
 
-ink_twice_at : (n : ℕ) (line : List ℕ) (next : List ℕ) (after : List (List ℕ)) (later : Place) → behind_white line ≡ line → ink later ≡ later → ink (line_or n line (next ∷ after) later) ≡ line_or n line (next ∷ after) later
+ink_twice_at : (n : ℕ) (line : List ℕ) (next : List ℕ) (after : List (List ℕ)) (later : Place) → behind_white line ≡ line → ink later ≡ later
+    → ink (line_or n line (next ∷ after) later) ≡ line_or n line (next ∷ after) later
 unfolding ink_from
 ink_twice_at n [] next after later e f = f
 ink_twice_at n (b ∷ bs) next after later e f = ap (λ (x : List ℕ). line_or n x (next ∷ after) (ink_from (n + 1) next after)) e
@@ -56,7 +63,8 @@ ink_twice_at n (b ∷ bs) next after later e f = ap (λ (x : List ℕ). line_or 
 ink_from_twice : (n : ℕ) (line : List ℕ) (after : List (List ℕ)) → ink (ink_from n line after) ≡ ink_from n line after
 unfolding ink_from
 ink_from_twice n line [] = ap (λ (x : List ℕ). place_at n x []) (white_twice line)
-ink_from_twice n line (next ∷ after) = ink_twice_at n (behind_white line) next after (ink_from (n + 1) next after) (white_twice line) (ink_from_twice (n + 1) next after)
+ink_from_twice n line (next ∷ after) = ink_twice_at n (behind_white line) next after (ink_from (n + 1) next after) (white_twice line)
+    (ink_from_twice (n + 1) next after)
 
 pub ink_twice : (p : Place) → ink (ink p) ≡ ink p
 ink_twice p = ink_from_twice p.number p.line p.after
@@ -75,7 +83,8 @@ name_no_brace p q (b ∷ bs) name e = at (b == 125) refl where
   at true f = absurd (brace_no_name p q b bs name (eqb-true b 125 f) e)
   at false f = refl
 
-pub listed_name : (k : Kind) (known : Names) (name : List ℕ) (p q : Place) → next_name p ≡ Took name q → named known name ≡ None → list_turn k (listing known p) ≡ Again (listing (with_name k (folded name) known) q)
+pub listed_name : (k : Kind) (known : Names) (name : List ℕ) (p q : Place) → next_name p ≡ Took name q → named known name ≡ None → list_turn k (listing known p)
+    ≡ Again (listing (with_name k (folded name) known) q)
 unfolding list_turn
 listed_name k known name p q e f =
     ap (list_turn_in k known) (name_no_brace (ink p) q (ink p).line name e)
@@ -86,16 +95,19 @@ list_closed : (k : Kind) (known : Names) (p q : Place) → closing p ≡ Took tt
 unfolding list_turn
 list_closed k known p q e = ap (list_turn_in k known) e
 
-names_listed : (k : Kind) (names : List (List ℕ)) (known : Names) (p q : Place) → SpellsNames names p q → AreNew k names known → list_end k (listing known p) ≡ listed None (declared k names known) q
+names_listed : (k : Kind) (names : List (List ℕ)) (known : Names) (p q : Place) → SpellsNames names p q → AreNew k names known → list_end k (listing known p)
+    ≡ listed None (declared k names known) q
 names_listed k [] known p q h g = list_end-ends k (listing known p) (listed None known q) (list_closed k known p q h)
 names_listed k (name ∷ names) known p q h g =
     list_end-again k (listing known p) (listing (with_name k (folded name) known) h.0) (listed_name k known name p h.0 h.1 g.0)
     ∙ names_listed k names (with_name k (folded name) known) h.0 q h.2 g.1
 
-list_listed : (k : Kind) (names : List (List ℕ)) (known : Names) (p q : Place) → SpellsList names p q → AreNew k names known → list_at k known p ≡ listed None (declared k names known) q
+list_listed : (k : Kind) (names : List (List ℕ)) (known : Names) (p q : Place) → SpellsList names p q → AreNew k names known
+    → list_at k known p ≡ listed None (declared k names known) q
 list_listed k names known p q h g = ap (list_read k known) h.1 ∙ names_listed k names known h.0 q h.2 g
 
-after_listed_names : (k : Kind) (names : List (List ℕ)) (style : Style) (p q : Place) (go : Style → Place → CommandOutcome) → SpellsList names p q → AreNew k names style.names → after_list style (list_at k style.names p) go ≡ go (record style { names = declared k names style.names }) q
+after_listed_names : (k : Kind) (names : List (List ℕ)) (style : Style) (p q : Place) (go : Style → Place → CommandOutcome) → SpellsList names p q
+    → AreNew k names style.names → after_list style (list_at k style.names p) go ≡ go (record style { names = declared k names style.names }) q
 after_listed_names k names style p q go h g = ap (λ (l : Listed). after_list style l go) (list_listed k names style.names p q h g)
 
 took : {A : Type 0} (style : Style) (r : OneRead A) (x : A) (p : Place) (go : A → Place → CommandOutcome) → r ≡ Took x p → after_read style r go ≡ go x p
@@ -103,7 +115,8 @@ took style r x p go e = ap (λ (s : OneRead _). after_read style s go) e
 
 -- ---- commands
 
-entry_does : (fields integers strings : List (List ℕ)) (style end : Style) (p q : Place) → SpellsArguments (Entry fields integers strings) p q → MakesStyle (Entry fields integers strings) style end → entry_command style p ≡ outcome None end q
+entry_does : (fields integers strings : List (List ℕ)) (style end : Style) (p q : Place) → SpellsArguments (Entry fields integers strings) p q
+    → MakesStyle (Entry fields integers strings) style end → entry_command style p ≡ outcome None end q
 unfolding entry_command
 entry_does fields integers strings style end p q h d =
     let first = declared kind.Field fields style.names in
@@ -114,10 +127,12 @@ entry_does fields integers strings style end p q h d =
     ∙ after_listed_names kind.EntryString strings (record style { names = second }) h.1 q _ h.4 d.3
     ∙ ap (λ (s : Style). outcome None s q) d.4
 
-named_does : (name : List ℕ) (style : Style) (p q : Place) (go : List ℕ → Place → CommandOutcome) (o : CommandOutcome) → (h : SpellsName name p q) → go name h.1 ≡ o → after_read style (opening p) (λ _ r. after_read style (next_name r) go) ≡ o
+named_does : (name : List ℕ) (style : Style) (p q : Place) (go : List ℕ → Place → CommandOutcome) (o : CommandOutcome) → (h : SpellsName name p q)
+    → go name h.1 ≡ o → after_read style (opening p) (λ _ r. after_read style (next_name r) go) ≡ o
 named_does name style p q go o h e = took style (opening p) tt h.0 _ h.2 ∙ took style (next_name h.0) name h.1 go h.3 ∙ e
 
-function_does : (name : List ℕ) (body : Parts) (style end : Style) (p q : Place) → SpellsArguments (Function name body) p q → MakesStyle (Function name body) style end → function_command style p ≡ outcome None end q
+function_does : (name : List ℕ) (body : Parts) (style end : Style) (p q : Place) → SpellsArguments (Function name body) p q
+    → MakesStyle (Function name body) style end → function_command style p ≡ outcome None end q
 unfolding function_command
 function_does name body style end p q h d =
     let n = h.1 in
@@ -131,11 +146,13 @@ read_does : (style end : Style) (p q : Place) → p ≡ q → MakesStyle Read st
 unfolding read_command
 read_does style end p q h d =
     let taken = with_item item.Read (record style { before_read = Some (length style.bodies) }) in
-    ap (λ (t : Bool). cond t (outcome (Some (Another command.Read)) style p) (cond style.has_entry (outcome None taken p) (outcome (Some BeforeEntry) style p))) d.0
+    ap (λ (t : Bool). cond t (outcome (Some (Another command.Read)) style p) (cond style.has_entry (outcome None taken p) (outcome (Some BeforeEntry) style p)))
+    d.0
     ∙ ap (λ (t : Bool). cond t (outcome None taken p) (outcome (Some BeforeEntry) style p)) d.1
     ∙ ap (λ (s : Style). outcome None s p) d.2 ∙ ap (outcome None end) h
 
-run_does : (c : Command) (make : Callee → Item) (name : List ℕ) (style end : Style) (p q : Place) → SpellsName name p q → ExecutesFunction make name style end → run_command c make style p ≡ outcome None end q
+run_does : (c : Command) (make : Callee → Item) (name : List ℕ) (style end : Style) (p q : Place) → SpellsName name p q → ExecutesFunction make name style end
+    → run_command c make style p ≡ outcome None end q
 unfolding run_command
 run_does c make name style end p q h d =
     ap (λ (t : Bool). cond t (run_name make style p) (outcome (Some (BeforeRead c)) style p)) d.1
@@ -148,11 +165,13 @@ sort_does style end p q h d =
     ap (λ (t : Bool). cond t (outcome None (with_item item.Sort style) p) (outcome (Some (BeforeRead command.Sort)) style p)) d.0
     ∙ ap (λ (s : Style). outcome None s p) d.1 ∙ ap (outcome None end) h
 
-declare_does : (k : Kind) (i : Item) (names : List (List ℕ)) (style end : Style) (p q : Place) → SpellsList names p q → AreNew k names style.names → with_item i (record style { names = declared k names style.names }) ≡ end → declare k i style p ≡ outcome None end q
+declare_does : (k : Kind) (i : Item) (names : List (List ℕ)) (style end : Style) (p q : Place) → SpellsList names p q → AreNew k names style.names
+    → with_item i (record style { names = declared k names style.names }) ≡ end → declare k i style p ≡ outcome None end q
 unfolding declare
 declare_does k i names style end p q h g e = after_listed_names k names style p q _ h g ∙ ap (λ (s : Style). outcome None s q) e
 
-macro_does : (name text : List ℕ) (style end : Style) (p q : Place) → SpellsArguments (Macro name text) p q → MakesStyle (Macro name text) style end → macro_command style p ≡ outcome None end q
+macro_does : (name text : List ℕ) (style end : Style) (p q : Place) → SpellsArguments (Macro name text) p q → MakesStyle (Macro name text) style end
+    → macro_command style p ≡ outcome None end q
 unfolding macro_command
 macro_does name text style end p q h d =
     let n = h.1 in
@@ -162,7 +181,8 @@ macro_does name text style end p q h d =
     (ap (macro_of style name n.1) d.1 ∙ took style (closing n.1) tt h.0 _ n.4 ∙ took style (opening h.0) tt t.0 _ t.2 ∙ took style _ text t.1 _ t.3
     ∙ took style (closing t.1) tt q _ t.4 ∙ ap (λ (s : Style). outcome None s q) d.2)
 
-command_does : (w : Written) (style end : Style) (p q : Place) → SpellsArguments w p q → MakesStyle w style end → command_at (command_written w) style p ≡ outcome None end q
+command_does : (w : Written) (style end : Style) (p q : Place) → SpellsArguments w p q → MakesStyle w style end → command_at (command_written w) style p
+    ≡ outcome None end q
 command_does (Entry fields integers strings) style end p q h d = entry_does fields integers strings style end p q h d
 command_does (Function name body) style end p q h d = function_does name body style end p q h d
 command_does Read style end p q h d = read_does style end p q h d
@@ -174,7 +194,8 @@ command_does (Integers names) style end p q h d = declare_does kind.GlobalIntege
 command_does (Strings names) style end p q h d = declare_does kind.GlobalString item.Strings names style end p q h d.0 d.1
 command_does (Macro name text) style end p q h d = macro_does name text style end p q h d
 
-written_command : (w : Written) (style end : Style) (p q : Place) → SpellsCommand w p q → MakesStyle w style end → command_outcome style (ink p) ≡ outcome None end q
+written_command : (w : Written) (style end : Style) (p q : Place) → SpellsCommand w p q → MakesStyle w style end → command_outcome style (ink p)
+    ≡ outcome None end q
 written_command w style end p q h d =
     took style (letters_at (ink p)) h.0 h.1 _ h.2 ∙ ap (word_outcome style h.1 h.0) h.3 ∙ command_does w style end h.1 q h.4 d
 
@@ -192,12 +213,14 @@ written [] from end h = given [] from end h
 written (w ∷ more) from end h =
     let t : StyleState = h.0 in
     let s = h.1 in
-    style_from-again from t (more_turn from (outcome None t.style t.place) (word_no_end (ink from.place) s.1 s.0 s.2) (written_command w from.style t.style from.place t.place s h.2))
+    style_from-again from t (more_turn from (outcome None t.style t.place) (word_no_end (ink from.place) s.1 s.0 s.2)
+    (written_command w from.style t.style from.place t.place s h.2))
     ∙ written more t end h.3
 
 -- ---- no message
 
-good_named : (token : Callee → Token) (line : ℕ) (name : List ℕ) (o : Option Callee) (c : Callee) (m : Made) → o ≡ Some c → (made_named token line name o m).items ≡ m.items
+good_named : (token : Callee → Token) (line : ℕ) (name : List ℕ) (o : Option Callee) (c : Callee) (m : Made) → o ≡ Some c
+    → (made_named token line name o m).items ≡ m.items
 good_named token line name None c m e = absurd (cc)
 good_named token line name (Some d) c m e = refl
 
@@ -226,10 +249,12 @@ kinds_push : (is : List Item) (x : Item) → map item_command (is ++ x ∷ []) �
 kinds_push is x = map-append item_command is (x ∷ [])
 
 -- an item more, of this kind
-pushed : (x : Item) (is : List Item) (end : Style) (js : List Item) → js ≡ is ++ x ∷ [] → end.items ≡ js → map item_command end.items ≡ map item_command is ++ item_command x ∷ []
+pushed : (x : Item) (is : List Item) (end : Style) (js : List Item) → js ≡ is ++ x ∷ [] → end.items ≡ js → map item_command end.items ≡ map item_command is
+    ++ item_command x ∷ []
 pushed x is end js e f = ap (map item_command) (f ∙ e) ∙ kinds_push is x
 
-does_kind : (w : Written) (style end : Style) → MakesStyle w style end → map item_command end.items ≡ map item_command style.items ++ Some (command_written w) ∷ []
+does_kind : (w : Written) (style end : Style) → MakesStyle w style end → map item_command end.items ≡ map item_command style.items ++ Some (command_written w)
+    ∷ []
 does_kind (Entry fields integers strings) style end d = pushed item.Entry style.items end _ refl (ap (λ (s : Style). s.items) (sym d.4))
 does_kind (Function name body) style end d =
     ap (λ (s : Style). map item_command s.items) (sym d.2) ∙ kinds_push (made_by style.names body (made_in style)).items (item.Function _)

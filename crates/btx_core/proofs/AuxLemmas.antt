@@ -1,5 +1,6 @@
 -- What the `.aux` files of a job say is one thing alone, and it is what the reader of them makes of them, event by event.
-use Rattle.std.proofs.Common.{◌≡◌, ℕ, zero, suc, ◌+◌, ◌-◌, ◌&&◌, ◌||◌, inl, inr, Bool, true, false, not, List, [], ◌∷◌, ◌++◌, Option, None, Some, Ok, Err, if◌then◌else◌, map, fold, take, drop, length, position, sym, ap, subst, ◌∙◌, refl, arith, append-nil, append_assoc}
+use Rattle.std.proofs.Common.{◌≡◌, ℕ, zero, suc, ◌+◌, ◌-◌, ◌&&◌, ◌||◌, inl, inr, Bool, true, false, not, List, [], ◌∷◌, ◌++◌, Option, None, Some, Ok, Err}
+use Rattle.std.proofs.Common.{if◌then◌else◌, map, fold, take, drop, length, position, sym, ap, subst, ◌∙◌, refl, arith, append-nil, append_assoc}
 use Rattle.std.specs.Prelude.{codes, is_none, is_some, ◌==◌}
 use Rattle.std.specs.Option.{option_map_or}
 use Rattle.std.specs.Str.{byte, bytes_eq}
@@ -20,7 +21,8 @@ use Rattle.btx_aux.specs.declared.end.End.TheVariants as end
 use Rattle.btx_aux.specs.declared.reading.TheConstants.{MOST_OPEN}
 use Rattle.btx_aux.specs.language.Events.{AuxEvent, asked_of, event_at, said, said_from}
 use Rattle.btx_aux.specs.language.Files.{Files}
-use Rattle.btx_aux.specs.language.Grammar.{Absent, Cites, Cut, Databases, EventKind, Full, Includes, Opens, Piece, Styles, Taken, TooLong, aux_command_named, closed_before, first_piece, in_first_piece, is_whole, pieces_of, words_of, words_of_command}
+use Rattle.btx_aux.specs.language.Grammar.{Absent, Cites, Cut, Databases, EventKind, Full, Includes, Opens, Piece, Styles, Taken, TooLong, aux_command_named}
+use Rattle.btx_aux.specs.language.Grammar.{closed_before, first_piece, in_first_piece, is_whole, pieces_of, words_of, words_of_command}
 use Rattle.btx_aux.specs.language.Job.{is_empty, is_star, job_of_files}
 use Rattle.btx_aux.specs.language.Names.{has_ending, listed_as, with_ending}
 use Rattle.btx_aux.specs.language.Notes.{NoBibdata, NoBibstyle, NoCitations, RepeatedDatabase, Slipped, aux_complaint_text, aux_note_kind, aux_note_text}
@@ -31,7 +33,8 @@ use Rattle.btx_aux.specs.refinement.Reads as reads
 use Rattle.btx_aux.proofs.DraftLemmas.{learned-bibdata, learned-key_new, learned-key_other, learned-key_same}
 use Rattle.btx_aux.proofs.JobLemmas.{closed-topped}
 use Rattle.btx_aux.proofs.ReadLemmas.{run-ended}
-use Rattle.btx_core.specs.language.AuxFiles.{AuxSaid, FileGives, IsSaid, LinesGive, absent, cites, closed, command_says, ended, full, inputs, line_says, names_database, names_style, none, opening, opens, pieces, plain, read, too_long, unread, wrong}
+use Rattle.btx_core.specs.language.AuxFiles.{AuxSaid, FileGives, IsSaid, LinesGive, absent, cites, closed, command_says, ended, full, inputs, line_says}
+use Rattle.btx_core.specs.language.AuxFiles.{names_database, names_style, none, opening, opens, pieces, plain, read, too_long, unread, wrong}
 use Rattle.btx_core.specs.language.AuxFiles as core
 use Rattle.btx_core.specs.laws.SameParts.{job_said}
 
@@ -95,7 +98,8 @@ front_none [] = refl
 front_none (Taken text ∷ more) = refl
 front_none (Cut slip ∷ more) = refl
 
-closed_piece : (front bs : List ℕ) → (if length bs == 0 then Ok front else Err (codes "Stuff after \"}\"")) ∷ [] ≡ map as_piece (in_front front (closed_before bs))
+closed_piece : (front bs : List ℕ) → (if length bs == 0 then Ok front else Err (codes "Stuff after \"}\"")) ∷ []
+    ≡ map as_piece (in_front front (closed_before bs))
 unfolding aux_complaint_text
 closed_piece front [] = ap (λ t. Ok t ∷ []) (sym (append-nil front))
 closed_piece front (b ∷ bs) = ap (λ t. (if t then Ok front else Err (codes "Stuff after \"}\"")) ∷ []) (not_zero (length bs))
@@ -117,7 +121,8 @@ pieces_are is_list front (b ∷ bs) =
       by more true brace list = refl
       by more false true list = closed_piece front bs
       by more false false true =
-          ap (λ ps. Ok front ∷ ps) (more [] ∙ ap (map as_piece) (front_none (pieces_of is_list bs))) ∙ ap (λ t. Ok t ∷ map as_piece (pieces_of is_list bs)) (sym (append-nil front))
+          ap (λ ps. Ok front ∷ ps) (more [] ∙ ap (map as_piece) (front_none (pieces_of is_list bs)))
+          ∙ ap (λ t. Ok t ∷ map as_piece (pieces_of is_list bs)) (sym (append-nil front))
       by more false false false = more (front ++ b ∷ []) ∙ ap (map as_piece) (front_more front b (pieces_of is_list bs))
 
 list_pieces : (is_list : Bool) (text : List ℕ) → pieces is_list [] text ≡ map as_piece (pieces_of is_list text)
@@ -176,8 +181,10 @@ module _ (file : List ℕ) (line : ℕ) where
     all (Some n) h e = rw (e, h) refl
 
     star : (b : Bool) → is_star key ≡ b
-        → as_draft (if b then (if is_some s.all then wrong file line (codes "Multiple inclusions of entire database") s else record s { all = Some (length s.keys) })
-        else option_map_or (λ (earlier : List ℕ). if bytes_eq earlier key then s else other earlier) (listed_as s.keys key) (record s { keys = s.keys ++ key ∷ [] }))
+        → as_draft (if b then (if is_some s.all then wrong file line (codes "Multiple inclusions of entire database") s else record
+        s { all = Some (length s.keys) })
+        else option_map_or (λ (earlier : List ℕ). if bytes_eq earlier key then s else other earlier) (listed_as s.keys key)
+        (record s { keys = s.keys ++ key ∷ [] }))
         ≡ learned (as_draft s) (event_at file line (Cites (Taken key)))
     star true e = all s.all refl e
     star false e = listed (listed_as s.keys key) refl e
@@ -193,8 +200,10 @@ module _ (file : List ℕ) (line : ℕ) where
     database = with_ending (codes ".bib") name
 
     by : (b : Bool)
-        → as_draft (if b then wrong file line (codes "This database file appears more than once: " ++ database) s else record s { databases = s.databases ++ database ∷ [] })
-        ≡ complaining file line (record (as_draft s) { databases = if b then s.databases else s.databases ++ database ∷ [] }) (only_if b (RepeatedDatabase database))
+        → as_draft (if b then wrong file line (codes "This database file appears more than once: " ++ database) s else record
+        s { databases = s.databases ++ database ∷ [] })
+        ≡ complaining file line (record (as_draft s) { databases = if b then s.databases else s.databases ++ database ∷ [] })
+        (only_if b (RepeatedDatabase database))
     by true = refl
     by false = refl
 
@@ -254,7 +263,8 @@ module _ (files : Files) (op : reads.Opening) (file : List ℕ) (line : ℕ) whe
   input_run s (Cut slip) rest w = rw w refl
   input_run s (Taken name) rest w = by (has_ending (codes ".aux") name) (is_among s.files name) refl refl where
     by : (a m : Bool) → has_ending (codes ".aux") name ≡ a → is_among s.files name ≡ m
-        → run files op (asked_for files op (after (as_draft s) (event_at file line (Includes (Taken name)))) file line (asked_of s.files (Includes (Taken name)))) rest
+        → run files op (asked_for files op (after (as_draft s) (event_at file line (Includes (Taken name)))) file line
+        (asked_of s.files (Includes (Taken name)))) rest
         ≡ go_on files op file line (if not a then (wrong file line (name ++ codes " has a wrong extension") s, None)
         else if m then (wrong file line (codes "Already encountered file " ++ name) s, None)
         else (record s { files = s.files ++ name ∷ [] }, Some name)) rest
@@ -267,7 +277,8 @@ module _ (files : Files) (op : reads.Opening) (file : List ℕ) (line : ℕ) whe
       ≡ go_on files op file line (command_says file line s command argument) rest
   unfolding aux_command_named
   command_run s command argument rest w =
-      by (bytes_eq command (codes "\\citation")) (bytes_eq command (codes "\\bibdata")) (bytes_eq command (codes "\\bibstyle")) (bytes_eq command (codes "\\@input")) where
+      by (bytes_eq command (codes "\\citation")) (bytes_eq command (codes "\\bibdata")) (bytes_eq command (codes "\\bibstyle"))
+      (bytes_eq command (codes "\\@input")) where
         many : List Piece
         many = pieces_of true argument
 
@@ -302,7 +313,8 @@ module _ (files : Files) (op : reads.Opening) (file : List ℕ) (line : ℕ) whe
         input = input_run s one rest w ∙ ap (λ ps. go_on files op file line (inputs file line s ps) rest) (sym (single_piece argument))
 
         by : (c d b i : Bool)
-            → run files op (as_draft s) (known (if c then Some Citation else (if d then Some Bibdata else (if b then Some Bibstyle else (if i then Some Input else None)))))
+            → run files op (as_draft s) (known (if c then Some Citation else
+            (if d then Some Bibdata else (if b then Some Bibstyle else (if i then Some Input else None)))))
             ≡ go_on files op file line (if c then (fold (cites file line) s (pieces true [] argument), None)
             else if d then (data_read (pieces true [] argument), None)
             else if b then (style_read (pieces false [] argument), None)
@@ -319,7 +331,8 @@ module _ (files : Files) (op : reads.Opening) (file : List ℕ) (line : ℕ) whe
   unfolding words_of
   line_run s text rest w = by (position (λ b. b == byte "{") text) where
     by : (o : Option ℕ)
-        → run files op (as_draft s) (map (event_at file line) (option_map_or (λ place. words_of_command (aux_command_named (take place text)) (drop (place + 1) text)) o []) ++ rest)
+        → run files op (as_draft s) (map (event_at file line)
+        (option_map_or (λ place. words_of_command (aux_command_named (take place text)) (drop (place + 1) text)) o []) ++ rest)
         ≡ go_on files op file line (option_map_or (λ place. command_says file line s (take place text) (drop (place + 1) text)) o (s, None)) rest
     by None = refl
     by (Some place) = command_run s (take place text) (drop (place + 1) text) rest w
@@ -335,18 +348,21 @@ module _ (file : List ℕ) (line : ℕ) where
   either_whole₂ true e x y h k = h
   either_whole₂ false e x y h k = k
 
-  fold_whole : (step : AuxSaid → core.Piece → AuxSaid) → ((s : AuxSaid) (p : core.Piece) → (step s p).ending ≡ s.ending) → (s : AuxSaid) (ps : List core.Piece) → (fold step s ps).ending ≡ s.ending
+  fold_whole : (step : AuxSaid → core.Piece → AuxSaid) → ((s : AuxSaid) (p : core.Piece) → (step s p).ending ≡ s.ending) → (s : AuxSaid) (ps : List core.Piece)
+      → (fold step s ps).ending ≡ s.ending
   fold_whole step keeps s [] = refl
   fold_whole step keeps s (p ∷ ps) = fold_whole step keeps (step s p) ps ∙ keeps s p
 
   cites_whole : (s : AuxSaid) (p : core.Piece) → (cites file line s p).ending ≡ s.ending
   cites_whole s (Err text) = refl
-  cites_whole s (Ok key) = either_whole (bytes_eq key (codes "*")) s.ending _ _ (either_whole (is_some s.all) s.ending _ _ refl refl) (listed (listed_as s.keys key)) where
-    listed : (o : Option (List ℕ))
-        → (option_map_or (λ (earlier : List ℕ). if bytes_eq earlier key then s
-        else wrong file line (codes "Case mismatch error between cite keys " ++ earlier ++ codes " and " ++ key) s) o (record s { keys = s.keys ++ key ∷ [] })).ending ≡ s.ending
-    listed None = refl
-    listed (Some earlier) = either_whole (bytes_eq earlier key) s.ending s _ refl refl
+  cites_whole s (Ok key) = either_whole (bytes_eq key (codes "*")) s.ending _ _ (either_whole (is_some s.all) s.ending _ _ refl refl)
+      (listed (listed_as s.keys key)) where
+        listed : (o : Option (List ℕ))
+            → (option_map_or (λ (earlier : List ℕ). if bytes_eq earlier key then s
+            else wrong file line (codes "Case mismatch error between cite keys " ++ earlier ++ codes " and " ++ key) s) o
+            (record s { keys = s.keys ++ key ∷ [] })).ending ≡ s.ending
+        listed None = refl
+        listed (Some earlier) = either_whole (bytes_eq earlier key) s.ending s _ refl refl
 
   database_whole : (s : AuxSaid) (p : core.Piece) → (names_database file line s p).ending ≡ s.ending
   database_whole s (Err text) = refl
@@ -366,9 +382,11 @@ module _ (file : List ℕ) (line : ℕ) where
   command_whole s command argument =
       either_whole₂ (bytes_eq command (codes "\\citation")) s.ending _ _ (fold_whole (cites file line) cites_whole s (pieces true [] argument))
       (either_whole₂ (bytes_eq command (codes "\\bibdata")) s.ending _ _
-      (either_whole s.has_bibdata s.ending _ _ refl (fold_whole (names_database file line) database_whole (record s { has_bibdata = true; databases = [] }) (pieces true [] argument)))
+      (either_whole s.has_bibdata s.ending _ _ refl (fold_whole (names_database file line) database_whole (record s { has_bibdata = true; databases = [] })
+      (pieces true [] argument)))
       (either_whole₂ (bytes_eq command (codes "\\bibstyle")) s.ending _ _
-      (either_whole s.has_bibstyle s.ending _ _ refl (fold_whole (names_style file line) style_whole (record s { has_bibstyle = true }) (pieces false [] argument)))
+      (either_whole s.has_bibstyle s.ending _ _ refl
+      (fold_whole (names_style file line) style_whole (record s { has_bibstyle = true }) (pieces false [] argument)))
       (either_whole₂ (bytes_eq command (codes "\\@input")) s.ending _ _ (inputs_whole s (pieces false [] argument)) refl)))
 
   line_whole : (s : AuxSaid) (text : List ℕ) → (line_says file line s text).0.ending ≡ s.ending
@@ -378,7 +396,8 @@ module _ (file : List ℕ) (line : ℕ) where
     by (Some place) = command_whole s (take place text) (drop (place + 1) text)
 
   -- so it goes on behind a line
-  still_whole : (s next : AuxSaid) (text : List ℕ) (asked : Option (List ℕ)) → is_whole s.ending ≡ true → line_says file line s text ≡ (next, asked) → is_whole next.ending ≡ true
+  still_whole : (s next : AuxSaid) (text : List ℕ) (asked : Option (List ℕ)) → is_whole s.ending ≡ true → line_says file line s text ≡ (next, asked)
+      → is_whole next.ending ≡ true
   still_whole s next text asked w e =
       ap (λ (x : AuxSaid × Option (List ℕ)). is_whole x.0.ending) (sym e) ∙ ap is_whole (line_whole s text) ∙ w
 
@@ -394,11 +413,13 @@ unfolding learned aux_note_text aux_note_kind
 opening_same zero s name w known = let among : is_among s.files name ≡ true = known refl in rw (w, among) refl
 opening_same (suc level) s name w known = let above : (suc level == 0) ≡ false = not_zero level in rw (w, above) refl
 
-full_is : (s : AuxSaid) (name : List ℕ) → is_whole s.ending ≡ true → as_draft (record s { ending = end.TooManyOpen }) ≡ after (as_draft s) (event_at name 0 Full)
+full_is : (s : AuxSaid) (name : List ℕ) → is_whole s.ending ≡ true → as_draft (record s { ending = end.TooManyOpen })
+    ≡ after (as_draft s) (event_at name 0 Full)
 unfolding learned
 full_is s name w = rw w refl
 
-long_is : (s : AuxSaid) (name : List ℕ) → is_whole s.ending ≡ true → as_draft (record s { ending = end.FileLimit }) ≡ after (as_draft s) (event_at name 0 TooLong)
+long_is : (s : AuxSaid) (name : List ℕ) → is_whole s.ending ≡ true → as_draft (record s { ending = end.FileLimit })
+    ≡ after (as_draft s) (event_at name 0 TooLong)
 unfolding learned
 long_is s name w = rw w refl
 
@@ -441,7 +462,8 @@ module _ (files : Files) where
         ∙ ap (λ t. within t files (opened_by files (room - 1)) (as_draft (opening level name s)) name text) (sym tl)
         ∙ opened_at (room - 1) level s name text (omega (arith, lt, e)) w known ∙ ap (λ m. opened_by files m (as_draft s) name text) z
 
-    lines_are : {level : ℕ} {file : List ℕ} {number : ℕ} {s : AuxSaid} {lines : List (List ℕ)} {behind : AuxSaid} → LinesGive files level file number s lines behind
+    lines_are : {level : ℕ} {file : List ℕ} {number : ℕ} {s : AuxSaid} {lines : List (List ℕ)} {behind : AuxSaid}
+        → LinesGive files level file number s lines behind
         → (room : ℕ) → suc room + level ≡ MOST_OPEN → as_draft behind ≡ run files (opened_by files room) (as_draft s) (said_from file number lines)
     lines_are (none level file number s) room e = refl
     lines_are (ended level file number s lines off) room e = sym (run-ended files room (as_draft s) (said_from file number lines) off)
@@ -453,7 +475,8 @@ module _ (files : Files) where
         let op = opened_by files room in
         let rest = said_from file (number + 1) lines in
         lines_are h room e
-        ∙ ap (λ (d : Draft). run files op d rest) (missing_is next file number name (still_whole file number s next line (Some name) w says) ∙ sym (found_run op file number next name None gone))
+        ∙ ap (λ (d : Draft). run files op d rest) (missing_is next file number name (still_whole file number s next line (Some name) w says)
+        ∙ sym (found_run op file number next name None gone))
         ∙ ap (λ x. go_on files op file number x rest) (sym says) ∙ sym (line_run files op file number s line rest w)
     lines_are (opens level file number s next inside behind line name text lines w says there g h) room e =
         let op = opened_by files room in
@@ -461,7 +484,8 @@ module _ (files : Files) where
         let deeper : IsKnown (level + 1) next name = λ z. absurd (omega (arith, z)) in
         lines_are h room e
         ∙ ap (λ (d : Draft). run files op d rest)
-        (file_is g room (omega (arith, e)) (still_whole file number s next line (Some name) w says) deeper ∙ sym (found_run op file number next name (Some text) there))
+        (file_is g room (omega (arith, e)) (still_whole file number s next line (Some name) w says) deeper
+        ∙ sym (found_run op file number next name (Some text) there))
         ∙ ap (λ x. go_on files op file number x rest) (sym says) ∙ sym (line_run files op file number s line rest w)
 
   -- ---- and there is one
@@ -476,7 +500,8 @@ module _ (files : Files) where
     Here : Type 0
     Here = (behind : AuxSaid) × LinesGive files level file number s (line ∷ lines) behind
 
-    found : is_whole s.ending ≡ true → (next : AuxSaid) (name : List ℕ) → line_says file number s line ≡ (next, Some name) → (o : Option (List ℕ)) → files name ≡ o → Rest → Here
+    found : is_whole s.ending ≡ true → (next : AuxSaid) (name : List ℕ) → line_says file number s line ≡ (next, Some name) → (o : Option (List ℕ))
+        → files name ≡ o → Rest → Here
     found w next name says None gone rest =
         let r = rest (number + 1) (wrong file number (codes "I couldn't open auxiliary file " ++ name) next) in
         (r.0, absent level file number s next r.0 line name lines w says gone r.1)
@@ -530,7 +555,8 @@ module _ (files : Files) where
 
   pub is_said : (top : List ℕ) → IsSaid files top (said_by top)
   is_said top = by (files top) refl where
-    by : (f : Option (List ℕ)) → files top ≡ f → IsSaid files top (option_map_or (λ text. closed (last_of top text)) f (record unread { ending = end.TopMissing }))
+    by : (f : Option (List ℕ)) → files top ≡ f
+        → IsSaid files top (option_map_or (λ text. closed (last_of top text)) f (record unread { ending = end.TopMissing }))
     by None gone = inl (gone, refl)
     by (Some text) there =
         let g = file_there MOST_OPEN 0 (omega arith) (start top) top text in
@@ -546,7 +572,8 @@ module _ (files : Files) where
       ap (λ (d : Draft). within (is_too_long text) files (opened_by files 19) d top text) same
 
   missing_same : (c b s : Bool)
-      → only_if c (message Error (codes "I found no " ++ codes "\\citation commands")) ++ only_if b (message Error (codes "I found no " ++ codes "\\bibdata command"))
+      → only_if c (message Error (codes "I found no " ++ codes "\\citation commands"))
+      ++ only_if b (message Error (codes "I found no " ++ codes "\\bibdata command"))
       ++ only_if s (message Error (codes "I found no " ++ codes "\\bibstyle command"))
       ≡ map aux_note_line (only_if c NoCitations ++ only_if b NoBibdata ++ only_if s NoBibstyle)
   unfolding aux_note_text aux_note_kind
@@ -567,10 +594,22 @@ module _ (files : Files) where
   closed_same d end.Whole h =
       ap (λ (lines : List Line). record { keys = d.keys; all = d.all; databases = d.databases; style = d.style; log = d.log ++ lines; ending = end.Whole })
       (missing_same (length d.keys == 0 && is_none d.all) (not d.has_bibdata) (not d.has_bibstyle)
-      ∙ ap (λ b. map aux_note_line (only_if (b && is_none d.all) NoCitations ++ only_if (not d.has_bibdata) NoBibdata ++ only_if (not d.has_bibstyle) NoBibstyle)) (no_keys d.keys))
-  closed_same d end.TooManyOpen h = ap (λ (lines : List Line). record { keys = d.keys; all = d.all; databases = d.databases; style = d.style; log = lines; ending = end.TooManyOpen }) (sym (append-nil d.log))
-  closed_same d end.TopMissing h = ap (λ (lines : List Line). record { keys = d.keys; all = d.all; databases = d.databases; style = d.style; log = lines; ending = end.TopMissing }) (sym (append-nil d.log))
-  closed_same d end.FileLimit h = ap (λ (lines : List Line). record { keys = d.keys; all = d.all; databases = d.databases; style = d.style; log = lines; ending = end.FileLimit }) (sym (append-nil d.log))
+      ∙ ap (λ b. map aux_note_line (only_if (b && is_none d.all) NoCitations ++ only_if (not d.has_bibdata) NoBibdata
+      ++ only_if (not d.has_bibstyle) NoBibstyle)) (no_keys d.keys))
+  closed_same d end.TooManyOpen h = ap
+      (λ (lines : List Line). record { keys = d.keys; all = d.all; databases = d.databases; style = d.style; log = lines; ending = end.TooManyOpen })
+      (sym (append-nil d.log))
+  closed_same d end.TopMissing h = ap
+      (λ (lines : List Line). record { keys = d.keys; all = d.all; databases = d.databases; style = d.style; log = lines; ending = end.TopMissing })
+      (sym (append-nil d.log))
+  closed_same d end.FileLimit h = ap (λ (lines : List Line). record {
+    keys = d.keys;
+    all = d.all;
+    databases = d.databases;
+    style = d.style;
+    log = lines;
+    ending = end.FileLimit;
+  }) (sym (append-nil d.log))
 
   -- the job that is said is the one that the reader makes of the files
   pub same_job : (top : List ℕ) → job_said (said_by top) ≡ job_of_files files top

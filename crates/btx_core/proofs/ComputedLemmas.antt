@@ -1,5 +1,6 @@
 -- With the divisions that the definitions compute, the functions on strings of the relation are those of the string functions' definitions.
-use Rattle.std.proofs.Common.{◌≡◌, ℕ, ℤ, zero, suc, ◌==◌, ◌&&◌, Bool, true, false, List, [], ◌∷◌, ◌++◌, length, None, Some, if◌then◌else◌, unwrap_or, sym, ap, ◌∙◌, refl, arith, true≢false}
+use Rattle.std.proofs.Common.{◌≡◌, ℕ, ℤ, zero, suc, ◌==◌, ◌&&◌, Bool, true, false, List, [], ◌∷◌, ◌++◌, length, None, Some, if◌then◌else◌, unwrap_or, sym, ap}
+use Rattle.std.proofs.Common.{◌∙◌, refl, arith, true≢false}
 use Rattle.std.proofs.lemmas.Bool.{eqb-true, eq-eqb}
 use Rattle.std.specs.List.{flat_map}
 use Rattle.std.specs.Option.{option_map_or}
@@ -16,7 +17,8 @@ use Rattle.btx_names.specs.declared.name_tokens.Joint.{Joint}
 use Rattle.btx_names.specs.declared.name_tokens.Joint.TheVariants.{Space, Tie, Hyphen}
 use Rattle.btx_names.specs.language.Answered.{nth_name, one_name_text, format_name_text}
 use Rattle.btx_names.specs.language.Formats.{FormatItem, FormatPiece, Literal, Plain, Name, Illegal, is_legal, items_of}
-use Rattle.btx_names.specs.language.FormattedNames.{between_text, ends_in_tie, finished, initial_of, item_text, piece_text, tie_of, tokens_of_part, with_tokens, begins_initial, first_text, period_of}
+use Rattle.btx_names.specs.language.FormattedNames.{between_text, ends_in_tie, finished, initial_of, item_text, piece_text, tie_of, tokens_of_part, with_tokens}
+use Rattle.btx_names.specs.language.FormattedNames.{begins_initial, first_text, period_of}
 use Rattle.btx_names.specs.language.NameLists.{names_of}
 use Rattle.btx_names.specs.language.NameParts.{NameParts, parts_by, sections_of, split_at_comma}
 use Rattle.btx_names.specs.language.Tokens.{NameToken, tokens_of}
@@ -51,7 +53,8 @@ all_cased_same : (to : Conversion) (parts before : List Element) → strings.all
 unfolding cased_parts
 all_cased_same to [] before = refl
 all_cased_same to (part ∷ parts) before =
-    ap (λ more. (if is_title to && begins_title before then part.text else strings.cased computed to part.kind part.depth part.text) ++ more) (all_cased_same to parts (part ∷ before))
+    ap (λ more. (if is_title to && begins_title before then part.text else strings.cased computed to part.kind part.depth part.text) ++ more)
+    (all_cased_same to parts (part ∷ before))
 
 pub in_case_same : (to : Conversion) (string : List ℕ) → strings.in_case computed to string ≡ cased_parts to [] (elements_of Bytes string)
 in_case_same to string = all_cased_same to (elements_of Bytes string) []
@@ -69,7 +72,8 @@ ended_by mode text false e = rw e refl
 ended_same : (mode : TextMode) (text : List ℕ) → names.ended computed mode text ≡ finished mode text
 ended_same mode text = ended_by mode text (ends_in_tie text) refl
 
-tie_same : (mode : TextMode) (so_far : List ℕ) (joint : Joint) (is_last : Bool) → names.tie computed mode so_far joint is_last ≡ tie_of mode so_far joint is_last
+tie_same : (mode : TextMode) (so_far : List ℕ) (joint : Joint) (is_last : Bool) → names.tie computed mode so_far joint is_last
+    ≡ tie_of mode so_far joint is_last
 tie_same mode so_far Tie is_last = refl
 tie_same mode so_far Hyphen is_last = refl
 tie_same mode so_far Space is_last = refl
@@ -88,7 +92,8 @@ not_zero left = by (suc left == 0) refl where
   by true h = let z = eqb-true (suc left) 0 h in absurd (omega (arith, z))
   by false h = h
 
-behind_same : (mode : TextMode) (piece : FormatPiece) (so_far : List ℕ) (joint : Joint) (left : ℕ) → names.behind_token computed mode piece so_far joint left ≡ between_text mode piece so_far joint left
+behind_same : (mode : TextMode) (piece : FormatPiece) (so_far : List ℕ) (joint : Joint) (left : ℕ) → names.behind_token computed mode piece so_far joint left
+    ≡ between_text mode piece so_far joint left
 unfolding between_text
 behind_same mode piece so_far joint zero = refl
 behind_same mode piece so_far joint (suc left) =
@@ -97,11 +102,14 @@ behind_same mode piece so_far joint (suc left) =
     ap (λ x. unwrap_or piece.between (period_of piece.is_full ++ x ∷ [])) (tie_same mode t joint (left == 0) ∙ ap (tie_of mode t joint) (last_is left))
     ∙ ap (λ (z : Bool). if z then [] else unwrap_or piece.between (period_of piece.is_full ++ tie_of mode t joint (suc left == 1) ∷ [])) (sym zero_)
 
-tokens_same : (mode : TextMode) (piece : FormatPiece) (tokens : List NameToken) (so_far : List ℕ) → names.and_tokens computed mode piece so_far tokens ≡ with_tokens mode piece so_far tokens
+tokens_same : (mode : TextMode) (piece : FormatPiece) (tokens : List NameToken) (so_far : List ℕ) → names.and_tokens computed mode piece so_far tokens
+    ≡ with_tokens mode piece so_far tokens
 unfolding with_tokens
 tokens_same mode piece [] so_far = refl
 tokens_same mode piece (token ∷ tokens) so_far =
-    ap (λ i. names.and_tokens computed mode piece ((so_far ++ (if piece.is_full then token.text else i)) ++ names.behind_token computed mode piece (so_far ++ (if piece.is_full then token.text else i)) token.joint (length tokens)) tokens)
+    ap (λ i. names.and_tokens computed mode piece
+    ((so_far ++ (if piece.is_full then token.text else i)) ++ names.behind_token computed mode piece (so_far ++ (if piece.is_full then token.text else i))
+    token.joint (length tokens)) tokens)
     (initial_same mode token.text)
     ∙ ap (λ x. names.and_tokens computed mode piece ((so_far ++ (if piece.is_full then token.text else initial_of mode token.text)) ++ x) tokens)
     (behind_same mode piece (so_far ++ (if piece.is_full then token.text else initial_of mode token.text)) token.joint (length tokens))
@@ -120,12 +128,15 @@ item_same mode parts (Name form) = piece_same mode form (tokens_of_part form.par
 item_same mode parts Illegal = refl
 
 format_same : (mode : TextMode) (name format : List ℕ) (t : Bool) → is_legal format ≡ t
-    → option_map_or (flat_map (names.item computed mode (parts_by (sections_of name)))) (if t then Some (items_of format) else None) [] ≡ one_name_text mode name format
+    → option_map_or (flat_map (names.item computed mode (parts_by (sections_of name)))) (if t then Some (items_of format) else None) []
+    ≡ one_name_text mode name format
 unfolding one_name_text
-format_same mode name format true e = ap (λ (f : FormatItem → List ℕ). flat_map f (items_of format)) (λ i x. item_same mode (parts_by (sections_of name)) x i) ∙ rw e refl
+format_same mode name format true e = ap (λ (f : FormatItem → List ℕ). flat_map f (items_of format)) (λ i x. item_same mode (parts_by (sections_of name)) x i)
+    ∙ rw e refl
 format_same mode name format false e = rw e refl
 
-pub formatted_same : (mode : TextMode) (format : List ℕ) (number : ℤ) (string : List ℕ) → names.formatted_name computed mode format number string ≡ format_name_text mode string number format
+pub formatted_same : (mode : TextMode) (format : List ℕ) (number : ℤ) (string : List ℕ) → names.formatted_name computed mode format number string
+    ≡ format_name_text mode string number format
 unfolding nth_name
 formatted_same mode format number string =
     ap (λ (f : List ℕ → List ℕ). option_map_or f (nth_name string number) []) (λ i name. format_same mode name format (is_legal format) refl i)

@@ -20,7 +20,10 @@ use Rattle.btx_core.specs.laws.ProductLaws.{CornerProducts}
 
 -- opens what divides strings and names, too
 divides : Unit {0}
-unfolding class_of elements_from elements_of group_len kind_at begins_sequence is_sequence second_fits sequence_size cased_control control_name glyphs_from glyphs_of letters_of without_white take_characters control_width names_before group_item inside_item items_from items_of part_named piece_item is_separator names_of pieces_from before_final before_first ends_in_comma sections_of split_at_comma up_to_last run_len tokens_from tokens_of first_is_lower is_lower_special is_von
+unfolding class_of elements_from elements_of group_len kind_at begins_sequence is_sequence second_fits sequence_size cased_control control_name glyphs_from
+    glyphs_of letters_of without_white take_characters control_width names_before group_item inside_item items_from items_of part_named piece_item is_separator
+    names_of pieces_from before_final before_first ends_in_comma sections_of split_at_comma up_to_last run_len tokens_from tokens_of first_is_lower
+    is_lower_special is_von
 divides = tt
 
 a_repeated_key_in_another_case_is_logged_again : IsTheOne corners.a_repeated_key_in_another_case_is_logged_again (omega arith)
@@ -327,7 +330,8 @@ worked = (
       (
         by_the_one corners.all_are_cited_and_a_parent_isnt_there (omega arith) all_are_cited_and_a_parent_isnt_there,
         (
-          by_the_one corners.a_key_that_is_cited_behind_the_star_stands_at_its_entrys_place (omega arith) a_key_that_is_cited_behind_the_star_stands_at_its_entrys_place,
+          by_the_one corners.a_key_that_is_cited_behind_the_star_stands_at_its_entrys_place (omega arith)
+              a_key_that_is_cited_behind_the_star_stands_at_its_entrys_place,
           (
             by_the_one corners.no_reference_is_wanted (omega arith) no_reference_is_wanted,
             (
@@ -375,7 +379,8 @@ worked = (
           (
             by_the_one corners.the_order_of_what_assignment_asks (omega arith) the_order_of_what_assignment_asks,
             (
-              by_the_one corners.where_an_operand_is_missing_the_kind_of_another_isnt_logged (omega arith) where_an_operand_is_missing_the_kind_of_another_isnt_logged,
+              by_the_one corners.where_an_operand_is_missing_the_kind_of_another_isnt_logged (omega arith)
+                  where_an_operand_is_missing_the_kind_of_another_isnt_logged,
               (
                 by_the_one corners.a_string_that_just_fits_isnt_cut (omega arith) a_string_that_just_fits_isnt_cut,
                 (

@@ -1,5 +1,6 @@
 -- Strings are divided in one way.
-use Rattle.std.proofs.Common.{◌≡◌, ℕ, ◌<◌, ◌==◌, ◌⊎◌, inl, inr, Bool, true, false, ◌&&◌, List, [], ◌∷◌, ◌++◌, length, Option, None, Some, sym, ap, ap₂, subst, ◌∙◌, refl, arith, append_assoc, true≢false}
+use Rattle.std.proofs.Common.{◌≡◌, ℕ, ◌<◌, ◌==◌, ◌⊎◌, inl, inr, Bool, true, false, ◌&&◌, List, [], ◌∷◌, ◌++◌, length, Option, None, Some, sym, ap, ap₂, subst}
+use Rattle.std.proofs.Common.{◌∙◌, refl, arith, append_assoc, true≢false}
 use Rattle.std.specs.List.{list_all}
 use Rattle.std.specs.Str.{byte}
 use Rattle.btx_text.specs.declared.element_kind.TextMode.{TextMode}
@@ -18,7 +19,8 @@ use Rattle.btx_text.specs.declared.element_kind.TextMode.TheVariants.{Bytes}
 use Rattle.btx_names.specs.language.VonTokens.{first_is_lower}
 use Rattle.btx_names.specs.language.NameParts.{cut_again}
 use Rattle.std.specs.Option.{option_map_or}
-use Rattle.btx_core.specs.language.Names.{IsFront, AreNames, AreTokens, IsCut, sections, is_von, HaveNoVon, AreVonLast, HasVon, HasNoVon, AreParts, IsFormat, AreDivisions}
+use Rattle.btx_core.specs.language.Names.{IsFront, AreNames, AreTokens, IsCut, sections, is_von, HaveNoVon, AreVonLast, HasVon, HasNoVon, AreParts, IsFormat}
+use Rattle.btx_core.specs.language.Names.{AreDivisions}
 
 -- ---- two ways to cut a list
 
@@ -59,7 +61,8 @@ module _ {X : Type 0} where
 
 -- ---- fronts
 
-front_ends : (test : ℕ → Bool) (f r g : List ℕ) (x : ℕ) (m s : List ℕ) → g ≡ f ++ x ∷ m → r ≡ x ∷ m ++ s → IsFront test f r → ((rest : List ℕ) × IsFront test g rest) → ⊥
+front_ends : (test : ℕ → Bool) (f r g : List ℕ) (x : ℕ) (m s : List ℕ) → g ≡ f ++ x ∷ m → r ≡ x ∷ m ++ s → IsFront test f r
+    → ((rest : List ℕ) × IsFront test g rest) → ⊥
 front_ends test f r g x m s e k h l = by h.ends where
   by : (r ≡ []) ⊎ ((depth_of f ≡ 0) × (begins test r ≡ true)) → ⊥
   by (inl n) = not_empty x (m ++ s) (sym k ∙ n)
@@ -96,14 +99,16 @@ token_front [] rest some h = absurd (omega (arith, some))
 token_front (b ∷ bs) rest some h = (b, bs, refl, h.none [] bs b refl refl)
 
 -- what stands before a token is all the breaks that stand there
-breaks_end : (breaks text rest breaks' : List ℕ) (x : ℕ) (m others : List ℕ) → breaks' ≡ breaks ++ x ∷ m → text ++ rest ≡ x ∷ m ++ others → list_all is_break breaks' ≡ true
+breaks_end : (breaks text rest breaks' : List ℕ) (x : ℕ) (m others : List ℕ) → breaks' ≡ breaks ++ x ∷ m → text ++ rest ≡ x ∷ m ++ others
+    → list_all is_break breaks' ≡ true
     → 0 < length text → IsFront is_break text rest → ⊥
 breaks_end breaks text rest breaks' x m others e k all some h =
     let t = token_front text rest some h in
     let same : t.0 ≡ x = first_is t.0 x (t.1 ++ rest) (m ++ others) (ap (λ l. l ++ rest) (sym t.2) ∙ k) in
     absurd (true≢false (sym (all_there is_break breaks x m (subst (λ l. list_all is_break l ≡ true) e all)) ∙ ap is_break (sym same) ∙ t.3))
 
-breaks_one : (breaks text rest breaks' text' rest' : List ℕ) → breaks ++ (text ++ rest) ≡ breaks' ++ (text' ++ rest') → list_all is_break breaks ≡ true → list_all is_break breaks' ≡ true
+breaks_one : (breaks text rest breaks' text' rest' : List ℕ) → breaks ++ (text ++ rest) ≡ breaks' ++ (text' ++ rest') → list_all is_break breaks ≡ true
+    → list_all is_break breaks' ≡ true
     → 0 < length text → 0 < length text' → IsFront is_break text rest → IsFront is_break text' rest' → text ++ rest ≡ text' ++ rest'
 breaks_one breaks text rest breaks' text' rest' e all all' some some' h h' = by (compare breaks (text ++ rest) breaks' (text' ++ rest') e) where
   by : Compared breaks (text ++ rest) breaks' (text' ++ rest') → text ++ rest ≡ text' ++ rest'
@@ -111,7 +116,8 @@ breaks_one breaks text rest breaks' text' rest' e all all' some some' h h' = by 
   by (inr (inl c)) = absurd (breaks_end breaks text rest breaks' c.0 c.1 (text' ++ rest') c.2 c.3 all' some h)
   by (inr (inr c)) = absurd (breaks_end breaks' text' rest' breaks c.0 c.1 (text ++ rest) c.2 c.3 all some' h')
 
-no_token : (text breaks token rest : List ℕ) → list_all is_break text ≡ true → text ≡ breaks ++ (token ++ rest) → 0 < length token → IsFront is_break token rest → ⊥
+no_token : (text breaks token rest : List ℕ) → list_all is_break text ≡ true → text ≡ breaks ++ (token ++ rest) → 0 < length token → IsFront is_break token rest
+    → ⊥
 no_token text breaks token rest all e some h =
     let t = token_front token rest some h in
     let there : text ≡ breaks ++ t.0 ∷ (t.1 ++ rest) = e ∙ ap (λ l. breaks ++ (l ++ rest)) t.2 in
@@ -144,7 +150,8 @@ cut_one name (Some c) (Some d) h k =
 
 module _ (the other : Divisions) (alike : (t : NameToken) → is_von the t ≡ is_von other t) where
   -- a von token in one division is no other token in the other
-  von_ends : (von last von' last' tokens : List NameToken) (x : NameToken) (m : List NameToken) → von' ≡ von ++ x ∷ m → last ≡ x ∷ m ++ last' → tokens ≡ von ++ last
+  von_ends : (von last von' last' tokens : List NameToken) (x : NameToken) (m : List NameToken) → von' ≡ von ++ x ∷ m → last ≡ x ∷ m ++ last'
+      → tokens ≡ von ++ last
       → HaveNoVon the last → ((left : List NameToken) (t : NameToken) → von' ≡ left ++ t ∷ [] → is_von other t ≡ true) → (last' ≡ [] → tokens ≡ []) → ⊥
   von_ends von last von' [] tokens x m e k w none ends some =
       not_empty_behind von x (m ++ []) (ap (λ l. von ++ l) (sym k) ∙ sym w ∙ some refl)
@@ -158,7 +165,8 @@ module _ (the other : Divisions) (alike : (t : NameToken) → is_von the t ≡ i
   back : (t : NameToken) → is_von other t ≡ is_von the t
   back t = sym (alike t)
 
-  von_last_one : (tokens von last von' last' : List NameToken) → AreVonLast the tokens von last → AreVonLast other tokens von' last' → (von ≡ von') × (last ≡ last')
+  von_last_one : (tokens von last von' last' : List NameToken) → AreVonLast the tokens von last → AreVonLast other tokens von' last'
+      → (von ≡ von') × (last ≡ last')
   von_last_one tokens von last von' last' h k = by (compare von last von' last' (sym h.whole ∙ k.whole)) where
     by : Compared von last von' last' → (von ≡ von') × (last ≡ last')
     by (inl c) = c
@@ -166,9 +174,11 @@ module _ (the other : Divisions) (alike : (t : NameToken) → is_von the t ≡ i
     by (inr (inr c)) = absurd (von_ends other the back von' last' von last tokens c.0 c.1 c.2 c.3 k.whole k.others h.ends h.some)
 
 -- First ends before the first von token
-first_ends : (the other : Divisions) → ((t : NameToken) → is_von the t ≡ is_von other t) → (first first' von last : List NameToken) (x : NameToken) (m others : List NameToken)
+first_ends : (the other : Divisions) → ((t : NameToken) → is_von the t ≡ is_von other t)
+    → (first first' von last : List NameToken) (x : NameToken) (m others : List NameToken)
     → first' ≡ first ++ x ∷ m → von ++ last ≡ x ∷ m ++ others → 0 < length von
-    → ((t : NameToken) (rest : List NameToken) → von ≡ t ∷ rest → is_von the t ≡ true) → ((left right : List NameToken) (t : NameToken) → first' ≡ left ++ t ∷ right → is_von other t ≡ false) → ⊥
+    → ((t : NameToken) (rest : List NameToken) → von ≡ t ∷ rest → is_von the t ≡ true)
+    → ((left right : List NameToken) (t : NameToken) → first' ≡ left ++ t ∷ right → is_von other t ≡ false) → ⊥
 first_ends the other alike first first' [] last x m others e k some begins_ none = absurd (omega (arith, some))
 first_ends the other alike first first' (v ∷ vs) last x m others e k some begins_ none =
     let same = first_is v x (vs ++ last) (m ++ others) k in
@@ -191,7 +201,8 @@ module _ (the other : Divisions) (alike : (t : NameToken) → is_von the t ≡ i
     by (inr (inr c)) = absurd (first_ends other the swapped q.first p.first q.von q.last c.0 c.1 (p.von ++ p.last) c.2 c.3 k.some k.begins h.none)
 
   -- Last begins behind the last token that isn't joined
-  joined_ends : (first first' last last' tokens : List NameToken) (x : NameToken) (m : List NameToken) → first' ≡ first ++ x ∷ m → last ≡ x ∷ m ++ last' → tokens ≡ first ++ last
+  joined_ends : (first first' last last' tokens : List NameToken) (x : NameToken) (m : List NameToken) → first' ≡ first ++ x ∷ m → last ≡ x ∷ m ++ last'
+      → tokens ≡ first ++ last
       → ((left right : List NameToken) (t next : NameToken) → last ≡ left ++ t ∷ next ∷ right → t.joint ≡ Hyphen)
       → ((left : List NameToken) (t : NameToken) → first' ≡ left ++ t ∷ [] → is_hyphen t.joint ≡ false) → (last' ≡ [] → tokens ≡ []) → ⊥
   joined_ends first first' last [] tokens x m e k w joined apart some =
@@ -210,7 +221,8 @@ module _ (the other : Divisions) (alike : (t : NameToken) → is_von the t ≡ i
     by (inr (inr c)) = absurd (joined_ends q.first p.first q.last p.last tokens c.0 c.1 c.2 c.3 k.first k.joined h.apart h.some)
 
 -- where a token is von that isn't the final one, the parts have a von
-not_both : (the other : Divisions) → ((t : NameToken) → is_von the t ≡ is_von other t) → (tokens first von last : List NameToken) → tokens ≡ first ++ (von ++ last) → 0 < length von
+not_both : (the other : Divisions) → ((t : NameToken) → is_von the t ≡ is_von other t) → (tokens first von last : List NameToken)
+    → tokens ≡ first ++ (von ++ last) → 0 < length von
     → ((t : NameToken) (rest : List NameToken) → von ≡ t ∷ rest → is_von the t ≡ true) → (last ≡ [] → von ++ last ≡ []) → HaveNoVon other tokens → ⊥
 not_both the other alike tokens first [] last e some begins_ full none = absurd (omega (arith, some))
 not_both the other alike tokens first (v ∷ vs) last e some begins_ full none = by vs last e full (begins_ v vs refl) where
@@ -223,7 +235,8 @@ module _ (the other : Divisions) (alike : (t : NameToken) → is_von the t ≡ i
   turned : (t : NameToken) → is_von other t ≡ is_von the t
   turned t = sym (alike t)
 
-  one_by : (tokens : List NameToken) (p q : NameParts) → HasVon the tokens p ⊎ HasNoVon the tokens p → HasVon other tokens q ⊎ HasNoVon other tokens q → (p.first ≡ q.first) × (p.von ≡ q.von) × (p.last ≡ q.last)
+  one_by : (tokens : List NameToken) (p q : NameParts) → HasVon the tokens p ⊎ HasNoVon the tokens p → HasVon other tokens q ⊎ HasNoVon other tokens q
+      → (p.first ≡ q.first) × (p.von ≡ q.von) × (p.last ≡ q.last)
   one_by tokens p q (inl h) (inl k) = with_von the other alike tokens p q h k
   one_by tokens p q (inr h) (inr k) = without_von the other alike tokens p q h k
   one_by tokens p q (inl h) (inr k) = absurd (not_both the other alike tokens p.first p.von p.last h.first h.some h.begins h.surname.some k.none)
@@ -232,15 +245,19 @@ module _ (the other : Divisions) (alike : (t : NameToken) → is_von the t ≡ i
 parts_of : (p q : NameParts) → p.first ≡ q.first → p.von ≡ q.von → p.last ≡ q.last → p.jr ≡ q.jr → p ≡ q
 parts_of p q a b c d = λ i. record { first = a i; von = b i; last = c i; jr = d i }
 
-parts_one : (the other : Divisions) → ((t : NameToken) → is_von the t ≡ is_von other t) → the.tokens ≡ other.tokens → (s : Sections) (p q : NameParts) → AreParts the s p → AreParts other s q → p ≡ q
+parts_one : (the other : Divisions) → ((t : NameToken) → is_von the t ≡ is_von other t) → the.tokens ≡ other.tokens → (s : Sections) (p q : NameParts)
+    → AreParts the s p → AreParts other s q → p ≡ q
 parts_one the other alike same (One name) p q h k =
-    let s = one_by the other alike (other.tokens name) p q (subst (λ (f : List ℕ → List NameToken). HasVon the (f name) p ⊎ HasNoVon the (f name) p) same h.0) k.0 in
+    let s = one_by the other alike (other.tokens name) p q (subst (λ (f : List ℕ → List NameToken). HasVon the (f name) p ⊎ HasNoVon the (f name) p) same h.0)
+    k.0 in
     parts_of p q s.0 s.1 s.2 (h.1 ∙ sym k.1)
 parts_one the other alike same (Two surname first) p q h k =
-    let s = von_last_one the other alike (other.tokens surname) p.von p.last q.von q.last (subst (λ (f : List ℕ → List NameToken). AreVonLast the (f surname) p.von p.last) same h.0) k.0 in
+    let s = von_last_one the other alike (other.tokens surname) p.von p.last q.von q.last
+    (subst (λ (f : List ℕ → List NameToken). AreVonLast the (f surname) p.von p.last) same h.0) k.0 in
     parts_of p q (h.1 ∙ ap (λ (f : List ℕ → List NameToken). f first) same ∙ sym k.1) s.0 s.1 (h.2 ∙ sym k.2)
 parts_one the other alike same (Three surname jr first) p q h k =
-    let s = von_last_one the other alike (other.tokens surname) p.von p.last q.von q.last (subst (λ (f : List ℕ → List NameToken). AreVonLast the (f surname) p.von p.last) same h.0) k.0 in
+    let s = von_last_one the other alike (other.tokens surname) p.von p.last q.von q.last
+    (subst (λ (f : List ℕ → List NameToken). AreVonLast the (f surname) p.von p.last) same h.0) k.0 in
     parts_of p q (h.1 ∙ ap (λ (f : List ℕ → List NameToken). f first) same ∙ sym k.1) s.0 s.1 (h.2 ∙ ap (λ (f : List ℕ → List NameToken). f jr) same ∙ sym k.2)
 
 -- ---- formats
@@ -255,7 +272,8 @@ items_one format (Some items) (Some others) h k = ap Some (sym (written_items it
 
 module _ (the other : Divisions) (is : AreDivisions the) (also : AreDivisions other) where
   same_elements : the.elements ≡ other.elements
-  same_elements = λ i mode string. (elements_of-only mode string (the.elements mode string) (is.elements mode string) ∙ sym (elements_of-only mode string (other.elements mode string) (also.elements mode string))) i
+  same_elements = λ i mode string. (elements_of-only mode string (the.elements mode string) (is.elements mode string)
+      ∙ sym (elements_of-only mode string (other.elements mode string) (also.elements mode string))) i
 
   same_glyphs : the.glyphs ≡ other.glyphs
   same_glyphs = λ i text. (glyphs_of-only text (the.glyphs text) (is.glyphs text) ∙ sym (glyphs_of-only text (other.glyphs text) (also.glyphs text))) i
@@ -273,7 +291,8 @@ module _ (the other : Divisions) (is : AreDivisions the) (also : AreDivisions ot
   same_von t = ap (λ (f : TextMode → List ℕ → List Element). first_is_lower (f Bytes t.text)) same_elements
 
   same_sections : (name : List ℕ) → sections the name ≡ sections other name
-  same_sections name = ap (λ (f : List ℕ → Option (List ℕ × List ℕ)). option_map_or (λ (cut : List ℕ × List ℕ). cut_again cut.0 cut.1 (f cut.1)) (f name) (One name)) same_cut
+  same_sections name = ap (λ (f : List ℕ → Option (List ℕ × List ℕ)). option_map_or (λ (cut : List ℕ × List ℕ). cut_again cut.0 cut.1 (f cut.1)) (f name)
+      (One name)) same_cut
 
   same_parts : the.parts ≡ other.parts
   same_parts = λ i name.

@@ -1,5 +1,6 @@
 -- Strings have divisions: fronts, names, tokens and cuts as the definitions of btx_text, btx_strings and btx_names compute them.
-use Rattle.std.proofs.Common.{◌≡◌, ℕ, zero, suc, ◌+◌, ◌-◌, ◌<◌, ◌==◌, ◌⊎◌, inl, inr, Bool, true, false, not, ◌&&◌, List, [], ◌∷◌, ◌++◌, length, take, drop, fold, Option, None, Some, if◌then◌else◌, sym, ap, ap₂, subst, ◌∙◌, refl, arith, true≢false, ◌≤◌, append_assoc}
+use Rattle.std.proofs.Common.{◌≡◌, ℕ, zero, suc, ◌+◌, ◌-◌, ◌<◌, ◌==◌, ◌⊎◌, inl, inr, Bool, true, false, not, ◌&&◌, List, [], ◌∷◌, ◌++◌, length, take, drop}
+use Rattle.std.proofs.Common.{fold, Option, None, Some, if◌then◌else◌, sym, ap, ap₂, subst, ◌∙◌, refl, arith, true≢false, ◌≤◌, append_assoc}
 use Rattle.std.specs.List.{list_all}
 use Rattle.std.specs.Str.{byte}
 use Rattle.std.proofs.lemmas.List.{take-append-drop, drop-drop, take-take, drop-take, length-drop, length-take-le}
@@ -13,7 +14,8 @@ use Rattle.btx_names.specs.declared.runs.Stop.TheVariants.{Break, Comma}
 use Rattle.btx_names.specs.language.Runs.{is_break, stops, run_len}
 use Rattle.btx_names.specs.language.Tokens.{NameToken, joint_of, tokens_from, tokens_of}
 use Rattle.btx_names.specs.language.NameLists.{names_of}
-use Rattle.btx_names.specs.language.NameParts.{NameParts, Sections, One, Two, Three, before_final, before_first, cut_again, cut_first, is_hyphen, parts_by, sections_of, split_at_comma, up_to_last, von_end}
+use Rattle.btx_names.specs.language.NameParts.{NameParts, Sections, One, Two, Three, before_final, before_first, cut_again, cut_first, is_hyphen, parts_by}
+use Rattle.btx_names.specs.language.NameParts.{sections_of, split_at_comma, up_to_last, von_end}
 use Rattle.btx_names.specs.declared.name_tokens.Joint.{Joint}
 use Rattle.btx_names.specs.declared.name_tokens.Joint.TheVariants.{Space, Tie, Hyphen}
 use Rattle.btx_names.specs.language.Formats.{is_legal, items_of}
@@ -25,7 +27,8 @@ use Rattle.std.specs.Option.{option_map_or}
 use Rattle.btx_names.specs.language.VonTokens.{is_von as is_von_computed}
 use Rattle.btx_core.proofs.ComputedLemmas.{computed}
 use Rattle.btx_names.proofs.GapLemmas.{names_between}
-use Rattle.btx_core.specs.language.Names.{IsFront, AreNames, AreTokens, AreVonLast, AreParts, AreDivisions, CutsAt, HasVon, HasNoVon, IsCut, IsFormat, is_von, sections}
+use Rattle.btx_core.specs.language.Names.{IsFront, AreNames, AreTokens, AreVonLast, AreParts, AreDivisions, CutsAt, HasVon, HasNoVon, IsCut, IsFormat, is_von}
+use Rattle.btx_core.specs.language.Names.{sections}
 
 -- ---- fronts
 
@@ -33,24 +36,28 @@ no_list : {X : Type 0} (a : List X) (x : X) (m : List X) → [] ≡ a ++ x ∷ m
 no_list [] x m e = absurd (cc)
 no_list (y ∷ a) x m e = absurd (cc)
 
-run_none : (stop : Stop) (d : ℕ) (text before behind : List ℕ) (b : ℕ) → take (run_len stop d text) text ≡ before ++ b ∷ behind → fold depth_after d before ≡ 0 → stops stop b ≡ false
+run_none : (stop : Stop) (d : ℕ) (text before behind : List ℕ) (b : ℕ) → take (run_len stop d text) text ≡ before ++ b ∷ behind → fold depth_after d before ≡ 0
+    → stops stop b ≡ false
 unfolding run_len
 run_none stop d [] before behind b e z = absurd (no_list before b behind e)
-run_none stop d (x ∷ xs) before behind b e z = by (d == 0) (stops stop x) refl refl before e z (λ before e z. run_none stop (depth_after d x) xs before behind b e z) where
-  by : (zero_ hit : Bool) → (d == 0) ≡ zero_ → stops stop x ≡ hit → (before : List ℕ) → take (if zero_ && hit then 0 else suc (run_len stop (depth_after d x) xs)) (x ∷ xs) ≡ before ++ b ∷ behind
-      → fold depth_after d before ≡ 0
-      → ((before : List ℕ) → take (run_len stop (depth_after d x) xs) xs ≡ before ++ b ∷ behind → fold depth_after (depth_after d x) before ≡ 0 → stops stop b ≡ false) → stops stop b ≡ false
-  by true true h k before e z more = absurd (no_list before b behind e)
-  by true false h k [] e z more = let same : x ≡ b = cc in subst (λ c. stops stop c ≡ false) same k
-  by true false h k (y ∷ before) e z more =
-      let same : x ≡ y = cc in
-      let rest : take (run_len stop (depth_after d x) xs) xs ≡ before ++ b ∷ behind = cc in
-      more before rest (ap (λ c. fold depth_after (depth_after d c) before) same ∙ z)
-  by false hit h k [] e z more = absurd (true≢false (sym (eq-eqb d 0 z) ∙ h))
-  by false hit h k (y ∷ before) e z more =
-      let same : x ≡ y = cc in
-      let rest : take (run_len stop (depth_after d x) xs) xs ≡ before ++ b ∷ behind = cc in
-      more before rest (ap (λ c. fold depth_after (depth_after d c) before) same ∙ z)
+run_none stop d (x ∷ xs) before behind b e z =
+    by (d == 0) (stops stop x) refl refl before e z (λ before e z. run_none stop (depth_after d x) xs before behind b e z) where
+      by : (zero_ hit : Bool) → (d == 0) ≡ zero_ → stops stop x ≡ hit → (before : List ℕ)
+          → take (if zero_ && hit then 0 else suc (run_len stop (depth_after d x) xs)) (x ∷ xs) ≡ before ++ b ∷ behind
+          → fold depth_after d before ≡ 0
+          → ((before : List ℕ) → take (run_len stop (depth_after d x) xs) xs ≡ before ++ b ∷ behind → fold depth_after (depth_after d x) before ≡ 0
+          → stops stop b ≡ false) → stops stop b ≡ false
+      by true true h k before e z more = absurd (no_list before b behind e)
+      by true false h k [] e z more = let same : x ≡ b = cc in subst (λ c. stops stop c ≡ false) same k
+      by true false h k (y ∷ before) e z more =
+          let same : x ≡ y = cc in
+          let rest : take (run_len stop (depth_after d x) xs) xs ≡ before ++ b ∷ behind = cc in
+          more before rest (ap (λ c. fold depth_after (depth_after d c) before) same ∙ z)
+      by false hit h k [] e z more = absurd (true≢false (sym (eq-eqb d 0 z) ∙ h))
+      by false hit h k (y ∷ before) e z more =
+          let same : x ≡ y = cc in
+          let rest : take (run_len stop (depth_after d x) xs) xs ≡ before ++ b ∷ behind = cc in
+          more before rest (ap (λ c. fold depth_after (depth_after d c) before) same ∙ z)
 
 abbrev Ends : (ℕ → Bool) → ℕ → List ℕ → List ℕ → Type 0
 Ends test d front rest = (rest ≡ []) ⊎ ((fold depth_after d front ≡ 0) × (begins test rest ≡ true))
@@ -59,8 +66,10 @@ run_ends : (stop : Stop) (d : ℕ) (text : List ℕ) → Ends (stops stop) d (ta
 unfolding run_len
 run_ends stop d [] = inl refl
 run_ends stop d (x ∷ xs) = by (d == 0) (stops stop x) refl refl (run_ends stop (depth_after d x) xs) where
-  by : (zero_ hit : Bool) → (d == 0) ≡ zero_ → stops stop x ≡ hit → Ends (stops stop) (depth_after d x) (take (run_len stop (depth_after d x) xs) xs) (drop (run_len stop (depth_after d x) xs) xs)
-      → Ends (stops stop) d (take (if zero_ && hit then 0 else suc (run_len stop (depth_after d x) xs)) (x ∷ xs)) (drop (if zero_ && hit then 0 else suc (run_len stop (depth_after d x) xs)) (x ∷ xs))
+  by : (zero_ hit : Bool) → (d == 0) ≡ zero_ → stops stop x ≡ hit → Ends (stops stop) (depth_after d x) (take (run_len stop (depth_after d x) xs) xs)
+      (drop (run_len stop (depth_after d x) xs) xs)
+      → Ends (stops stop) d (take (if zero_ && hit then 0 else suc (run_len stop (depth_after d x) xs)) (x ∷ xs))
+      (drop (if zero_ && hit then 0 else suc (run_len stop (depth_after d x) xs)) (x ∷ xs))
   by true true h k more = inr (eqb-true d 0 h, k)
   by true false h k more = more
   by false hit h k more = more
@@ -87,7 +96,8 @@ run_is : (b : ℕ) (bs : List ℕ) → is_break b ≡ false → run_len Break 0 
 unfolding run_len
 run_is b bs h = ap (λ (t : Bool). if t then 0 else suc (run_len Break (depth_after 0 b) bs)) h
 
-less_one : (k b : ℕ) (bs : List ℕ) → AreTokens (drop (suc k - 1) bs) (tokens_from (suc k - 1) bs) → AreTokens (drop (suc k) (b ∷ bs)) (tokens_from (suc k - 1) bs)
+less_one : (k b : ℕ) (bs : List ℕ) → AreTokens (drop (suc k - 1) bs) (tokens_from (suc k - 1) bs)
+    → AreTokens (drop (suc k) (b ∷ bs)) (tokens_from (suc k - 1) bs)
 less_one k b bs h = let z : suc k - 1 ≡ k = omega arith in subst (λ n. AreTokens (drop n bs) (tokens_from (suc k - 1) bs)) z h
 
 tokens_at : (skip : ℕ) (text : List ℕ) → AreTokens (drop skip text) (tokens_from skip text)
@@ -96,10 +106,24 @@ tokens_at zero [] = refl
 tokens_at (suc skip) [] = refl
 tokens_at (suc skip) (b ∷ bs) = tokens_at skip bs
 tokens_at zero (b ∷ bs) = by (is_break b) refl (tokens_at zero bs) (tokens_at (run_len Break 0 (b ∷ bs) - 1) bs) where
-  by : (t : Bool) → is_break b ≡ t → AreTokens bs (tokens_from zero bs) → AreTokens (drop (run_len Break 0 (b ∷ bs) - 1) bs) (tokens_from (run_len Break 0 (b ∷ bs) - 1) bs)
-      → AreTokens (b ∷ bs) (if t then tokens_from zero bs else record { text = take (run_len Break 0 (b ∷ bs)) (b ∷ bs); joint = joint_of (drop (run_len Break 0 (b ∷ bs)) (b ∷ bs)) } ∷ tokens_from (run_len Break 0 (b ∷ bs) - 1) bs)
+  by : (t : Bool) → is_break b ≡ t → AreTokens bs (tokens_from zero bs)
+      → AreTokens (drop (run_len Break 0 (b ∷ bs) - 1) bs) (tokens_from (run_len Break 0 (b ∷ bs) - 1) bs)
+      → AreTokens (b ∷ bs) (if t then tokens_from zero bs else record {
+        text = take (run_len Break 0 (b ∷ bs)) (b ∷ bs);
+        joint =
+            joint_of (drop (run_len Break 0 (b ∷ bs)) (b ∷ bs));
+      } ∷ tokens_from (run_len Break 0 (b ∷ bs) - 1) bs)
   by true h more others = break_before b bs (tokens_from zero bs) h more
-  by false h more others = ([], drop (run_len Break 0 (b ∷ bs)) (b ∷ bs), sym (take-append-drop (run_len Break 0 (b ∷ bs)) (b ∷ bs)), refl, some, run_front Break (b ∷ bs), refl, moved) where
+  by false h more others = (
+    [],
+    drop (run_len Break 0 (b ∷ bs)) (b ∷ bs),
+    sym (take-append-drop (run_len Break 0 (b ∷ bs)) (b ∷ bs)),
+    refl,
+    some,
+    run_front Break (b ∷ bs),
+    refl,
+    moved,
+  ) where
     size_is : run_len Break 0 (b ∷ bs) ≡ suc (run_len Break (depth_after 0 b) bs)
     size_is = run_is b bs h
 
@@ -120,7 +144,8 @@ tokens_there text = tokens_at zero text
 cut_there_by : (name front rest : List ℕ) → name ≡ front ++ rest → IsFront (λ b. b == byte ",") front rest → (t : Bool) → list_all is_break (drop 1 rest) ≡ t
     → IsCut name (if t then None else Some (front, drop 1 rest))
 cut_there_by name front rest e h true k = λ f r c. cut_false name front rest e h k f r c where
-  cut_false : (name front rest : List ℕ) → name ≡ front ++ rest → IsFront (λ b. b == byte ",") front rest → list_all is_break (drop 1 rest) ≡ true → (f r : List ℕ) → CutsAt name f r → ⊥
+  cut_false : (name front rest : List ℕ) → name ≡ front ++ rest → IsFront (λ b. b == byte ",") front rest → list_all is_break (drop 1 rest) ≡ true
+      → (f r : List ℕ) → CutsAt name f r → ⊥
   cut_false name front rest e h k f r c =
       let same = front_one (λ b. b == byte ",") front rest f (byte "," ∷ r) (sym e ∙ c.joined) h c.first in
       absurd (true≢false (sym k ∙ ap (λ l. list_all is_break (drop 1 l)) same.1 ∙ c.counts))
@@ -142,7 +167,8 @@ cut_there name =
     let size = run_len Comma 0 name in
     let one_more : drop (size + 1) name ≡ drop 1 (drop size name) = sym (rw (drop-drop 1 size name) refl) in
     subst (λ after. IsCut name (if list_all is_break after then None else Some (take size name, after))) (sym one_more)
-    (cut_there_by name (take size name) (drop size name) (sym (take-append-drop size name)) (run_front Comma name) (list_all is_break (drop 1 (drop size name))) refl)
+    (cut_there_by name (take size name) (drop size name) (sym (take-append-drop size name)) (run_front Comma name) (list_all is_break (drop 1 (drop size name)))
+    refl)
 
 -- ---- von and Last
 
@@ -163,7 +189,8 @@ module _ (passes : NameToken → Bool) where
   rest_none [] left right t next e = absurd (no_list left t (next ∷ right) e)
   rest_none (x ∷ []) left right t next e = absurd (nothing_long x left right t next e)
   rest_none (x ∷ y ∷ ys) left right t next e = by (reach (y ∷ ys)) (passes x) refl (λ left right t next e. rest_none (y ∷ ys) left right t next e) left e where
-    by : (m : ℕ) (p : Bool) → passes x ≡ p → HaveNone (drop m (y ∷ ys)) → (left : List NameToken) → drop (if nat_lt 0 m then suc m else if p then 1 else 0) (x ∷ y ∷ ys) ≡ left ++ t ∷ next ∷ right → passes t ≡ false
+    by : (m : ℕ) (p : Bool) → passes x ≡ p → HaveNone (drop m (y ∷ ys)) → (left : List NameToken)
+        → drop (if nat_lt 0 m then suc m else if p then 1 else 0) (x ∷ y ∷ ys) ≡ left ++ t ∷ next ∷ right → passes t ≡ false
     by (suc m) p h more left e = let some : nat_lt 0 (suc m) ≡ true = lt-ltb 0 (suc m) (omega arith) in more left right t next (rw some at e)
     by zero true h more left e = more left right t next e
     by zero false h more [] e = let same : x ≡ t = cc in subst (λ u. passes u ≡ false) same h
@@ -226,7 +253,8 @@ module _ (passes : NameToken → Bool) where
   unfolding before_first
   before_none [] left right t e = absurd (no_list left t right e)
   before_none (x ∷ xs) left right t e = by (passes x) refl (λ left e. before_none xs left right t e) left e where
-    by : (p : Bool) → passes x ≡ p → ((left : List NameToken) → take (before_first passes xs) xs ≡ left ++ t ∷ right → passes t ≡ false) → (left : List NameToken)
+    by : (p : Bool) → passes x ≡ p → ((left : List NameToken) → take (before_first passes xs) xs ≡ left ++ t ∷ right → passes t ≡ false)
+        → (left : List NameToken)
         → take (if p then 0 else suc (before_first passes xs)) (x ∷ xs) ≡ left ++ t ∷ right → passes t ≡ false
     by true h more left e = absurd (no_list left t right e)
     by false h more [] e = let same : x ≡ t = cc in subst (λ u. passes u ≡ false) same h
@@ -236,7 +264,8 @@ module _ (passes : NameToken → Bool) where
   unfolding before_first
   first_yes [] right t e = absurd (no_list [] t right e)
   first_yes (x ∷ xs) right t e = by (passes x) refl (first_yes xs right t) e where
-    by : (p : Bool) → passes x ≡ p → (drop (before_first passes xs) xs ≡ t ∷ right → passes t ≡ true) → drop (if p then 0 else suc (before_first passes xs)) (x ∷ xs) ≡ t ∷ right → passes t ≡ true
+    by : (p : Bool) → passes x ≡ p → (drop (before_first passes xs) xs ≡ t ∷ right → passes t ≡ true)
+        → drop (if p then 0 else suc (before_first passes xs)) (x ∷ xs) ≡ t ∷ right → passes t ≡ true
     by true h more e = let same : x ≡ t = cc in subst (λ u. passes u ≡ true) same h
     by false h more e = more e
 
@@ -283,7 +312,8 @@ three tokens start end le =
     let size : start + (end - start) ≡ end = omega (arith, le) in
     let rest : drop (end - start) (drop start tokens) ≡ drop end tokens = drop-drop (end - start) start tokens ∙ ap (λ n. drop n tokens) size in
     sym (take-append-drop start tokens)
-    ∙ ap (λ more. take start tokens ++ more) (sym (take-append-drop (end - start) (drop start tokens)) ∙ ap (λ more. take (end - start) (drop start tokens) ++ more) rest)
+    ∙ ap (λ more. take start tokens ++ more) (sym (take-append-drop (end - start) (drop start tokens))
+    ∙ ap (λ more. take (end - start) (drop start tokens) ++ more) rest)
 
 front_two : (tokens : List NameToken) (start end : ℕ) → start ≤ end → take end tokens ≡ take start tokens ++ take (end - start) (drop start tokens)
 front_two tokens start end le =
@@ -341,7 +371,8 @@ without_von_there tokens zero_ =
       some = λ e. never_all is_apart tokens e;
     }
 
-unsplit_by : (tokens : List NameToken) (t : Bool) → nat_lt 0 (von_end tokens) ≡ t → HasVon computed tokens (parts_if t tokens) ⊎ HasNoVon computed tokens (parts_if t tokens)
+unsplit_by : (tokens : List NameToken) (t : Bool) → nat_lt 0 (von_end tokens) ≡ t → HasVon computed tokens (parts_if t tokens)
+    ⊎ HasNoVon computed tokens (parts_if t tokens)
 unsplit_by tokens true e = inl (with_von_there tokens (ltb-true 0 (von_end tokens) e))
 unsplit_by tokens false e = let le = ltb-false 0 (von_end tokens) e in inr (without_von_there tokens (omega (arith, le)))
 
@@ -350,13 +381,15 @@ parts_of_sections (One name) = (unsplit_by (tokens_of name) (nat_lt 0 (von_end (
 parts_of_sections (Two surname first) = (von_last_there (tokens_of surname), refl, refl)
 parts_of_sections (Three surname jr first) = (von_last_there (tokens_of surname), refl, refl)
 
-sections_by : (name : List ℕ) (cut : Option (List ℕ × List ℕ)) → option_map_or (λ (cut : List ℕ × List ℕ). cut_again cut.0 cut.1 (split_at_comma cut.1)) cut (One name) ≡ cut_first name cut
+sections_by : (name : List ℕ) (cut : Option (List ℕ × List ℕ)) → option_map_or (λ (cut : List ℕ × List ℕ). cut_again cut.0 cut.1 (split_at_comma cut.1)) cut
+    (One name) ≡ cut_first name cut
 sections_by name None = refl
 sections_by name (Some cut) = refl
 
 pub parts_there : (name : List ℕ) → AreParts computed (sections computed name) (parts_by (sections_of name))
 unfolding sections_of
-parts_there name = subst (λ s. AreParts computed s (parts_by (cut_first name (split_at_comma name)))) (sym (sections_by name (split_at_comma name))) (parts_of_sections (cut_first name (split_at_comma name)))
+parts_there name = subst (λ s. AreParts computed s (parts_by (cut_first name (split_at_comma name)))) (sym (sections_by name (split_at_comma name)))
+    (parts_of_sections (cut_first name (split_at_comma name)))
 
 -- ---- formats: what is written so is legal. That each legal format is written so isn't proved yet
 

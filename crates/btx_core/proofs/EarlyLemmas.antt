@@ -40,7 +40,12 @@ whole ending lines = record {
 }
 
 whole_is : (ending : End) (lines : List Line) → whole ending lines ≡ ends_with ending 0 0 [] lines
-whole_is ending lines = λ i. record { bbl = []; log_so_far = append-nil (flat_map (λ (line : Line). ended_line line.text) lines) i; report = report_of ending 0 0 (counts_of lines) }
+whole_is ending lines = λ i. record {
+  bbl = [];
+  log_so_far = append-nil (flat_map (λ (line : Line). ended_line line.text) lines) i;
+  report =
+      report_of ending 0 0 (counts_of lines);
+}
 
 end_one : (a b : End) → Ends a ≡ Ends b → a ≡ b
 end_one a b e = cc
@@ -50,7 +55,8 @@ found_ends found ending e = absurd (cc)
 
 -- with the lines that are logged
 ended_is : (ending other : End) (lines more : List Line) → lines ≡ more → Ends other ≡ Ends ending → whole ending lines ≡ ends_with other 0 0 [] more
-ended_is ending other lines more e h = whole_is ending lines ∙ ap (λ l. ends_with ending 0 0 [] l) e ∙ ap (λ x. ends_with x 0 0 [] more) (sym (end_one other ending h))
+ended_is ending other lines more e h = whole_is ending lines ∙ ap (λ l. ends_with ending 0 0 [] l) e
+    ∙ ap (λ x. ends_with x 0 0 [] more) (sym (end_one other ending h))
 
 -- a style that was found
 abbrev read_if : Bool → Files → AuxJob → NamedFile → Logged FilesRead
@@ -60,19 +66,22 @@ read_if t files job style =
 
 early_found : (t : Bool) (files : Files) (job : AuxSaid) (name text : List ℕ) (options : Options) (ending : End)
     → (read_if t files (job_said job) (record { name = name; bytes = text })).gives ≡ Ends ending
-    → IsFound t files job name text (job.log ++ style_line name ∷ []) options (whole ending (job.log ++ style_line name ∷ (read_if t files (job_said job) (record { name = name; bytes = text })).lines))
+    → IsFound t files job name text (job.log ++ style_line name ∷ []) options
+    (whole ending (job.log ++ style_line name ∷ (read_if t files (job_said job) (record { name = name; bytes = text })).lines))
 early_found true files job name text options ending h = ended_is ending (ended.Limit limit.File) _ _ refl h
 early_found false files job name text options ending h = absurd (found_ends _ ending h)
 
 early_named : (f : Option (List ℕ)) (files : Files) (job : AuxSaid) (name : List ℕ) (options : Options) (ending : End)
     → (style_read files (job_said job) name (option_map (λ (bytes : List ℕ). record { name = name; bytes = bytes }) f)).gives ≡ Ends ending
-    → IsNamed f files job name options (whole ending (job.log ++ (style_read files (job_said job) name (option_map (λ (bytes : List ℕ). record { name = name; bytes = bytes }) f)).lines))
+    → IsNamed f files job name options (whole ending
+    (job.log ++ (style_read files (job_said job) name (option_map (λ (bytes : List ℕ). record { name = name; bytes = bytes }) f)).lines))
 unfolding style_read
 early_named None files job name options ending h = ended_is ending ended.Finished _ _ refl h
 early_named (Some text) files job name options ending h = early_found (is_too_long text) files job name text options ending h
 
 early_asked : (s : Option (List ℕ)) (files : Files) (job : AuxSaid) (options : Options) (ending : End)
-    → (style_named files (job_said job) s).gives ≡ Ends ending → IsAsked s files job options (whole ending (job.log ++ (style_named files (job_said job) s).lines))
+    → (style_named files (job_said job) s).gives ≡ Ends ending
+    → IsAsked s files job options (whole ending (job.log ++ (style_named files (job_said job) s).lines))
 unfolding style_named
 early_asked None files job options ending h = ended_is ending ended.Finished _ _ (append-nil job.log) h
 early_asked (Some name) files job options ending h = early_named (files name) files job name options ending h

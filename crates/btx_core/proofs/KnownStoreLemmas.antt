@@ -1,5 +1,6 @@
 -- All that stands on the stack of a run is known to its style: what a step pushes and runs is what the style has.
-use Rattle.std.proofs.Common.{◌≡◌, ℕ, ℤ, pos, negsuc, zero, suc, ◌<◌, Bool, true, false, if◌then◌else◌, List, [], ◌∷◌, ◌++◌, length, drop, take, nat_lt, Option, None, Some, option_and_then, sym, subst, refl, codes, int_eq, int_lt, ◌+ℤ◌, ◌-ℤ◌}
+use Rattle.std.proofs.Common.{◌≡◌, ℕ, ℤ, pos, negsuc, zero, suc, ◌<◌, Bool, true, false, if◌then◌else◌, List, [], ◌∷◌, ◌++◌, length, drop, take, nat_lt, Option}
+use Rattle.std.proofs.Common.{None, Some, option_and_then, sym, subst, refl, codes, int_eq, int_lt, ◌+ℤ◌, ◌-ℤ◌}
 use Rattle.std.specs.Option.{option_or, option_map_or}
 use Rattle.std.specs.Str.{bytes_eq}
 use Rattle.std.specs.List.{list_all}
@@ -31,7 +32,8 @@ use Rattle.btx_step.specs.language.Arithmetic as arithmetic
 use Rattle.btx_step.specs.language.Control as control
 use Rattle.btx_step.specs.language.Entries as entries
 use Rattle.btx_step.specs.language.Jobs.{Job}
-use Rattle.btx_step.specs.language.Operands.{Operand, Any, Of, Value, Does, Default, Push, Back, seen_as, applied, absent, wrong, or_else, or_default, on_operands}
+use Rattle.btx_step.specs.language.Operands.{Operand, Any, Of, Value, Does, Default, Push, Back, seen_as, applied, absent, wrong, or_else, or_default}
+use Rattle.btx_step.specs.language.Operands.{on_operands}
 use Rattle.btx_step.specs.language.Steps.{built_in_run, function_run, step_of}
 use Rattle.btx_step.specs.language.Stores.{Store}
 use Rattle.btx_step.specs.language.Strings as strings
@@ -109,37 +111,44 @@ module _ (job : Job) (refers : RefersWithin job.style) where
   apply_fine : (os : List Operand) (does : Does os) → IsFine os does → (xs : List Literal) → HasAll xs → IsFineIf (applied os does xs)
   apply_fine [] does h xs k = h
   apply_fine (o ∷ os) does h [] k = tt
-  apply_fine (o ∷ os) does h (x ∷ xs) k = fine_then (seen_as o x) (λ v. applied os (does v) xs) (λ v e. apply_fine os (does v) (h v (seen_fine o x v k.0 e)) xs k.1)
+  apply_fine (o ∷ os) does h (x ∷ xs) k =
+      fine_then (seen_as o x) (λ v. applied os (does v) xs) (λ v e. apply_fine os (does v) (h v (seen_fine o x v k.0 e)) xs k.1)
 
   drop_fine : (n : ℕ) (xs : List Literal) → HasAll xs → HasAll (drop n xs)
   drop_fine zero xs k = k
   drop_fine (suc n) [] k = tt
   drop_fine (suc n) (x ∷ xs) k = drop_fine n xs k.1
 
-  default_fine : (m : Option (Store → Answer)) → IsFineIf m → (default : Default) (ns : List Note) (seen below : List Literal) (s : Store) → HasAll seen → HasAll below → Fine (or_default m default ns seen below s)
+  default_fine : (m : Option (Store → Answer)) → IsFineIf m → (default : Default) (ns : List Note) (seen below : List Literal) (s : Store) → HasAll seen
+      → HasAll below → Fine (or_default m default ns seen below s)
   default_fine (Some go) h default ns seen below s k l = h (with_literals below s) l
   default_fine None h (Push instead) ns seen below s k l = complaining ns instead (with_literals below s) l
   default_fine None h Back ns seen below s k l = (k, tt)
 
-  by_operands : (os : List Operand) (default : Default) (does : Does os) → IsFine os does → (xs : List Literal) (s : Store) → HasAll xs → Fine (on_operands os default does xs s)
+  by_operands : (os : List Operand) (default : Default) (does : Does os) → IsFine os does → (xs : List Literal) (s : Store) → HasAll xs
+      → Fine (on_operands os default does xs s)
   by_operands os default does h xs s k =
-      default_fine (applied os does xs) (apply_fine os does h xs k) default (or_else (absent os xs) (wrong os xs)) xs (drop (length os) xs) s k (drop_fine (length os) xs k)
+      default_fine (applied os does xs) (apply_fine os does h xs k) default (or_else (absent os xs) (wrong os xs)) xs (drop (length os) xs) s k
+      (drop_fine (length os) xs k)
 
   -- ---- rows
 
-  stores_integer_fine : (store : ℤ → Store → Store) → ((n : ℤ) (s : Store) → (store n s).literals ≡ s.literals) → (v : Literal) (s : Store) → HasAll s.literals → Fine (variables.stores_integer store v s)
+  stores_integer_fine : (store : ℤ → Store → Store) → ((n : ℤ) (s : Store) → (store n s).literals ≡ s.literals) → (v : Literal) (s : Store) → HasAll s.literals
+      → Fine (variables.stores_integer store v s)
   stores_integer_fine store same (literal.Integer n) s k = (subst HasAll (sym (same n s)) k, tt)
   stores_integer_fine store same (literal.Text n) s k = complaining (note.WrongKind (literal.Text n) wanted.Integer ∷ []) stand_in.Nothing s k
   stores_integer_fine store same (literal.Function n) s k = complaining (note.WrongKind (literal.Function n) wanted.Integer ∷ []) stand_in.Nothing s k
   stores_integer_fine store same literal.Missing s k = complaining (note.WrongKind literal.Missing wanted.Integer ∷ []) stand_in.Nothing s k
 
-  stores_string_fine : (most : ℕ) (store : List ℕ → Store → Store) → ((t : List ℕ) (s : Store) → (store t s).literals ≡ s.literals) → (v : Literal) (s : Store) → HasAll s.literals → Fine (variables.stores_string most store v s)
+  stores_string_fine : (most : ℕ) (store : List ℕ → Store → Store) → ((t : List ℕ) (s : Store) → (store t s).literals ≡ s.literals) → (v : Literal) (s : Store)
+      → HasAll s.literals → Fine (variables.stores_string most store v s)
   stores_string_fine most store same (literal.Text text) s k = (subst HasAll (sym (same (take most text) s)) k, tt)
   stores_string_fine most store same (literal.Integer n) s k = complaining (note.WrongKind (literal.Integer n) wanted.Text ∷ []) stand_in.Nothing s k
   stores_string_fine most store same (literal.Function n) s k = complaining (note.WrongKind (literal.Function n) wanted.Text ∷ []) stand_in.Nothing s k
   stores_string_fine most store same literal.Missing s k = complaining (note.WrongKind literal.Missing wanted.Text ∷ []) stand_in.Nothing s k
 
-  in_entry_fine : (go : ℕ → Store → Answer) (current : Option ℕ) (s : Store) → HasAll s.literals → ((e : ℕ) → Fine (go e s)) → Fine (variables.in_entry go current s)
+  in_entry_fine : (go : ℕ → Store → Answer) (current : Option ℕ) (s : Store) → HasAll s.literals → ((e : ℕ) → Fine (go e s))
+      → Fine (variables.in_entry go current s)
   in_entry_fine go None s k h = complaining (note.NoEntry ∷ []) stand_in.Nothing s k
   in_entry_fine go (Some e) s k h = h e
 
@@ -147,7 +156,8 @@ module _ (job : Job) (refers : RefersWithin job.style) where
   assigns_fine (callee.GlobalInteger i) v s k = stores_integer_fine (variables.with_global_integer i) (λ n s. refl) v s k
   assigns_fine (callee.GlobalString i) v s k = stores_string_fine job.global_max (variables.with_global_string i) (λ n s. refl) v s k
   assigns_fine (callee.EntryInteger i) v s k = in_entry_fine _ s.current s k (λ e. stores_integer_fine (variables.with_entry_integer e i) (λ n s. refl) v s k)
-  assigns_fine (callee.EntryString i) v s k = in_entry_fine _ s.current s k (λ e. stores_string_fine job.entry_max (variables.with_entry_string e i) (λ n s. refl) v s k)
+  assigns_fine (callee.EntryString i) v s k =
+      in_entry_fine _ s.current s k (λ e. stores_string_fine job.entry_max (variables.with_entry_string e i) (λ n s. refl) v s k)
   assigns_fine (callee.BuiltIn f) v s k = complaining (note.NotAssignable (callee.BuiltIn f) ∷ []) stand_in.Nothing s k
   assigns_fine (callee.User f) v s k = complaining (note.NotAssignable (callee.User f) ∷ []) stand_in.Nothing s k
   assigns_fine (callee.Field f) v s k = complaining (note.NotAssignable (callee.Field f) ∷ []) stand_in.Nothing s k
@@ -203,7 +213,8 @@ module _ (job : Job) (refers : RefersWithin job.style) where
   if_fine true f g h k = h
   if_fine false f g h k = k
 
-  row_fine : (types : (e n : ℕ) → entry_type (entries.entry_of job e) ≡ Some n → n < length job.style.bodies) (f : BuiltIn) → IsFine (row f).operands ((row f).does job)
+  row_fine : (types : (e n : ℕ) → entry_type (entries.entry_of job e) ≡ Some n → n < length job.style.bodies) (f : BuiltIn)
+      → IsFine (row f).operands ((row f).does job)
   row_fine types built_in.Equals = λ x p y q s k. equals_fine x y s k
   row_fine types built_in.Greater = λ b p a q s k. truths (int_lt b a) s k
   row_fine types built_in.Less = λ b p a q s k. truths (int_lt a b) s k
@@ -213,7 +224,8 @@ module _ (job : Job) (refers : RefersWithin job.style) where
   row_fine types built_in.Assign = λ c p v q s k. assigns_fine c v s k
   row_fine types built_in.AddPeriod = λ t p s k. texting said.Nothing _ s k
   row_fine types built_in.CallType = λ s k. in_entry_fine _ s.current s k (λ e. type_fine _ s (both e) k) where
-    either : (own other : Option ℕ) → ((n : ℕ) → own ≡ Some n → n < length job.style.bodies) → ((n : ℕ) → other ≡ Some n → n < length job.style.bodies) → (n : ℕ) → option_or own other ≡ Some n → n < length job.style.bodies
+    either : (own other : Option ℕ) → ((n : ℕ) → own ≡ Some n → n < length job.style.bodies) → ((n : ℕ) → other ≡ Some n → n < length job.style.bodies)
+        → (n : ℕ) → option_or own other ≡ Some n → n < length job.style.bodies
     either None other h g n e = g n e
     either (Some m) other h g n e = h n e
 
@@ -257,7 +269,8 @@ module _ (job : Job) (refers : RefersWithin job.style) where
     by_row f s k = by_operands (row f).operands (row f).default ((row f).does job) (row_fine types f) s.literals s k
 
     missing_run : (c : Option ℕ) (s : Store) → HasAll s.literals → Fine (runs_missing c s)
-    missing_run None s k = complaining (absent (Any ∷ []) s.literals ++ note.NoEntry ∷ []) stand_in.Nothing (with_literals (drop 1 s.literals) s) (drop_fine 1 s.literals k)
+    missing_run None s k = complaining (absent (Any ∷ []) s.literals ++ note.NoEntry ∷ []) stand_in.Nothing (with_literals (drop 1 s.literals) s)
+        (drop_fine 1 s.literals k)
     missing_run (Some e) s k = by_row built_in.Missing s k
 
     pub built_in_fine : (f : BuiltIn) (s : Store) → HasAll s.literals → Fine (built_in_run job f s)
@@ -276,7 +289,8 @@ module _ (job : Job) (refers : RefersWithin job.style) where
     function_fine (callee.GlobalString i) s h k = pushing said.Nothing _ s tt k
 
     -- a step leaves what the style has, and what it runs the style has
-    pub step_fine : (t : Token) (s : Store) → Refers job.style.names (length job.style.texts) (length job.style.bodies) t → HasAll s.literals → Fine (step_of job t s)
+    pub step_fine : (t : Token) (s : Store) → Refers job.style.names (length job.style.texts) (length job.style.bodies) t → HasAll s.literals
+        → Fine (step_of job t s)
     unfolding step_of
     step_fine (token.Text i) s h k = texting said.Nothing _ s k
     step_fine (token.Integer n) s h k = pushing said.Nothing _ s tt k

@@ -1,5 +1,6 @@
 -- Databases give one library.
-use Rattle.std.proofs.Common.{◌≡◌, ℕ, ◌++◌, List, [], ◌∷◌, Bool, true, false, Option, None, Some, Result, Ok, Err, sym, ap, subst, ◌∙◌, refl, zero, suc, ◌<◌, length, arith}
+use Rattle.std.proofs.Common.{◌≡◌, ℕ, ◌++◌, List, [], ◌∷◌, Bool, true, false, Option, None, Some, Result, Ok, Err, sym, ap, subst, ◌∙◌, refl, zero, suc, ◌<◌}
+use Rattle.std.proofs.Common.{length, arith}
 use Rattle.btx_bib.specs.declared.grammar.commands.Wanted.{Wanted}
 use Rattle.btx_bib.specs.declared.grammar.commands.Wanted.TheVariants.{Item}
 use Rattle.btx_bib.specs.declared.grammar.slip.Slip.{Slip}
@@ -15,8 +16,9 @@ use Rattle.btx_core.specs.language.Styles.{Library}
 use Rattle.btx_core.specs.language.Databases.{Request, Known, keeping, known_after, closed, AreEvents, IsReadBy, AreRead, with_macros}
 use Rattle.btx_core.specs.language.Lists.{Slot, IsInherited, no_entry_line, entry_at, places, parent_messages, slots_of, IsGathered, IsLibrary}
 use Rattle.btx_core.proofs.StandsLemmas.{stands-step, nothing-step, step-stands, known-outcome, OptionStands}
-use Rattle.btx_bib.proofs.GrammarLemmas.LengthLemmas.{left, StepsTo, next-leaves}
+use Rattle.btx_bib.proofs.GrammarLemmas.LengthLemmas.{StepsTo, next-leaves}
 use Rattle.btx_bib.specs.refinement.Grammar.Items.{known_step}
+use Rattle.btx_bib.specs.refinement.Grammar.Reads.{left}
 use Rattle.btx_core.proofs.PartLemmas.{there_is_inheritance, upto}
 use Rattle.btx_core.proofs.PartLemmas.{one_inheritance}
 use Rattle.std.specs.List.{flat_map}
@@ -28,7 +30,8 @@ use Rattle.btx_text.specs.language.Lists.{only_if}
 abbrev known_pair : Known → Step → Event × Wanted
 known_pair known step = as_known (keeping.is_stored known) (step.event, step.wanted)
 
-outcome_is : (known : Known) (event : Event) (next : Wanted) (o : Result (Event × Wanted) Slip) (rest : List ℕ) → IsOutcome keeping known event next o → (event, next) ≡ known_pair known (step_by (read_as o rest))
+outcome_is : (known : Known) (event : Event) (next : Wanted) (o : Result (Event × Wanted) Slip) (rest : List ℕ) → IsOutcome keeping known event next o
+    → (event, next) ≡ known_pair known (step_by (read_as o rest))
 outcome_is known event next (Ok got) rest h = λ i. (h.0 i, h.1 i)
 outcome_is known event next (Err slip) rest h = λ i. (h.0 i, h.1 i)
 
@@ -40,7 +43,8 @@ some_step : (a b : Step) → Some a ≡ Some b → a ≡ b
 some_step a b e = cc
 
 -- two events that stand at one place are one
-same_step : (w : Wanted) (text : List ℕ) (o o' : Result (Event × Wanted) Slip) (front front' rest rest' : List ℕ) → front ++ rest ≡ text → front' ++ rest' ≡ text
+same_step : (w : Wanted) (text : List ℕ) (o o' : Result (Event × Wanted) Slip) (front front' rest rest' : List ℕ) → front ++ rest ≡ text
+    → front' ++ rest' ≡ text
     → Stands w o front rest → Stands w o' front' rest' → step_by (read_as o rest) ≡ step_by (read_as o' rest')
 same_step w text o o' front front' rest rest' e e' h h' =
     some_step (step_by (read_as o rest)) (step_by (read_as o' rest'))
@@ -49,7 +53,8 @@ same_step w text o o' front front' rest rest' e e' h h' =
 no_step : (step : Step) → None ≡ Some step → ⊥
 no_step step e = absurd (cc)
 
-nothing_stands : (w : Wanted) (text : List ℕ) (o : Result (Event × Wanted) Slip) (front rest : List ℕ) → w ≡ Item → HasNoAt text → front ++ rest ≡ text → Stands w o front rest → ⊥
+nothing_stands : (w : Wanted) (text : List ℕ) (o : Result (Event × Wanted) Slip) (front rest : List ℕ) → w ≡ Item → HasNoAt text → front ++ rest ≡ text
+    → Stands w o front rest → ⊥
 nothing_stands w text o front rest is none e h =
     no_step (step_by (read_as o rest)) (sym (nothing-step w text is none) ∙ ap (expected_step w) (sym e) ∙ stands-step w o front rest h)
 
@@ -61,7 +66,8 @@ events_one asked database (p ∷ ps) [] known w text last last' h k = absurd (no
 events_one asked database (p ∷ ps) (q ∷ qs) known w text last last' h k =
     let step = same_step w text h.0 k.0 h.2 k.2 p.rest q.rest h.3 k.3 h.4 k.4 in
     let rests : p.rest ≡ q.rest = sym (step_rest h.0 p.rest) ∙ ap (λ (s : Step). s.rest) step ∙ step_rest k.0 q.rest in
-    let pairs : (p.event, h.1) ≡ (q.event, k.1) = outcome_is known p.event h.1 h.0 p.rest h.5 ∙ ap (known_pair known) step ∙ sym (outcome_is known q.event k.1 k.0 q.rest k.5) in
+    let pairs : (p.event, h.1) ≡ (q.event, k.1) = outcome_is known p.event h.1 h.0 p.rest h.5 ∙ ap (known_pair known) step
+    ∙ sym (outcome_is known q.event k.1 k.0 q.rest k.5) in
     let placed : p ≡ q = λ i. record { event = (pairs i).0; rest = rests i } in
     let moved : AreEvents asked database (known_after asked database known q) k.1 q.rest ps last =
     subst (λ (t : List ℕ). AreEvents asked database (known_after asked database known q) k.1 t ps last) rests
@@ -69,12 +75,15 @@ events_one asked database (p ∷ ps) (q ∷ qs) known w text last last' h k =
     (subst (λ (x : Placed). AreEvents asked database (known_after asked database known x) h.1 p.rest ps last) placed h.6)) in
     events_one asked database ps qs (known_after asked database known q) k.1 q.rest last last' moved k.6
 
-read_by_one : (a b : Bool) (asked : Request) (known : Known) (database : Database) (next next' : Known) → IsReadBy a b asked known database next → IsReadBy a b asked known database next' → next ≡ next'
+read_by_one : (a b : Bool) (asked : Request) (known : Known) (database : Database) (next next' : Known) → IsReadBy a b asked known database next
+    → IsReadBy a b asked known database next' → next ≡ next'
 read_by_one true b asked known database next next' h k = h ∙ sym k
 read_by_one false true asked known database next next' h k = h ∙ sym k
-read_by_one false false asked known database next next' h k = h.3 ∙ ap closed (events_one asked database h.0 k.0 known Item database.text h.1 k.1 h.2 k.2) ∙ sym k.3
+read_by_one false false asked known database next next' h k = h.3 ∙ ap closed (events_one asked database h.0 k.0 known Item database.text h.1 k.1 h.2 k.2)
+    ∙ sym k.3
 
-read_one : (asked : Request) (databases : List Database) (known last last' : Known) → AreRead asked known databases last → AreRead asked known databases last' → last ≡ last'
+read_one : (asked : Request) (databases : List Database) (known last last' : Known) → AreRead asked known databases last → AreRead asked known databases last'
+    → last ≡ last'
 read_one asked [] known last last' h k = h ∙ sym k
 read_one asked (database ∷ databases) known last last' h k =
     let same = read_by_one (is_some known.limit) (is_too_long database.text) asked known database h.0 k.0 h.1 k.1 in
@@ -89,14 +98,16 @@ gathered asked known slots value = record {
   limit = None;
 }
 
-gathered_one : (limit : Option Limit) (asked : Request) (known : Known) (a b : Library) → IsGathered limit asked known a → IsGathered limit asked known b → a ≡ b
+gathered_one : (limit : Option Limit) (asked : Request) (known : Known) (a b : Library) → IsGathered limit asked known a → IsGathered limit asked known b
+    → a ≡ b
 gathered_one (Some limit) asked known a b h k = h ∙ sym k
 gathered_one None asked known a b h k =
     let slots = h.1 ∙ sym k.1 in
     let is = subst (λ s. IsInherited s h.2) slots h.3 in
     h.4 ∙ ap (λ s. gathered asked known s h.2) slots ∙ ap (gathered asked known k.0) (one_inheritance k.0 h.2 k.2 is k.3) ∙ sym k.4
 
-pub library_one : (asked : Request) (macros : List (List ℕ × List ℕ)) (databases : List Database) (a b : Library) → IsLibrary asked macros databases a → IsLibrary asked macros databases b → a ≡ b
+pub library_one : (asked : Request) (macros : List (List ℕ × List ℕ)) (databases : List Database) (a b : Library) → IsLibrary asked macros databases a
+    → IsLibrary asked macros databases b → a ≡ b
 library_one asked macros databases a b h k =
     let same = read_one asked databases (with_macros macros) h.0 k.0 h.1 k.1 in
     gathered_one k.0.limit asked k.0 a b (subst (λ (known : Known). IsGathered known.limit asked known a) same h.2) k.2
@@ -116,7 +127,8 @@ events_by asked database known w text (Some step) h less others =
     let more = others (known_after asked database known placed) got.1 step.rest less in
     (placed ∷ more.0, more.1, (h.0, got.1, h.1, h.2, h.4, known-outcome keeping known step.event step.wanted h.0 h.3, more.2))
 
-unfoldable pub events_there : (m : ℕ) (asked : Request) (database : Database) (known : Known) (w : Wanted) (text : List ℕ) → left w (length text) < m → Events asked database known w text
+unfoldable pub events_there : (m : ℕ) (asked : Request) (database : Database) (known : Known) (w : Wanted) (text : List ℕ) → left w (length text) < m
+    → Events asked database known w text
 events_there zero asked database known w text lt = absurd (omega (arith, lt))
 events_there (suc m) asked database known w text lt =
     events_by asked database known w text (expected_step w text) (step-stands w text) (next-leaves (keeping.is_stored known) w text)
@@ -143,7 +155,8 @@ gathering None asked known =
     let value : ℕ → List ℕ → Option (List ℕ) = λ i name. upto slots (suc i) i name in
     (gathered asked known slots value, (slots, refl, value, there_is_inheritance slots, refl))
 
-unfoldable pub there_is_library : (asked : Request) (macros : List (List ℕ × List ℕ)) (databases : List Database) → (library : Library) × IsLibrary asked macros databases library
+unfoldable pub there_is_library : (asked : Request) (macros : List (List ℕ × List ℕ)) (databases : List Database)
+    → (library : Library) × IsLibrary asked macros databases library
 there_is_library asked macros databases =
     let h = all_read asked databases (with_macros macros) in
     let g = gathering h.0.limit asked h.0 in

@@ -28,13 +28,15 @@ weaker e e' b b' o o' le le' h = (h.0, less e e' b b' o le le' h.1)
 both : (e b : ℕ) (o o' p p' : Outcome) → o ≡ p → o' ≡ p' → Agrees e b p p' → Agrees e b o o'
 both e b o o' p p' g g' h = (g ∙ h.0 ∙ sym g', subst (Spent e b) (sym g) h.1)
 
-then_agrees : (e b : ℕ) (o o' : Outcome) (go go' : ℕ → State → Outcome) → Agrees e b o o' → ((c : ℕ) (s : State) → c + e ≤ b → Agrees 0 c (go c s) (go' c s)) → Agrees e b (then_do o go) (then_do o' go')
+then_agrees : (e b : ℕ) (o o' : Outcome) (go go' : ℕ → State → Outcome) → Agrees e b o o' → ((c : ℕ) (s : State) → c + e ≤ b → Agrees 0 c (go c s) (go' c s))
+    → Agrees e b (then_do o go) (then_do o' go')
 then_agrees e b (Done s c) o' go go' h g =
     subst (λ o'. Agrees e b (go c s) (then_do o' go')) h.0 (weaker 0 e c b (go c s) (go' c s) (omega (arith, h.1)) (omega (arith, h.1)) (g c s h.1))
 then_agrees e b (Stopped s) o' go go' h g = subst (λ o'. Agrees e b (Stopped s) (then_do o' go')) h.0 (refl, tt)
 then_agrees e b (Limited kind s c) o' go go' h g = subst (λ o'. Agrees e b (Limited kind s c) (then_do o' go')) h.0 (refl, h.1)
 
-test_agrees : (again : Bool) (t : State) (c : ℕ) (go go' : ℕ → State → Outcome) → ((u : State) → Agrees 0 c (go c u) (go' c u)) → Agrees 0 c (if_so (again, t) c go) (if_so (again, t) c go')
+test_agrees : (again : Bool) (t : State) (c : ℕ) (go go' : ℕ → State → Outcome) → ((u : State) → Agrees 0 c (go c u) (go' c u))
+    → Agrees 0 c (if_so (again, t) c go) (if_so (again, t) c go')
 test_agrees true t c go go' h = h t
 test_agrees false t c go go' h = (refl, omega arith)
 
@@ -46,19 +48,26 @@ module _ (the : Divisions) (job : Job) (one other : Meaning) (is : IsMeaning the
   bodies_agree n h Empty d w b s lt = both 0 b _ _ (Done s b) (Done s b) (is d w b s).empty (also d w b s).empty (refl, omega arith)
   bodies_agree n h (Then t ts) d w b s lt =
       both 0 b _ _ _ _ ((is d w b s).in_turn t ts) ((also d w b s).in_turn t ts)
-      (weaker 1 0 b b _ _ (omega arith) (omega arith) (then_agrees 1 b (one.word t d w b s) (other.word t d w b s) (one.body ts d w) (other.body ts d w) (h t d w b s lt)
+      (weaker 1 0 b b _ _ (omega arith) (omega arith)
+      (then_agrees 1 b (one.word t d w b s) (other.word t d w b s) (one.body ts d w) (other.body ts d w) (h t d w b s lt)
       (λ c u le. bodies_agree n h ts d w c u (omega (arith, le, lt)))))
 
-  loops_agree : (n : ℕ) → WordsAgree n → (k : ℕ) (f g : Function) (d w b : ℕ) (s : State) → b < k → k ≤ n → Agrees 0 b (one.loop f g d w b s) (other.loop f g d w b s)
+  loops_agree : (n : ℕ) → WordsAgree n → (k : ℕ) (f g : Function) (d w b : ℕ) (s : State) → b < k → k ≤ n
+      → Agrees 0 b (one.loop f g d w b s) (other.loop f g d w b s)
   loops_agree n h zero f g d w b s lt le = absurd (omega (arith, lt))
   loops_agree n h (suc k) f g d w b s lt le =
       both 0 b _ _ _ _ ((is d w b s).turn f g) ((also d w b s).turn f g)
-      (weaker 1 0 b b _ _ (omega arith) (omega arith) (then_agrees 1 b (one.word (Run f) d w b s) (other.word (Run f) d w b s) _ _ (h (Run f) d w b s (omega (arith, lt, le)))
-      (λ c t fewer. test_agrees (test_of t).0 (test_of t).1 c (λ e v. then_do (one.word (Run g) d w e v) (one.loop f g d w)) (λ e v. then_do (other.word (Run g) d w e v) (other.loop f g d w))
-      (λ u. weaker 1 0 c c _ _ (omega arith) (omega arith) (then_agrees 1 c (one.word (Run g) d w c u) (other.word (Run g) d w c u) (one.loop f g d w) (other.loop f g d w) (h (Run g) d w c u (omega (arith, lt, le, fewer)))
+      (weaker 1 0 b b _ _ (omega arith) (omega arith)
+      (then_agrees 1 b (one.word (Run f) d w b s) (other.word (Run f) d w b s) _ _ (h (Run f) d w b s (omega (arith, lt, le)))
+      (λ c t fewer. test_agrees (test_of t).0 (test_of t).1 c (λ e v. then_do (one.word (Run g) d w e v) (one.loop f g d w))
+      (λ e v. then_do (other.word (Run g) d w e v) (other.loop f g d w))
+      (λ u. weaker 1 0 c c _ _ (omega arith) (omega arith)
+      (then_agrees 1 c (one.word (Run g) d w c u) (other.word (Run g) d w c u) (one.loop f g d w) (other.loop f g d w)
+      (h (Run g) d w c u (omega (arith, lt, le, fewer)))
       (λ a v fewest. loops_agree n h k f g d w a v (omega (arith, lt, le, fewer, fewest)) (omega (arith, le))))))))
 
-  opened_agrees : (n : ℕ) → WordsAgree n → (x : Word) (d w b : ℕ) (i : Body) (s t : State) → b < n → word_effect the job x s ≡ Opens i t → (yes : Bool) → nat_lt d MOST_BODIES ≡ yes → Agrees 1 (b + 1) (one.word x d w (b + 1) s) (other.word x d w (b + 1) s)
+  opened_agrees : (n : ℕ) → WordsAgree n → (x : Word) (d w b : ℕ) (i : Body) (s t : State) → b < n → word_effect the job x s ≡ Opens i t → (yes : Bool)
+      → nat_lt d MOST_BODIES ≡ yes → Agrees 1 (b + 1) (one.word x d w (b + 1) s) (other.word x d w (b + 1) s)
   opened_agrees n h x d w b i s t lt e true room =
       let free = ltb-true d MOST_BODIES room in
       both 1 (b + 1) _ _ _ _ ((is d w b s).opened x i t e free) ((also d w b s).opened x i t e free)
@@ -67,7 +76,8 @@ module _ (the : Divisions) (job : Job) (one other : Meaning) (is : IsMeaning the
       let none = ltb-false d MOST_BODIES room in
       both 1 (b + 1) _ _ _ _ ((is d w b s).calls_limit x i t e none) ((also d w b s).calls_limit x i t e none) (refl, omega arith)
 
-  looped_agrees : (n : ℕ) → WordsAgree n → (x : Word) (d w b : ℕ) (f g : Function) (s t : State) → b < n → word_effect the job x s ≡ Loops f g t → (yes : Bool) → nat_lt w MOST_LOOPS ≡ yes → Agrees 1 (b + 1) (one.word x d w (b + 1) s) (other.word x d w (b + 1) s)
+  looped_agrees : (n : ℕ) → WordsAgree n → (x : Word) (d w b : ℕ) (f g : Function) (s t : State) → b < n → word_effect the job x s ≡ Loops f g t → (yes : Bool)
+      → nat_lt w MOST_LOOPS ≡ yes → Agrees 1 (b + 1) (one.word x d w (b + 1) s) (other.word x d w (b + 1) s)
   looped_agrees n h x d w b f g s t lt e true room =
       let free = ltb-true w MOST_LOOPS room in
       both 1 (b + 1) _ _ _ _ ((is d w b s).looped x f g t e free) ((also d w b s).looped x f g t e free)
@@ -76,7 +86,8 @@ module _ (the : Divisions) (job : Job) (one other : Meaning) (is : IsMeaning the
       let none = ltb-false w MOST_LOOPS room in
       both 1 (b + 1) _ _ _ _ ((is d w b s).loops_limit x f g t e none) ((also d w b s).loops_limit x f g t e none) (refl, omega arith)
 
-  stepped_agrees : (n : ℕ) → WordsAgree n → (x : Word) (d w b : ℕ) (s : State) → b < n → (after : Effect) → word_effect the job x s ≡ after → Agrees 1 (b + 1) (one.word x d w (b + 1) s) (other.word x d w (b + 1) s)
+  stepped_agrees : (n : ℕ) → WordsAgree n → (x : Word) (d w b : ℕ) (s : State) → b < n → (after : Effect) → word_effect the job x s ≡ after
+      → Agrees 1 (b + 1) (one.word x d w (b + 1) s) (other.word x d w (b + 1) s)
   stepped_agrees n h x d w b s lt (Leaves t) e =
       both 1 (b + 1) _ _ _ _ ((is d w b s).done x t e) ((also d w b s).done x t e) (refl, omega arith)
   stepped_agrees n h x d w b s lt (Meets kind t) e =
@@ -145,10 +156,12 @@ module _ (the : Divisions) (job : Job) where
   abbrev AgreeTo : ℕ → Action → Action → Type 0
   AgreeTo b go go' = (d w c : ℕ) (s : State) → c ≤ b → Agrees 1 c (go d w c s) (go' d w c s)
 
-  turn_agrees : (b : ℕ) (go go' : Word → Action) → ((x : Word) → AgreeTo b (go x) (go' x)) → (body : Body) (d w c : ℕ) (s : State) → c ≤ b → Agrees 0 c (in_turn go body d w c s) (in_turn go' body d w c s)
+  turn_agrees : (b : ℕ) (go go' : Word → Action) → ((x : Word) → AgreeTo b (go x) (go' x)) → (body : Body) (d w c : ℕ) (s : State) → c ≤ b
+      → Agrees 0 c (in_turn go body d w c s) (in_turn go' body d w c s)
   turn_agrees b go go' h Empty d w c s le = (refl, omega arith)
   turn_agrees b go go' h (Then x more) d w c s le =
-      weaker 1 0 c c _ _ (omega arith) (omega arith) (then_agrees 1 c (go x d w c s) (go' x d w c s) (in_turn go more d w) (in_turn go' more d w) (h x d w c s le)
+      weaker 1 0 c c _ _ (omega arith) (omega arith)
+      (then_agrees 1 c (go x d w c s) (go' x d w c s) (in_turn go more d w) (in_turn go' more d w) (h x d w c s le)
       (λ a u less. turn_agrees b go go' h more d w a u (omega (arith, le, less))))
 
   turns_agree : (b : ℕ) (test test' body body' : Action) → AgreeTo b test test' → AgreeTo b body body' → (n m d w c : ℕ) (s : State) → c ≤ b → c < n → c < m
@@ -157,26 +170,34 @@ module _ (the : Divisions) (job : Job) where
   turns_agree b test test' body body' h k (suc n) zero d w c s le lt lt' = absurd (omega (arith, lt'))
   turns_agree b test test' body body' h k (suc n) (suc m) d w c s le lt lt' =
       weaker 1 0 c c _ _ (omega arith) (omega arith) (then_agrees 1 c (test d w c s) (test' d w c s) _ _ (h d w c s le)
-      (λ a t less. test_agrees (test_of t).0 (test_of t).1 a (λ e v. then_do (body d w e v) (turns n test body d w)) (λ e v. then_do (body' d w e v) (turns m test' body' d w))
-      (λ u. weaker 1 0 a a _ _ (omega arith) (omega arith) (then_agrees 1 a (body d w a u) (body' d w a u) (turns n test body d w) (turns m test' body' d w) (k d w a u (omega (arith, le, less)))
-      (λ e v fewer. turns_agree b test test' body body' h k n m d w e v (omega (arith, le, less, fewer)) (omega (arith, lt, less, fewer)) (omega (arith, lt', less, fewer)))))))
+      (λ a t less. test_agrees (test_of t).0 (test_of t).1 a (λ e v. then_do (body d w e v) (turns n test body d w))
+      (λ e v. then_do (body' d w e v) (turns m test' body' d w))
+      (λ u. weaker 1 0 a a _ _ (omega arith) (omega arith)
+      (then_agrees 1 a (body d w a u) (body' d w a u) (turns n test body d w) (turns m test' body' d w) (k d w a u (omega (arith, le, less)))
+      (λ e v fewer. turns_agree b test test' body body' h k n m d w e v (omega (arith, le, less, fewer)) (omega (arith, lt, less, fewer))
+      (omega (arith, lt', less, fewer)))))))
 
-  body_if_agrees : (yes : Bool) (b : ℕ) (go go' : Word → Action) → ((x : Word) → AgreeTo b (go x) (go' x)) → (body : Body) (d w : ℕ) (t : State) → Agrees 1 (suc b) (body_if yes go body d w b t) (body_if yes go' body d w b t)
-  body_if_agrees true b go go' h body d w t = weaker 0 1 b (suc b) _ _ (omega arith) (omega arith) (turn_agrees b go go' h body (d + 1) w b (deeper (d + 1) t) (omega arith))
+  body_if_agrees : (yes : Bool) (b : ℕ) (go go' : Word → Action) → ((x : Word) → AgreeTo b (go x) (go' x)) → (body : Body) (d w : ℕ) (t : State)
+      → Agrees 1 (suc b) (body_if yes go body d w b t) (body_if yes go' body d w b t)
+  body_if_agrees true b go go' h body d w t =
+      weaker 0 1 b (suc b) _ _ (omega arith) (omega arith) (turn_agrees b go go' h body (d + 1) w b (deeper (d + 1) t) (omega arith))
   body_if_agrees false b go go' h body d w t = (refl, omega arith)
 
-  turns_if_agrees : (yes : Bool) (b n m : ℕ) (test test' body body' : Action) → AgreeTo b test test' → AgreeTo b body body' → b < n → b < m → (d w : ℕ) (t : State)
+  turns_if_agrees : (yes : Bool) (b n m : ℕ) (test test' body body' : Action) → AgreeTo b test test' → AgreeTo b body body' → b < n → b < m
+      → (d w : ℕ) (t : State)
       → Agrees 1 (suc b) (turns_if yes n test body d w b t) (turns_if yes m test' body' d w b t)
   turns_if_agrees true b n m test test' body body' h k lt lt' d w t =
       weaker 0 1 b (suc b) _ _ (omega arith) (omega arith) (turns_agree b test test' body body' h k n m d (w + 1) b t (omega arith) lt lt')
   turns_if_agrees false b n m test test' body body' h k lt lt' d w t = (refl, omega arith)
 
-  follow_agrees : (b n m : ℕ) (go go' : Word → Action) → ((x : Word) → AgreeTo b (go x) (go' x)) → b < n → b < m → (e : Effect) (d w : ℕ) → Agrees 1 (suc b) (follow go n e d w b) (follow go' m e d w b)
+  follow_agrees : (b n m : ℕ) (go go' : Word → Action) → ((x : Word) → AgreeTo b (go x) (go' x)) → b < n → b < m → (e : Effect) (d w : ℕ)
+      → Agrees 1 (suc b) (follow go n e d w b) (follow go' m e d w b)
   follow_agrees b n m go go' h lt lt' (Leaves t) d w = (refl, omega arith)
   follow_agrees b n m go go' h lt lt' (Meets kind t) d w = (refl, omega arith)
   follow_agrees b n m go go' h lt lt' (Runs f t) d w = weaker 1 1 b (suc b) _ _ (omega arith) (omega arith) (h (Run f) d w b t (omega arith))
   follow_agrees b n m go go' h lt lt' (Opens body t) d w = body_if_agrees (nat_lt d MOST_BODIES) b go go' h body d w t
-  follow_agrees b n m go go' h lt lt' (Loops f g t) d w = turns_if_agrees (nat_lt w MOST_LOOPS) b n m (go (Run f)) (go' (Run f)) (go (Run g)) (go' (Run g)) (h (Run f)) (h (Run g)) lt lt' d w t
+  follow_agrees b n m go go' h lt lt' (Loops f g t) d w = turns_if_agrees (nat_lt w MOST_LOOPS) b n m (go (Run f)) (go' (Run f)) (go (Run g)) (go' (Run g))
+      (h (Run f)) (h (Run g)) lt lt' d w t
 
   -- with more executions inside one another than steps are left, their number is no matter
   acts_agree : (n m : ℕ) (x : Word) (d w b : ℕ) (s : State) → b < n → b < m → Agrees 1 b (act n x d w b s) (act m x d w b s)
@@ -184,7 +205,8 @@ module _ (the : Divisions) (job : Job) where
   acts_agree (suc n) zero x d w b s lt lt' = absurd (omega (arith, lt'))
   acts_agree (suc n) (suc m) x d w zero s lt lt' = (refl, tt)
   acts_agree (suc n) (suc m) x d w (suc b) s lt lt' =
-      follow_agrees b n m (act n) (act m) (λ x d w c s le. acts_agree n m x d w c s (omega (arith, le, lt)) (omega (arith, le, lt'))) (omega (arith, lt)) (omega (arith, lt')) (word_effect the job x s) d w
+      follow_agrees b n m (act n) (act m) (λ x d w c s le. acts_agree n m x d w c s (omega (arith, le, lt)) (omega (arith, le, lt'))) (omega (arith, lt))
+      (omega (arith, lt')) (word_effect the job x s) d w
 
   abbrev pub word_means : Word → Action
   word_means x d w b s = act (suc b) x d w b s
@@ -205,23 +227,30 @@ module _ (the : Divisions) (job : Job) where
       let z : b + 1 ≡ suc b = omega arith in
       ap (λ c. act (suc c) x d w c s) z ∙ ap (λ f. follow (act (suc b)) (suc b) f d w b) h
 
-  body_if_true : (d w b : ℕ) (body : Body) (t : State) (yes : Bool) → yes ≡ true → body_if yes (act (suc b)) body d w b t ≡ in_turn word_means body (d + 1) w b (deeper (d + 1) t)
+  body_if_true : (d w b : ℕ) (body : Body) (t : State) (yes : Bool) → yes ≡ true → body_if yes (act (suc b)) body d w b t
+      ≡ in_turn word_means body (d + 1) w b (deeper (d + 1) t)
   body_if_true d w b body t is h =
-      ap (λ y. body_if y (act (suc b)) body d w b t) h ∙ (turn_agrees b (act (suc b)) word_means (bounded b) body (d + 1) w b (deeper (d + 1) t) (omega arith)).0
+      ap (λ y. body_if y (act (suc b)) body d w b t) h
+      ∙ (turn_agrees b (act (suc b)) word_means (bounded b) body (d + 1) w b (deeper (d + 1) t) (omega arith)).0
 
   turns_if_true : (d w b : ℕ) (f g : Function) (t : State) (yes : Bool) → yes ≡ true
       → turns_if yes (suc b) (act (suc b) (Run f)) (act (suc b) (Run g)) d w b t ≡ turns (suc b) (word_means (Run f)) (word_means (Run g)) d (w + 1) b t
   turns_if_true d w b f g t is h =
       ap (λ y. turns_if y (suc b) (act (suc b) (Run f)) (act (suc b) (Run g)) d w b t) h
-      ∙ (turns_agree b (act (suc b) (Run f)) (word_means (Run f)) (act (suc b) (Run g)) (word_means (Run g)) (bounded b (Run f)) (bounded b (Run g)) (suc b) (suc b) d (w + 1) b t (omega arith) (omega arith) (omega arith)).0
+      ∙ (turns_agree b (act (suc b) (Run f)) (word_means (Run f)) (act (suc b) (Run g)) (word_means (Run g)) (bounded b (Run f)) (bounded b (Run g)) (suc b)
+      (suc b) d (w + 1) b t (omega arith) (omega arith) (omega arith)).0
 
   loop_turns : (f g : Function) (d w b : ℕ) (s : State) → by_steps.loop f g d w b s
       ≡ then_do (word_means (Run f) d w b s) (λ c t. if_so (test_of t) c (λ c u. then_do (word_means (Run g) d w c u) (by_steps.loop f g d w)))
   loop_turns f g d w b s =
       (then_agrees 1 b (word_means (Run f) d w b s) (word_means (Run f) d w b s) _ _ (itself b (Run f) d w b s (omega arith))
-      (λ c t less. test_agrees (test_of t).0 (test_of t).1 c (λ e v. then_do (word_means (Run g) d w e v) (turns b (word_means (Run f)) (word_means (Run g)) d w)) (λ e v. then_do (word_means (Run g) d w e v) (by_steps.loop f g d w))
-      (λ u. weaker 1 0 c c _ _ (omega arith) (omega arith) (then_agrees 1 c (word_means (Run g) d w c u) (word_means (Run g) d w c u) _ _ (itself c (Run g) d w c u (omega arith))
-      (λ e v fewer. turns_agree b (word_means (Run f)) (word_means (Run f)) (word_means (Run g)) (word_means (Run g)) (itself b (Run f)) (itself b (Run g)) b (suc e) d w e v (omega (arith, less, fewer)) (omega (arith, less, fewer)) (omega arith)))))).0
+      (λ c t less. test_agrees (test_of t).0 (test_of t).1 c
+      (λ e v. then_do (word_means (Run g) d w e v) (turns b (word_means (Run f)) (word_means (Run g)) d w))
+      (λ e v. then_do (word_means (Run g) d w e v) (by_steps.loop f g d w))
+      (λ u. weaker 1 0 c c _ _ (omega arith) (omega arith)
+      (then_agrees 1 c (word_means (Run g) d w c u) (word_means (Run g) d w c u) _ _ (itself c (Run g) d w c u (omega arith))
+      (λ e v fewer. turns_agree b (word_means (Run f)) (word_means (Run f)) (word_means (Run g)) (word_means (Run g)) (itself b (Run f)) (itself b (Run g)) b
+      (suc e) d w e v (omega (arith, less, fewer)) (omega (arith, less, fewer)) (omega arith)))))).0
 
   pub there_is_meaning : IsMeaning the job by_steps
   there_is_meaning d w b s = record {
@@ -234,6 +263,7 @@ module _ (the : Divisions) (job : Job) where
     opened = λ x body t e lt. stepped x d w b s (Opens body t) e ∙ body_if_true d w b body t (nat_lt d MOST_BODIES) (lt-ltb d MOST_BODIES lt);
     calls_limit = λ x body t e le. stepped x d w b s (Opens body t) e ∙ ap (λ yes. body_if yes (act (suc b)) body d w b t) (le-ltb d MOST_BODIES le);
     looped = λ x f g t e lt. stepped x d w b s (Loops f g t) e ∙ turns_if_true d w b f g t (nat_lt w MOST_LOOPS) (lt-ltb w MOST_LOOPS lt);
-    loops_limit = λ x f g t e le. stepped x d w b s (Loops f g t) e ∙ ap (λ yes. turns_if yes (suc b) (act (suc b) (Run f)) (act (suc b) (Run g)) d w b t) (le-ltb w MOST_LOOPS le);
+    loops_limit = λ x f g t e le. stepped x d w b s (Loops f g t) e ∙ ap (λ yes. turns_if yes (suc b) (act (suc b) (Run f)) (act (suc b) (Run g)) d w b t)
+        (le-ltb w MOST_LOOPS le);
     turn = λ f g. loop_turns f g d w b s;
   }

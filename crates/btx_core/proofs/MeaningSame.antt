@@ -1,5 +1,6 @@
 -- If each step does in names what it does with numbers, then so does each word, body and loop: both meanings go in step.
-use Rattle.std.proofs.Common.{◌≡◌, ℕ, zero, suc, ◌+◌, max, nat_lt, Bool, true, false, if◌then◌else◌, List, [], ◌∷◌, slice_index_or, sym, ap, subst, ◌∙◌, refl, true≢false}
+use Rattle.std.proofs.Common.{◌≡◌, ℕ, zero, suc, ◌+◌, max, nat_lt, Bool, true, false, if◌then◌else◌, List, [], ◌∷◌, slice_index_or, sym, ap, subst, ◌∙◌, refl}
+use Rattle.std.proofs.Common.{true≢false}
 use Rattle.btx_bst.specs.declared.callee.Callee.{Callee}
 use Rattle.btx_bst.specs.declared.token.Token.{Token}
 use Rattle.btx_bst.specs.declared.token.Token.TheVariants as token
@@ -18,7 +19,8 @@ use Rattle.btx_core.specs.language.Meanings.{Action, Outcome, Done, Stopped, Lim
 use Rattle.btx_core.proofs.MeaningLemmas as named
 
 -- `same` relates a state with numbers and one in names; `known` are the tokens whose functions the style has; `word` and `of` name tokens and functions
-module _ (job : NumberedJob) (the : Divisions) (here : Job) (word : Token → Word) (of : Callee → Function) (runs : (f : Callee) → word (token.Run f) ≡ Run (of f))
+module _ (job : NumberedJob) (the : Divisions) (here : Job) (word : Token → Word) (of : Callee → Function)
+    (runs : (f : Callee) → word (token.Run f) ≡ Run (of f))
     (same : Store → State → Type 0) (known : Token → Type 0) where
   -- the tree of a body
   abbrev pub tree : List Token → Body
@@ -52,7 +54,8 @@ module _ (job : NumberedJob) (the : Divisions) (here : Job) (word : Token → Wo
   abbrev pub SameActs : Acts → Action → Type 0
   SameActs go go' = (d w b : ℕ) (S : Store) (s : State) → same S s → SameOutcome (go d w b S) (go' d w b s)
 
-  pub then_same : (o : Came) (p : Outcome) → SameOutcome o p → (go : ℕ → Store → Came) (go' : ℕ → State → Outcome) → ((b : ℕ) (S : Store) (s : State) → same S s → SameOutcome (go b S) (go' b s))
+  pub then_same : (o : Came) (p : Outcome) → SameOutcome o p → (go : ℕ → Store → Came) (go' : ℕ → State → Outcome)
+      → ((b : ℕ) (S : Store) (s : State) → same S s → SameOutcome (go b S) (go' b s))
       → SameOutcome (then_act o go) (then_do p go')
   then_same (CameDone S b) (Done s c) h go go' k = subst (λ c. SameOutcome (go b S) (go' c s)) h.1 (k b S s h.0)
   then_same (CameStopped S) (Stopped s) h go go' k = h
@@ -64,14 +67,18 @@ module _ (job : NumberedJob) (the : Divisions) (here : Job) (word : Token → Wo
   then_same (CameLimit kind S b) (Done s c) h go go' k = absurd (true≢false h)
   then_same (CameLimit kind S b) (Stopped s) h go go' k = absurd (true≢false h)
 
-  module _ (steps : (x : Token) (S : Store) (s : State) → known x → same S s → SameEffect (token_effect job x S).next (token_effect job x S).state (word_effect the here (word x) s))
+  module _ (steps : (x : Token) (S : Store) (s : State) → known x → same S s → SameEffect (token_effect job x S).next (token_effect job x S).state
+      (word_effect the here (word x) s))
       (tests : (S : Store) (s : State) → same S s → ((turn_of job S).again ≡ (test_of s).0) × same (turn_of job S).state (test_of s).1)
       (deepens : (S : Store) (s : State) (d : ℕ) → same S s → same (record S { store = record S.store { deepest = max S.store.deepest d } }) (deeper d s)) where
-    in_turn_same : (go : Token → Acts) (go' : Word → Action) → ((x : Token) → known x → SameActs (go x) (go' (word x))) → (xs : List Token) → AllKnown xs → SameActs (by_steps.in_turn go xs) (named.in_turn the here go' (tree xs))
+    in_turn_same : (go : Token → Acts) (go' : Word → Action) → ((x : Token) → known x → SameActs (go x) (go' (word x))) → (xs : List Token) → AllKnown xs
+        → SameActs (by_steps.in_turn go xs) (named.in_turn the here go' (tree xs))
     in_turn_same go go' ih [] k d w b S s r = (r, refl)
-    in_turn_same go go' ih (x ∷ xs) k d w b S s r = then_same (go x d w b S) (go' (word x) d w b s) (ih x k.0 d w b S s r) (by_steps.in_turn go xs d w) (named.in_turn the here go' (tree xs) d w) (in_turn_same go go' ih xs k.1 d w)
+    in_turn_same go go' ih (x ∷ xs) k d w b S s r = then_same (go x d w b S) (go' (word x) d w b s) (ih x k.0 d w b S s r) (by_steps.in_turn go xs d w)
+        (named.in_turn the here go' (tree xs) d w) (in_turn_same go go' ih xs k.1 d w)
 
-    after_same : (a c : Bool) (S : Store) (s : State) → a ≡ c → same S s → (b : ℕ) (go : ℕ → Store → Came) (go' : ℕ → State → Outcome) → ((b : ℕ) (S : Store) (s : State) → same S s → SameOutcome (go b S) (go' b s))
+    after_same : (a c : Bool) (S : Store) (s : State) → a ≡ c → same S s → (b : ℕ) (go : ℕ → Store → Came) (go' : ℕ → State → Outcome)
+        → ((b : ℕ) (S : Store) (s : State) → same S s → SameOutcome (go b S) (go' b s))
         → SameOutcome (after_test a S b go) (if c then go' b s else Done s b)
     after_same true true S s e r b go go' k = k b S s r
     after_same false false S s e r b go go' k = (r, refl)
@@ -86,18 +93,22 @@ module _ (job : NumberedJob) (the : Divisions) (here : Job) (word : Token → Wo
         after_same (turn_of job T).again (test_of t).0 (turn_of job T).state (test_of t).1 h.0 h.1 b _ _ (λ b U u r.
         then_same (g d w b U) (g' d w b u) (hg d w b U u r) _ _ (turns_same n f g f' g' hf hg d w)))
 
-    body_same : (z : Bool) (go : Token → Acts) (go' : Word → Action) → ((x : Token) → known x → SameActs (go x) (go' (word x))) → (xs : List Token) → AllKnown xs → SameActs (by_steps.body_if z go xs) (named.body_if the here z go' (tree xs))
+    body_same : (z : Bool) (go : Token → Acts) (go' : Word → Action) → ((x : Token) → known x → SameActs (go x) (go' (word x))) → (xs : List Token)
+        → AllKnown xs → SameActs (by_steps.body_if z go xs) (named.body_if the here z go' (tree xs))
     body_same true go go' ih xs k d w b S s r = in_turn_same go go' ih xs k (d + 1) w b _ _ (deepens S s (d + 1) r)
     body_same false go go' ih xs k d w b S s r = (r, (refl, refl))
 
-    loop_same : (z : Bool) (n : ℕ) (f g : Acts) (f' g' : Action) → SameActs f f' → SameActs g g' → SameActs (by_steps.turns_if job z n f g) (named.turns_if the here z n f' g')
+    loop_same : (z : Bool) (n : ℕ) (f g : Acts) (f' g' : Action) → SameActs f f' → SameActs g g'
+        → SameActs (by_steps.turns_if job z n f g) (named.turns_if the here z n f' g')
     loop_same true n f g f' g' hf hg d w b S s r = turns_same n f g f' g' hf hg d (w + 1) b S s r
     loop_same false n f g f' g' hf hg d w b S s r = (r, (refl, refl))
 
-    run_same : (go : Token → Acts) (go' : Word → Action) → ((x : Token) → known x → SameActs (go x) (go' (word x))) → (f : Callee) (h : Function) → of f ≡ h → known (token.Run f) → SameActs (go (token.Run f)) (go' (Run h))
+    run_same : (go : Token → Acts) (go' : Word → Action) → ((x : Token) → known x → SameActs (go x) (go' (word x))) → (f : Callee) (h : Function) → of f ≡ h
+        → known (token.Run f) → SameActs (go (token.Run f)) (go' (Run h))
     run_same go go' ih f h e k = subst (λ u. SameActs (go (token.Run f)) (go' u)) (runs f ∙ ap Run e) (ih (token.Run f) k)
 
-    follow_same : (n : ℕ) (go : Token → Acts) (go' : Word → Action) → ((x : Token) → known x → SameActs (go x) (go' (word x))) → (nx : Next) (S : Store) (e : Effect) → SameEffect nx S e
+    follow_same : (n : ℕ) (go : Token → Acts) (go' : Word → Action) → ((x : Token) → known x → SameActs (go x) (go' (word x)))
+        → (nx : Next) (S : Store) (e : Effect) → SameEffect nx S e
         → (d w b : ℕ) → SameOutcome (by_steps.follow job go n nx S d w b) (named.follow the here go' n e d w b)
     follow_same n go go' ih next.Nothing S (Leaves t) h d w b = (h, refl)
     follow_same n go go' ih (next.End kind) S (Meets limit t) h d w b = (h.1, (h.0, refl))
@@ -132,7 +143,8 @@ module _ (job : NumberedJob) (the : Divisions) (here : Job) (word : Token → Wo
     acts_same zero x k d w b S s r = r
     acts_same (suc n) x k d w zero S s r = r
     acts_same (suc n) x k d w (suc b) S s r =
-        follow_same n (by_steps.act job n) (named.act the here n) (acts_same n) (token_effect job x S).next (token_effect job x S).state (word_effect the here (word x) s) (steps x S s k r) d w b
+        follow_same n (by_steps.act job n) (named.act the here n) (acts_same n) (token_effect job x S).next (token_effect job x S).state
+        (word_effect the here (word x) s) (steps x S s k r) d w b
 
     -- what a token does with numbers, its word does in names
     pub meaning_same : (x : Token) → known x → SameActs (by_steps.meaning job x) (named.word_means the here (word x))

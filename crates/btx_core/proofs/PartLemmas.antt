@@ -1,5 +1,7 @@
 -- Parts of the relation that one thing alone meets: inheritance, the lines of the list, and what the `.aux` files come to.
-use Rattle.std.proofs.Common.{◌≡◌, ℕ, zero, suc, ◌+◌, ◌<◌, ◌≤◌, List, [], ◌∷◌, ◌++◌, length, Option, None, Some, Bool, true, false, nat_lt, nat_le, length-append, leb-true, leb-false, if◌then◌else◌, option_and_then, codes, sym, ap, ap₂, ◌∙◌, arith, refl, append-nil, ⊎_elim, true≢false, slice_index, All}
+use Rattle.std.proofs.Common.{◌≡◌, ℕ, zero, suc, ◌+◌, ◌<◌, ◌≤◌, List, [], ◌∷◌, ◌++◌, length, Option, None, Some, Bool, true, false, nat_lt, nat_le}
+use Rattle.std.proofs.Common.{length-append, leb-true, leb-false, if◌then◌else◌, option_and_then, codes, sym, ap, ap₂, ◌∙◌, arith, refl, append-nil, ⊎_elim}
+use Rattle.std.proofs.Common.{true≢false, slice_index, All}
 use Rattle.std.specs.Option.{option_or}
 use Rattle.std.proofs.lemmas.Bool.{ltb-true, cases_lt}
 use Rattle.std.specs.List.{AllByRecursion}
@@ -20,7 +22,8 @@ module _ (slots : List Slot) (one other : ℕ → List ℕ → Option (List ℕ)
   given_by k i name h false lt = refl
 
   from_parent : (i : ℕ) (name : List ℕ) (p : Option ℕ) → ((j : ℕ) → j < i → one j name ≡ other j name)
-      → option_and_then (λ j. if nat_lt j i then one j name else own slots j name) p ≡ option_and_then (λ j. if nat_lt j i then other j name else own slots j name) p
+      → option_and_then (λ j. if nat_lt j i then one j name else own slots j name) p
+      ≡ option_and_then (λ j. if nat_lt j i then other j name else own slots j name) p
   from_parent i name None h = refl
   from_parent i name (Some j) h = given_by j i name h (nat_lt j i) refl
 
@@ -53,7 +56,8 @@ module _ (most : ℕ) (short long f g : List ℕ → List ℕ) (is : IsBroken mo
       omega (arith, whole, inner, h.past, h.some, room)
 
   -- a text that is longer than a line, by its break
-  same_by : (n : ℕ) (text : List ℕ) → ((t : List ℕ) → length t < n → f t ≡ g t) → length text ≤ n → most < length text → (b : Break) → break_of most text ≡ b → f text ≡ g text
+  same_by : (n : ℕ) (text : List ℕ) → ((t : List ℕ) → length t < n → f t ≡ g t) → length text ≤ n → most < length text → (b : Break) → break_of most text ≡ b
+      → f text ≡ g text
   same_by n text h le long_ Unbroken e =
       let none = place_none most text long_ e in
       is.unbroken text long_ none ∙ sym (also.unbroken text long_ none)
@@ -66,7 +70,8 @@ module _ (most : ℕ) (short long f g : List ℕ → List ℕ) (is : IsBroken mo
       is.past text head rest long_ past ∙ same_rest n h head rest (omega (arith, past_shorter text head rest past, le))
       ∙ sym (also.past text head rest long_ past)
 
-  same_if : (n : ℕ) (text : List ℕ) → ((t : List ℕ) → length t < n → f t ≡ g t) → length text ≤ n → (yes : Bool) → nat_le (length text) most ≡ yes → f text ≡ g text
+  same_if : (n : ℕ) (text : List ℕ) → ((t : List ℕ) → length t < n → f t ≡ g t) → length text ≤ n → (yes : Bool) → nat_le (length text) most ≡ yes
+      → f text ≡ g text
   same_if n text h le true fits = is.fits text (leb-true (length text) most fits) ∙ sym (also.fits text (leb-true (length text) most fits))
   same_if n text h le false too_long = same_by n text h le (leb-false (length text) most too_long) (break_of most text) refl
 
@@ -92,7 +97,8 @@ module _ (slots : List Slot) where
   by_place n m i j name h false lt = refl
 
   by_parent : (n i : ℕ) (name : List ℕ) (f : ℕ → ℕ) (p : Option ℕ) → ((j : ℕ) → j < i → upto n j name ≡ upto (f j) j name)
-      → option_and_then (λ j. if nat_lt j i then upto n j name else own slots j name) p ≡ option_and_then (λ j. if nat_lt j i then upto (f j) j name else own slots j name) p
+      → option_and_then (λ j. if nat_lt j i then upto n j name else own slots j name) p
+      ≡ option_and_then (λ j. if nat_lt j i then upto (f j) j name else own slots j name) p
   by_parent n i name f None h = refl
   by_parent n i name f (Some j) h = by_place n (f j) i j name (h j) (nat_lt j i) refl
 
@@ -100,7 +106,8 @@ module _ (slots : List Slot) where
   enough zero m i name lt lt' = absurd (omega (arith, lt))
   enough (suc n) zero i name lt lt' = absurd (omega (arith, lt'))
   enough (suc n) (suc m) i name lt lt' =
-      ap (option_or (own slots i name)) (by_parent n i name (λ j. m) (parent slots i) (λ j le. enough n m j name (omega (arith, lt, le)) (omega (arith, lt', le))))
+      ap (option_or (own slots i name)) (by_parent n i name (λ j. m) (parent slots i)
+      (λ j le. enough n m j name (omega (arith, lt, le)) (omega (arith, lt', le))))
 
   pub there_is_inheritance : IsInherited slots (λ i name. upto (suc i) i name)
   there_is_inheritance i name =
@@ -142,15 +149,18 @@ module _ (most : ℕ) (text : List ℕ) (long_ : most < length text) where
   inside_one : (head rest head' rest' : List ℕ) → IsBreakInside most text head rest → IsBreakInside most text head' rest' → (head ≡ head') × (rest ≡ rest')
   inside_one head rest head' rest' h k =
       let low : length head ≤ length head' → length head ≡ length head' = λ le.
-      ⊎_elim (λ lt. absurd (not_both text (length head') (inside_white head' rest' k) (h.none_after (length head') (omega (arith, lt)) (omega (arith, k.last))))) (λ ge. omega (arith, le, ge)) (cases_lt (length head) (length head')) in
+      ⊎_elim (λ lt. absurd (not_both text (length head') (inside_white head' rest' k)
+      (h.none_after (length head') (omega (arith, lt)) (omega (arith, k.last))))) (λ ge. omega (arith, le, ge)) (cases_lt (length head) (length head')) in
       let high : length head' ≤ length head → length head ≡ length head' = λ le.
-      ⊎_elim (λ lt. absurd (not_both text (length head) (inside_white head rest h) (k.none_after (length head) (omega (arith, lt)) (omega (arith, h.last))))) (λ ge. omega (arith, le, ge)) (cases_lt (length head') (length head)) in
+      ⊎_elim (λ lt. absurd (not_both text (length head) (inside_white head rest h) (k.none_after (length head) (omega (arith, lt)) (omega (arith, h.last)))))
+      (λ ge. omega (arith, le, ge)) (cases_lt (length head') (length head)) in
       let same : length head ≡ length head' = ⊎_elim (λ lt. low (omega (arith, lt))) high (cases_lt (length head) (length head')) in
       let parts = same_heads head head' (h.white ∷ rest) (k.white ∷ rest') same (sym h.whole ∙ k.whole) in
       (parts.0, (let e = parts.1 in cc))
 
   inside_past : (head rest head' rest' : List ℕ) → IsBreakInside most text head rest → IsBreakPast most text head' rest' → ⊥
-  inside_past head rest head' rest' h k = not_both text (length head) (inside_white head rest h) (k.none_before (length head) h.first (omega (arith, h.last, k.past)))
+  inside_past head rest head' rest' h k =
+      not_both text (length head) (inside_white head rest h) (k.none_before (length head) h.first (omega (arith, h.last, k.past)))
 
   inside_none : (head rest : List ℕ) → IsBreakInside most text head rest → IsUnbroken text → ⊥
   inside_none head rest h k = not_both text (length head) (inside_white head rest h) (k (length head) h.first (omega (arith, h.last, long_)))
@@ -170,7 +180,8 @@ module _ (most : ℕ) (text : List ℕ) (long_ : most < length text) where
   past_none room head rest h k = not_both text (length head) (past_white head rest h) (k (length head) (omega (arith, room, h.past)) (past_length head rest h))
 
 -- what follows a run of whitespace is one text
-runs_one : (run run' rest rest' : List ℕ) → run ++ rest ≡ run' ++ rest' → AllByRecursion (λ b. is_white b ≡ true) run → AllByRecursion (λ b. is_white b ≡ true) run'
+runs_one : (run run' rest rest' : List ℕ) → run ++ rest ≡ run' ++ rest' → AllByRecursion (λ b. is_white b ≡ true) run
+    → AllByRecursion (λ b. is_white b ≡ true) run'
     → (0 < length rest → is_white (slice_index rest 0) ≡ false) → (0 < length rest' → is_white (slice_index rest' 0) ≡ false) → rest ≡ rest'
 runs_one [] [] rest rest' e all all' ink ink' = e
 runs_one [] (b ∷ run') rest rest' e all all' ink ink' =
@@ -185,12 +196,17 @@ module _ (most : ℕ) (text : List ℕ) (long_ : most < length text) (room : 3 �
   past_one : (head rest head' rest' : List ℕ) → IsBreakPast most text head rest → IsBreakPast most text head' rest' → (head ≡ head') × (rest ≡ rest')
   past_one head rest head' rest' h k =
       let low : length head ≤ length head' → length head ≡ length head' = λ le.
-      ⊎_elim (λ lt. absurd (not_both text (length head) (past_white most text long_ head rest h) (k.none_before (length head) (omega (arith, room, h.past)) lt))) (λ ge. omega (arith, le, ge)) (cases_lt (length head) (length head')) in
+      ⊎_elim (λ lt. absurd (not_both text (length head) (past_white most text long_ head rest h)
+      (k.none_before (length head) (omega (arith, room, h.past)) lt))) (λ ge. omega (arith, le, ge)) (cases_lt (length head) (length head')) in
       let high : length head' ≤ length head → length head ≡ length head' = λ le.
-      ⊎_elim (λ lt. absurd (not_both text (length head') (past_white most text long_ head' rest' k) (h.none_before (length head') (omega (arith, room, k.past)) lt))) (λ ge. omega (arith, le, ge)) (cases_lt (length head') (length head)) in
+      ⊎_elim (λ lt. absurd (not_both text (length head') (past_white most text long_ head' rest' k)
+      (h.none_before (length head') (omega (arith, room, k.past)) lt))) (λ ge. omega (arith, le, ge)) (cases_lt (length head') (length head)) in
       let same : length head ≡ length head' = ⊎_elim (λ lt. low (omega (arith, lt))) high (cases_lt (length head) (length head')) in
-      let parts = same_heads head head' (h.run ++ rest) (k.run ++ rest') same (sym h.whole ∙ k.whole) in
-      (parts.0, runs_one h.run k.run rest rest' parts.1 (recursion_from_All (λ b. is_white b ≡ true) h.run h.of_white) (recursion_from_All (λ b. is_white b ≡ true) k.run k.of_white) h.ink k.ink)
+      let parts = same_heads head head' (h.run ++ rest) (k.run ++ rest') same (sym h.whole ∙ k.whole) in (
+        parts.0,
+        runs_one h.run k.run rest rest' parts.1 (recursion_from_All (λ b. is_white b ≡ true) h.run h.of_white)
+            (recursion_from_All (λ b. is_white b ≡ true) k.run k.of_white) h.ink k.ink,
+      )
 
   -- what a text gives whose break is given, by the table of btx_out
   abbrev Gives : (List ℕ → List ℕ) → (List ℕ → List ℕ) → Break → Type 0
@@ -207,16 +223,20 @@ module _ (most : ℕ) (text : List ℕ) (long_ : most < length text) (room : 3 �
   sure_gives (Broken past head []) e = (table_ends most text head past room long_ e).1 ∙ sym (append-nil (written_line head))
   sure_gives (Broken past head (b ∷ rest)) e = (table_more most text head rest b past room long_ e).1
 
-  inside_by : (f long : List ℕ → List ℕ) (head rest : List ℕ) → IsBreakInside most text head rest → (b : Break) → break_of most text ≡ b → Gives f long b → f text ≡ written_line head ++ goes_on f rest
+  inside_by : (f long : List ℕ → List ℕ) (head rest : List ℕ) → IsBreakInside most text head rest → (b : Break) → break_of most text ≡ b → Gives f long b
+      → f text ≡ written_line head ++ goes_on f rest
   inside_by f long head rest h Unbroken e g = absurd (inside_none most text long_ head rest h (place_none most text long_ e))
   inside_by f long head rest h (Broken false head' rest') e g =
       let same = inside_one most text long_ head rest head' rest' h (place_inside most text head' rest' long_ e) in
       g ∙ ap₂ (λ x y. written_line x ++ goes_on f y) (sym same.0) (sym same.1)
-  inside_by f long head rest h (Broken true head' rest') e g = absurd (inside_past most text long_ head rest head' rest' h (place_past most text head' rest' long_ e))
+  inside_by f long head rest h (Broken true head' rest') e g =
+      absurd (inside_past most text long_ head rest head' rest' h (place_past most text head' rest' long_ e))
 
-  past_by : (f long : List ℕ → List ℕ) (head rest : List ℕ) → IsBreakPast most text head rest → (b : Break) → break_of most text ≡ b → Gives f long b → f text ≡ written_line head ++ goes_on f rest
+  past_by : (f long : List ℕ → List ℕ) (head rest : List ℕ) → IsBreakPast most text head rest → (b : Break) → break_of most text ≡ b → Gives f long b
+      → f text ≡ written_line head ++ goes_on f rest
   past_by f long head rest h Unbroken e g = absurd (past_none most text long_ room head rest h (place_none most text long_ e))
-  past_by f long head rest h (Broken false head' rest') e g = absurd (inside_past most text long_ head' rest' head rest (place_inside most text head' rest' long_ e) h)
+  past_by f long head rest h (Broken false head' rest') e g =
+      absurd (inside_past most text long_ head' rest' head rest (place_inside most text head' rest' long_ e) h)
   past_by f long head rest h (Broken true head' rest') e g =
       let same = past_one head rest head' rest' h (place_past most text head' rest' long_ e) in
       g ∙ ap₂ (λ x y. written_line x ++ goes_on f y) (sym same.0) (sym same.1)
@@ -230,15 +250,20 @@ module _ (most : ℕ) (text : List ℕ) (long_ : most < length text) (room : 3 �
 pub wrapped : (most : ℕ) → 3 ≤ most → IsWrapped most (wrap most)
 wrapped most room = record {
   fits = λ text le. rw (cut_short most text le) refl;
-  inside = λ text head rest lt h. inside_by most text lt room (wrap most) (λ t. t ++ codes "\n") head rest h (break_of most text) refl (wrap_gives most text lt room (break_of most text) refl);
-  past = λ text head rest lt h. past_by most text lt room (wrap most) (λ t. t ++ codes "\n") head rest h (break_of most text) refl (wrap_gives most text lt room (break_of most text) refl);
-  unbroken = λ text lt h. none_by most text lt room (wrap most) (λ t. t ++ codes "\n") h (break_of most text) refl (wrap_gives most text lt room (break_of most text) refl);
+  inside = λ text head rest lt h. inside_by most text lt room (wrap most) (λ t. t ++ codes "\n") head rest h (break_of most text) refl
+      (wrap_gives most text lt room (break_of most text) refl);
+  past = λ text head rest lt h. past_by most text lt room (wrap most) (λ t. t ++ codes "\n") head rest h (break_of most text) refl
+      (wrap_gives most text lt room (break_of most text) refl);
+  unbroken = λ text lt h. none_by most text lt room (wrap most) (λ t. t ++ codes "\n") h (break_of most text) refl
+      (wrap_gives most text lt room (break_of most text) refl);
 }
 
 pub sure_is : (most : ℕ) → 3 ≤ most → IsSure most (sure most)
 sure_is most room = record {
   fits = λ text le. rw (cut_short most text le) refl;
-  inside = λ text head rest lt h. inside_by most text lt room (sure most) (λ t. t) head rest h (break_of most text) refl (sure_gives most text lt room (break_of most text) refl);
-  past = λ text head rest lt h. past_by most text lt room (sure most) (λ t. t) head rest h (break_of most text) refl (sure_gives most text lt room (break_of most text) refl);
+  inside = λ text head rest lt h. inside_by most text lt room (sure most) (λ t. t) head rest h (break_of most text) refl
+      (sure_gives most text lt room (break_of most text) refl);
+  past = λ text head rest lt h. past_by most text lt room (sure most) (λ t. t) head rest h (break_of most text) refl
+      (sure_gives most text lt room (break_of most text) refl);
   unbroken = λ text lt h. none_by most text lt room (sure most) (λ t. t) h (break_of most text) refl (sure_gives most text lt room (break_of most text) refl);
 }

@@ -30,7 +30,8 @@ use Rattle.btx_core.proofs.AuxLemmas.{only_said}
 
 -- ---- commands
 
-behind_one : (library : Library) (c : Command) (list : List Entry) (s : State) (a b : List Entry) → IsListBehind library c list s a → IsListBehind library c list s b → a ≡ b
+behind_one : (library : Library) (c : Command) (list : List Entry) (s : State) (a b : List Entry) → IsListBehind library c list s a
+    → IsListBehind library c list s b → a ≡ b
 behind_one library (Says line) list s a b h k = h ∙ sym k
 behind_one library Read list s a b h k = h ∙ sym k
 behind_one library (Execute f) list s a b h k = h ∙ sym k
@@ -38,7 +39,8 @@ behind_one library (Iterate f) list s a b h k = h ∙ sym k
 behind_one library (Reverse f) list s a b h k = h ∙ sym k
 behind_one library Sort list s a b h k = order_one (sort_key s) list a b h k
 
-goes_one : (o : Outcome) (Next : ℕ → State → Outcome → Type 0) → ((left : ℕ) (s : State) (a b : Outcome) → Next left s a → Next left s b → a ≡ b) → (a b : Outcome) → GoesOn o Next a → GoesOn o Next b → a ≡ b
+goes_one : (o : Outcome) (Next : ℕ → State → Outcome → Type 0) → ((left : ℕ) (s : State) (a b : Outcome) → Next left s a → Next left s b → a ≡ b)
+    → (a b : Outcome) → GoesOn o Next a → GoesOn o Next b → a ≡ b
 goes_one (Done s left) Next n a b h k = n left s a b h k
 goes_one (Stopped s) Next n a b h k = h ∙ sym k
 goes_one (Limited limit s left) Next n a b h k = h ∙ sym k
@@ -48,12 +50,14 @@ commands_one : (means : Meaning) (library : Library) (cs : List Command) (list :
 commands_one means library [] list left s a b h k = h ∙ sym k
 commands_one means library (c ∷ cs) list left s a b h k =
     let same = behind_one library c list s h.0 k.0 h.1 k.1 in
-    goes_one (command_does means library list c left s) (CommandsCome means library cs k.0) (λ left s a b x y. commands_one means library cs k.0 left s a b x y) a b
+    goes_one (command_does means library list c left s) (CommandsCome means library cs k.0) (λ left s a b x y. commands_one means library cs k.0 left s a b x y)
+    a b
     (subst (λ n. GoesOn (command_does means library list c left s) (CommandsCome means library cs n) a) same h.2) k.2
 
 -- ---- an execution
 
-executed_one : (job : Job) (log : List Line) (options : Options) → 3 ≤ options.line → (a b : Product) → IsExecuted job log options a → IsExecuted job log options b → a ≡ b
+executed_one : (job : Job) (log : List Line) (options : Options) → 3 ≤ options.line → (a b : Product) → IsExecuted job log options a
+    → IsExecuted job log options b → a ≡ b
 executed_one job log options wide a b h k =
     let divisions = one_division h.the k.the h.divided k.divided in
     let meant : IsMeaning k.the job h.means = subst (λ d. IsMeaning d job h.means) divisions h.meant in
@@ -67,30 +71,41 @@ executed_one job log options wide a b h k =
 
 -- ---- the files
 
-styled_one : (files : Files) (job : AuxSaid) (name text : List ℕ) (log : List Line) (options : Options) → 3 ≤ options.line → (a b : Product) → IsStyled files job name text log options a → IsStyled files job name text log options b → a ≡ b
+styled_one : (files : Files) (job : AuxSaid) (name text : List ℕ) (log : List Line) (options : Options) → 3 ≤ options.line → (a b : Product)
+    → IsStyled files job name text log options a → IsStyled files job name text log options b → a ≡ b
 styled_one files job name text log options wide a b h k =
     let databases : List Database = map (λ (file : NamedFile). record { file = file.name; text = file.bytes }) (files_found files job.databases) in
     let style = style_one name text h.style k.style h.styled k.styled in
     let library = library_one (asked_by job k.style options) k.style.macros databases h.library k.library
     (subst (λ (s : Style). IsLibrary (asked_by job s options) s.macros databases h.library) style h.gathered) k.gathered in
     let lines = log ++ databases_logged files [] job.databases in
-    let one = subst (λ (s : Style). IsExecuted (record { style = s; library = h.library; mode = options.text; entry_max = options.entry_max; global_max = options.global_max }) lines options a) style h.executed in
-    let two = subst (λ (l : Library). IsExecuted (record { style = k.style; library = l; mode = options.text; entry_max = options.entry_max; global_max = options.global_max }) lines options a) library one in
-    executed_one (record { style = k.style; library = k.library; mode = options.text; entry_max = options.entry_max; global_max = options.global_max }) lines options wide a b two k.executed
+    let one = subst (λ (s : Style). IsExecuted
+    (record { style = s; library = h.library; mode = options.text; entry_max = options.entry_max; global_max = options.global_max }) lines options a)
+    style h.executed in
+    let two = subst (λ (l : Library). IsExecuted
+    (record { style = k.style; library = l; mode = options.text; entry_max = options.entry_max; global_max = options.global_max }) lines options a)
+    library one in
+    executed_one (record { style = k.style; library = k.library; mode = options.text; entry_max = options.entry_max; global_max = options.global_max }) lines
+    options wide a b two k.executed
 
-found_one : (t : Bool) (files : Files) (job : AuxSaid) (name text : List ℕ) (log : List Line) (options : Options) → 3 ≤ options.line → (a b : Product) → IsFound t files job name text log options a → IsFound t files job name text log options b → a ≡ b
+found_one : (t : Bool) (files : Files) (job : AuxSaid) (name text : List ℕ) (log : List Line) (options : Options) → 3 ≤ options.line → (a b : Product)
+    → IsFound t files job name text log options a → IsFound t files job name text log options b → a ≡ b
 found_one true files job name text log options wide a b h k = h ∙ sym k
 found_one false files job name text log options wide a b h k = styled_one files job name text log options wide a b h k
 
-named_one : (f : Option (List ℕ)) (files : Files) (job : AuxSaid) (name : List ℕ) (options : Options) → 3 ≤ options.line → (a b : Product) → IsNamed f files job name options a → IsNamed f files job name options b → a ≡ b
+named_one : (f : Option (List ℕ)) (files : Files) (job : AuxSaid) (name : List ℕ) (options : Options) → 3 ≤ options.line → (a b : Product)
+    → IsNamed f files job name options a → IsNamed f files job name options b → a ≡ b
 named_one None files job name options wide a b h k = h ∙ sym k
-named_one (Some text) files job name options wide a b h k = found_one (is_too_long text) files job name text (job.log ++ style_line name ∷ []) options wide a b h k
+named_one (Some text) files job name options wide a b h k = found_one (is_too_long text) files job name text (job.log ++ style_line name ∷ []) options wide a b
+    h k
 
-asked_one : (n : Option (List ℕ)) (files : Files) (job : AuxSaid) (options : Options) → 3 ≤ options.line → (a b : Product) → IsAsked n files job options a → IsAsked n files job options b → a ≡ b
+asked_one : (n : Option (List ℕ)) (files : Files) (job : AuxSaid) (options : Options) → 3 ≤ options.line → (a b : Product) → IsAsked n files job options a
+    → IsAsked n files job options b → a ≡ b
 asked_one None files job options wide a b h k = h ∙ sym k
 asked_one (Some name) files job options wide a b h k = named_one (files name) files job name options wide a b h k
 
-behind_files_one : (e : AuxEnd) (files : Files) (job : AuxSaid) (options : Options) → 3 ≤ options.line → (a b : Product) → IsBehind e files job options a → IsBehind e files job options b → a ≡ b
+behind_files_one : (e : AuxEnd) (files : Files) (job : AuxSaid) (options : Options) → 3 ≤ options.line → (a b : Product) → IsBehind e files job options a
+    → IsBehind e files job options b → a ≡ b
 behind_files_one aux.Whole files job options wide a b h k = asked_one job.style files job options wide a b h k
 behind_files_one aux.TooManyOpen files job options wide a b h k = h ∙ sym k
 behind_files_one aux.TopMissing files job options wide a b h k = h ∙ sym k

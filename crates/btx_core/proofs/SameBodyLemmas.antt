@@ -1,5 +1,6 @@
 -- What the parts of a body come to: tokens by numbers, and words in names.
-use Rattle.std.proofs.Common.{◌≡◌, ℕ, zero, suc, ◌≤◌, List, [], ◌∷◌, ◌++◌, length, map, Option, None, Some, option_map, is_none, unwrap_or, sym, ap, subst, ◌∙◌, refl, arith, append_assoc, append-nil, slice_index_or}
+use Rattle.std.proofs.Common.{◌≡◌, ℕ, zero, suc, ◌≤◌, List, [], ◌∷◌, ◌++◌, length, map, Option, None, Some, option_map, is_none, unwrap_or, sym, ap, subst, ◌∙◌}
+use Rattle.std.proofs.Common.{refl, arith, append_assoc, append-nil, slice_index_or}
 use Rattle.std.specs.Option.{option_map_or}
 use Rattle.std.specs.Prelude.{codes, slice_get}
 use Rattle.std.proofs.lemmas.List.{length-append}
@@ -15,11 +16,13 @@ use Rattle.btx_bst.specs.language.MessageTexts.{complaint_line}
 use Rattle.btx_bst.specs.language.Names.{Names, named, name_of}
 use Rattle.btx_bst.specs.language.Words as words
 use Rattle.btx_bst.specs.language.Words.{BodyWord}
-use Rattle.btx_bst.specs.laws.Spelling.{Parts, Nothing, Plain, Group, Fragment, Here, After, AfterGroup, Inner, Made, made_named, made_word, nameless_begun, nameless_defined, made_by, made_till}
+use Rattle.btx_bst.specs.laws.Spelling.{Parts, Nothing, Plain, Group, Fragment, Here, After, AfterGroup, Inner, Made, made_named, made_word, nameless_begun}
+use Rattle.btx_bst.specs.laws.Spelling.{nameless_defined, made_by, made_till}
 use Rattle.btx_core.specs.laws.SameStyles.{Numbers, stands_for, word_of, IsBodyOf, AreFunctionsOf, AreCommandsOf, IsMeant}
 use Rattle.btx_core.specs.language.Styles.{Body, Command, Defined, Function, Integer, Push, Quoted, Run, Says, Text, Then, Word}
 use Rattle.btx_core.specs.language.StyleTexts.{and_word, body_of, wrong_in_word, wrong_in, wrong_till}
-use Rattle.btx_core.proofs.SameNumberLemmas.{Kept, kept_same, kept_push, last_of, Extends, extends_both, extends_by, still_stands, still_body, still_meant, still_functions, functions_length, one_more_word, one_more_function}
+use Rattle.btx_core.proofs.SameNumberLemmas.{Kept, kept_same, kept_push, last_of, Extends, extends_both, extends_by, still_stands, still_body, still_meant}
+use Rattle.btx_core.proofs.SameNumberLemmas.{still_functions, functions_length, one_more_word, one_more_function}
 
 -- a name means the same in both ways
 abbrev pub MeanSame : Numbers → Names → (List ℕ → Option Function) → Type 0
@@ -43,7 +46,8 @@ messages_said a file (m ∷ said) = (said_of file m ∷ [], map (said_of file) s
 named_items : (a : Numbers) (kind : Callee → Token) (line : ℕ) (name : List ℕ) (c : Option Callee) (f : Option Function) (m : Made) → IsMeant a c f
     → (made_named kind line name c m).items ≡ m.items ++ map item_of (only_if (is_none f) (Unknown name, line))
 named_items a kind line name None f m h = ap (λ (g : Option Function). m.items ++ map item_of (only_if (is_none g) (Unknown name, line))) (sym h)
-named_items a kind line name (Some c) f m h = sym (ap (λ (g : Option Function). m.items ++ map item_of (only_if (is_none g) (Unknown name, line))) h.2 ∙ append-nil m.items)
+named_items a kind line name (Some c) f m h = sym (ap (λ (g : Option Function). m.items ++ map item_of (only_if (is_none g) (Unknown name, line))) h.2
+    ∙ append-nil m.items)
 
 word_items : (a : Numbers) (names : Names) (means : List ℕ → Option Function) → MeanSame a names means → (line : ℕ) (w : BodyWord) (m : Made)
     → (made_word names line w m).items ≡ m.items ++ map item_of (wrong_in_word means line w)
@@ -57,9 +61,11 @@ word_items a names means h line words.Close m = sym (append-nil m.items)
 word_items a names means h line words.Unended m = sym (append-nil m.items)
 word_items a names means h line words.Ended m = sym (append-nil m.items)
 
-both_items : (items first second : List Item) (xs ys : List Message) → first ≡ items ++ map item_of xs → second ≡ first ++ map item_of ys → second ≡ items ++ map item_of (xs ++ ys)
+both_items : (items first second : List Item) (xs ys : List Message) → first ≡ items ++ map item_of xs → second ≡ first ++ map item_of ys
+    → second ≡ items ++ map item_of (xs ++ ys)
 both_items items first second xs ys e f =
-    f ∙ ap (λ (is : List Item). is ++ map item_of ys) e ∙ append_assoc items (map item_of xs) (map item_of ys) ∙ ap (λ (is : List Item). items ++ is) (sym (mapped xs)) where
+    f ∙ ap (λ (is : List Item). is ++ map item_of ys) e ∙ append_assoc items (map item_of xs) (map item_of ys)
+    ∙ ap (λ (is : List Item). items ++ is) (sym (mapped xs)) where
       mapped : (zs : List Message) → map item_of (zs ++ ys) ≡ map item_of zs ++ map item_of ys
       mapped [] = refl
       mapped (z ∷ zs) = ap (λ (is : List Item). item_of z ∷ is) (mapped zs)
@@ -70,9 +76,11 @@ pub parts_items : (a : Numbers) (names : Names) (means : List ℕ → Option Fun
 unfolding made_by
 parts_items a names means h Nothing m = sym (append-nil m.items)
 parts_items a names means h (Plain line w more) m =
-    both_items m.items (made_word names line w m).items _ (wrong_in_word means line w) (wrong_in means more) (word_items a names means h line w m) (parts_items a names means h more (made_word names line w m))
+    both_items m.items (made_word names line w m).items _ (wrong_in_word means line w) (wrong_in means more) (word_items a names means h line w m)
+    (parts_items a names means h more (made_word names line w m))
 parts_items a names means h (Group inside more) m =
-    both_items m.items (made_by names inside (nameless_begun m)).items _ (wrong_in means inside) (wrong_in means more) (parts_items a names means h inside (nameless_begun m))
+    both_items m.items (made_by names inside (nameless_begun m)).items _ (wrong_in means inside) (wrong_in means more)
+    (parts_items a names means h inside (nameless_begun m))
     (parts_items a names means h more (nameless_defined m.tokens (made_by names inside (nameless_begun m))))
 
 -- and of one that breaks off
@@ -81,9 +89,11 @@ pub fragment_items : (a : Numbers) (names : Names) (means : List ℕ → Option 
 unfolding made_till
 fragment_items a names means h (Here wrong) m = sym (append-nil m.items)
 fragment_items a names means h (After line w more) m =
-    both_items m.items (made_word names line w m).items _ (wrong_in_word means line w) (wrong_till means more) (word_items a names means h line w m) (fragment_items a names means h more (made_word names line w m))
+    both_items m.items (made_word names line w m).items _ (wrong_in_word means line w) (wrong_till means more) (word_items a names means h line w m)
+    (fragment_items a names means h more (made_word names line w m))
 fragment_items a names means h (AfterGroup inside more) m =
-    both_items m.items (made_by names inside (nameless_begun m)).items _ (wrong_in means inside) (wrong_till means more) (parts_items a names means h inside (nameless_begun m))
+    both_items m.items (made_by names inside (nameless_begun m)).items _ (wrong_in means inside) (wrong_till means more)
+    (parts_items a names means h inside (nameless_begun m))
     (fragment_items a names means h more (nameless_defined m.tokens (made_by names inside (nameless_begun m))))
 fragment_items a names means h (Inner inside) m = fragment_items a names means h inside (nameless_begun m)
 
@@ -99,9 +109,11 @@ record Adds (names : Names) (means : List ℕ → Option Function) (functions : 
   after : next.tokens ≡ m.tokens ++ tokens
   bodies : next.bodies ≡ m.bodies
   texts : Kept m.texts next.texts
-  body : (b : Numbers) → Extends (numbers_at names next functions) b → (others : List Token) (rest : Body) → IsBodyOf b others rest → IsBodyOf b (tokens ++ others) (and_word means w rest)
+  body : (b : Numbers) → Extends (numbers_at names next functions) b → (others : List Token) (rest : Body) → IsBodyOf b others rest
+      → IsBodyOf b (tokens ++ others) (and_word means w rest)
 
-adds_nothing : (names : Names) (means : List ℕ → Option Function) (functions : List Function) (w : BodyWord) (m next : Made) → next.tokens ≡ m.tokens → next.bodies ≡ m.bodies → next.texts ≡ m.texts
+adds_nothing : (names : Names) (means : List ℕ → Option Function) (functions : List Function) (w : BodyWord) (m next : Made) → next.tokens ≡ m.tokens
+    → next.bodies ≡ m.bodies → next.texts ≡ m.texts
     → ((rest : Body) → and_word means w rest ≡ rest) → Adds names means functions w m next
 adds_nothing names means functions w m next e f g h = record {
   tokens = [];
@@ -111,7 +123,8 @@ adds_nothing names means functions w m next e f g h = record {
   body = λ b x others rest k. subst (IsBodyOf b others) (sym (h rest)) k;
 }
 
-named_adds : (names : Names) (means : List ℕ → Option Function) (functions : List Function) (w : BodyWord) (kind : Callee → Token) (made : Function → Word) (line : ℕ) (name : List ℕ) (c : Option Callee) (m : Made)
+named_adds : (names : Names) (means : List ℕ → Option Function) (functions : List Function) (w : BodyWord) (kind : Callee → Token) (made : Function → Word)
+    (line : ℕ) (name : List ℕ) (c : Option Callee) (m : Made)
     → ((b : Numbers) (d : Callee) (f : Function) → stands_for b d ≡ Some f → word_of b (kind d) ≡ Some (made f))
     → ((rest : Body) → and_word means w rest ≡ option_map_or (λ (f : Function). Then (made f) rest) (means name) rest)
     → IsMeant (numbers_at names m functions) c (means name) → Adds names means functions w m (made_named kind line name c m)
@@ -127,7 +140,8 @@ named_adds names means functions w kind made line name (Some c) m word same h = 
       (one_more_word b (kind c) (made h.0) others rest (word b c h.0 (still_stands (numbers_at names m functions) b x c h.0 h.1)) k);
 }
 
-word_adds : (names : Names) (means : List ℕ → Option Function) (functions : List Function) (line : ℕ) (w : BodyWord) (m : Made) → MeanSame (numbers_at names m functions) names means
+word_adds : (names : Names) (means : List ℕ → Option Function) (functions : List Function) (line : ℕ) (w : BodyWord) (m : Made)
+    → MeanSame (numbers_at names m functions) names means
     → Adds names means functions w m (made_word names line w m)
 word_adds names means functions line (words.String text) m h = record {
   tokens = token.Text (length m.texts) ∷ [];
@@ -136,7 +150,8 @@ word_adds names means functions line (words.String text) m h = record {
   texts = kept_push m.texts (text ∷ []);
   body = λ b x others rest k.
       one_more_word b (token.Text (length m.texts)) (Push (Text text)) others rest
-      (ap (λ (o : Option (List ℕ)). option_map (λ (text : List ℕ). Push (Text text)) o) (x.texts (length m.texts) text (last_of m.texts text (length m.texts) refl))) k;
+      (ap (λ (o : Option (List ℕ)). option_map (λ (text : List ℕ). Push (Text text)) o)
+      (x.texts (length m.texts) text (last_of m.texts text (length m.texts) refl))) k;
 }
 word_adds names means functions line (words.Integer n) m h = record {
   tokens = token.Integer n ∷ [];
@@ -146,9 +161,11 @@ word_adds names means functions line (words.Integer n) m h = record {
   body = λ b x others rest k. one_more_word b (token.Integer n) (Push (Integer n)) others rest refl k;
 }
 word_adds names means functions line (words.Quoted name) m h =
-    named_adds names means functions (words.Quoted name) token.Quote (λ f. Push (Quoted f)) line name (named names name) m (λ b d f e. ap (λ (o : Option Function). option_map (λ (f : Function). Push (Quoted f)) o) e) (λ rest. refl) (h name)
+    named_adds names means functions (words.Quoted name) token.Quote (λ f. Push (Quoted f)) line name (named names name) m
+    (λ b d f e. ap (λ (o : Option Function). option_map (λ (f : Function). Push (Quoted f)) o) e) (λ rest. refl) (h name)
 word_adds names means functions line (words.Name name) m h =
-    named_adds names means functions (words.Name name) token.Run Run line name (named names name) m (λ b d f e. ap (λ (o : Option Function). option_map Run o) e) (λ rest. refl) (h name)
+    named_adds names means functions (words.Name name) token.Run Run line name (named names name) m
+    (λ b d f e. ap (λ (o : Option Function). option_map Run o) e) (λ rest. refl) (h name)
 word_adds names means functions line (words.Faulty wrong) m h = adds_nothing names means functions (words.Faulty wrong) m _ refl refl refl (λ rest. refl)
 word_adds names means functions line words.Open m h = adds_nothing names means functions words.Open m _ refl refl refl (λ rest. refl)
 word_adds names means functions line words.Close m h = adds_nothing names means functions words.Close m _ refl refl refl (λ rest. refl)
@@ -180,8 +197,10 @@ is_nameless names n h = ap (λ (o : Option (List ℕ)). unwrap_or o (codes "{}")
 still_mean : (a b : Numbers) → Extends a b → (names : Names) (means : List ℕ → Option Function) → MeanSame a names means → MeanSame b names means
 still_mean a b x names means h name = still_meant a b x (named names name) (means name) (h name)
 
-pub parts_come : (names : Names) (means : List ℕ → Option Function) (parts : Parts) (m : Made) (functions : List Function) → MeanSame (numbers_at names m functions) names means
-    → length names.functions ≤ length m.bodies → AreFunctionsOf (numbers_at names m functions) 0 m.bodies functions → Comes names functions m (made_by names parts m) (body_of means parts)
+pub parts_come : (names : Names) (means : List ℕ → Option Function) (parts : Parts) (m : Made) (functions : List Function)
+    → MeanSame (numbers_at names m functions) names means
+    → length names.functions ≤ length m.bodies → AreFunctionsOf (numbers_at names m functions) 0 m.bodies functions
+    → Comes names functions m (made_by names parts m) (body_of means parts)
 unfolding made_by
 parts_come names means Nothing m functions h le k = record {
   all = functions;
@@ -196,12 +215,16 @@ parts_come names means Nothing m functions h le k = record {
 parts_come names means (Plain line w more) m functions h le k =
     let next = made_word names line w m in
     let adds = word_adds names means functions line w m h in
-    let x : Extends (numbers_at names m functions) (numbers_at names next functions) = extends_by names m.texts next.texts functions functions adds.texts (kept_same functions) in
+    let x : Extends (numbers_at names m functions) (numbers_at names next functions) = extends_by names m.texts next.texts functions functions adds.texts
+    (kept_same functions) in
     let defined : AreFunctionsOf (numbers_at names next functions) 0 next.bodies functions =
     subst (λ (bodies : List (List Token)). AreFunctionsOf (numbers_at names next functions) 0 bodies functions) (sym adds.bodies)
-    (still_functions (numbers_at names m functions) (numbers_at names next functions) x (length m.bodies) 0 m.bodies functions (λ n lt. refl) (omega arith) k) in
-    let longer : length names.functions ≤ length next.bodies = subst (λ (bodies : List (List Token)). length names.functions ≤ length bodies) (sym adds.bodies) le in
-    let rest = parts_come names means more next functions (still_mean (numbers_at names m functions) (numbers_at names next functions) x names means h) longer defined in
+    (still_functions (numbers_at names m functions) (numbers_at names next functions) x (length m.bodies) 0 m.bodies functions (λ n lt. refl) (omega arith)
+    k) in
+    let longer : length names.functions ≤ length next.bodies = subst (λ (bodies : List (List Token)). length names.functions ≤ length bodies) (sym adds.bodies)
+    le in
+    let rest = parts_come names means more next functions (still_mean (numbers_at names m functions) (numbers_at names next functions) x names means h) longer
+    defined in
     let end = made_by names more next in
     record {
       all = rest.all;
@@ -211,7 +234,8 @@ parts_come names means (Plain line w more) m functions h le k =
       grown = subst (λ (bodies : List (List Token)). length bodies ≤ length end.bodies) adds.bodies rest.grown;
       tokens = adds.tokens ++ rest.tokens;
       after = rest.after ∙ ap (λ (ts : List Token). ts ++ rest.tokens) adds.after ∙ append_assoc m.tokens adds.tokens rest.tokens;
-      is_body = adds.body (numbers_at names end rest.all) (extends_by names next.texts end.texts functions rest.all rest.texts rest.kept) rest.tokens (body_of means more) rest.is_body;
+      is_body = adds.body (numbers_at names end rest.all) (extends_by names next.texts end.texts functions rest.all rest.texts rest.kept) rest.tokens
+          (body_of means more) rest.is_body;
     }
 parts_come names means (Group inside more) m functions h le k =
     let inner = parts_come names means inside (nameless_begun m) functions h le k in
@@ -221,20 +245,27 @@ parts_come names means (Group inside more) m functions h le k =
     let body = body_of means inside in
     let all = inner.all ++ Defined (codes "{}") body ∷ [] in
     let grown = inner.grown in
-    let before : Extends (numbers_at names made inner.all) (numbers_at names next all) = extends_by names made.texts made.texts inner.all all (kept_same made.texts) (kept_push inner.all (Defined (codes "{}") body ∷ [])) in
+    let before : Extends (numbers_at names made inner.all) (numbers_at names next all) =
+    extends_by names made.texts made.texts inner.all all (kept_same made.texts) (kept_push inner.all (Defined (codes "{}") body ∷ [])) in
     let start : Extends (numbers_at names m functions) (numbers_at names next all) =
-    extends_both (numbers_at names m functions) (numbers_at names made inner.all) (numbers_at names next all) (extends_by names m.texts made.texts functions inner.all inner.texts inner.kept) before in
+    extends_both (numbers_at names m functions) (numbers_at names made inner.all) (numbers_at names next all)
+    (extends_by names m.texts made.texts functions inner.all inner.texts inner.kept) before in
     let tokens : IsBodyOf (numbers_at names next all) made.tokens body =
-    subst (λ (ts : List Token). IsBodyOf (numbers_at names next all) ts body) (sym inner.after) (still_body (numbers_at names made inner.all) (numbers_at names next all) before inner.tokens body inner.is_body) in
+    subst (λ (ts : List Token). IsBodyOf (numbers_at names next all) ts body) (sym inner.after)
+    (still_body (numbers_at names made inner.all) (numbers_at names next all) before inner.tokens body inner.is_body) in
     let defined : AreFunctionsOf (numbers_at names next all) 0 next.bodies all =
     one_more_function (numbers_at names next all) 0 number made.bodies inner.all made.tokens (codes "{}") body
-    (still_functions (numbers_at names made inner.all) (numbers_at names next all) before (length made.bodies) 0 made.bodies inner.all (λ n lt. refl) (omega arith) inner.defined)
+    (still_functions (numbers_at names made inner.all) (numbers_at names next all) before (length made.bodies) 0 made.bodies inner.all (λ n lt. refl)
+    (omega arith) inner.defined)
     tokens (omega arith) (is_nameless names number (omega arith)) in
     let longer : length names.functions ≤ length next.bodies = omega (arith, length-append made.bodies (made.tokens ∷ [])) in
-    let rest = parts_come names means more next all (still_mean (numbers_at names m functions) (numbers_at names next all) start names means h) longer defined in
+    let rest = parts_come names means more next all (still_mean (numbers_at names m functions) (numbers_at names next all) start names means h) longer
+    defined in
     let end = made_by names more next in
     let there : slice_get rest.all number ≡ Some (Defined (codes "{}") body) =
-    rest.kept number (Defined (codes "{}") body) (last_of inner.all (Defined (codes "{}") body) number (sym (functions_length (numbers_at names made inner.all) 0 made.bodies inner.all inner.defined))) in
+    rest.kept number (Defined (codes "{}") body)
+    (last_of inner.all (Defined (codes "{}") body) number
+    (sym (functions_length (numbers_at names made inner.all) 0 made.bodies inner.all inner.defined))) in
     let last = rest.grown in
     record {
       all = rest.all;
@@ -244,6 +275,7 @@ parts_come names means (Group inside more) m functions h le k =
       grown = omega (arith, length-append made.bodies (made.tokens ∷ []), last, grown);
       tokens = token.Quote (callee.User number) ∷ rest.tokens;
       after = rest.after ∙ append_assoc m.tokens (token.Quote (callee.User number) ∷ []) rest.tokens;
-      is_body = one_more_word (numbers_at names end rest.all) (token.Quote (callee.User number)) (Push (Quoted (Defined (codes "{}") body))) rest.tokens (body_of means more)
+      is_body = one_more_word (numbers_at names end rest.all) (token.Quote (callee.User number)) (Push (Quoted (Defined (codes "{}") body))) rest.tokens
+          (body_of means more)
           (ap (λ (o : Option Function). option_map (λ (f : Function). Push (Quoted f)) o) there) rest.is_body;
     }

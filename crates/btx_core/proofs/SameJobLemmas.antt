@@ -1,5 +1,6 @@
 -- What the numbers of a job stand for: functions with their bodies, entries, and variables with their names.
-use Rattle.std.proofs.Common.{◌≡◌, ℕ, zero, suc, ◌+◌, ◌<◌, Bool, true, false, if◌then◌else◌, List, [], ◌∷◌, length, map, Option, None, Some, option_map, option_and_then, unwrap_or, sym, ap, subst, ◌∙◌, refl, arith, true≢false, codes}
+use Rattle.std.proofs.Common.{◌≡◌, ℕ, zero, suc, ◌+◌, ◌<◌, Bool, true, false, if◌then◌else◌, List, [], ◌∷◌, length, map, Option, None, Some, option_map}
+use Rattle.std.proofs.Common.{option_and_then, unwrap_or, sym, ap, subst, ◌∙◌, refl, arith, true≢false, codes}
 use Rattle.std.specs.List.{position, position_from, IsDistinct, AllByRecursion}
 use Rattle.std.specs.Prelude.{slice_get, slice_index_or}
 use Rattle.std.specs.Str.{bytes_eq}
@@ -42,12 +43,14 @@ from_later test i (x ∷ xs) = by (test x) (from_later test (i + 1) xs) where
   by true h = ap Some (let e : i + 1 ≡ suc i = omega arith in e)
   by false h = h
 
-pub position_next : {A : Type 0} (test : A → Bool) (x : A) (xs : List A) → position test (x ∷ xs) ≡ (if test x then Some 0 else option_map suc (position test xs))
+pub position_next : {A : Type 0} (test : A → Bool) (x : A) (xs : List A)
+    → position test (x ∷ xs) ≡ (if test x then Some 0 else option_map suc (position test xs))
 position_next test x xs =
     position_from-zero test (x ∷ xs) ∙ ap (λ o. if test x then Some 0 else o) (from_later test 0 xs ∙ ap (option_map suc) (sym (position_from-zero test xs)))
 
 -- the first of a list that has a name is the one of a number, if none before it has the name
-first_named : (xs : List (List ℕ)) (i : ℕ) → i < length xs → ((j : ℕ) → j < i → bytes_eq (slice_index_or xs i []) (slice_index_or xs j []) ≡ false) → position (bytes_eq (slice_index_or xs i [])) xs ≡ Some i
+first_named : (xs : List (List ℕ)) (i : ℕ) → i < length xs → ((j : ℕ) → j < i → bytes_eq (slice_index_or xs i []) (slice_index_or xs j []) ≡ false)
+    → position (bytes_eq (slice_index_or xs i [])) xs ≡ Some i
 first_named [] i lt apart = absurd (omega (arith, lt))
 first_named (x ∷ xs) zero lt apart =
     position_next (bytes_eq x) x xs ∙ ap (λ (t : Bool). if t then Some 0 else option_map suc (position (bytes_eq x) xs)) ((bytes_eq-Decides x x).1 refl)
@@ -72,7 +75,8 @@ differs a b apart = by (bytes_eq a b) refl where
 
 -- the number of a name is that of its place, where a look-up finds each name of the list by its place
 pub own_number : (look : List ℕ → Option Callee) (make : ℕ → Callee) → ((i j : ℕ) → make i ≡ make j → i ≡ j) → (xs : List (List ℕ))
-    → ((i : ℕ) → i < length xs → look (slice_index_or xs i []) ≡ Some (make i)) → (i : ℕ) → i < length xs → position (bytes_eq (slice_index_or xs i [])) xs ≡ Some i
+    → ((i : ℕ) → i < length xs → look (slice_index_or xs i []) ≡ Some (make i)) → (i : ℕ) → i < length xs → position (bytes_eq (slice_index_or xs i [])) xs
+    ≡ Some i
 own_number look make one xs there i lt = first_named xs i lt (λ j less. differs (slice_index_or xs i []) (slice_index_or xs j []) (λ same.
     let makes : Some (make i) ≡ Some (make j) = sym (there i lt) ∙ ap look same ∙ there j (omega (arith, lt, less)) in
     let number = one i j (same_Some (make i) (make j) makes) in
@@ -82,12 +86,14 @@ own_number look make one xs there i lt = first_named xs i lt (λ j less. differs
 pub own_place : (xs : List (List ℕ)) → IsDistinct is_same_key xs → (i : ℕ) → i < length xs → position (bytes_eq (slice_index_or xs i [])) xs ≡ Some i
 unfolding IsDistinct
 own_place xs distinct i lt = first_named xs i lt (λ j less. apart xs distinct i j lt less) where
-  one_apart : (x : List ℕ) (xs : List (List ℕ)) → AllByRecursion (λ y. is_same_key x y ≡ false) xs → (i : ℕ) → i < length xs → bytes_eq (slice_index_or xs i []) x ≡ false
+  one_apart : (x : List ℕ) (xs : List (List ℕ)) → AllByRecursion (λ y. is_same_key x y ≡ false) xs → (i : ℕ) → i < length xs
+      → bytes_eq (slice_index_or xs i []) x ≡ false
   one_apart x [] h i lt = absurd (omega (arith, lt))
   one_apart x (y ∷ xs) h zero lt = differs y x (λ same. absurd (true≢false (sym (same_key_equiv.refl x) ∙ ap (is_same_key x) (sym same) ∙ h.0)))
   one_apart x (y ∷ xs) h (suc i) lt = one_apart x xs h.1 i (omega (arith, lt))
 
-  apart : (xs : List (List ℕ)) → IsDistinct is_same_key xs → (i j : ℕ) → i < length xs → j < i → bytes_eq (slice_index_or xs i []) (slice_index_or xs j []) ≡ false
+  apart : (xs : List (List ℕ)) → IsDistinct is_same_key xs → (i j : ℕ) → i < length xs → j < i → bytes_eq (slice_index_or xs i []) (slice_index_or xs j [])
+      ≡ false
   apart [] h i j lt less = absurd (omega (arith, lt))
   apart (x ∷ xs) h zero j lt less = absurd (omega (arith, less))
   apart (x ∷ xs) h (suc i) zero lt less = one_apart x xs h.0 i (omega (arith, lt))
@@ -101,7 +107,8 @@ record IsAt (a : Numbers) (tokens : List Token) (f : Function) (n : ℕ) : Type 
   is_body : IsBodyOf a tokens body
   is : f ≡ Defined (name_of a.names (callee.User n)) body
 
-function_at : (a : Numbers) (n : ℕ) (bodies : List (List Token)) (functions : List Function) → AreFunctionsOf a n bodies functions → (k : ℕ) (f : Function) → slice_get functions k ≡ Some f → IsAt a (slice_index_or bodies k []) f (n + k)
+function_at : (a : Numbers) (n : ℕ) (bodies : List (List Token)) (functions : List Function) → AreFunctionsOf a n bodies functions → (k : ℕ) (f : Function)
+    → slice_get functions k ≡ Some f → IsAt a (slice_index_or bodies k []) f (n + k)
 function_at a n [] functions h k f e = let no : None ≡ Some f = sym (ap (λ (fs : List Function). slice_get fs k) h) ∙ e in absurd (cc)
 function_at a n (tokens ∷ bodies) functions h zero f e =
     let is : Some (Defined (name_of a.names (callee.User n)) h.0) ≡ Some f = sym (ap (λ (fs : List Function). slice_get fs zero) h.4) ∙ e in
@@ -113,9 +120,11 @@ function_at a n (tokens ∷ bodies) functions h (suc k) f e =
     record { body = rest.body; is_body = rest.is_body; is = rest.is ∙ ap (λ m. Defined (name_of a.names (callee.User m)) rest.body) plus }
 
 -- there is one for each body
-there_is_function : (a : Numbers) (n : ℕ) (bodies : List (List Token)) (functions : List Function) → AreFunctionsOf a n bodies functions → (k : ℕ) → k < length bodies → (f : Function) × (slice_get functions k ≡ Some f)
+there_is_function : (a : Numbers) (n : ℕ) (bodies : List (List Token)) (functions : List Function) → AreFunctionsOf a n bodies functions → (k : ℕ)
+    → k < length bodies → (f : Function) × (slice_get functions k ≡ Some f)
 there_is_function a n [] functions h k lt = absurd (omega (arith, lt))
-there_is_function a n (tokens ∷ bodies) functions h zero lt = (Defined (name_of a.names (callee.User n)) h.0, ap (λ (fs : List Function). slice_get fs zero) h.4)
+there_is_function a n (tokens ∷ bodies) functions h zero lt =
+    (Defined (name_of a.names (callee.User n)) h.0, ap (λ (fs : List Function). slice_get fs zero) h.4)
 there_is_function a n (tokens ∷ bodies) functions h (suc k) lt =
     let rest = there_is_function a (suc n) bodies h.1 h.3 k (omega (arith, lt)) in
     (rest.0, ap (λ (fs : List Function). slice_get fs (suc k)) h.4 ∙ rest.1)
@@ -125,12 +134,15 @@ IsSameAt numbers field None None = Unit {0}
 IsSameAt numbers field (Some n) (Some e) = IsSameEntry numbers field n e
 IsSameAt numbers field n e = ⊥
 
-entries_at : (numbers : Numbers) (field : List ℕ → Option ℕ) (ns : List NumberedEntry) (es : List Entry) → AreSameEntries numbers field ns es → (i : ℕ) → IsSameAt numbers field (slice_get ns i) (slice_get es i)
+entries_at : (numbers : Numbers) (field : List ℕ → Option ℕ) (ns : List NumberedEntry) (es : List Entry) → AreSameEntries numbers field ns es → (i : ℕ)
+    → IsSameAt numbers field (slice_get ns i) (slice_get es i)
 entries_at numbers field [] es h i = subst (λ (es : List Entry). IsSameAt numbers field None (slice_get es i)) (sym h) tt
 entries_at numbers field (n ∷ ns) es h zero = subst (λ (es : List Entry). IsSameAt numbers field (Some n) (slice_get es zero)) (sym h.4) h.2
-entries_at numbers field (n ∷ ns) es h (suc i) = subst (λ (es : List Entry). IsSameAt numbers field (slice_get ns i) (slice_get es (suc i))) (sym h.4) (entries_at numbers field ns h.1 h.3 i)
+entries_at numbers field (n ∷ ns) es h (suc i) = subst (λ (es : List Entry). IsSameAt numbers field (slice_get ns i) (slice_get es (suc i))) (sym h.4)
+    (entries_at numbers field ns h.1 h.3 i)
 
-pub entries_length : (numbers : Numbers) (field : List ℕ → Option ℕ) (ns : List NumberedEntry) (es : List Entry) → AreSameEntries numbers field ns es → length es ≡ length ns
+pub entries_length : (numbers : Numbers) (field : List ℕ → Option ℕ) (ns : List NumberedEntry) (es : List Entry) → AreSameEntries numbers field ns es
+    → length es ≡ length ns
 entries_length numbers field [] es h = ap length h
 entries_length numbers field (n ∷ ns) es h = ap length h.4 ∙ ap suc (entries_length numbers field ns h.1 h.3)
 
@@ -227,7 +239,8 @@ module _ (job : NumberedJob) (style : Style) (library : Library) (h : SameJob jo
 
   pub typed : (i : ℕ) → (entry i).kind ≡ option_map (λ (f : ℕ). of (callee.User f)) (entry_type (entry_of job i))
   typed i = by (slice_get job.library.entries i) (slice_get library.entries i) (at_entry i) where
-    by : (n : Option NumberedEntry) (e : Option Entry) → IsSameAt numbers (field_of job.style) n e → (unwrap_or e no_one).kind ≡ option_map (λ (f : ℕ). of (callee.User f)) (entry_type n)
+    by : (n : Option NumberedEntry) (e : Option Entry) → IsSameAt numbers (field_of job.style) n e → (unwrap_or e no_one).kind
+        ≡ option_map (λ (f : ℕ). of (callee.User f)) (entry_type n)
     by None None k = refl
     by (Some n) (Some e) k = meant_type n.kind e.kind k.kind
     by None (Some e) k = absurd k
@@ -242,7 +255,8 @@ module _ (job : NumberedJob) (style : Style) (library : Library) (h : SameJob jo
     number : field_of job.style (name_of names (callee.Field i)) ≡ Some i
     number = ap as_field (h.meanings (callee.Field i) lt)
 
-    by : (n : Option NumberedEntry) (x : Option Entry) → IsSameAt numbers (field_of job.style) n x → (unwrap_or x no_one).value (name_of names (callee.Field i)) ≡ entry_value i n
+    by : (n : Option NumberedEntry) (x : Option Entry) → IsSameAt numbers (field_of job.style) n x → (unwrap_or x no_one).value (name_of names (callee.Field i))
+        ≡ entry_value i n
     by None None k = refl
     by (Some n) (Some x) k = k.values (name_of names (callee.Field i)) ∙ ap (option_and_then (λ (number : ℕ). field_value number n.values)) number
     by None (Some x) k = absurd k
@@ -308,17 +322,24 @@ module _ (job : NumberedJob) (style : Style) (library : Library) (h : SameJob jo
 
   -- ---- variables
 
-  pub global_integer_number : (i : ℕ) → i < length names.global_integers → position (bytes_eq (name_of names (callee.GlobalInteger i))) names.global_integers ≡ Some i
-  global_integer_number i lt = own_number (named_lower names) callee.GlobalInteger (λ i j e. cc) names.global_integers (λ i lt. h.meanings (callee.GlobalInteger i) lt) i lt
+  pub global_integer_number : (i : ℕ) → i < length names.global_integers → position (bytes_eq (name_of names (callee.GlobalInteger i))) names.global_integers
+      ≡ Some i
+  global_integer_number i lt = own_number (named_lower names) callee.GlobalInteger (λ i j e. cc) names.global_integers
+      (λ i lt. h.meanings (callee.GlobalInteger i) lt) i lt
 
-  pub global_string_number : (i : ℕ) → i < length names.global_strings → position (bytes_eq (name_of names (callee.GlobalString i))) names.global_strings ≡ Some i
-  global_string_number i lt = own_number (named_lower names) callee.GlobalString (λ i j e. cc) names.global_strings (λ i lt. h.meanings (callee.GlobalString i) lt) i lt
+  pub global_string_number : (i : ℕ) → i < length names.global_strings → position (bytes_eq (name_of names (callee.GlobalString i))) names.global_strings
+      ≡ Some i
+  global_string_number i lt = own_number (named_lower names) callee.GlobalString (λ i j e. cc) names.global_strings
+      (λ i lt. h.meanings (callee.GlobalString i) lt) i lt
 
-  pub entry_integer_number : (i : ℕ) → i < length names.entry_integers → position (bytes_eq (name_of names (callee.EntryInteger i))) names.entry_integers ≡ Some i
-  entry_integer_number i lt = own_number (named_lower names) callee.EntryInteger (λ i j e. cc) names.entry_integers (λ i lt. h.meanings (callee.EntryInteger i) lt) i lt
+  pub entry_integer_number : (i : ℕ) → i < length names.entry_integers → position (bytes_eq (name_of names (callee.EntryInteger i))) names.entry_integers
+      ≡ Some i
+  entry_integer_number i lt = own_number (named_lower names) callee.EntryInteger (λ i j e. cc) names.entry_integers
+      (λ i lt. h.meanings (callee.EntryInteger i) lt) i lt
 
   pub entry_string_number : (i : ℕ) → i < length names.entry_strings → position (bytes_eq (name_of names (callee.EntryString i))) names.entry_strings ≡ Some i
-  entry_string_number i lt = own_number (named_lower names) callee.EntryString (λ i j e. cc) names.entry_strings (λ i lt. h.meanings (callee.EntryString i) lt) i lt
+  entry_string_number i lt = own_number (named_lower names) callee.EntryString (λ i j e. cc) names.entry_strings (λ i lt. h.meanings (callee.EntryString i) lt)
+      i lt
 
   abbrev pub key_list : List (List ℕ)
   key_list = map (λ (e : NumberedEntry). e.key) job.library.entries

@@ -1,5 +1,7 @@
 -- The library of databases with numbers, and the one in names, are the same.
-use Rattle.std.proofs.Common.{◌≡◌, ◌⊎◌, inl, inr, ℕ, suc, ◌+◌, Bool, true, false, if◌then◌else◌, List, [], ◌∷◌, ◌++◌, length, map, drop, take, count_by, Option, None, Some, is_some, is_none, option_map, option_and_then, unwrap_or, nat_le, sym, ap, ap₂, subst, ◌∙◌, refl, arith, append-nil, append_assoc, leb-false}
+use Rattle.std.proofs.Common.{◌≡◌, ◌⊎◌, inl, inr, ℕ, suc, ◌+◌, Bool, true, false, if◌then◌else◌, List, [], ◌∷◌, ◌++◌, length, map, drop, take, count_by, Option}
+use Rattle.std.proofs.Common.{None, Some, is_some, is_none, option_map, option_and_then, unwrap_or, nat_le, sym, ap, ap₂, subst, ◌∙◌, refl, arith, append-nil}
+use Rattle.std.proofs.Common.{append_assoc, leb-false}
 use Rattle.std.specs.List.{flat_map, fold, position, range_with_len}
 use Rattle.std.specs.Option.{option_map_or, option_or}
 use Rattle.std.specs.Prelude.{codes, slice_get, slice_index_or, ◌||◌}
@@ -26,7 +28,8 @@ use Rattle.btx_bib.specs.language.MessageTexts.{message_line, message_text}
 use Rattle.btx_text.specs.language.LogLines.{Line, mark_of}
 use Rattle.btx_bib.specs.language.Messages.{Database, Reading}
 use Rattle.btx_bib.specs.language.Passes as passes
-use Rattle.btx_bib.specs.language.Passes.{body_values, parent_at, after_first, after_second, entries_of, reference_messages, inherited, checked, pass_messages, check_messages}
+use Rattle.btx_bib.specs.language.Passes.{body_values, parent_at, after_first, after_second, entries_of, reference_messages, inherited, checked, pass_messages}
+use Rattle.btx_bib.specs.language.Passes.{check_messages}
 use Rattle.btx_bib.specs.language.Requests.{asked}
 use Rattle.btx_bib.specs.language.Stored.{entry_with_key, parents_in, references}
 use Rattle.btx_bib.specs.language.Values.{field_value}
@@ -44,11 +47,13 @@ use Rattle.btx_bst.specs.language.StyleText.{style_of}
 use Rattle.btx_bst.specs.laws.FirstNames.{FirstNamesLaw}
 use Rattle.btx_bst.proofs.FirstNameLemmas.{first-names}
 use Rattle.btx_core.specs.language.Databases.{Request, Stored, Known, parents_named, stored_with, with_macros}
-use Rattle.btx_core.specs.language.Lists.{Slot, slot_of, slots_of, listed_keys, IsInherited, keeps_parent, parent_key, parent_messages, entry_at, places, IsGathered, IsLibrary, no_entry_line}
+use Rattle.btx_core.specs.language.Lists.{Slot, slot_of, slots_of, listed_keys, IsInherited, keeps_parent, parent_key, parent_messages, entry_at, places}
+use Rattle.btx_core.specs.language.Lists.{IsGathered, IsLibrary, no_entry_line}
 use Rattle.btx_core.specs.laws.SameLibraries.{value_named, IsSameEntry, AreSameEntries, limit_met, IsSameLibrary, asked_of, SameLibrary}
 use Rattle.btx_core.specs.laws.SameStyles.{IsMeant, IsSameStyle, Numbers, numbers_of}
 use Rattle.btx_core.specs.language.Styles.{Entry, Library, Style, set}
-use Rattle.btx_core.proofs.SameKnownLemmas.{SameRequest, AreSameGiven, IsSameCurrent, SameReading, values_length, value_kept, parent_named, found_same, parents_same, databases_same, macros_same, lines_more}
+use Rattle.btx_core.proofs.SameKnownLemmas.{SameRequest, AreSameGiven, IsSameCurrent, SameReading, values_length, value_kept, parent_named, found_same}
+use Rattle.btx_core.proofs.SameKnownLemmas.{parents_same, databases_same, macros_same, lines_more}
 use Rattle.btx_core.proofs.SamePassLemmas.{AllFrom, IsSameBody, Own, Passed, Checked, Second, first_pass, second_pass}
 use Rattle.btx_core.proofs.LibraryLemmas.{library_one}
 use Rattle.btx_core.proofs.PartLemmas.{there_is_inheritance, upto}
@@ -89,11 +94,13 @@ module _ (numbers : Numbers) (R : NumberedRequest) (Q : Request) (h : SameReques
     by false e = let lt = leb-false 0 n e in absurd (omega (arith, lt))
 
   -- how many children are enough
-  enough_same : (gs : List Given) (es : List Stored) → AreSameGiven R gs es → (key : List ℕ) → nat_le Q.fewest (count_by (is_same_key key) (parents_named es)) ≡ nat_le R.fewest (count_by (is_same_key key) (references R gs))
+  enough_same : (gs : List Given) (es : List Stored) → AreSameGiven R gs es → (key : List ℕ) → nat_le Q.fewest (count_by (is_same_key key) (parents_named es))
+      ≡ nat_le R.fewest (count_by (is_same_key key) (references R gs))
   enough_same gs es k key =
       ap₂ (λ n (ps : List (List ℕ)). nat_le n (count_by (is_same_key key) ps)) h.fewest (parents_same numbers R Q h gs es k)
       ∙ by (is_some R.all) h.starred where
-        by : (t : Bool) → (t ≡ true → R.fewest ≡ 0) → nat_le R.fewest (count_by (is_same_key key) (parents_in R gs)) ≡ nat_le R.fewest (count_by (is_same_key key) (if t then [] else parents_in R gs))
+        by : (t : Bool) → (t ≡ true → R.fewest ≡ 0) → nat_le R.fewest (count_by (is_same_key key) (parents_in R gs))
+            ≡ nat_le R.fewest (count_by (is_same_key key) (if t then [] else parents_in R gs))
         by false few = refl
         by true few =
             ap (λ n. nat_le n (count_by (is_same_key key) (parents_in R gs))) (few refl) ∙ zero_most (count_by (is_same_key key) (parents_in R gs))
@@ -118,7 +125,8 @@ module _ (numbers : Numbers) (R : NumberedRequest) (Q : Request) (h : SameReques
     by None = refl
     by (Some n) = refl
 
-  values_same : (g : Option Given) (e : Option Stored) → IsSameCurrent R g e → (name : List ℕ) → value_named R.field (body_values (option_map (body_of R) g)) name ≡ option_and_then (λ (entry : Stored). entry.value name) e
+  values_same : (g : Option Given) (e : Option Stored) → IsSameCurrent R g e → (name : List ℕ)
+      → value_named R.field (body_values (option_map (body_of R) g)) name ≡ option_and_then (λ (entry : Stored). entry.value name) e
   unfolding body_of
   values_same None None k name = no_values name
   values_same (Some g) (Some e) k name = value_kept numbers R Q h g.fields name ∙ sym (k.value name)
@@ -126,22 +134,27 @@ module _ (numbers : Numbers) (R : NumberedRequest) (Q : Request) (h : SameReques
   values_same (Some g) None k name = absurd k
 
   -- the place of a key
-  place_same : (C : List Slot) (gs : List Given) (es : List Stored) → AreSameGiven R gs es → (key : List ℕ) (j : ℕ) → slice_get C j ≡ Some (slot_of Q es key) → Own numbers R Q h C j (listing.slot_of R gs key)
+  place_same : (C : List Slot) (gs : List Given) (es : List Stored) → AreSameGiven R gs es → (key : List ℕ) (j : ℕ) → slice_get C j ≡ Some (slot_of Q es key)
+      → Own numbers R Q h C j (listing.slot_of R gs key)
   unfolding listing.slot_of
   place_same C gs es k key j there =
       let found = found_same R gs es k key in
-      let owned = λ (name : List ℕ). ap (λ (o : Option Slot). option_and_then (λ (slot : Slot). option_and_then (λ (entry : Stored). entry.value name) slot.entry) o) there in
+      let owned = λ (name : List ℕ). ap (λ (o : Option Slot). option_and_then
+      (λ (slot : Slot). option_and_then (λ (entry : Stored). entry.value name) slot.entry) o) there in
       record {
         c = slot_of Q es key;
         there = there;
-        key = sym (ap₂ (λ (o p : Option (List ℕ)). unwrap_or (option_or o p) key) (ap (λ cited. listed_as cited key) h.cited) (found_key (entry_with_key gs key) (stored_with es key) found));
+        key = sym (ap₂ (λ (o p : Option (List ℕ)). unwrap_or (option_or o p) key) (ap (λ cited. listed_as cited key) h.cited)
+            (found_key (entry_with_key gs key) (stored_with es key) found));
         stays = sym (ap₂ (λ (o : Option (List ℕ)) (t : Bool). is_some o || t) (ap (λ cited. listed_as cited key) h.cited) (enough_same gs es k key));
         body = body_same C (entry_with_key gs key) (stored_with es key) found;
         values_are = λ name apart. values_same (entry_with_key gs key) (stored_with es key) found name ∙ sym (owned name);
-        parent_is = parent_named numbers R Q h (body_values (option_map (body_of R) (entry_with_key gs key))) ∙ values_same (entry_with_key gs key) (stored_with es key) found (codes "crossref") ∙ sym (owned (codes "crossref"));
+        parent_is = parent_named numbers R Q h (body_values (option_map (body_of R) (entry_with_key gs key)))
+            ∙ values_same (entry_with_key gs key) (stored_with es key) found (codes "crossref") ∙ sym (owned (codes "crossref"));
       }
 
-  all_places : (C : List Slot) (gs : List Given) (es : List Stored) → AreSameGiven R gs es → (keys : List (List ℕ)) (i : ℕ) → ((n : ℕ) → slice_get C (i + n) ≡ slice_get (map (slot_of Q es) keys) n)
+  all_places : (C : List Slot) (gs : List Given) (es : List Stored) → AreSameGiven R gs es → (keys : List (List ℕ)) (i : ℕ)
+      → ((n : ℕ) → slice_get C (i + n) ≡ slice_get (map (slot_of Q es) keys) n)
       → AllFrom (Own numbers R Q h C) i (map (listing.slot_of R gs) keys)
   all_places C gs es k [] i there = tt
   all_places C gs es k (key ∷ keys) i there =
@@ -151,11 +164,13 @@ module _ (numbers : Numbers) (R : NumberedRequest) (Q : Request) (h : SameReques
       )
 
   -- the same keys stand in the list
-  slot_keys : (gs : List Given) (es : List Stored) → AreSameGiven R gs es → (keys : List (List ℕ)) → map (λ (s : NumberedSlot). s.key) (map (listing.slot_of R gs) keys) ≡ map (λ (c : Slot). c.key) (map (slot_of Q es) keys)
+  slot_keys : (gs : List Given) (es : List Stored) → AreSameGiven R gs es → (keys : List (List ℕ))
+      → map (λ (s : NumberedSlot). s.key) (map (listing.slot_of R gs) keys) ≡ map (λ (c : Slot). c.key) (map (slot_of Q es) keys)
   slot_keys gs es k [] = refl
   slot_keys gs es k (key ∷ keys) =
       let p = place_same (slot_of Q es key ∷ []) gs es k key 0 refl in
-      ap₂ (λ (x : List ℕ) (xs : List (List ℕ)). x ∷ xs) (p.key ∙ sym (ap (λ (c : Slot). c.key) (same_Some (slot_of Q es key) p.c p.there))) (slot_keys gs es k keys)
+      ap₂ (λ (x : List ℕ) (xs : List (List ℕ)). x ∷ xs) (p.key ∙ sym (ap (λ (c : Slot). c.key) (same_Some (slot_of Q es key) p.c p.there)))
+      (slot_keys gs es k keys)
 
   -- ---- what is left of the list
 
@@ -163,10 +178,12 @@ module _ (numbers : Numbers) (R : NumberedRequest) (Q : Request) (h : SameReques
     abbrev entry_by : ℕ → Slot → List Entry
     entry_by i c = entry_at C Q.types value i c
 
-    one_entry : (e : Entry) (n : NumberedEntry) → IsSameEntry numbers R.field n e → (more : List NumberedEntry) (others : List Entry) → AreSameEntries numbers R.field more others → AreSameEntries numbers R.field (n ∷ more) (e ∷ others)
+    one_entry : (e : Entry) (n : NumberedEntry) → IsSameEntry numbers R.field n e → (more : List NumberedEntry) (others : List Entry)
+        → AreSameEntries numbers R.field more others → AreSameEntries numbers R.field (n ∷ more) (e ∷ others)
     one_entry e n k more others m = (e, others, k, m, refl)
 
-    place_entry : (i : ℕ) (s : NumberedSlot) → Checked numbers R Q h C value inherits i s → (more : List NumberedEntry) (others : List Entry) → AreSameEntries numbers R.field more others
+    place_entry : (i : ℕ) (s : NumberedSlot) → Checked numbers R Q h C value inherits i s → (more : List NumberedEntry) (others : List Entry)
+        → AreSameEntries numbers R.field more others
         → AreSameEntries numbers R.field (passes.entry_at s ++ more) (option_map_or (entry_by i) (slice_get C i) [] ++ others)
     place_entry i s p more others m =
         subst (λ (o : Option Slot). AreSameEntries numbers R.field (passes.entry_at s ++ more) (option_map_or (entry_by i) o [] ++ others)) (sym p.there)
@@ -174,29 +191,46 @@ module _ (numbers : Numbers) (R : NumberedRequest) (Q : Request) (h : SameReques
           by : (b : Option Body) → s.body ≡ b → (e : Option Stored) → p.c.entry ≡ e → IsSameBody numbers R Q h C s.body p.c.entry → (t : Bool) → s.stays ≡ t
               → AreSameEntries numbers R.field (passes.entry_at s ++ more) (entry_by i p.c ++ others)
           by b f e g same t stay =
-              subst (λ (x : Option Body). AreSameEntries numbers R.field (option_map_or (λ (body : Body). if s.stays then record { key = s.key; kind = body.kind; values = body.values } ∷ [] else []) x [] ++ more) (entry_by i p.c ++ others)) (sym f)
-              (subst (λ (x : Option Stored). AreSameEntries numbers R.field (option_map_or (λ (body : Body). if s.stays then record { key = s.key; kind = body.kind; values = body.values } ∷ [] else []) b [] ++ more) (of_entry x p.c.stays ++ others)) (sym g)
-              (subst (λ (u : Bool). AreSameEntries numbers R.field (option_map_or (λ (body : Body). if s.stays then record { key = s.key; kind = body.kind; values = body.values } ∷ [] else []) b [] ++ more) (of_entry e u ++ others)) (sym (sym p.stays ∙ stay))
-              (subst (λ (u : Bool). AreSameEntries numbers R.field (option_map_or (λ (body : Body). if u then record { key = s.key; kind = body.kind; values = body.values } ∷ [] else []) b [] ++ more) (of_entry e t ++ others)) (sym stay)
+              subst (λ (x : Option Body). AreSameEntries numbers R.field
+              (option_map_or (λ (body : Body). if s.stays then record { key = s.key; kind = body.kind; values = body.values } ∷ [] else []) x [] ++ more)
+              (entry_by i p.c ++ others)) (sym f)
+              (subst (λ (x : Option Stored). AreSameEntries numbers R.field
+              (option_map_or (λ (body : Body). if s.stays then record { key = s.key; kind = body.kind; values = body.values } ∷ [] else []) b [] ++ more)
+              (of_entry x p.c.stays ++ others)) (sym g)
+              (subst (λ (u : Bool). AreSameEntries numbers R.field
+              (option_map_or (λ (body : Body). if s.stays then record { key = s.key; kind = body.kind; values = body.values } ∷ [] else []) b [] ++ more)
+              (of_entry e u ++ others)) (sym (sym p.stays ∙ stay))
+              (subst (λ (u : Bool). AreSameEntries numbers R.field
+              (option_map_or (λ (body : Body). if u then record { key = s.key; kind = body.kind; values = body.values } ∷ [] else []) b [] ++ more)
+              (of_entry e t ++ others)) (sym stay)
               (both b f e (subst (λ e. IsSameBody numbers R Q h C b e) g (subst (λ b. IsSameBody numbers R Q h C b p.c.entry) f same)) t)))) where
                 kept : Stored → Entry
-                kept e = record { key = p.c.key; kind = Q.types (folded e.kind); value = set (codes "crossref") (if keeps_parent C i then parent_key C i else None) (value i) }
+                kept e = record {
+                  key = p.c.key;
+                  kind = Q.types (folded e.kind);
+                  value =
+                      set (codes "crossref") (if keeps_parent C i then parent_key C i else None) (value i);
+                }
 
                 of_entry : Option Stored → Bool → List Entry
                 of_entry x u = option_map_or (λ (entry : Stored). only_if u (kept entry)) x []
 
-                same_value : (body : Body) → s.body ≡ Some body → (name : List ℕ) → set (codes "crossref") (if keeps_parent C i then parent_key C i else None) (value i) name ≡ value_named R.field body.values name
+                same_value : (body : Body) → s.body ≡ Some body → (name : List ℕ) → set (codes "crossref") (if keeps_parent C i then parent_key C i else None)
+                    (value i) name ≡ value_named R.field body.values name
                 same_value body is name = at (bytes_eq name (codes "crossref")) refl where
-                  at : (t : Bool) → bytes_eq name (codes "crossref") ≡ t → (if t then (if keeps_parent C i then parent_key C i else None) else value i name) ≡ value_named R.field body.values name
+                  at : (t : Bool) → bytes_eq name (codes "crossref") ≡ t → (if t then (if keeps_parent C i then parent_key C i else None) else value i name)
+                      ≡ value_named R.field body.values name
                   at true e =
                       let same : name ≡ codes "crossref" = (bytes_eq-Decides name (codes "crossref")).0 e in
-                      sym p.parent_is ∙ ap (λ (b : Option Body). parent_of b) is ∙ parent_named numbers R Q h body.values ∙ ap (value_named R.field body.values) (sym same) where
+                      sym p.parent_is ∙ ap (λ (b : Option Body). parent_of b) is ∙ parent_named numbers R Q h body.values
+                      ∙ ap (value_named R.field body.values) (sym same) where
                         parent_of : Option Body → Option (List ℕ)
                         parent_of b = parent_at (record s { body = b })
                   at false e = sym (p.values_are name e) ∙ ap (λ (b : Option Body). value_named R.field (body_values b) name) is
 
                 both : (b : Option Body) → s.body ≡ b → (e : Option Stored) → IsSameBody numbers R Q h C b e → (t : Bool)
-                    → AreSameEntries numbers R.field (option_map_or (λ (body : Body). if t then record { key = s.key; kind = body.kind; values = body.values } ∷ [] else []) b [] ++ more) (of_entry e t ++ others)
+                    → AreSameEntries numbers R.field (option_map_or (λ (body : Body). if t then record { key = s.key; kind = body.kind; values = body.values }
+                    ∷ [] else []) b [] ++ more) (of_entry e t ++ others)
                 both None f None same t = m
                 both None f (Some e) same t = absurd same
                 both (Some b) f None same t = absurd same
@@ -209,13 +243,17 @@ module _ (numbers : Numbers) (R : NumberedRequest) (Q : Request) (h : SameReques
                     }) more others m
 
     entries_same : (L : List NumberedSlot) (i : ℕ) → AllFrom (Checked numbers R Q h C value inherits) i L
-        → AreSameEntries numbers R.field (flat_map passes.entry_at L) (flat_map (λ i. option_map_or (entry_by i) (slice_get C i) []) (range_with_len i (length L)))
+        → AreSameEntries numbers R.field (flat_map passes.entry_at L)
+        (flat_map (λ i. option_map_or (entry_by i) (slice_get C i) []) (range_with_len i (length L)))
     entries_same [] i k = refl
-    entries_same (s ∷ L) i k = place_entry i s k.0 (flat_map passes.entry_at L) (flat_map (λ i. option_map_or (entry_by i) (slice_get C i) []) (range_with_len (i + 1) (length L))) (entries_same L (i + 1) k.1)
+    entries_same (s ∷ L) i k = place_entry i s k.0 (flat_map passes.entry_at L)
+        (flat_map (λ i. option_map_or (entry_by i) (slice_get C i) []) (range_with_len (i + 1) (length L))) (entries_same L (i + 1) k.1)
 
     -- the keys that have no entry
-    missing_same : (L : List NumberedSlot) (D : List Slot) (i : ℕ) → AllFrom (Checked numbers R Q h C value inherits) i L → ((n : ℕ) → slice_get C (i + n) ≡ slice_get D n) → length L ≡ length D
-        → map message_line (flat_map (λ (s : NumberedSlot). if is_some s.body then [] else NoEntry s.key ∷ []) L) ≡ flat_map (λ (c : Slot). only_if (is_none c.entry) (no_entry_line c.key)) D
+    missing_same : (L : List NumberedSlot) (D : List Slot) (i : ℕ) → AllFrom (Checked numbers R Q h C value inherits) i L
+        → ((n : ℕ) → slice_get C (i + n) ≡ slice_get D n) → length L ≡ length D
+        → map message_line (flat_map (λ (s : NumberedSlot). if is_some s.body then [] else NoEntry s.key ∷ []) L)
+        ≡ flat_map (λ (c : Slot). only_if (is_none c.entry) (no_entry_line c.key)) D
     unfolding message_text mark_of
     missing_same [] [] i k there e = refl
     missing_same [] (c ∷ D) i k there e = absurd (omega (arith, e))
@@ -226,9 +264,11 @@ module _ (numbers : Numbers) (R : NumberedRequest) (Q : Request) (h : SameReques
         let one = same_Some p.c c first in
         lines_more (if is_some s.body then [] else NoEntry s.key ∷ []) (flat_map (λ (s : NumberedSlot). if is_some s.body then [] else NoEntry s.key ∷ []) L)
         ∙ ap₂ (λ (ms ns : List Line). ms ++ ns)
-        (ap (λ key. map message_line (if is_some s.body then [] else NoEntry key ∷ [])) p.key ∙ said p.c.key s.body p.c.entry p.body ∙ ap (λ (c : Slot). only_if (is_none c.entry) (no_entry_line c.key)) one)
+        (ap (λ key. map message_line (if is_some s.body then [] else NoEntry key ∷ [])) p.key ∙ said p.c.key s.body p.c.entry p.body
+        ∙ ap (λ (c : Slot). only_if (is_none c.entry) (no_entry_line c.key)) one)
         (missing_same L D (i + 1) k.1 (λ n. let z : i + 1 + n ≡ i + suc n = omega arith in ap (slice_get C) z ∙ there (suc n)) (omega (arith, e))) where
-          said : (key : List ℕ) (b : Option Body) (e : Option Stored) → IsSameBody numbers R Q h C b e → map message_line (if is_some b then [] else NoEntry key ∷ []) ≡ only_if (is_none e) (no_entry_line key)
+          said : (key : List ℕ) (b : Option Body) (e : Option Stored) → IsSameBody numbers R Q h C b e
+              → map message_line (if is_some b then [] else NoEntry key ∷ []) ≡ only_if (is_none e) (no_entry_line key)
           said key None None same = ap (λ t. record { text = mark_of line.Warning ++ t; kind = line.Warning } ∷ []) (append-nil (message_text (NoEntry key)))
           said key (Some b) (Some e) same = refl
           said key None (Some e) same = absurd same
@@ -247,7 +287,8 @@ module _ (numbers : Numbers) (R : NumberedRequest) (Q : Request) (h : SameReques
         let library : Library = record { entries = []; preamble = []; log = known.log; limit = Some l } in
         (library, subst (λ o. IsGathered o Q known library) (sym g) refl, record { entries = refl; preamble = refl; log = k.messages; limit = sym f })
 
-    by : (e : End) → known.limit ≡ limit_met e → (library : Library) × IsGathered known.limit Q known library × IsSameLibrary numbers R.field (library_by e R reading.known reading.messages) library
+    by : (e : End) → known.limit ≡ limit_met e → (library : Library) × IsGathered known.limit Q known library
+        × IsSameLibrary numbers R.field (library_by e R reading.known reading.messages) library
     by end.FileLimit e = stopped end.FileLimit _ refl e
     by end.StringLimit e = stopped end.StringLimit _ refl e
     by end.Whole e = (library, subst (λ o. IsGathered o Q known library) (sym e) (slots, refl, value, there_is_inheritance slots, refl), same) where
@@ -264,7 +305,8 @@ module _ (numbers : Numbers) (R : NumberedRequest) (Q : Request) (h : SameReques
       library = record {
         entries = flat_map (λ i. option_map_or (entry_at slots Q.types value i) (slice_get slots i) []) (places slots);
         preamble = known.preamble;
-        log = known.log ++ flat_map (parent_messages slots) (places slots) ++ flat_map (λ (slot : Slot). only_if (is_none slot.entry) (no_entry_line slot.key)) slots;
+        log = known.log ++ flat_map (parent_messages slots) (places slots) ++ flat_map (λ (slot : Slot). only_if (is_none slot.entry) (no_entry_line slot.key))
+            slots;
         limit = None;
       }
 
@@ -299,26 +341,31 @@ module _ (numbers : Numbers) (R : NumberedRequest) (Q : Request) (h : SameReques
       long_as f g xs ys e = sym (length-map xs f) ∙ ap length e ∙ length-map ys g
 
       size : length last ≡ length slots
-      size = long_as (λ (s : NumberedSlot). s.key) (λ (c : Slot). c.key) last slots (view-passed (λ (s : NumberedSlot). s.key) checked key-checked (after_first numbered_slots) [] ∙ keys_after)
+      size = long_as (λ (s : NumberedSlot). s.key) (λ (c : Slot). c.key) last slots
+          (view-passed (λ (s : NumberedSlot). s.key) checked key-checked (after_first numbered_slots) [] ∙ keys_after)
 
       size_first : length (after_first numbered_slots) ≡ length slots
       size_first = long_as (λ (s : NumberedSlot). s.key) (λ (c : Slot). c.key) (after_first numbered_slots) slots keys_after
 
       same : IsSameLibrary numbers R.field (library_by end.Whole R reading.known reading.messages) library
       same = record {
-        entries = subst (λ n. AreSameEntries numbers R.field (flat_map passes.entry_at last) (flat_map (λ i. option_map_or (entry_at slots Q.types value i) (slice_get slots i) []) (range_with_len 0 n))) size
+        entries = subst (λ n. AreSameEntries numbers R.field (flat_map passes.entry_at last)
+            (flat_map (λ i. option_map_or (entry_at slots Q.types value i) (slice_get slots i) []) (range_with_len 0 n))) size
             (entries_same slots value (there_is_inheritance slots) last 0 second.places);
         preamble = k.preamble;
-        log = append_assoc known.log (flat_map (parent_messages slots) (places slots)) (flat_map (λ (slot : Slot). only_if (is_none slot.entry) (no_entry_line slot.key)) slots)
+        log = append_assoc known.log (flat_map (parent_messages slots) (places slots))
+            (flat_map (λ (slot : Slot). only_if (is_none slot.entry) (no_entry_line slot.key)) slots)
             ∙ ap₂ (λ (ms ns : List Line). ms ++ ns) k.messages
             (ap₂ (λ (ms ns : List Line). ms ++ ns) (sym (second.logged ∙ ap (λ n. flat_map (parent_messages slots) (range_with_len 0 n)) size_first))
-            (sym (missing_same slots value (there_is_inheritance slots) last slots 0 second.places (λ n. let z : 0 + n ≡ n = omega arith in ap (slice_get slots) z) size)))
+            (sym (missing_same slots value (there_is_inheritance slots) last slots 0 second.places (λ n. let z : 0 + n ≡ n = omega arith in
+            ap (slice_get slots) z) size)))
             ∙ ap (λ (lines : List Line). map message_line reading.messages ++ lines) (sym (lines_more references lost))
             ∙ sym (lines_more reading.messages (references ++ lost));
         limit = refl;
       }
 
-  pub library_same : (macros : List (List ℕ × List ℕ)) (databases : List Database) (library : Library) → IsLibrary Q macros databases library → IsSameLibrary numbers R.field (library_of R macros databases) library
+  pub library_same : (macros : List (List ℕ × List ℕ)) (databases : List Database) (library : Library) → IsLibrary Q macros databases library
+      → IsSameLibrary numbers R.field (library_of R macros databases) library
   unfolding library_of
   library_same macros databases library k =
       let begun : Reading = record { known = macros_known macros; messages = [] } in
@@ -330,7 +377,8 @@ module _ (numbers : Numbers) (R : NumberedRequest) (Q : Request) (h : SameReques
 
 -- the one of seven look-ups that finds a field
 field_found : (a : Option Callee) (b c d e f g : Option ℕ) (n : ℕ)
-    → option_or a (option_or (option_map callee.User b) (option_or (option_map callee.Field c) (option_or (option_map callee.EntryInteger d) (option_or (option_map callee.EntryString e)
+    → option_or a (option_or (option_map callee.User b)
+    (option_or (option_map callee.Field c) (option_or (option_map callee.EntryInteger d) (option_or (option_map callee.EntryString e)
     (option_or (option_map callee.GlobalInteger f) (option_map callee.GlobalString g)))))) ≡ Some (callee.Field n) → (a ≡ Some (callee.Field n)) ⊎ (c ≡ Some n)
 field_found (Some x) b c d e f g n h = inl h
 field_found None (Some x) c d e f g n h = absurd (cc)
@@ -350,7 +398,8 @@ field_name : (names : Names) (name : List ℕ) (n : ℕ) → named_lower names n
 unfolding named_lower
 field_name names name n h =
     by (field_found (option_map callee.BuiltIn (built_in_of name)) _ (position (bytes_eq name) names.fields) _ _ _ _ n h) where
-      by : (option_map callee.BuiltIn (built_in_of name) ≡ Some (callee.Field n)) ⊎ (position (bytes_eq name) names.fields ≡ Some n) → slice_get names.fields n ≡ Some name
+      by : (option_map callee.BuiltIn (built_in_of name) ≡ Some (callee.Field n)) ⊎ (position (bytes_eq name) names.fields ≡ Some n) → slice_get names.fields n
+          ≡ Some name
       by (inl e) = absurd (no_built_in (built_in_of name) n e)
       by (inr e) =
           let found = position-Some (bytes_eq name) names.fields n [] e in
@@ -388,5 +437,6 @@ request_same file text style same job least =
 
 pub same_library : SameLibrary
 same_library file text style same job least databases library k =
-    library_same (numbers_of (style_of file text) same.functions) (asked (style_of file text) job least) (asked_of job style least) (request_same file text style same job least) (style_of file text).macros databases library
+    library_same (numbers_of (style_of file text) same.functions) (asked (style_of file text) job least) (asked_of job style least)
+    (request_same file text style same job least) (style_of file text).macros databases library
     (subst (λ (macros : List (List ℕ × List ℕ)). IsLibrary (asked_of job style least) macros databases library) same.macros k)

@@ -1,5 +1,7 @@
 -- The two passes of cross-references with numbers leave what the equation of inheritance says by names.
-use Rattle.std.proofs.Common.{◌≡◌, ◌⊎◌, inl, inr, ℕ, zero, suc, ◌+◌, ◌<◌, ◌≤◌, Bool, true, false, cond, not, if◌then◌else◌, List, [], ◌∷◌, ◌++◌, length, map, Option, None, Some, is_some, option_map, option_and_then, nat_lt, nat_le, sym, ap, ap₂, subst, ◌∙◌, refl, arith, append-nil, leb-true, leb-false, true≢false}
+use Rattle.std.proofs.Common.{◌≡◌, ◌⊎◌, inl, inr, ℕ, zero, suc, ◌+◌, ◌<◌, ◌≤◌, Bool, true, false, cond, not, if◌then◌else◌, List, [], ◌∷◌, ◌++◌, length, map}
+use Rattle.std.proofs.Common.{Option, None, Some, is_some, option_map, option_and_then, nat_lt, nat_le, sym, ap, ap₂, subst, ◌∙◌, refl, arith, append-nil}
+use Rattle.std.proofs.Common.{leb-true, leb-false, true≢false}
 use Rattle.std.specs.List.{flat_map, position, position_from, range_with_len}
 use Rattle.std.specs.Option.{option_map_or, option_or}
 use Rattle.std.specs.Prelude.{codes, slice_get, ◌&&◌, ◌||◌}
@@ -18,14 +20,16 @@ use Rattle.btx_bib.specs.declared.slots.Body.{Body}
 use Rattle.btx_bib.specs.declared.slots.Slot.{Slot as NumberedSlot}
 use Rattle.btx_bib.specs.language.Entries.{parent_in}
 use Rattle.btx_bib.specs.language.Passes as passes
-use Rattle.btx_bib.specs.language.Passes.{passed, pass_messages, body_values, parent_at, slot_at, or_values, inherited_values, inherited, inherited_from, without_parent, without_crossref, is_parent, checked, check_messages}
+use Rattle.btx_bib.specs.language.Passes.{passed, pass_messages, body_values, parent_at, slot_at, or_values, inherited_values, inherited, inherited_from}
+use Rattle.btx_bib.specs.language.Passes.{without_parent, without_crossref, is_parent, checked, check_messages}
 use Rattle.btx_bib.specs.language.Values.{field_value}
 use Rattle.btx_bib.specs.language.Wanted.{Request as NumberedRequest}
 use Rattle.btx_bib.proofs.ListedKeyLemmas.{folded-same}
 use Rattle.btx_bib.proofs.PassLemmas.{inherited-alone, inherited-by, key-inherited, checked-alone, checked-is, messages-alone, messages-is, key-checked}
 use Rattle.btx_bib.proofs.StayingLemmas.{view-next}
 use Rattle.btx_core.specs.language.Databases.{Request, Stored}
-use Rattle.btx_core.specs.language.Lists.{Slot, own, place_of, parent, key_at, parent_key, has_entry, stays_at, IsInherited, keeps_parent, parent_messages, bad_reference, nested_reference}
+use Rattle.btx_core.specs.language.Lists.{Slot, own, place_of, parent, key_at, parent_key, has_entry, stays_at, IsInherited, keeps_parent, parent_messages}
+use Rattle.btx_core.specs.language.Lists.{bad_reference, nested_reference}
 use Rattle.btx_core.specs.laws.SameLibraries.{value_named}
 use Rattle.btx_core.specs.laws.SameStyles.{Numbers}
 use Rattle.btx_core.proofs.SameKnownLemmas.{SameRequest, lines_more}
@@ -58,7 +62,8 @@ shifted x xs None = refl
 shifted x xs (Some n) = refl
 
 -- a key is found at the same place of two lists with the same keys
-find_by : (key : List ℕ) (L : List NumberedSlot) (C : List Slot) → map key_of L ≡ map named_key C → slot_at L key ≡ option_and_then (slice_get L) (place_of C key)
+find_by : (key : List ℕ) (L : List NumberedSlot) (C : List Slot) → map key_of L ≡ map named_key C
+    → slot_at L key ≡ option_and_then (slice_get L) (place_of C key)
 find_by key [] [] e = refl
 find_by key [] (c ∷ C) e = absurd (cc)
 find_by key (s ∷ L) [] e = absurd (cc)
@@ -86,15 +91,17 @@ record Found (L : List NumberedSlot) (C : List Slot) (key : List ℕ) (j : ℕ) 
 -- the place of a key is one where its key stands
 place_test : (key : List ℕ) (C : List Slot) (j : ℕ) → place_of C key ≡ Some j → (c : Slot) × (slice_get C j ≡ Some c) × (is_same_key key c.key ≡ true)
 place_test key [] j e = absurd (cc)
-place_test key (c ∷ C) j e = by (is_same_key key c.key) refl (place_of C key) refl (λ k f. place_test key C k f) (sym (position_next (λ (slot : Slot). is_same_key key slot.key) c C) ∙ e) where
-  by : (t : Bool) → is_same_key key c.key ≡ t → (o : Option ℕ) → place_of C key ≡ o → ((k : ℕ) → place_of C key ≡ Some k → (d : Slot) × (slice_get C k ≡ Some d) × (is_same_key key d.key ≡ true))
-      → (if t then Some 0 else option_map suc o) ≡ Some j → (d : Slot) × (slice_get (c ∷ C) j ≡ Some d) × (is_same_key key d.key ≡ true)
-  by true f o g more h = let z : 0 ≡ j = cc in (c, subst (λ n. slice_get (c ∷ C) n ≡ Some c) z refl, f)
-  by false f None g more h = absurd (cc)
-  by false f (Some k) g more h =
-      let n : suc k ≡ j = cc in
-      let m = more k g in
-      (m.0, subst (λ n. slice_get (c ∷ C) n ≡ Some m.0) n m.1, m.2)
+place_test key (c ∷ C) j e = by (is_same_key key c.key) refl (place_of C key) refl (λ k f. place_test key C k f)
+    (sym (position_next (λ (slot : Slot). is_same_key key slot.key) c C) ∙ e) where
+      by : (t : Bool) → is_same_key key c.key ≡ t → (o : Option ℕ) → place_of C key ≡ o
+          → ((k : ℕ) → place_of C key ≡ Some k → (d : Slot) × (slice_get C k ≡ Some d) × (is_same_key key d.key ≡ true))
+          → (if t then Some 0 else option_map suc o) ≡ Some j → (d : Slot) × (slice_get (c ∷ C) j ≡ Some d) × (is_same_key key d.key ≡ true)
+      by true f o g more h = let z : 0 ≡ j = cc in (c, subst (λ n. slice_get (c ∷ C) n ≡ Some c) z refl, f)
+      by false f None g more h = absurd (cc)
+      by false f (Some k) g more h =
+          let n : suc k ≡ j = cc in
+          let m = more k g in
+          (m.0, subst (λ n. slice_get (c ∷ C) n ≡ Some m.0) n m.1, m.2)
 
 mapped : (o : Option NumberedSlot) (key : List ℕ) → option_map key_of o ≡ Some key → (s : NumberedSlot) × (o ≡ Some s) × (s.key ≡ key)
 mapped None key e = absurd (cc)
@@ -118,7 +125,8 @@ abbrev pub AllFrom : (ℕ → NumberedSlot → Type 0) → ℕ → List Numbered
 AllFrom Is i [] = Unit {0}
 AllFrom Is i (s ∷ L) = Is i s × AllFrom Is (i + 1) L
 
-all_push : (Is : ℕ → NumberedSlot → Type 0) (i n : ℕ) (L : List NumberedSlot) (s : NumberedSlot) → n ≡ i + length L → AllFrom Is i L → Is n s → AllFrom Is i (L ++ s ∷ [])
+all_push : (Is : ℕ → NumberedSlot → Type 0) (i n : ℕ) (L : List NumberedSlot) (s : NumberedSlot) → n ≡ i + length L → AllFrom Is i L → Is n s
+    → AllFrom Is i (L ++ s ∷ [])
 all_push Is i n [] s e h k = let same : n ≡ i = omega (arith, e) in (subst (λ m. Is m s) same k, tt)
 all_push Is i n (x ∷ L) s e h k = (h.0, all_push Is (i + 1) n L s (omega (arith, e)) h.1 k)
 
@@ -131,7 +139,8 @@ all_at Is i zero (x ∷ L) s h e =
 all_at Is i (suc n) (x ∷ L) s h e = let same : i + 1 + n ≡ i + suc n = omega arith in subst (λ m. Is m s) same (all_at Is (i + 1) n L s h.1 e)
 
 -- of the places that are done and those that are left
-in_both : (Is Was : ℕ → NumberedSlot → Type 0) (i n : ℕ) (done left : List NumberedSlot) (s : NumberedSlot) → AllFrom Is i done → AllFrom Was (i + length done) left → slice_get (done ++ left) n ≡ Some s
+in_both : (Is Was : ℕ → NumberedSlot → Type 0) (i n : ℕ) (done left : List NumberedSlot) (s : NumberedSlot) → AllFrom Is i done
+    → AllFrom Was (i + length done) left → slice_get (done ++ left) n ≡ Some s
     → ((n < length done) × Is (i + n) s) ⊎ ((length done ≤ n) × Was (i + n) s)
 in_both Is Was i n [] left s h k e =
     let start : i + 0 ≡ i = omega arith in
@@ -144,7 +153,8 @@ in_both Is Was i (suc n) (x ∷ done) left s h k e =
     let start : i + suc (length done) ≡ i + 1 + length done = omega arith in
     let place : i + 1 + n ≡ i + suc n = omega arith in
     by place (in_both Is Was (i + 1) n done left s h.1 (subst (λ m. AllFrom Was m left) start k) e) where
-      by : i + 1 + n ≡ i + suc n → ((n < length done) × Is (i + 1 + n) s) ⊎ ((length done ≤ n) × Was (i + 1 + n) s) → ((suc n < suc (length done)) × Is (i + suc n) s) ⊎ ((suc (length done) ≤ suc n) × Was (i + suc n) s)
+      by : i + 1 + n ≡ i + suc n → ((n < length done) × Is (i + 1 + n) s) ⊎ ((length done ≤ n) × Was (i + 1 + n) s)
+          → ((suc n < suc (length done)) × Is (i + suc n) s) ⊎ ((suc (length done) ≤ suc n) × Was (i + suc n) s)
       by place (inl g) = let lt = g.0 in inl (omega (arith, lt), subst (λ m. Is m s) place g.1)
       by place (inr g) = let le = g.0 in inr (omega (arith, le), subst (λ m. Was m s) place g.1)
 
@@ -173,7 +183,8 @@ or_length [] parents = refl
 or_length (v ∷ own) [] = refl
 or_length (v ∷ own) (p ∷ parents) = ap suc (or_length own parents)
 
-or_at : (own parents : List (Option (List ℕ))) (n : ℕ) → n < length own → field_value n (or_values own parents) ≡ option_or (field_value n own) (field_value n parents)
+or_at : (own parents : List (Option (List ℕ))) (n : ℕ) → n < length own → field_value n (or_values own parents)
+    ≡ option_or (field_value n own) (field_value n parents)
 or_at [] parents n lt = absurd (omega (arith, lt))
 or_at (v ∷ own) [] n lt = sym (plain (field_value n (v ∷ own))) where
   plain : (o : Option (List ℕ)) → option_or o None ≡ o
@@ -191,7 +202,8 @@ inherited_length key [] parents = refl
 inherited_length key (v ∷ own) [] = refl
 inherited_length key (v ∷ own) (p ∷ parents) = ap suc (or_length own parents)
 
-inherited_at : (key : List ℕ) (own parents : List (Option (List ℕ))) (n : ℕ) → suc n < length own → field_value (suc n) (inherited_values key own parents) ≡ option_or (field_value (suc n) own) (field_value (suc n) parents)
+inherited_at : (key : List ℕ) (own parents : List (Option (List ℕ))) (n : ℕ) → suc n < length own → field_value (suc n) (inherited_values key own parents)
+    ≡ option_or (field_value (suc n) own) (field_value (suc n) parents)
 inherited_at key [] parents n lt = absurd (omega (arith, lt))
 inherited_at key (v ∷ own) [] n lt = sym (plain_or (field_value (suc n) (v ∷ own)))
 inherited_at key (v ∷ own) (p ∷ parents) n lt = or_at own parents n (omega (arith, lt))
@@ -264,7 +276,9 @@ module _ (numbers : Numbers) (R : NumberedRequest) (Q : Request) (h : SameReques
       key = p.key;
       stays = p.stays;
       body = p.body;
-      values_are = λ name apart. p.values_are name apart ∙ sym (inherits k name ∙ ap (λ (o : Option ℕ). option_or (own C k name) (option_and_then (λ j. if nat_lt j k then value j name else own C j name) o)) none ∙ plain_or (own C k name));
+      values_are = λ name apart. p.values_are name apart
+          ∙ sym (inherits k name ∙ ap (λ (o : Option ℕ). option_or (own C k name) (option_and_then (λ j. if nat_lt j k then value j name else own C j name) o))
+          none ∙ plain_or (own C k name));
       parent_is = p.parent_is ∙ sym same;
     }
 
@@ -272,8 +286,10 @@ module _ (numbers : Numbers) (R : NumberedRequest) (Q : Request) (h : SameReques
     abbrev given : ℕ → ℕ → List ℕ → Option (List ℕ)
     given k j name = if nat_lt j k then value j name else own C j name
 
-    takes : (k j : ℕ) (s p : NumberedSlot) (key : List ℕ) (c : Slot) → Own k s → own C k (codes "crossref") ≡ Some key → place_of C key ≡ Some j → slice_get C j ≡ Some c → p.key ≡ c.key
-        → ((name : List ℕ) → bytes_eq name (codes "crossref") ≡ false → value_named R.field (body_values p.body) name ≡ given k j name) → Passed k (inherited_from (Some p) s)
+    takes : (k j : ℕ) (s p : NumberedSlot) (key : List ℕ) (c : Slot) → Own k s → own C k (codes "crossref") ≡ Some key → place_of C key ≡ Some j
+        → slice_get C j ≡ Some c → p.key ≡ c.key
+        → ((name : List ℕ) → bytes_eq name (codes "crossref") ≡ false → value_named R.field (body_values p.body) name ≡ given k j name)
+        → Passed k (inherited_from (Some p) s)
     takes k j s p key c own_k is place there keys gives = by s.body refl own_k.c.entry refl own_k.body where
       parents : List (Option (List ℕ))
       parents = body_values p.body
@@ -304,9 +320,11 @@ module _ (numbers : Numbers) (R : NumberedRequest) (Q : Request) (h : SameReques
             there = own_k.there;
             key = own_k.key;
             stays = own_k.stays;
-            body = subst (λ x. IsSameBody x own_k.c.entry) (sym whole) (subst (λ e. IsSameBody (Some (record b { values = new })) e) (sym g) (both.0, inherited_length p.key b.values parents ∙ size));
+            body = subst (λ x. IsSameBody x own_k.c.entry) (sym whole)
+                (subst (λ e. IsSameBody (Some (record b { values = new })) e) (sym g) (both.0, inherited_length p.key b.values parents ∙ size));
             values_are = λ name apart. ap (λ (x : Option Body). value_named R.field (body_values x) name) whole ∙ valued name apart (R.field name) refl size;
-            parent_is = ap (λ (x : Option Body). parent_in (body_values x)) whole ∙ inherited_parent p.key b.values parents (omega (arith, first, size)) ∙ sym named;
+            parent_is = ap (λ (x : Option Body). parent_in (body_values x)) whole ∙ inherited_parent p.key b.values parents (omega (arith, first, size))
+                ∙ sym named;
           } where
             inherited_value : (name : List ℕ) → value k name ≡ option_or (own C k name) (given k j name)
             inherited_value name = inherits k name ∙ ap (λ (o : Option ℕ). option_or (own C k name) (option_and_then (λ j. given k j name) o)) parent_place
@@ -319,13 +337,16 @@ module _ (numbers : Numbers) (R : NumberedRequest) (Q : Request) (h : SameReques
             valued name apart None q size =
                 let mine : own C k name ≡ None = sym (own_value name apart) ∙ ap (option_and_then (λ (n : ℕ). field_value n b.values)) q in
                 let theirs : given k j name ≡ None = sym (gives name apart) ∙ ap (option_and_then (λ (n : ℕ). field_value n parents)) q in
-                ap (option_and_then (λ (n : ℕ). field_value n (inherited_values p.key b.values parents))) q ∙ sym (inherited_value name ∙ ap₂ option_or mine theirs)
+                ap (option_and_then (λ (n : ℕ). field_value n (inherited_values p.key b.values parents))) q
+                ∙ sym (inherited_value name ∙ ap₂ option_or mine theirs)
             valued name apart (Some n) q size =
                 let m = later_field name n apart q in
                 let within : n < R.count = h.within name n q in
                 let is_later = m.1 in
-                let mine : field_value (suc m.0) b.values ≡ own C k name = ap (λ n. field_value n b.values) (sym m.1) ∙ sym (ap (option_and_then (λ (n : ℕ). field_value n b.values)) q) ∙ own_value name apart in
-                let theirs : field_value (suc m.0) parents ≡ given k j name = ap (λ n. field_value n parents) (sym m.1) ∙ sym (ap (option_and_then (λ (n : ℕ). field_value n parents)) q) ∙ gives name apart in
+                let mine : field_value (suc m.0) b.values ≡ own C k name = ap (λ n. field_value n b.values) (sym m.1)
+                ∙ sym (ap (option_and_then (λ (n : ℕ). field_value n b.values)) q) ∙ own_value name apart in
+                let theirs : field_value (suc m.0) parents ≡ given k j name = ap (λ n. field_value n parents) (sym m.1)
+                ∙ sym (ap (option_and_then (λ (n : ℕ). field_value n parents)) q) ∙ gives name apart in
                 ap (option_and_then (λ (n : ℕ). field_value n (inherited_values p.key b.values parents))) q
                 ∙ ap (λ n. field_value n (inherited_values p.key b.values parents)) m.1
                 ∙ inherited_at p.key b.values parents m.0 (omega (arith, within, is_later, size))
@@ -345,12 +366,14 @@ module _ (numbers : Numbers) (R : NumberedRequest) (Q : Request) (h : SameReques
       of_key key e None f =
           let is : own C k (codes "crossref") ≡ Some key = sym mine.parent_is ∙ e in
           let none : slot_at L key ≡ None = find_by key L C keys ∙ ap (option_and_then (slice_get L)) f in
-          let same : parent_key C k ≡ Some key = ap (option_map (λ key. option_map_or (key_at C) (place_of C key) key)) is ∙ ap (λ (o : Option ℕ). Some (option_map_or (key_at C) o key)) f in
+          let same : parent_key C k ≡ Some key = ap (option_map (λ key. option_map_or (key_at C) (place_of C key) key)) is
+          ∙ ap (λ (o : Option ℕ). Some (option_map_or (key_at C) o key)) f in
           subst (Passed k) (sym (inherited-by L s key None e none)) (alone k s mine (ap (option_and_then (place_of C)) is ∙ f) (same ∙ sym is))
       of_key key e (Some j) f =
           let found = find_key L C key j keys f in
           subst (Passed k) (sym (inherited-by L s key (Some found.s) e found.found))
-          (takes k j s found.s key found.c mine (sym mine.parent_is ∙ e) f found.there found.keys (gives j found.s (in_both Passed Own 0 j done (s ∷ left) found.s before (subst (λ m. AllFrom Own m (s ∷ left)) starts after) found.here))) where
+          (takes k j s found.s key found.c mine (sym mine.parent_is ∙ e) f found.there found.keys
+          (gives j found.s (in_both Passed Own 0 j done (s ∷ left) found.s before (subst (λ m. AllFrom Own m (s ∷ left)) starts after) found.here))) where
             starts : k ≡ 0 + length done
             starts = omega (arith, size)
 
@@ -375,14 +398,16 @@ module _ (numbers : Numbers) (R : NumberedRequest) (Q : Request) (h : SameReques
       by (Some key) e = of_key key e (place_of C key) refl
 
     -- the list after the first pass
-    pub first_pass : (left done : List NumberedSlot) → map key_of (done ++ left) ≡ map named_key C → AllFrom Passed 0 done → AllFrom Own (length done) left → AllFrom Passed 0 (passed inherited done left)
+    pub first_pass : (left done : List NumberedSlot) → map key_of (done ++ left) ≡ map named_key C → AllFrom Passed 0 done → AllFrom Own (length done) left
+        → AllFrom Passed 0 (passed inherited done left)
     first_pass [] done keys before after = before
     first_pass (s ∷ left) done keys before after =
         let L = done ++ s ∷ left in
         let new = inherited L s in
         let step : Passed (length done) new = inherits_there (length done) done left s refl keys before after in
         let longer : length done + 1 ≡ length (done ++ new ∷ []) = omega (arith, length-append done (new ∷ [])) in
-        first_pass left (done ++ new ∷ []) (view-next key_of inherited key-inherited s left done ∙ keys) (all_push Passed 0 (length done) done new (omega arith) before step)
+        first_pass left (done ++ new ∷ []) (view-next key_of inherited key-inherited s left done ∙ keys)
+        (all_push Passed 0 (length done) done new (omega arith) before step)
         (subst (λ m. AllFrom Own m left) longer after.1)
 
     -- ---- the second pass
@@ -395,7 +420,8 @@ module _ (numbers : Numbers) (R : NumberedRequest) (Q : Request) (h : SameReques
       by (Some own_key) f = at (place_of C own_key) refl where
         at : (o : Option ℕ) → place_of C own_key ≡ o → place_of C key ≡ parent C k
         at None g =
-            let is : Some own_key ≡ Some key = sym (ap (option_map (λ key. option_map_or (key_at C) (place_of C key) key)) f ∙ ap (λ (o : Option ℕ). Some (option_map_or (key_at C) o own_key)) g) ∙ e in
+            let is : Some own_key ≡ Some key = sym (ap (option_map (λ key. option_map_or (key_at C) (place_of C key) key)) f
+            ∙ ap (λ (o : Option ℕ). Some (option_map_or (key_at C) o own_key)) g) ∙ e in
             let same : own_key ≡ key = cc in
             ap (place_of C) (sym same) ∙ sym (ap (option_and_then (place_of C)) f)
         at (Some j) g =
@@ -408,7 +434,16 @@ module _ (numbers : Numbers) (R : NumberedRequest) (Q : Request) (h : SameReques
 
     -- what is left of a place is the same but for its parent
     kept_parent : (k : ℕ) (s : NumberedSlot) → Passed k s → (if keeps_parent C k then parent_key C k else None) ≡ parent_key C k → Checked k s
-    kept_parent k s p same = record { c = p.c; there = p.there; key = p.key; stays = p.stays; body = p.body; values_are = p.values_are; parent_is = p.parent_is ∙ sym same }
+    kept_parent k s p same = record {
+      c = p.c;
+      there = p.there;
+      key = p.key;
+      stays = p.stays;
+      body = p.body;
+      values_are = p.values_are;
+      parent_is = p.parent_is
+          ∙ sym same;
+    }
 
     lost_parent : (k : ℕ) (s : NumberedSlot) → Passed k s → keeps_parent C k ≡ false → Checked k (without_crossref s)
     lost_parent k s p lost = by s.body refl p.c.entry refl p.body where
@@ -421,10 +456,13 @@ module _ (numbers : Numbers) (R : NumberedRequest) (Q : Request) (h : SameReques
         there = p.there;
         key = p.key;
         stays = p.stays;
-        body = subst (λ x. IsSameBody (option_map (λ (body : Body). record body { values = without_parent (body_values x) }) x) p.c.entry) (sym f) (subst (λ b. IsSameBody b p.c.entry) f same);
-        values_are = λ name apart. ap (λ (x : Option Body). value_named R.field (body_values (option_map (λ (body : Body). record body { values = without_parent (body_values x) }) x)) name) f
+        body = subst (λ x. IsSameBody (option_map (λ (body : Body). record body { values = without_parent (body_values x) }) x) p.c.entry) (sym f)
+            (subst (λ b. IsSameBody b p.c.entry) f same);
+        values_are = λ name apart. ap (λ (x : Option Body). value_named R.field
+            (body_values (option_map (λ (body : Body). record body { values = without_parent (body_values x) }) x)) name) f
             ∙ ap (λ (x : Option Body). value_named R.field (body_values x) name) (sym f) ∙ p.values_are name apart;
-        parent_is = ap (λ (x : Option Body). parent_in (body_values (option_map (λ (body : Body). record body { values = without_parent (body_values x) }) x))) f ∙ none;
+        parent_is = ap (λ (x : Option Body). parent_in (body_values (option_map (λ (body : Body). record body { values = without_parent (body_values x) }) x)))
+            f ∙ none;
       }
       by (Some b) f None g same = absurd (subst (λ e. IsSameBody (Some b) e) g (subst (λ b. IsSameBody b p.c.entry) f same))
       by (Some b) f (Some e) g same =
@@ -436,24 +474,29 @@ module _ (numbers : Numbers) (R : NumberedRequest) (Q : Request) (h : SameReques
             there = p.there;
             key = p.key;
             stays = p.stays;
-            body = subst (λ x. IsSameBody x p.c.entry) (sym whole) (subst (λ e. IsSameBody (Some (record b { values = without_parent b.values })) e) (sym g) (both.0, without_length b.values ∙ both.1));
+            body = subst (λ x. IsSameBody x p.c.entry) (sym whole)
+                (subst (λ e. IsSameBody (Some (record b { values = without_parent b.values })) e) (sym g) (both.0, without_length b.values ∙ both.1));
             values_are = λ name apart. ap (λ (x : Option Body). value_named R.field (body_values x) name) whole ∙ valued name apart (R.field name) refl
                 ∙ ap (λ (x : Option Body). value_named R.field (body_values x) name) (sym f) ∙ p.values_are name apart;
             parent_is = ap (λ (x : Option Body). parent_in (body_values x)) whole ∙ without_none b.values ∙ none;
           } where
             valued : (name : List ℕ) → bytes_eq name (codes "crossref") ≡ false → (o : Option ℕ) → R.field name ≡ o
                 → value_named R.field (without_parent b.values) name ≡ value_named R.field b.values name
-            valued name apart None q = ap (option_and_then (λ (n : ℕ). field_value n (without_parent b.values))) q ∙ sym (ap (option_and_then (λ (n : ℕ). field_value n b.values)) q)
+            valued name apart None q = ap (option_and_then (λ (n : ℕ). field_value n (without_parent b.values))) q
+                ∙ sym (ap (option_and_then (λ (n : ℕ). field_value n b.values)) q)
             valued name apart (Some n) q =
                 let m = later_field name n apart q in
-                ap (option_and_then (λ (n : ℕ). field_value n (without_parent b.values))) q ∙ ap (λ n. field_value n (without_parent b.values)) m.1 ∙ without_at b.values m.0
+                ap (option_and_then (λ (n : ℕ). field_value n (without_parent b.values))) q ∙ ap (λ n. field_value n (without_parent b.values)) m.1
+                ∙ without_at b.values m.0
                 ∙ ap (λ n. field_value n b.values) (sym m.1) ∙ sym (ap (option_and_then (λ (n : ℕ). field_value n b.values)) q)
 
     -- a parent that has an entry and stays
-    stays_same : (j : ℕ) (s : NumberedSlot) (c : Slot) → slice_get C j ≡ Some c → s.stays ≡ c.stays → IsSameBody s.body c.entry → is_parent (Some s) ≡ stays_at C j
+    stays_same : (j : ℕ) (s : NumberedSlot) (c : Slot) → slice_get C j ≡ Some c → s.stays ≡ c.stays → IsSameBody s.body c.entry
+        → is_parent (Some s) ≡ stays_at C j
     stays_same j s c there stays body =
         ap₂ (λ (t u : Bool). t && u) (sym (has_body s.body c.entry body)) stays
-        ∙ sym (ap₂ (λ (o p : Option Slot). option_map_or (λ (slot : Slot). is_some slot.entry) o false && option_map_or (λ (slot : Slot). slot.stays) p false) there there)
+        ∙ sym (ap₂ (λ (o p : Option Slot). option_map_or (λ (slot : Slot). is_some slot.entry) o false && option_map_or (λ (slot : Slot). slot.stays) p false)
+        there there)
 
     -- what is known of the place of a parent
     record Seen (k j : ℕ) (s : NumberedSlot) : Type 0 where
@@ -463,7 +506,8 @@ module _ (numbers : Numbers) (R : NumberedRequest) (Q : Request) (h : SameReques
       body : IsSameBody s.body c.entry
       has_parent : is_some (parent_at s) ≡ (is_some (parent_key C j) && (nat_le k j || keeps_parent C j))
 
-    seen : (k : ℕ) (done left : List NumberedSlot) (j : ℕ) (s : NumberedSlot) → k ≡ length done → AllFrom Checked 0 done → AllFrom Passed k left → slice_get (done ++ left) j ≡ Some s → Seen k j s
+    seen : (k : ℕ) (done left : List NumberedSlot) (j : ℕ) (s : NumberedSlot) → k ≡ length done → AllFrom Checked 0 done → AllFrom Passed k left
+        → slice_get (done ++ left) j ≡ Some s → Seen k j s
     seen k done left j s size before after e = by (in_both Checked Passed 0 j done left s before (subst (λ m. AllFrom Passed m left) starts after) e) where
       starts : k ≡ 0 + length done
       starts = omega (arith, size)
@@ -505,7 +549,8 @@ module _ (numbers : Numbers) (R : NumberedRequest) (Q : Request) (h : SameReques
             there = q.there;
             stays = q.stays;
             body = q.body;
-            has_parent = ap is_some q.parent_is ∙ and_true (is_some (parent_key C j)) ∙ sym (ap (λ (t : Bool). is_some (parent_key C j) && (t || keeps_parent C j)) (is_most k j (omega (arith, le, size))));
+            has_parent = ap is_some q.parent_is ∙ and_true (is_some (parent_key C j))
+                ∙ sym (ap (λ (t : Bool). is_some (parent_key C j) && (t || keeps_parent C j)) (is_most k j (omega (arith, le, size))));
           }
 
     -- the lines of messages
@@ -515,7 +560,8 @@ module _ (numbers : Numbers) (R : NumberedRequest) (Q : Request) (h : SameReques
 
     nested_line : (child parent : List ℕ) → message_line (NestedReference child parent) ∷ [] ≡ nested_reference child parent ∷ []
     unfolding message_text mark_of
-    nested_line child parent = ap (λ t. record { text = mark_of line.Warning ++ t; kind = line.Warning } ∷ []) (append-nil (message_text (NestedReference child parent)))
+    nested_line child parent = ap (λ t. record { text = mark_of line.Warning ++ t; kind = line.Warning } ∷ [])
+        (append-nil (message_text (NestedReference child parent)))
 
     -- what the second pass makes of a place, and what it logs
     record Judged (k : ℕ) (L : List NumberedSlot) (s : NumberedSlot) : Type 0 where
@@ -538,7 +584,8 @@ module _ (numbers : Numbers) (R : NumberedRequest) (Q : Request) (h : SameReques
       says : List ℕ → Option ℕ → List Line
       says key o = option_map_or (λ j.
           if not (has_entry C j) then bad_reference (key_at C k) key ∷ []
-          else only_if (is_some (parent_key C j) && (nat_le k j || keeps_parent C j)) (nested_reference (key_at C k) key)) o (bad_reference (key_at C k) key ∷ [])
+          else only_if (is_some (parent_key C j) && (nat_le k j || keeps_parent C j)) (nested_reference (key_at C k) key)) o
+          (bad_reference (key_at C k) key ∷ [])
 
       of_key : (key : List ℕ) → parent_at s ≡ Some key → (o : Option ℕ) → place_of C key ≡ o → Judged k L s
       of_key key e None f =
@@ -548,7 +595,9 @@ module _ (numbers : Numbers) (R : NumberedRequest) (Q : Request) (h : SameReques
           let lost : keeps_parent C k ≡ false = ap (λ (o : Option ℕ). option_map_or (stays_at C) o false) no_parent in
           record {
             place = subst (Checked k) (sym (checked-is L s key None e none)) (lost_parent k s mine lost);
-            logged = ap (map message_line) (messages-is L s key None e none) ∙ bad_line s.key key ∙ sym (ap₂ (λ (o : Option (List ℕ)) (p : Option ℕ). option_map_or (λ key. says key p) o []) is no_parent ∙ ap (λ x. bad_reference x key ∷ []) key_same);
+            logged = ap (map message_line) (messages-is L s key None e none) ∙ bad_line s.key key
+                ∙ sym (ap₂ (λ (o : Option (List ℕ)) (p : Option ℕ). option_map_or (λ key. says key p) o []) is no_parent
+                ∙ ap (λ x. bad_reference x key ∷ []) key_same);
           }
       of_key key e (Some j) f =
           let is : parent_key C k ≡ Some key = sym mine.parent_is ∙ e in
@@ -559,7 +608,8 @@ module _ (numbers : Numbers) (R : NumberedRequest) (Q : Request) (h : SameReques
           ap (λ (o : Option ℕ). option_map_or (stays_at C) o false) its_parent ∙ sym (stays_same j found.s known.c known.there known.stays known.body) in
           record {
             place = subst (Checked k) (sym (checked-is L s key (Some found.s) e found.found)) (either (is_parent (Some found.s)) keeps);
-            logged = ap (map message_line) (messages-is L s key (Some found.s) e found.found) ∙ said found.s known ∙ sym (ap₂ (λ (o : Option (List ℕ)) (p : Option ℕ). option_map_or (λ key. says key p) o []) is its_parent);
+            logged = ap (map message_line) (messages-is L s key (Some found.s) e found.found) ∙ said found.s known
+                ∙ sym (ap₂ (λ (o : Option (List ℕ)) (p : Option ℕ). option_map_or (λ key. says key p) o []) is its_parent);
           } where
             either : (t : Bool) → keeps_parent C k ≡ t → Checked k (if t then s else without_crossref s)
             either true g = kept_parent k s mine (ap (λ (t : Bool). if t then parent_key C k else None) g)
@@ -571,12 +621,18 @@ module _ (numbers : Numbers) (R : NumberedRequest) (Q : Request) (h : SameReques
 
             said : (p : NumberedSlot) → Seen k j p → map message_line (passes.parent_messages s.key key (Some p)) ≡ says key (Some j)
             said p known =
-                let there : has_entry C j ≡ is_some p.body = ap (λ (o : Option Slot). option_map_or (λ (slot : Slot). is_some slot.entry) o false) known.there ∙ has_body p.body known.c.entry known.body in
-                ap (map message_line) (ap₂ (λ x (t : Bool). if is_some p.body then (if t then NestedReference x key ∷ [] else []) else BadReference x key ∷ []) (sym key_same) known.has_parent)
+                let there : has_entry C j ≡ is_some p.body = ap (λ (o : Option Slot). option_map_or (λ (slot : Slot). is_some slot.entry) o false) known.there
+                ∙ has_body p.body known.c.entry known.body in
+                ap (map message_line) (ap₂ (λ x (t : Bool). if is_some p.body then (if t then NestedReference x key ∷ [] else []) else BadReference x key ∷ [])
+                (sym key_same) known.has_parent)
                 ∙ choose (is_some p.body)
-                ∙ ap (λ (t : Bool). if not t then bad_reference (key_at C k) key ∷ [] else only_if (is_some (parent_key C j) && (nat_le k j || keeps_parent C j)) (nested_reference (key_at C k) key)) (sym there) where
-                  choose : (t : Bool) → map message_line (if t then (if is_some (parent_key C j) && (nat_le k j || keeps_parent C j) then NestedReference (key_at C k) key ∷ [] else []) else BadReference (key_at C k) key ∷ [])
-                      ≡ (if not t then bad_reference (key_at C k) key ∷ [] else only_if (is_some (parent_key C j) && (nat_le k j || keeps_parent C j)) (nested_reference (key_at C k) key))
+                ∙ ap (λ (t : Bool). if not t then bad_reference (key_at C k) key
+                ∷ [] else only_if (is_some (parent_key C j) && (nat_le k j || keeps_parent C j)) (nested_reference (key_at C k) key)) (sym there) where
+                  choose : (t : Bool) → map message_line
+                      (if t then (if is_some (parent_key C j) && (nat_le k j || keeps_parent C j) then NestedReference (key_at C k) key ∷ [] else []) else
+                      BadReference (key_at C k) key ∷ [])
+                      ≡ (if not t then bad_reference (key_at C k) key ∷ [] else only_if (is_some (parent_key C j) && (nat_le k j || keeps_parent C j))
+                      (nested_reference (key_at C k) key))
                   choose true = nested_if (is_some (parent_key C j) && (nat_le k j || keeps_parent C j))
                   choose false = bad_line (key_at C k) key
 
@@ -597,16 +653,20 @@ module _ (numbers : Numbers) (R : NumberedRequest) (Q : Request) (h : SameReques
       pub places : AllFrom Checked 0 (passed checked done left)
       pub logged : map message_line (pass_messages checked check_messages done left) ≡ flat_map (parent_messages C) (range_with_len (length done) (length left))
 
-    pub second_pass : (left done : List NumberedSlot) → map key_of (done ++ left) ≡ map named_key C → AllFrom Checked 0 done → AllFrom Passed (length done) left → Second done left
+    pub second_pass : (left done : List NumberedSlot) → map key_of (done ++ left) ≡ map named_key C → AllFrom Checked 0 done → AllFrom Passed (length done) left
+        → Second done left
     second_pass [] done keys before after = record { places = before; logged = refl }
     second_pass (s ∷ left) done keys before after =
         let L = done ++ s ∷ left in
         let new = checked L s in
         let step = judged (length done) done left s refl keys before after in
         let longer : length done + 1 ≡ length (done ++ new ∷ []) = omega (arith, length-append done (new ∷ [])) in
-        let rest = second_pass left (done ++ new ∷ []) (view-next key_of checked key-checked s left done ∙ keys) (all_push Checked 0 (length done) done new (omega arith) before step.place)
+        let rest = second_pass left (done ++ new ∷ []) (view-next key_of checked key-checked s left done ∙ keys)
+        (all_push Checked 0 (length done) done new (omega arith) before step.place)
         (subst (λ m. AllFrom Passed m left) longer after.1) in
         record {
           places = rest.places;
-          logged = lines_more (check_messages L s) (pass_messages checked check_messages (done ++ new ∷ []) left) ∙ ap₂ (λ (ms ns : List Line). ms ++ ns) step.logged (rest.logged ∙ ap (λ n. flat_map (parent_messages C) (range_with_len n (length left))) (sym longer));
+          logged = lines_more (check_messages L s) (pass_messages checked check_messages (done ++ new ∷ []) left)
+              ∙ ap₂ (λ (ms ns : List Line). ms ++ ns) step.logged
+              (rest.logged ∙ ap (λ n. flat_map (parent_messages C) (range_with_len n (length left))) (sym longer));
         }

@@ -1,5 +1,6 @@
 -- The product of each job, with numbers, is one in names.
-use Rattle.std.proofs.Common.{◌≡◌, ℕ, ℤ, pos, zero, suc, ◌-◌, ◌<◌, ◌≤◌, Bool, true, false, if◌then◌else◌, List, [], ◌∷◌, ◌++◌, length, map, replicate, Option, None, Some, option_map, sym, ap, subst, ◌∙◌, refl, arith, append_assoc, append-nil, true≢false, codes}
+use Rattle.std.proofs.Common.{◌≡◌, ℕ, ℤ, pos, zero, suc, ◌-◌, ◌<◌, ◌≤◌, Bool, true, false, if◌then◌else◌, List, [], ◌∷◌, ◌++◌, length, map, replicate, Option}
+use Rattle.std.proofs.Common.{None, Some, option_map, sym, ap, subst, ◌∙◌, refl, arith, append_assoc, append-nil, true≢false, codes}
 use Rattle.std.specs.List.{flat_map}
 use Rattle.std.specs.Option.{option_map_or}
 use Rattle.std.specs.Prelude.{slice_set}
@@ -148,23 +149,30 @@ module _ (job : NumberedJob) (style : Style) (library : Library) (h : SameJob jo
       let long = length-replicate (length names.global_integers) (pos 0) in
       let longer = set_length zeros 0 (pos job.entry_max) in
       set_either (codes "entry.max$") (codes "global.max$") (pos job.entry_max) (pos job.global_max) (λ name. pos 0) refl
-      ∙ ap (λ f. set (codes "global.max$") (pos job.global_max) (set (codes "entry.max$") (pos job.entry_max) f)) (sym (flat gi (item zeros (pos 0)) (pos 0) (item_same (length names.global_integers) (pos 0))))
+      ∙ ap (λ f. set (codes "global.max$") (pos job.global_max) (set (codes "entry.max$") (pos job.entry_max) f))
+      (sym (flat gi (item zeros (pos 0)) (pos 0) (item_same (length names.global_integers) (pos 0))))
       ∙ ap (λ n. set (codes "global.max$") (pos job.global_max) (set n (pos job.entry_max) (by_name gi (item zeros (pos 0)) (pos 0)))) (sym first)
-      ∙ ap (set (codes "global.max$") (pos job.global_max)) (set_item gi zeros (pos 0) (pos job.entry_max) 0 (of_job.global_integer_number job style library h 0 one) (omega (arith, one, long)))
+      ∙ ap (set (codes "global.max$") (pos job.global_max))
+      (set_item gi zeros (pos 0) (pos job.entry_max) 0 (of_job.global_integer_number job style library h 0 one) (omega (arith, one, long)))
       ∙ ap (λ n. set n (pos job.global_max) (by_name gi (item (slice_set zeros 0 (pos job.entry_max)) (pos 0)) (pos 0))) (sym second)
-      ∙ set_item gi (slice_set zeros 0 (pos job.entry_max)) (pos 0) (pos job.global_max) 1 (of_job.global_integer_number job style library h 1 two) (omega (arith, two, long, longer))
+      ∙ set_item gi (slice_set zeros 0 (pos job.entry_max)) (pos 0) (pos job.global_max) 1 (of_job.global_integer_number job style library h 1 two)
+      (omega (arith, two, long, longer))
 
   abbrev no_strings : List ℕ → List ℕ
   no_strings n = []
 
   strings_first : no_strings ≡ by_name {A = List ℕ} (steps.gs job style library h before) (item (replicate (length names.global_strings) []) []) []
-  strings_first = sym (flat (steps.gs job style library h before) (item (replicate (length names.global_strings) []) []) [] (item_same (length names.global_strings) []))
+  strings_first = sym (flat (steps.gs job style library h before) (item (replicate (length names.global_strings) []) []) []
+      (item_same (length names.global_strings) []))
 
-  entry_integers_first : (λ (key name : List ℕ). pos 0) ≡ by_name (steps.keys job style library h before) (λ j. by_name (steps.ei job style library h before) (item (item (replicate entries variables) none j).integers (pos 0)) (pos 0)) (λ n. pos 0)
+  entry_integers_first : (λ (key name : List ℕ). pos 0) ≡ by_name (steps.keys job style library h before)
+      (λ j. by_name (steps.ei job style library h before) (item (item (replicate entries variables) none j).integers (pos 0)) (pos 0)) (λ n. pos 0)
   entry_integers_first = sym (flat (steps.keys job style library h before) _ (λ n. pos 0) (λ j. flat (steps.ei job style library h before) _ (pos 0)
-      (item_or (λ (v : EntryVariables). (i : ℕ) → item v.integers (pos 0) i ≡ pos 0) entries variables none j (item_same (length names.entry_integers) (pos 0)) (λ i. refl))))
+      (item_or (λ (v : EntryVariables). (i : ℕ) → item v.integers (pos 0) i ≡ pos 0) entries variables none j (item_same (length names.entry_integers) (pos 0))
+      (λ i. refl))))
 
-  entry_strings_first : (λ (key : List ℕ). no_strings) ≡ by_name {A = List ℕ → List ℕ} (steps.keys job style library h before) (λ j. by_name (steps.es job style library h before) (item (item (replicate entries variables) none j).strings []) []) (λ n. [])
+  entry_strings_first : (λ (key : List ℕ). no_strings) ≡ by_name {A = List ℕ → List ℕ} (steps.keys job style library h before)
+      (λ j. by_name (steps.es job style library h before) (item (item (replicate entries variables) none j).strings []) []) (λ n. [])
   entry_strings_first = sym (flat (steps.keys job style library h before) _ (λ n. []) (λ j. flat (steps.es job style library h before) _ []
       (item_or (λ (v : EntryVariables). (i : ℕ) → item v.strings [] i ≡ []) entries variables none j (item_same (length names.entry_strings) []) (λ i. refl))))
 
@@ -172,14 +180,24 @@ module _ (job : NumberedJob) (style : Style) (library : Library) (h : SameJob jo
   start_same = record {
     whole = record {
       literals = tt;
-      integers = set_length (slice_set zeros 0 (pos job.entry_max)) 1 (pos job.global_max) ∙ set_length zeros 0 (pos job.entry_max) ∙ length-replicate (length names.global_integers) (pos 0);
+      integers = set_length (slice_set zeros 0 (pos job.entry_max)) 1 (pos job.global_max) ∙ set_length zeros 0 (pos job.entry_max)
+          ∙ length-replicate (length names.global_integers) (pos 0);
       strings = length-replicate (length names.global_strings) [];
       entries = length-replicate entries variables;
-      entry_integers = λ e lt. let long = length-replicate entries variables in ap (λ (v : EntryVariables). length v.integers) (item_in entries variables none e (omega (arith, lt, long))) ∙ length-replicate (length names.entry_integers) (pos 0);
-      entry_strings = λ e lt. let long = length-replicate entries variables in ap (λ (v : EntryVariables). length v.strings) (item_in entries variables none e (omega (arith, lt, long))) ∙ length-replicate (length names.entry_strings) [];
+      entry_integers = λ e lt. let long = length-replicate entries variables in
+          ap (λ (v : EntryVariables). length v.integers) (item_in entries variables none e (omega (arith, lt, long)))
+          ∙ length-replicate (length names.entry_integers) (pos 0);
+      entry_strings = λ e lt. let long = length-replicate entries variables in
+          ap (λ (v : EntryVariables). length v.strings) (item_in entries variables none e (omega (arith, lt, long)))
+          ∙ length-replicate (length names.entry_strings) [];
       current = λ e is. absurd (cc);
     };
-    is = λ i. record (first_state here before) { integers = integers_first i; strings = strings_first i; entry_integers = entry_integers_first i; entry_strings = entry_strings_first i };
+    is = λ i. record (first_state here before) {
+      integers = integers_first i;
+      strings = strings_first i;
+      entry_integers = entry_integers_first i;
+      entry_strings = entry_strings_first i;
+    };
     out = record { lines = refl; pending = refl; log = sym (append-nil (steps.ended before)); warnings = refl; errors = refl };
   }
 
@@ -193,7 +211,12 @@ module _ (job : NumberedJob) (style : Style) (library : Library) (h : SameJob jo
   lines_behind lines rest = record rest { log_so_far = steps.ended lines ++ rest.log_so_far }
 
   report_same : (end : End) (steps_ : ℕ) (S : NumberedState) (s : State) → Same S s → (one other : List ℕ) → one ≡ other
-      → record { bbl = one; log_so_far = steps.ended before ++ S.out.log; report = report_of end steps_ S.store.deepest (record { warnings = S.out.warnings; errors = S.out.errors }) } ≡ ends_with end steps_ s.deepest other s.log
+      → record {
+        bbl = one;
+        log_so_far = steps.ended before ++ S.out.log;
+        report =
+            report_of end steps_ S.store.deepest (record { warnings = S.out.warnings; errors = S.out.errors });
+      } ≡ ends_with end steps_ s.deepest other s.log
   report_same end steps_ S s r one other bbl =
       let deepest : S.store.deepest ≡ s.deepest = sym (ap (λ (u : State). u.deepest) r.is) in
       let log = sym r.out.log in
@@ -201,16 +224,20 @@ module _ (job : NumberedJob) (style : Style) (library : Library) (h : SameJob jo
       let errors = r.out.errors in
       λ i. record { bbl = bbl i; log_so_far = log i; report = report_of end steps_ (deepest i) (record { warnings = warnings i; errors = errors i }) }
 
-  lines_same : (line : ℕ) (S : NumberedState) (s : State) → Same S s → (at at' : List ℕ → List ℕ) → ((text : List ℕ) → at text ≡ at' text) → flat_map (wrap line) S.out.lines ++ at S.out.pending ≡ flat_map (wrap line) s.lines ++ at' s.pending
+  lines_same : (line : ℕ) (S : NumberedState) (s : State) → Same S s → (at at' : List ℕ → List ℕ) → ((text : List ℕ) → at text ≡ at' text)
+      → flat_map (wrap line) S.out.lines ++ at S.out.pending ≡ flat_map (wrap line) s.lines ++ at' s.pending
   lines_same line S s r at at' e =
-      ap (λ t. flat_map (wrap line) S.out.lines ++ t) (e S.out.pending) ∙ ap (λ (ls : List (List ℕ)). flat_map (wrap line) ls ++ at' S.out.pending) (sym r.out.lines)
+      ap (λ t. flat_map (wrap line) S.out.lines ++ t) (e S.out.pending) ∙ ap (λ (ls : List (List ℕ)). flat_map (wrap line) ls ++ at' S.out.pending)
+      (sym r.out.lines)
       ∙ ap (λ (p : List ℕ). flat_map (wrap line) s.lines ++ at' p) (sym r.out.pending)
 
-  come_same : (line budget : ℕ) (o : Came) (p : Outcome) → runs.SameCame job style library h before o p → lines_behind before (product_of line budget o) ≡ comes_to (wrap line) (sure line) budget p
+  come_same : (line budget : ℕ) (o : Came) (p : Outcome) → runs.SameCame job style library h before o p → lines_behind before (product_of line budget o)
+      ≡ comes_to (wrap line) (sure line) budget p
   come_same line budget (CameDone S b) (Done s c) k =
       report_same ended.Finished (budget - b) S s k.0 _ _ (lines_same line S s k.0 (written_at_end line) (line_at_end (wrap line)) (at_end line))
       ∙ ap (λ c. ends_with ended.Finished (budget - c) s.deepest (flat_map (wrap line) s.lines ++ line_at_end (wrap line) s.pending) s.log) k.1
-  come_same line budget (CameStopped S) (Stopped s) k = report_same ended.Stopped budget S s k _ _ (lines_same line S s k (sure line) (sure line) (λ text. refl))
+  come_same line budget (CameStopped S) (Stopped s) k =
+      report_same ended.Stopped budget S s k _ _ (lines_same line S s k (sure line) (sure line) (λ text. refl))
   come_same line budget (CameLimit kind S b) (Limited limit s c) k =
       report_same (ended.Limit kind) (budget - b) S s k.0 _ _ (lines_same line S s k.0 (sure line) (sure line) (λ text. refl))
       ∙ ap (λ kind. ends_with (ended.Limit kind) (budget - b) s.deepest (flat_map (wrap line) s.lines ++ sure line s.pending) s.log) k.1.0
@@ -223,7 +250,8 @@ module _ (job : NumberedJob) (style : Style) (library : Library) (h : SameJob jo
   come_same line budget (CameLimit kind S b) (Stopped s) k = absurd (true≢false k)
 
   -- what the style comes to, executed with numbers, is what it comes to in names
-  pub executed_same : (options : Options) → 3 ≤ options.line → IsExecuted here before options (lines_behind before (style_product job (counts_of before) options.line options.budget))
+  pub executed_same : (options : Options) → 3 ≤ options.line
+      → IsExecuted here before options (lines_behind before (style_product job (counts_of before) options.line options.budget))
   executed_same options wide =
       let comes = runs.run_same job style library h before options.budget start (first_state here before) start_same in
       record {
@@ -250,8 +278,14 @@ abbrev out_of : AuxJob → Options → Logged FilesRead → Product
 out_of job options read = lines_with (job.log ++ read.lines) (product_of_files job read.gives options (counts_of (job.log ++ read.lines)) options.budget)
 
 -- a reading that ended
-early : (ending : End) (lines : List Line) → lines_with lines (record { bbl = []; log_so_far = []; report = report_of ending 0 0 (counts_of lines) }) ≡ ends_with ending 0 0 [] lines
-early ending lines = λ i. record { bbl = []; log_so_far = append-nil (flat_map (λ (line : Line). ended_line line.text) lines) i; report = report_of ending 0 0 (counts_of lines) }
+early : (ending : End) (lines : List Line) → lines_with lines (record { bbl = []; log_so_far = []; report = report_of ending 0 0 (counts_of lines) })
+    ≡ ends_with ending 0 0 [] lines
+early ending lines = λ i. record {
+  bbl = [];
+  log_so_far = append-nil (flat_map (λ (line : Line). ended_line line.text) lines) i;
+  report =
+      report_of ending 0 0 (counts_of lines);
+}
 
 -- the job with numbers
 abbrev work_of : List ℕ → List ℕ → AuxJob → List Database → Options → NumberedJob
@@ -264,8 +298,10 @@ work_of file text job databases options = record {
 }
 
 -- the two say the same job
-same_job : (file text : List ℕ) (style : Style) (same : IsSameStyle (style_of file text) style) (job : AuxJob) (databases : List Database) (library : Library) (options : Options)
-    → IsSameLibrary (numbers_of (style_of file text) same.functions) (field_of (style_of file text)) (library_of (asked (style_of file text) job options.min_crossrefs) (style_of file text).macros databases) library
+same_job : (file text : List ℕ) (style : Style) (same : IsSameStyle (style_of file text) style) (job : AuxJob) (databases : List Database) (library : Library)
+    (options : Options)
+    → IsSameLibrary (numbers_of (style_of file text) same.functions) (field_of (style_of file text))
+    (library_of (asked (style_of file text) job options.min_crossrefs) (style_of file text).macros databases) library
     → SameJob (work_of file text job databases options) style library
 same_job file text style same job databases library options k = record {
   same_style = same;
@@ -281,23 +317,30 @@ databases_of files job = map (λ (file : NamedFile). record { file = file.name; 
 
 styled : (files : Files) (job : AuxSaid) (name text : List ℕ) (options : Options) → 3 ≤ options.line
     → IsStyled files job name text (job.log ++ style_line name ∷ []) options
-    (out_of (job_said job) options (record { lines = style_line name ∷ databases_logged files [] job.databases; gives = Found (record { style = record { name = name; bytes = text }; databases = files_found files job.databases }) }))
+    (out_of (job_said job) options (record {
+      lines = style_line name ∷ databases_logged files [] job.databases;
+      gives =
+          Found (record { style = record { name = name; bytes = text }; databases = files_found files job.databases });
+    }))
 styled files job name text options wide =
     let databases = databases_of files job in
     let s = there_is_style name text in
     let l = there_is_library (asked_by job s.0 options) s.0.macros databases in
     let same = same_style name text s.0 s.1 in
-    let h = same_job name text s.0 same (job_said job) databases l.0 options (same_library name text s.0 same (job_said job) options.min_crossrefs databases l.0 l.1) in
+    let h = same_job name text s.0 same (job_said job) databases l.0 options
+    (same_library name text s.0 same (job_said job) options.min_crossrefs databases l.0 l.1) in
     let before = (job.log ++ style_line name ∷ []) ++ databases_logged files [] job.databases in
     let work = work_of name text (job_said job) databases options in
     let ran = executed_same work s.0 l.0 h before options wide in
-    let lines : before ≡ job.log ++ style_line name ∷ databases_logged files [] job.databases = append_assoc job.log (style_line name ∷ []) (databases_logged files [] job.databases) in
+    let lines : before ≡ job.log ++ style_line name ∷ databases_logged files [] job.databases =
+    append_assoc job.log (style_line name ∷ []) (databases_logged files [] job.databases) in
     record {
       style = s.0;
       styled = s.1;
       library = l.0;
       gathered = l.1;
-      executed = subst (λ (all : List Line). IsExecuted (record { style = s.0; library = l.0; mode = options.text; entry_max = options.entry_max; global_max = options.global_max }) before options
+      executed = subst (λ (all : List Line). IsExecuted
+          (record { style = s.0; library = l.0; mode = options.text; entry_max = options.entry_max; global_max = options.global_max }) before options
           (lines_with all (style_product work (counts_of all) options.line options.budget))) lines ran;
     }
 
@@ -309,25 +352,33 @@ read_if t files job style =
 
 found : (t : Bool) (files : Files) (job : AuxSaid) (name text : List ℕ) (options : Options) → 3 ≤ options.line
     → IsFound t files job name text (job.log ++ style_line name ∷ []) options
-    (out_of (job_said job) options (record { lines = style_line name ∷ (read_if t files (job_said job) (record { name = name; bytes = text })).lines; gives = (read_if t files (job_said job) (record { name = name; bytes = text })).gives }))
+    (out_of (job_said job) options (record {
+      lines = style_line name ∷ (read_if t files (job_said job) (record { name = name; bytes = text })).lines;
+      gives =
+          (read_if t files (job_said job) (record { name = name; bytes = text })).gives;
+    }))
 found true files job name text options wide = early (ended.Limit limit.File) (job.log ++ style_line name ∷ [])
 found false files job name text options wide = styled files job name text options wide
 
 named : (f : Option (List ℕ)) (files : Files) (job : AuxSaid) (name : List ℕ) (options : Options) → 3 ≤ options.line
-    → IsNamed f files job name options (out_of (job_said job) options (style_read files (job_said job) name (option_map (λ (bytes : List ℕ). record { name = name; bytes = bytes }) f)))
+    → IsNamed f files job name options (out_of (job_said job) options
+    (style_read files (job_said job) name (option_map (λ (bytes : List ℕ). record { name = name; bytes = bytes }) f)))
 unfolding style_read
 named None files job name options wide = early ended.Finished (job.log ++ no_style_line name ∷ [])
 named (Some text) files job name options wide = found (is_too_long text) files job name text options wide
 
-ended_at : (ending : End) (lines : List Line) → lines_with (lines ++ []) (record { bbl = []; log_so_far = []; report = report_of ending 0 0 (counts_of (lines ++ [])) }) ≡ ends_with ending 0 0 [] lines
+ended_at : (ending : End) (lines : List Line)
+    → lines_with (lines ++ []) (record { bbl = []; log_so_far = []; report = report_of ending 0 0 (counts_of (lines ++ [])) }) ≡ ends_with ending 0 0 [] lines
 ended_at ending lines = early ending (lines ++ []) ∙ ap (λ l. ends_with ending 0 0 [] l) (append-nil lines)
 
-asked_is : (s : Option (List ℕ)) (files : Files) (job : AuxSaid) (options : Options) → 3 ≤ options.line → IsAsked s files job options (out_of (job_said job) options (style_named files (job_said job) s))
+asked_is : (s : Option (List ℕ)) (files : Files) (job : AuxSaid) (options : Options) → 3 ≤ options.line
+    → IsAsked s files job options (out_of (job_said job) options (style_named files (job_said job) s))
 unfolding style_named
 asked_is None files job options wide = ended_at ended.Finished job.log
 asked_is (Some name) files job options wide = named (files name) files job name options wide
 
-behind_is : (e : AuxEnd) (files : Files) (job : AuxSaid) (options : Options) → 3 ≤ options.line → IsBehind e files job options (out_of (job_said job) options (after_job files (job_said job) e))
+behind_is : (e : AuxEnd) (files : Files) (job : AuxSaid) (options : Options) → 3 ≤ options.line
+    → IsBehind e files job options (out_of (job_said job) options (after_job files (job_said job) e))
 unfolding after_job
 behind_is aux.Whole files job options wide = asked_is job.style files job options wide
 behind_is aux.TooManyOpen files job options wide = ended_at (ended.Limit limit.Files) job.log

@@ -1,5 +1,7 @@
 -- The two ways to say a style agree, rule by rule: what a command comes to with numbers, it comes to in names.
-use Rattle.std.proofs.Common.{◌≡◌, ◌⊎◌, inl, inr, ℕ, zero, suc, ◌-◌, ◌<◌, ◌≤◌, Bool, true, false, cond, if◌then◌else◌, not, List, [], ◌∷◌, ◌++◌, length, map, replicate, nat_lt, Option, None, Some, option_map, is_none, is_some, unwrap_or, sym, ap, subst, ◌∙◌, refl, arith, slice_index_or, true≢false}
+use Rattle.std.proofs.Common.{◌≡◌, ◌⊎◌, inl, inr, ℕ, zero, suc, ◌-◌, ◌<◌, ◌≤◌, Bool, true, false, cond, if◌then◌else◌, not, List, [], ◌∷◌, ◌++◌, length, map}
+use Rattle.std.proofs.Common.{replicate, nat_lt, Option, None, Some, option_map, is_none, is_some, unwrap_or, sym, ap, subst, ◌∙◌, refl, arith, slice_index_or}
+use Rattle.std.proofs.Common.{true≢false}
 use Rattle.std.specs.Option.{option_or}
 use Rattle.std.specs.Prelude.{codes, slice_get, option_and_then}
 use Rattle.std.specs.Str.{bytes_eq}
@@ -39,13 +41,16 @@ use Rattle.btx_bst.specs.laws.Spelling.{Parts, made_by, complaint_in}
 use Rattle.btx_bst.specs.laws.TokenSpelling.{StyleGrammar, Gap, BehindGap, StyleSignHere, StyleNameHere, TextHere}
 use Rattle.btx_bst.specs.laws.Written.{AreNew, declared, made_in, with_made_function}
 use Rattle.btx_bst.specs.refinement.Names.{padded}
-use Rattle.btx_bst.proofs.FurtherLemmas.{further-function, further-field, further-entry_integer, further-entry_string, further-global_integer, further-global_string, named-pad, padded-length}
+use Rattle.btx_bst.proofs.FurtherLemmas.{further-function, further-field, further-entry_integer, further-entry_string, further-global_integer}
+use Rattle.btx_bst.proofs.FurtherLemmas.{further-global_string, named-pad, padded-length}
 use Rattle.btx_bst.proofs.TableLemmas.{IsFurther}
 use Rattle.btx_core.specs.laws.SameStyles.{Numbers, numbers_of, stands_for, IsBodyOf, AreFunctionsOf, commands_of, AreCommandsOf, IsMeant}
 use Rattle.btx_core.specs.language.Styles.{Body, Built, Command, Declared, Defined, Execute, Function, Iterate, Read, Reverse, Sort, set}
-use Rattle.btx_core.specs.language.StyleTexts.{SoFar, meaning, and_name, and_command, and_says, CommandEnd, ended_at, Rule, Next, Opened, Closed, Where, Makes, Names, Lists, body_of, wrong_in, wrong_till, HasBody, is_function, as_type, is_read, Executes, Behind}
+use Rattle.btx_core.specs.language.StyleTexts.{SoFar, meaning, and_name, and_command, and_says, CommandEnd, ended_at, Rule, Next, Opened, Closed, Where, Makes}
+use Rattle.btx_core.specs.language.StyleTexts.{Names, Lists, body_of, wrong_in, wrong_till, HasBody, is_function, as_type, is_read, Executes, Behind}
 use Rattle.btx_core.specs.language.StyleTexts as in_names
-use Rattle.btx_core.proofs.SameNumberLemmas.{kept_push, last_of, Extends, extends_both, extends_by, still_body, still_meant, still_functions, still_commands, SameNames, functions_length, one_more_function, more_commands, one_more_command, no_more_command}
+use Rattle.btx_core.proofs.SameNumberLemmas.{kept_push, last_of, Extends, extends_both, extends_by, still_body, still_meant, still_functions, still_commands}
+use Rattle.btx_core.proofs.SameNumberLemmas.{SameNames, functions_length, one_more_function, more_commands, one_more_command, no_more_command}
 use Rattle.btx_core.proofs.SameBodyLemmas.{MeanSame, item_of, said_of, messages_said, parts_items, fragment_items, numbers_at, Comes, parts_come}
 
 -- ---- a style so far, in both ways
@@ -58,7 +63,8 @@ lower_meaning names name = option_or (option_map Built (built_in_of name)) (name
 abbrev pub SameTypes : Numbers → named.Names → Option ℕ → Option (List ℕ → Option Function) → Type 0
 SameTypes numbers names None types = types ≡ None
 SameTypes numbers names (Some count) types =
-    (known : List ℕ → Option Function) × (types ≡ Some known) × ((name : List ℕ) → IsMeant numbers (option_map callee.User (type_number (Some count) (named_lower names name))) (known name))
+    (known : List ℕ → Option Function) × (types ≡ Some known)
+    × ((name : List ℕ) → IsMeant numbers (option_map callee.User (type_number (Some count) (named_lower names name))) (known name))
 
 -- READ stands behind as many functions at most as there are
 abbrev pub IsBehind : ℕ → Option ℕ → Type 0
@@ -93,17 +99,20 @@ Always s t h = Unit {0}
 
 -- what a rule with numbers gives, one in names gives
 abbrev pub AgreeWhere : Known → numbered.Rule → Rule → Type 0
-AgreeWhere P R Q = (s : NumberedStyle) (t : SoFar) (p : Place) (o : CommandOutcome) (h : SameSoFar s t) → P s t h → R s p o → (e : CommandEnd) × Q t p e × SameEnd o e
+AgreeWhere P R Q = (s : NumberedStyle) (t : SoFar) (p : Place) (o : CommandOutcome) (h : SameSoFar s t) → P s t h → R s p o → (e : CommandEnd) × Q t p e
+    × SameEnd o e
 
 abbrev pub Agree : numbered.Rule → Rule → Type 0
 Agree = AgreeWhere Always
 
-ends : (wrong : Option Complaint) (s : NumberedStyle) (t : SoFar) (p : Place) (o : CommandOutcome) → SameSoFar s t → o ≡ outcome wrong s p → SameEnd o (ended_at wrong t p)
+ends : (wrong : Option Complaint) (s : NumberedStyle) (t : SoFar) (p : Place) (o : CommandOutcome) → SameSoFar s t → o ≡ outcome wrong s p
+    → SameEnd o (ended_at wrong t p)
 ends wrong s t p o h e = subst (λ (o : CommandOutcome). SameEnd o (ended_at wrong t p)) (sym e) (record { wrong = refl; style = h; place = refl })
 
 -- ---- how rules are made
 
-next_agree : {A : Type 0} (P : Known) (R : StyleGrammar A) (rest : A → numbered.Rule) (others : A → Rule) → ((a : A) → AgreeWhere P (rest a) (others a)) → AgreeWhere P (numbered.AndThen (BehindGap R) rest) (Next R others)
+next_agree : {A : Type 0} (P : Known) (R : StyleGrammar A) (rest : A → numbered.Rule) (others : A → Rule) → ((a : A) → AgreeWhere P (rest a) (others a))
+    → AgreeWhere P (numbered.AndThen (BehindGap R) rest) (Next R others)
 next_agree P R rest others g s t p o h w (inl k) = let e = g k.0 s t k.1 o h w k.3 in (e.0, inl (k.0, k.1, k.2, e.1), e.2)
 next_agree P R rest others g s t p o h w (inr k) = (ended_at (Some k.0) t k.1, inr (k.0, k.1, k.2, refl), ends (Some k.0) s t k.1 o h k.3)
 
@@ -113,29 +122,36 @@ opened_agree P rest other g = next_agree P (StyleSignHere open_brace NoOpen) (λ
 closed_agree : (P : Known) (rest : numbered.Rule) (other : Rule) → AgreeWhere P rest other → AgreeWhere P (numbered.Closed rest) (Closed other)
 closed_agree P rest other g = next_agree P (StyleSignHere close_brace NoClose) (λ none. rest) (λ none. other) (λ none. g)
 
-where_agree : (test : NumberedStyle → Bool) (test' : SoFar → Bool) (wrong : Complaint) (rest : numbered.Rule) (other : Rule) → ((s : NumberedStyle) (t : SoFar) → SameSoFar s t → test' t ≡ test s) → Agree rest other
+where_agree : (test : NumberedStyle → Bool) (test' : SoFar → Bool) (wrong : Complaint) (rest : numbered.Rule) (other : Rule)
+    → ((s : NumberedStyle) (t : SoFar) → SameSoFar s t → test' t ≡ test s) → Agree rest other
     → Agree (numbered.Where test wrong rest) (Where test' wrong other)
 where_agree test test' wrong rest other same g s t p o h w (inl k) = let e = g s t p o h w k.1 in (e.0, inl (same s t h ∙ k.0, e.1), e.2)
 where_agree test test' wrong rest other same g s t p o h w (inr k) = (ended_at (Some wrong) t p, inr (same s t h ∙ k.0, refl), ends (Some wrong) s t p o h k.1)
 
-unless_agree : (test : NumberedStyle → Bool) (test' : SoFar → Bool) (wrong : Complaint) (rest : numbered.Rule) (other : Rule) → ((s : NumberedStyle) (t : SoFar) → SameSoFar s t → test' t ≡ not (test s)) → Agree rest other
+unless_agree : (test : NumberedStyle → Bool) (test' : SoFar → Bool) (wrong : Complaint) (rest : numbered.Rule) (other : Rule)
+    → ((s : NumberedStyle) (t : SoFar) → SameSoFar s t → test' t ≡ not (test s)) → Agree rest other
     → Agree (numbered.Unless test wrong rest) (Where test' wrong other)
-unless_agree test test' wrong rest other same g s t p o h w (inl k) = (ended_at (Some wrong) t p, inr (same s t h ∙ ap not k.0, refl), ends (Some wrong) s t p o h k.1)
+unless_agree test test' wrong rest other same g s t p o h w (inl k) =
+    (ended_at (Some wrong) t p, inr (same s t h ∙ ap not k.0, refl), ends (Some wrong) s t p o h k.1)
 unless_agree test test' wrong rest other same g s t p o h w (inr k) = let e = g s t p o h w k.1 in (e.0, inl (same s t h ∙ ap not k.0, e.1), e.2)
 
-new_agree : {A : Type 0} (means : NumberedStyle → Option A) (test : SoFar → Bool) (wrong : Complaint) (rest : numbered.Rule) (other : Rule) → ((s : NumberedStyle) (t : SoFar) → SameSoFar s t → test t ≡ is_none (means s))
+new_agree : {A : Type 0} (means : NumberedStyle → Option A) (test : SoFar → Bool) (wrong : Complaint) (rest : numbered.Rule) (other : Rule)
+    → ((s : NumberedStyle) (t : SoFar) → SameSoFar s t → test t ≡ is_none (means s))
     → AgreeWhere (λ s t h. means s ≡ None) rest other → Agree (numbered.New means wrong rest) (Where test wrong other)
 new_agree {A} means test wrong rest other same g s t p o h w (inl k) = let e = g s t p o h k.0 k.1 in (e.0, inl (same s t h ∙ ap is_none k.0, e.1), e.2)
-new_agree {A} means test wrong rest other same g s t p o h w (inr k) = (ended_at (Some wrong) t p, inr (same s t h ∙ ap is_none k.1, refl), ends (Some wrong) s t p o h k.2)
+new_agree {A} means test wrong rest other same g s t p o h w (inr k) =
+    (ended_at (Some wrong) t p, inr (same s t h ∙ ap is_none k.1, refl), ends (Some wrong) s t p o h k.2)
 
-makes_agree : (P : Known) (change : NumberedStyle → NumberedStyle) (other : SoFar → SoFar) → ((s : NumberedStyle) (t : SoFar) (h : SameSoFar s t) → P s t h → SameSoFar (change s) (other t))
+makes_agree : (P : Known) (change : NumberedStyle → NumberedStyle) (other : SoFar → SoFar)
+    → ((s : NumberedStyle) (t : SoFar) (h : SameSoFar s t) → P s t h → SameSoFar (change s) (other t))
     → AgreeWhere P (numbered.Makes change) (Makes other)
 makes_agree P change other same s t p o h w k = (ended_at None (other t) p, refl, ends None (change s) (other t) p o (same s t h w) k)
 
 -- ---- items
 
 -- a further item, and the commands that it is
-and_commands : (s : NumberedStyle) (t : SoFar) (x : Item) (more : List Command) (h : SameSoFar s t) → commands_of (numbers_of s h.functions) s.file x ≡ Some more
+and_commands : (s : NumberedStyle) (t : SoFar) (x : Item) (more : List Command) (h : SameSoFar s t) → commands_of (numbers_of s h.functions) s.file x
+    ≡ Some more
     → SameSoFar (with_item x s) (record t { commands = t.commands ++ more })
 and_commands s t x more h e = record {
   functions = h.functions;
@@ -152,7 +168,8 @@ and_commands s t x more h e = record {
 }
 
 -- an item that is no command
-no_command : (s : NumberedStyle) (t : SoFar) (x : Item) (h : SameSoFar s t) → commands_of (numbers_of s h.functions) s.file x ≡ Some [] → SameSoFar (with_item x s) t
+no_command : (s : NumberedStyle) (t : SoFar) (x : Item) (h : SameSoFar s t) → commands_of (numbers_of s h.functions) s.file x ≡ Some []
+    → SameSoFar (with_item x s) t
 no_command s t x h e = record {
   functions = h.functions;
   file = h.file;
@@ -168,13 +185,15 @@ no_command s t x h e = record {
 }
 
 -- messages, each of its line
-pub and_messages : (s : NumberedStyle) (t : SoFar) (said : List (Complaint × ℕ)) → SameSoFar s t → SameSoFar (record s { items = s.items ++ map item_of said }) (and_says said t)
+pub and_messages : (s : NumberedStyle) (t : SoFar) (said : List (Complaint × ℕ)) → SameSoFar s t
+    → SameSoFar (record s { items = s.items ++ map item_of said }) (and_says said t)
 and_messages s t said h = record {
   functions = h.functions;
   file = h.file;
   defined = h.defined;
   commands = more_commands (numbers_of s h.functions) s.file s.items t.commands (map item_of said) (map (said_of t.file) said) h.commands
-      (subst (λ file. AreCommandsOf (numbers_of s h.functions) s.file (map item_of said) (map (said_of file) said)) (sym h.file) (messages_said (numbers_of s h.functions) s.file said));
+      (subst (λ file. AreCommandsOf (numbers_of s h.functions) s.file (map item_of said) (map (said_of file) said)) (sym h.file)
+      (messages_said (numbers_of s h.functions) s.file said));
   names = h.names;
   apart = h.apart;
   macros = h.macros;
@@ -218,12 +237,16 @@ is_some_same s t h name = by (named_lower s.names name) (h.names name) where
   by (Some c) k = ap is_some k.2
 
 -- names with a further one
-names_further : (a b : Numbers) (old new : named.Names) (names : List ℕ → Option Function) (name : List ℕ) (c : Callee) (f : Function) → Extends a b → IsFurther old new name c → named_lower old name ≡ None → stands_for b c ≡ Some f
-    → ((m : List ℕ) → IsMeant a (named_lower old m) (lower_meaning names m)) → (m : List ℕ) → IsMeant b (named_lower new m) (lower_meaning (set name (Some f) names) m)
+names_further : (a b : Numbers) (old new : named.Names) (names : List ℕ → Option Function) (name : List ℕ) (c : Callee) (f : Function) → Extends a b
+    → IsFurther old new name c → named_lower old name ≡ None → stands_for b c ≡ Some f
+    → ((m : List ℕ) → IsMeant a (named_lower old m) (lower_meaning names m)) → (m : List ℕ)
+    → IsMeant b (named_lower new m) (lower_meaning (set name (Some f) names) m)
 names_further a b old new names name c f x further none stands h m =
     subst (λ o. IsMeant b o (lower_meaning (set name (Some f) names) m)) (sym (further m)) (by (bytes_eq m name) refl) where
-      by : (t : Bool) → bytes_eq m name ≡ t → IsMeant b (option_or (named_lower old m) (cond t (Some c) None)) (option_or (option_map Built (built_in_of m)) (cond t (Some f) (names m)))
-      by false e = subst (λ o. IsMeant b o (lower_meaning names m)) (sym (or_nothing (named_lower old m))) (still_meant a b x (named_lower old m) (lower_meaning names m) (h m))
+      by : (t : Bool) → bytes_eq m name ≡ t → IsMeant b (option_or (named_lower old m) (cond t (Some c) None))
+          (option_or (option_map Built (built_in_of m)) (cond t (Some f) (names m)))
+      by false e = subst (λ o. IsMeant b o (lower_meaning names m)) (sym (or_nothing (named_lower old m)))
+          (still_meant a b x (named_lower old m) (lower_meaning names m) (h m))
       by true e =
           let is : m ≡ name = (bytes_eq-Decides m name).0 e in
           let no : named_lower old m ≡ None = ap (named_lower old) is ∙ none in
@@ -232,7 +255,8 @@ names_further a b old new names name c f x further none stands h m =
           subst (λ o. IsMeant b o (option_or (option_map Built (built_in_of m)) (Some f))) (sym (ap (λ (o : Option Callee). option_or o (Some c)) no))
           (f, stands, ap (λ (o : Option Function). option_or o (Some f)) free)
 
-apart_further : (names : List ℕ → Option Function) (name : List ℕ) (f : Function) → built_in_of name ≡ None → ((m : List ℕ) (g : BuiltIn) → built_in_of m ≡ Some g → names m ≡ None)
+apart_further : (names : List ℕ → Option Function) (name : List ℕ) (f : Function) → built_in_of name ≡ None
+    → ((m : List ℕ) (g : BuiltIn) → built_in_of m ≡ Some g → names m ≡ None)
     → (m : List ℕ) (g : BuiltIn) → built_in_of m ≡ Some g → set name (Some f) names m ≡ None
 apart_further names name f none h m g e = by (bytes_eq m name) refl where
   by : (t : Bool) → bytes_eq m name ≡ t → cond t (Some f) (names m) ≡ None
@@ -243,12 +267,14 @@ apart_further names name f none h m g e = by (bytes_eq m name) refl where
       absurd (cc)
 
 -- a further name is that of no type: it is no function, or it stands behind READ
-types_further : (a b : Numbers) (old new : named.Names) (name : List ℕ) (c : Callee) (before : Option ℕ) (types : Option (List ℕ → Option Function)) → Extends a b → IsFurther old new name c → named_lower old name ≡ None
+types_further : (a b : Numbers) (old new : named.Names) (name : List ℕ) (c : Callee) (before : Option ℕ) (types : Option (List ℕ → Option Function))
+    → Extends a b → IsFurther old new name c → named_lower old name ≡ None
     → ((count : ℕ) → before ≡ Some count → type_number (Some count) (Some c) ≡ None) → SameTypes a old before types → SameTypes b new before types
 types_further a b old new name c None types x further none past h = h
 types_further a b old new name c (Some count) types x further none past h =
     (h.0, h.1, λ m. subst (λ o. IsMeant b (option_map callee.User (type_number (Some count) o)) (h.0 m)) (sym (further m)) (by m (bytes_eq m name) refl)) where
-      by : (m : List ℕ) (t : Bool) → bytes_eq m name ≡ t → IsMeant b (option_map callee.User (type_number (Some count) (option_or (named_lower old m) (cond t (Some c) None)))) (h.0 m)
+      by : (m : List ℕ) (t : Bool) → bytes_eq m name ≡ t
+          → IsMeant b (option_map callee.User (type_number (Some count) (option_or (named_lower old m) (cond t (Some c) None)))) (h.0 m)
       by m false e =
           subst (λ o. IsMeant b (option_map callee.User (type_number (Some count) o)) (h.0 m)) (sym (or_nothing (named_lower old m)))
           (still_meant a b x (option_map callee.User (type_number (Some count) (named_lower old m))) (h.0 m) (h.2 m))
@@ -263,7 +289,8 @@ types_further a b old new name c (Some count) types x further none past h =
 
 -- the numbers of a style with a further name of a kind
 further_kind : (k : Kind) (names : named.Names) (name : List ℕ) → named_lower names name ≡ None → (c : Callee) × IsFurther names (with_name k name names) name c
-    × ((texts : List (List ℕ)) (functions : List Function) → stands_for (record { names = with_name k name names; texts = texts; functions = functions }) c ≡ Some (Declared k name))
+    × ((texts : List (List ℕ)) (functions : List Function) → stands_for (record { names = with_name k name names; texts = texts; functions = functions }) c
+    ≡ Some (Declared k name))
     × ((count : ℕ) → type_number (Some count) (Some c) ≡ None)
 further_kind kind.Field names name e = (
   callee.Field (length names.fields),
@@ -298,11 +325,57 @@ further_kind kind.GlobalString names name e = (
 
 with_name_extends : (k : Kind) (names : named.Names) (name : List ℕ) (texts : List (List ℕ)) (functions : List Function)
     → Extends (record { names = names; texts = texts; functions = functions }) (record { names = with_name k name names; texts = texts; functions = functions })
-with_name_extends kind.Field names name texts functions = record { fields = kept_push names.fields (name ∷ []); entry_integers = λ n x e. e; entry_strings = λ n x e. e; global_integers = λ n x e. e; global_strings = λ n x e. e; texts = λ n x e. e; functions = λ n x e. e }
-with_name_extends kind.EntryInteger names name texts functions = record { fields = λ n x e. e; entry_integers = kept_push names.entry_integers (name ∷ []); entry_strings = λ n x e. e; global_integers = λ n x e. e; global_strings = λ n x e. e; texts = λ n x e. e; functions = λ n x e. e }
-with_name_extends kind.EntryString names name texts functions = record { fields = λ n x e. e; entry_integers = λ n x e. e; entry_strings = kept_push names.entry_strings (name ∷ []); global_integers = λ n x e. e; global_strings = λ n x e. e; texts = λ n x e. e; functions = λ n x e. e }
-with_name_extends kind.GlobalInteger names name texts functions = record { fields = λ n x e. e; entry_integers = λ n x e. e; entry_strings = λ n x e. e; global_integers = kept_push names.global_integers (name ∷ []); global_strings = λ n x e. e; texts = λ n x e. e; functions = λ n x e. e }
-with_name_extends kind.GlobalString names name texts functions = record { fields = λ n x e. e; entry_integers = λ n x e. e; entry_strings = λ n x e. e; global_integers = λ n x e. e; global_strings = kept_push names.global_strings (name ∷ []); texts = λ n x e. e; functions = λ n x e. e }
+with_name_extends kind.Field names name texts functions =
+    record {
+      fields = kept_push names.fields (name ∷ []);
+      entry_integers = λ n x e. e;
+      entry_strings = λ n x e. e;
+      global_integers = λ n x e. e;
+      global_strings = λ n x e. e;
+      texts = λ n x e. e;
+      functions = λ n x e. e;
+    }
+with_name_extends kind.EntryInteger names name texts functions =
+    record {
+      fields = λ n x e. e;
+      entry_integers = kept_push names.entry_integers (name ∷ []);
+      entry_strings = λ n x e. e;
+      global_integers = λ n x e. e;
+      global_strings = λ n x e. e;
+      texts = λ n x e. e;
+      functions = λ n x e. e;
+    }
+with_name_extends kind.EntryString names name texts functions =
+    record {
+      fields = λ n x e. e;
+      entry_integers = λ n x e. e;
+      entry_strings = kept_push names.entry_strings (name ∷ []);
+      global_integers = λ n x e. e;
+      global_strings = λ n x e. e;
+      texts = λ n x e. e;
+      functions = λ n x e. e;
+    }
+with_name_extends kind.GlobalInteger names name texts functions =
+    record {
+      fields = λ n x e. e;
+      entry_integers = λ n x e. e;
+      entry_strings = λ n x e. e;
+      global_integers = kept_push names.global_integers (name ∷ []);
+      global_strings = λ n x e. e;
+      texts = λ n x e. e;
+      functions = λ n x e. e;
+    }
+with_name_extends kind.GlobalString names name texts functions =
+    record {
+      fields = λ n x e. e;
+      entry_integers = λ n x e. e;
+      entry_strings = λ n x e. e;
+      global_integers = λ n x e. e;
+      global_strings =
+          kept_push names.global_strings (name ∷ []);
+      texts = λ n x e. e;
+      functions = λ n x e. e;
+    }
 
 -- the functions keep their names
 functions_stay : (k : Kind) (name : List ℕ) (names : named.Names) → (with_name k name names).functions ≡ names.functions
@@ -321,12 +394,14 @@ declares k name s t h e =
     let b : Numbers = record { names = names; texts = s.texts; functions = h.functions } in
     let x : Extends a b = with_name_extends k s.names name s.texts h.functions in
     let new = further_kind k s.names name e in
-    let free : built_in_of name ≡ None = unmapped Built (built_in_of name) (none_of_or (option_map Built (built_in_of name)) (t.names name) (no_meaning s t h name e)).0 in
+    let free : built_in_of name ≡ None = unmapped Built (built_in_of name)
+    (none_of_or (option_map Built (built_in_of name)) (t.names name) (no_meaning s t h name e)).0 in
     let stay = functions_stay k name s.names in
     record {
       functions = h.functions;
       file = h.file;
-      defined = still_functions a b x (length s.bodies) 0 s.bodies h.functions (λ n lt. ap (λ (fs : List (Option (List ℕ))). unwrap_or (slice_index_or fs n None) (codes "{}")) (sym stay)) (omega arith) h.defined;
+      defined = still_functions a b x (length s.bodies) 0 s.bodies h.functions
+          (λ n lt. ap (λ (fs : List (Option (List ℕ))). unwrap_or (slice_index_or fs n None) (codes "{}")) (sym stay)) (omega arith) h.defined;
       commands = still_commands a b x s.file s.items t.commands h.commands;
       names = names_further a b s.names names t.names name new.0 (Declared k name) x new.1 e (new.2 s.texts h.functions) h.names;
       apart = apart_further t.names name (Declared k name) free h.apart;
@@ -342,20 +417,34 @@ abbrev After : Option Complaint → named.Names → Place → numbered.Rule → 
 After None names to rest s o = rest (record s { names = names }) to o
 After (Some wrong) names to rest s o = o ≡ outcome (Some wrong) (record s { names = names }) to
 
-names_agree : (k : Kind) (rest : numbered.Rule) (other : Rule) → Agree rest other → (names : List (List ℕ)) (s : NumberedStyle) (t : SoFar) (p end : Place) (wrong : Option Complaint) (known : named.Names) (to : Place) (o : CommandOutcome)
-    → SameSoFar s t → numbered.AreNames names p end → AreNew k names s.names → numbered.EndsList (declared k names s.names) end (listed wrong known to) → After wrong known to rest s o
+names_agree : (k : Kind) (rest : numbered.Rule) (other : Rule) → Agree rest other → (names : List (List ℕ)) (s : NumberedStyle) (t : SoFar) (p end : Place)
+    (wrong : Option Complaint) (known : named.Names) (to : Place) (o : CommandOutcome)
+    → SameSoFar s t → numbered.AreNames names p end → AreNew k names s.names → numbered.EndsList (declared k names s.names) end (listed wrong known to)
+    → After wrong known to rest s o
     → (e : CommandEnd) × Names k names other t p e × SameEnd o e
 names_agree k rest other g [] s t p end wrong known to o h here new (inl closed) after =
-    at wrong (ap (λ (l : Listed). l.complaint) closed.2) (ap (λ (l : Listed). l.listing.names) closed.2) (ap (λ (l : Listed). l.listing.place) closed.2) after where
-      at : (wrong : Option Complaint) → wrong ≡ None → known ≡ s.names → to ≡ closed.0 → After wrong known to rest s o → (e : CommandEnd) × Names k [] other t p e × SameEnd o e
+    at wrong (ap (λ (l : Listed). l.complaint) closed.2) (ap (λ (l : Listed). l.listing.names) closed.2) (ap (λ (l : Listed). l.listing.place) closed.2)
+    after where
+      at : (wrong : Option Complaint) → wrong ≡ None → known ≡ s.names → to ≡ closed.0 → After wrong known to rest s o
+          → (e : CommandEnd) × Names k [] other t p e × SameEnd o e
       at (Some c) e f place after = absurd (cc)
       at None e f place after =
           let same : rest s to o = subst (λ (names : named.Names). rest (record s { names = names }) to o) f after in
-          let r = g s t to o h tt same in
-          (r.0, inl (to, subst (λ q. BehindGap (StyleSignHere close_brace NoClose) q (Took tt to)) (sym here) (subst (λ q. BehindGap (StyleSignHere close_brace NoClose) end (Took tt q)) (sym place) closed.1), r.1), r.2)
+          let r = g s t to o h tt same in (
+            r.0,
+            inl (
+              to,
+              subst (λ q. BehindGap (StyleSignHere close_brace NoClose) q (Took tt to)) (sym here)
+                  (subst (λ q. BehindGap (StyleSignHere close_brace NoClose) end (Took tt q)) (sym place) closed.1),
+              r.1,
+            ),
+            r.2,
+          )
 names_agree k rest other g [] s t p end wrong known to o h here new (inr (inl missing)) after =
-    at wrong (ap (λ (l : Listed). l.complaint) missing.4) (ap (λ (l : Listed). l.listing.names) missing.4) (ap (λ (l : Listed). l.listing.place) missing.4) after where
-      at : (wrong : Option Complaint) → wrong ≡ Some missing.0 → known ≡ s.names → to ≡ missing.1 → After wrong known to rest s o → (e : CommandEnd) × Names k [] other t p e × SameEnd o e
+    at wrong (ap (λ (l : Listed). l.complaint) missing.4) (ap (λ (l : Listed). l.listing.names) missing.4) (ap (λ (l : Listed). l.listing.place) missing.4)
+    after where
+      at : (wrong : Option Complaint) → wrong ≡ Some missing.0 → known ≡ s.names → to ≡ missing.1 → After wrong known to rest s o
+          → (e : CommandEnd) × Names k [] other t p e × SameEnd o e
       at None e f place after = absurd (cc)
       at (Some c) e f place after =
           let is : c ≡ missing.0 = cc in
@@ -365,8 +454,10 @@ names_agree k rest other g [] s t p end wrong known to o h here new (inr (inl mi
             ends (Some missing.0) s t missing.1 o h (ended ∙ ap (λ c. outcome (Some c) s to) is ∙ ap (outcome (Some missing.0) s) place),
           )
 names_agree k rest other g [] s t p end wrong known to o h here new (inr (inr taken)) after =
-    at wrong (ap (λ (l : Listed). l.complaint) taken.5) (ap (λ (l : Listed). l.listing.names) taken.5) (ap (λ (l : Listed). l.listing.place) taken.5) after where
-      at : (wrong : Option Complaint) → wrong ≡ Some (NameTaken taken.0) → known ≡ s.names → to ≡ taken.1 → After wrong known to rest s o → (e : CommandEnd) × Names k [] other t p e × SameEnd o e
+    at wrong (ap (λ (l : Listed). l.complaint) taken.5) (ap (λ (l : Listed). l.listing.names) taken.5) (ap (λ (l : Listed). l.listing.place) taken.5)
+    after where
+      at : (wrong : Option Complaint) → wrong ≡ Some (NameTaken taken.0) → known ≡ s.names → to ≡ taken.1 → After wrong known to rest s o
+          → (e : CommandEnd) × Names k [] other t p e × SameEnd o e
       at None e f place after = absurd (cc)
       at (Some c) e f place after =
           let is : c ≡ NameTaken taken.0 = cc in
@@ -379,7 +470,8 @@ names_agree k rest other g [] s t p end wrong known to o h here new (inr (inr ta
 names_agree k rest other g (name ∷ names) s t p end wrong known to o h here new ended after =
     let style : NumberedStyle = record s { names = with_name k (folded name) s.names } in
     let so_far = and_name name (Declared k (folded name)) t in
-    let r = names_agree k rest other g names style so_far here.0 end wrong known to o (declares k (folded name) s t h new.0) here.2 new.1 ended (passed wrong after) in
+    let r = names_agree k rest other g names style so_far here.0 end wrong known to o (declares k (folded name) s t h new.0) here.2 new.1 ended
+    (passed wrong after) in
     let fresh : is_some (meaning t name) ≡ false = is_some_same s t h (folded name) ∙ ap is_some new.0 in
     (r.0, (here.0, here.1, fresh, r.1), r.2) where
       passed : (wrong : Option Complaint) → After wrong known to rest s o → After wrong known to rest (record s { names = with_name k (folded name) s.names }) o
@@ -418,9 +510,11 @@ index_pad [] c n d = index_none c n d
 index_pad (x ∷ xs) c zero d = refl
 index_pad (x ∷ xs) c (suc n) d = index_pad xs c n d
 
-further_user : (names : named.Names) (n : ℕ) (name : List ℕ) → length names.functions ≤ n → named_lower names name ≡ None → IsFurther names (with_function n name names) name (callee.User n)
+further_user : (names : named.Names) (n : ℕ) (name : List ℕ) → length names.functions ≤ n → named_lower names name ≡ None
+    → IsFurther names (with_function n name names) name (callee.User n)
 further_user names n name le none m =
-    further-function (record names { functions = padded n names.functions }) name n (sym (padded-length n names.functions le)) (named-pad names (n - length names.functions) name ∙ none) m
+    further-function (record names { functions = padded n names.functions }) name n (sym (padded-length n names.functions le))
+    (named-pad names (n - length names.functions) name ∙ none) m
     ∙ ap (λ (o : Option Callee). option_or o (cond (bytes_eq m name) (Some (callee.User n)) None)) (named-pad names (n - length names.functions) m)
 
 not_below : (n count : ℕ) → count ≤ n → nat_lt n count ≡ false
@@ -439,7 +533,8 @@ behind_count n (Some c) count e h = let same : c ≡ count = cc in subst (λ x. 
 
 -- the function of a name that is new
 defines : (name : List ℕ) (parts : Parts) (s : NumberedStyle) (t : SoFar) → SameSoFar s t → named_lower s.names (folded name) ≡ None
-    → SameSoFar (with_made_function name (made_by s.names parts (made_in s)) s) (and_name name (Defined (folded name) (body_of (meaning t) parts)) (and_says (wrong_in (meaning t) parts) t))
+    → SameSoFar (with_made_function name (made_by s.names parts (made_in s)) s)
+    (and_name name (Defined (folded name) (body_of (meaning t) parts)) (and_says (wrong_in (meaning t) parts) t))
 defines name parts s t h e =
     let lowered = folded name in
     let body = body_of (meaning t) parts in
@@ -469,19 +564,26 @@ defines name parts s t h e =
     let le : length s.names.functions ≤ n = omega (arith, grown, few) in
     let pad = padded-length n s.names.functions le in
     let names_stay : SameNames n made last = λ k lt.
-    ap (λ (o : Option (List ℕ)). unwrap_or o (codes "{}")) (sym (index_push (padded n s.names.functions) (Some lowered ∷ []) k None (omega (arith, lt, pad)) ∙ index_pad s.names.functions (n - length s.names.functions) k None)) in
-    let named_so : name_of names (callee.User n) ≡ lowered = ap (λ (o : Option (List ℕ)). unwrap_or o (codes "{}")) (index_last (padded n s.names.functions) (Some lowered) None n (sym pad)) in
-    let tokens : IsBodyOf last m.tokens body = still_body made last ended m.tokens body (subst (λ (ts : List Token). IsBodyOf made ts body) (sym comes.after) comes.is_body) in
+    ap (λ (o : Option (List ℕ)). unwrap_or o (codes "{}"))
+    (sym (index_push (padded n s.names.functions) (Some lowered ∷ []) k None (omega (arith, lt, pad))
+    ∙ index_pad s.names.functions (n - length s.names.functions) k None)) in
+    let named_so : name_of names (callee.User n) ≡ lowered =
+    ap (λ (o : Option (List ℕ)). unwrap_or o (codes "{}")) (index_last (padded n s.names.functions) (Some lowered) None n (sym pad)) in
+    let tokens : IsBodyOf last m.tokens body =
+    still_body made last ended m.tokens body (subst (λ (ts : List Token). IsBodyOf made ts body) (sym comes.after) comes.is_body) in
     let items = parts_items first s.names (meaning t) mean parts (made_in s) in
     let commands : AreCommandsOf last s.file (s.items ++ map item_of said) (t.commands ++ map (said_of t.file) said) =
-    more_commands last s.file s.items t.commands (map item_of said) (map (said_of t.file) said) (still_commands first last whole s.file s.items t.commands h.commands)
+    more_commands last s.file s.items t.commands (map item_of said) (map (said_of t.file) said)
+    (still_commands first last whole s.file s.items t.commands h.commands)
     (subst (λ file. AreCommandsOf last s.file (map item_of said) (map (said_of file) said)) (sym h.file) (messages_said last s.file said)) in
-    let free : built_in_of lowered ≡ None = unmapped Built (built_in_of lowered) (none_of_or (option_map Built (built_in_of lowered)) (t.names lowered) (no_meaning s t h lowered e)).0 in
+    let free : built_in_of lowered ≡ None =
+    unmapped Built (built_in_of lowered) (none_of_or (option_map Built (built_in_of lowered)) (t.names lowered) (no_meaning s t h lowered e)).0 in
     let longer = length-append m.bodies (m.tokens ∷ []) in
     record {
       functions = all;
       file = h.file;
-      defined = one_more_function last 0 n m.bodies comes.all m.tokens lowered body (still_functions made last ended n 0 m.bodies comes.all names_stay (omega arith) comes.defined) tokens (omega arith) named_so;
+      defined = one_more_function last 0 n m.bodies comes.all m.tokens lowered body
+          (still_functions made last ended n 0 m.bodies comes.all names_stay (omega arith) comes.defined) tokens (omega arith) named_so;
       commands = no_more_command last s.file m.items (t.commands ++ map (said_of t.file) said) (item.Function n)
           (subst (λ (is : List Item). AreCommandsOf last s.file is (t.commands ++ map (said_of t.file) said)) (sym items) commands) refl;
       names = names_further first last s.names names t.names lowered (callee.User n) (Defined lowered body) whole (further_user s.names n lowered le e) e
@@ -490,7 +592,8 @@ defines name parts s t h e =
       macros = h.macros;
       has_entry = h.has_entry;
       types = types_further first last s.names names lowered (callee.User n) s.before_read t.types whole (further_user s.names n lowered le e) e
-          (λ count f. ap (λ (z : Bool). if z then Some n else None) (not_below n count (let b = behind_count (length s.bodies) s.before_read count f h.behind in omega (arith, b, grown)))) h.types;
+          (λ count f. ap (λ (z : Bool). if z then Some n else None)
+          (not_below n count (let b = behind_count (length s.bodies) s.before_read count f h.behind in omega (arith, b, grown)))) h.types;
       named_first = omega (arith, length-append (padded n s.names.functions) (Some lowered ∷ []), pad, longer);
       behind = still_behind (length s.bodies) (length (m.bodies ++ m.tokens ∷ [])) s.before_read (omega (arith, longer, grown)) h.behind;
     }
@@ -512,7 +615,8 @@ body_agree name s t p o h new (inr k) =
 -- ---- commands
 
 -- each function of a style is one that it defines
-pub all_defined : (a : Numbers) (n : ℕ) (bodies : List (List Token)) (functions : List Function) → AreFunctionsOf a n bodies functions → (k : ℕ) (f : Function) → slice_get functions k ≡ Some f
+pub all_defined : (a : Numbers) (n : ℕ) (bodies : List (List Token)) (functions : List Function) → AreFunctionsOf a n bodies functions → (k : ℕ) (f : Function)
+    → slice_get functions k ≡ Some f
     → (name : List ℕ) × (body : Body) × (f ≡ Defined name body)
 all_defined a n [] functions h k f e = let no : None ≡ Some f = sym (ap (λ (fs : List Function). slice_get fs k) h) ∙ e in absurd (cc)
 all_defined a n (tokens ∷ bodies) functions h zero f e =
@@ -536,7 +640,8 @@ declared_no : (k : Kind) (o : Option (List ℕ)) (f : Function) → option_map (
 declared_no k o f e i = let d = no_declared k o f e in absurd (true≢false (sym i ∙ ap is_function d.1))
 
 -- a name that names a function with numbers does so in names
-function_found : (s : NumberedStyle) (t : SoFar) (h : SameSoFar s t) (c : Option Callee) (m : Option Function) → IsMeant (numbers_of s h.functions) c m → (d : Callee) → function_in c ≡ Some d
+function_found : (s : NumberedStyle) (t : SoFar) (h : SameSoFar s t) (c : Option Callee) (m : Option Function) → IsMeant (numbers_of s h.functions) c m
+    → (d : Callee) → function_in c ≡ Some d
     → (f : Function) × (m ≡ Some f) × (is_function f ≡ true) × (stands_for (numbers_of s h.functions) d ≡ Some f)
 function_found s t h None m k d e = absurd (cc)
 function_found s t h (Some (callee.User n)) m k d e =
@@ -556,21 +661,29 @@ function_found s t h (Some (callee.GlobalString n)) m k d e = absurd (cc)
 some_same : (f g : Function) (m : Option Function) → m ≡ Some f → m ≡ Some g → f ≡ g
 some_same f g m e k = let same : Some f ≡ Some g = sym e ∙ k in cc
 
-no_function_found : (s : NumberedStyle) (t : SoFar) (h : SameSoFar s t) (c : Option Callee) (m : Option Function) → IsMeant (numbers_of s h.functions) c m → function_in c ≡ None
+no_function_found : (s : NumberedStyle) (t : SoFar) (h : SameSoFar s t) (c : Option Callee) (m : Option Function) → IsMeant (numbers_of s h.functions) c m
+    → function_in c ≡ None
     → (f : Function) → m ≡ Some f → is_function f ≡ true → ⊥
 no_function_found s t h None m k e f g i = let no : None ≡ Some f = sym k ∙ g in absurd (cc)
 no_function_found s t h (Some (callee.User n)) m k e f g i = absurd (cc)
 no_function_found s t h (Some (callee.BuiltIn b)) m k e f g i = absurd (cc)
-no_function_found s t h (Some (callee.Field n)) m k e f g i = declared_no kind.Field (slice_get s.names.fields n) k.0 k.1 (ap is_function (some_same k.0 f m k.2 g) ∙ i)
-no_function_found s t h (Some (callee.EntryInteger n)) m k e f g i = declared_no kind.EntryInteger (slice_get s.names.entry_integers n) k.0 k.1 (ap is_function (some_same k.0 f m k.2 g) ∙ i)
-no_function_found s t h (Some (callee.EntryString n)) m k e f g i = declared_no kind.EntryString (slice_get s.names.entry_strings n) k.0 k.1 (ap is_function (some_same k.0 f m k.2 g) ∙ i)
-no_function_found s t h (Some (callee.GlobalInteger n)) m k e f g i = declared_no kind.GlobalInteger (slice_get s.names.global_integers n) k.0 k.1 (ap is_function (some_same k.0 f m k.2 g) ∙ i)
-no_function_found s t h (Some (callee.GlobalString n)) m k e f g i = declared_no kind.GlobalString (slice_get s.names.global_strings n) k.0 k.1 (ap is_function (some_same k.0 f m k.2 g) ∙ i)
+no_function_found s t h (Some (callee.Field n)) m k e f g i =
+    declared_no kind.Field (slice_get s.names.fields n) k.0 k.1 (ap is_function (some_same k.0 f m k.2 g) ∙ i)
+no_function_found s t h (Some (callee.EntryInteger n)) m k e f g i = declared_no kind.EntryInteger (slice_get s.names.entry_integers n) k.0 k.1
+    (ap is_function (some_same k.0 f m k.2 g) ∙ i)
+no_function_found s t h (Some (callee.EntryString n)) m k e f g i = declared_no kind.EntryString (slice_get s.names.entry_strings n) k.0 k.1
+    (ap is_function (some_same k.0 f m k.2 g) ∙ i)
+no_function_found s t h (Some (callee.GlobalInteger n)) m k e f g i = declared_no kind.GlobalInteger (slice_get s.names.global_integers n) k.0 k.1
+    (ap is_function (some_same k.0 f m k.2 g) ∙ i)
+no_function_found s t h (Some (callee.GlobalString n)) m k e f g i = declared_no kind.GlobalString (slice_get s.names.global_strings n) k.0 k.1
+    (ap is_function (some_same k.0 f m k.2 g) ∙ i)
 
-executes_agree : (c : CommandName) (x : Callee → Item) (made : Function → Command) → ((a : Numbers) (file : List ℕ) (d : Callee) → commands_of a file (x d) ≡ option_map (λ (f : Function). made f ∷ []) (stands_for a d))
+executes_agree : (c : CommandName) (x : Callee → Item) (made : Function → Command)
+    → ((a : Numbers) (file : List ℕ) (d : Callee) → commands_of a file (x d) ≡ option_map (λ (f : Function). made f ∷ []) (stands_for a d))
     → Agree (numbered.Executes c x) (Executes c made)
 executes_agree c x made same = where_agree _ _ _ _ _ is_read_same (opened_agree Always _ _ (next_agree Always StyleNameHere _ _ by)) where
-  by : (name : List ℕ) → Agree (numbered.HasMeaning (λ s. function_in (named.named s.names name)) (Unknown name) (λ d. numbered.Closed (numbered.Makes (with_item (x d))))) (λ style from o.
+  by : (name : List ℕ) → Agree (numbered.HasMeaning (λ s. function_in (named.named s.names name)) (Unknown name)
+      (λ d. numbered.Closed (numbered.Makes (with_item (x d))))) (λ style from o.
       ((f : Function) × (meaning style name ≡ Some f) × (is_function f ≡ true) × Closed (Makes (and_command (made f))) style from o)
       ⊎ (((f : Function) → meaning style name ≡ Some f → is_function f ≡ true → ⊥) × (o ≡ ended_at (Some (Unknown name)) style from)))
   by name s t p o h w (inl k) =
@@ -581,8 +694,11 @@ executes_agree c x made same = where_agree _ _ _ _ _ is_read_same (opened_agree 
       (λ s t h e. and_commands s t (x k.0) (made f ∷ []) h (same (numbers_of s h.functions) s.file k.0 ∙ ap (option_map (λ (f : Function). made f ∷ [])) e)))
       s t p o h found.3 k.2 in
       (r.0, inl (f, found.1, found.2, r.1), r.2)
-  by name s t p o h w (inr k) =
-      (ended_at (Some (Unknown name)) t p, inr (no_function_found s t h (named.named s.names name) (meaning t name) (h.names (folded name)) k.0, refl), ends (Some (Unknown name)) s t p o h k.1)
+  by name s t p o h w (inr k) = (
+    ended_at (Some (Unknown name)) t p,
+    inr (no_function_found s t h (named.named s.names name) (meaning t name) (h.names (folded name)) k.0, refl),
+    ends (Some (Unknown name)) s t p o h k.1,
+  )
 
 -- the number of a function that a name names
 abbrev pub user_in : Option Callee → Option ℕ
@@ -606,13 +722,15 @@ own s t h name = by (built_in_of name) refl (named_lower s.names name) (h.names 
       let is = all_defined numbers 0 s.bodies h.functions h.defined n k.0 k.1 in
       let no : Some (Built b) ≡ Some (Defined is.0 is.1) = k.2 ∙ ap Some is.2 in
       absurd (cc)
-  built b (Some (callee.Field n)) k = let is = no_declared kind.Field (slice_get s.names.fields n) k.0 k.1 in let no : Some (Built b) ≡ Some (Declared kind.Field is.0) = k.2 ∙ ap Some is.1 in absurd (cc)
+  built b (Some (callee.Field n)) k = let is = no_declared kind.Field (slice_get s.names.fields n) k.0 k.1 in
+      let no : Some (Built b) ≡ Some (Declared kind.Field is.0) = k.2 ∙ ap Some is.1 in absurd (cc)
   built b (Some (callee.EntryInteger n)) k = record { of_type = refl; of_field = refl }
   built b (Some (callee.EntryString n)) k = record { of_type = refl; of_field = refl }
   built b (Some (callee.GlobalInteger n)) k = record { of_type = refl; of_field = refl }
   built b (Some (callee.GlobalString n)) k = record { of_type = refl; of_field = refl }
 
-  other : (k : Kind) (c : Callee) (o : Option (List ℕ)) (f : Function) (m : Option Function) → option_map (Declared k) o ≡ Some f → m ≡ Some f → user_in (Some c) ≡ None
+  other : (k : Kind) (c : Callee) (o : Option (List ℕ)) (f : Function) (m : Option Function) → option_map (Declared k) o ≡ Some f → m ≡ Some f
+      → user_in (Some c) ≡ None
       → ((n : List ℕ) → in_names.is_a_field (Some (Declared k n)) ≡ is_some (as_field (Some c))) → Own numbers (Some c) m
   other k c o f m e g u i =
       let is = no_declared k o f e in
@@ -634,20 +752,23 @@ own s t h name = by (built_in_of name) refl (named_lower s.names name) (h.names 
   free (Some (callee.Field n)) m k = other kind.Field (callee.Field n) (slice_get s.names.fields n) k.0 m k.1 k.2 refl (λ n. refl)
   free (Some (callee.EntryInteger n)) m k = other kind.EntryInteger (callee.EntryInteger n) (slice_get s.names.entry_integers n) k.0 m k.1 k.2 refl (λ n. refl)
   free (Some (callee.EntryString n)) m k = other kind.EntryString (callee.EntryString n) (slice_get s.names.entry_strings n) k.0 m k.1 k.2 refl (λ n. refl)
-  free (Some (callee.GlobalInteger n)) m k = other kind.GlobalInteger (callee.GlobalInteger n) (slice_get s.names.global_integers n) k.0 m k.1 k.2 refl (λ n. refl)
+  free (Some (callee.GlobalInteger n)) m k = other kind.GlobalInteger (callee.GlobalInteger n) (slice_get s.names.global_integers n) k.0 m k.1 k.2 refl
+      (λ n. refl)
   free (Some (callee.GlobalString n)) m k = other kind.GlobalString (callee.GlobalString n) (slice_get s.names.global_strings n) k.0 m k.1 k.2 refl (λ n. refl)
 
   by : (b : Option BuiltIn) → built_in_of name ≡ b → (c : Option Callee) → IsMeant numbers c (lower_meaning t.names name) → Own numbers c (t.names name)
   by None e c k = free c (t.names name) (subst (λ (o : Option BuiltIn). IsMeant numbers c (option_or (option_map Built o) (t.names name))) e k)
   by (Some b) e c k =
-      subst (Own numbers c) (sym (h.apart name b e)) (built b c (subst (λ (o : Option BuiltIn). IsMeant numbers c (option_or (option_map Built o) (t.names name))) e k))
+      subst (Own numbers c) (sym (h.apart name b e))
+      (built b c (subst (λ (o : Option BuiltIn). IsMeant numbers c (option_or (option_map Built o) (t.names name))) e k))
 
 below : (n m : ℕ) → n < m → nat_lt n m ≡ true
 below n m lt = lt-ltb n m lt
 
 -- the functions before READ
 reads : (s : NumberedStyle) (t : SoFar) → SameSoFar s t
-    → SameSoFar (with_item item.Read (record s { before_read = Some (length s.bodies) })) (and_command Read (record t { types = Some (λ name. option_and_then as_type (t.names name)) }))
+    → SameSoFar (with_item item.Read (record s { before_read = Some (length s.bodies) }))
+    (and_command Read (record t { types = Some (λ name. option_and_then as_type (t.names name)) }))
 reads s t h = record {
   functions = h.functions;
   file = h.file;
@@ -661,7 +782,8 @@ reads s t h = record {
     λ name. option_and_then as_type (t.names name),
     refl,
     λ name.
-        subst (λ n. IsMeant (numbers_of s h.functions) (option_map callee.User n) (option_and_then as_type (t.names name))) (all_before (named_lower s.names name) (lower_meaning t.names name) (h.names name)) (own s t h name).of_type,
+        subst (λ n. IsMeant (numbers_of s h.functions) (option_map callee.User n) (option_and_then as_type (t.names name)))
+        (all_before (named_lower s.names name) (lower_meaning t.names name) (h.names name)) (own s t h name).of_type,
   );
   named_first = h.named_first;
   behind = omega arith;
@@ -714,12 +836,15 @@ adds_macro name text s t h = record {
 
 pub behind_agree : (c : CommandName) → Agree (numbered.Behind c) (Behind c)
 behind_agree command.Entry =
-    unless_agree _ _ _ _ _ (λ s t h. ap not h.has_entry) (lists_agree kind.Field _ _ (lists_agree kind.EntryInteger _ _ (lists_agree kind.EntryString _ _ (makes_agree Always _ _ (λ s t h w. enters s t h)))))
+    unless_agree _ _ _ _ _ (λ s t h. ap not h.has_entry)
+    (lists_agree kind.Field _ _ (lists_agree kind.EntryInteger _ _ (lists_agree kind.EntryString _ _ (makes_agree Always _ _ (λ s t h w. enters s t h)))))
 behind_agree command.Function = opened_agree Always _ _ (next_agree Always StyleNameHere _ _ (λ name.
     new_agree (λ s. named.named s.names name) (λ t. is_none (meaning t name)) (NameTaken name) _ _ (λ s t h. is_none_same s t h (folded name))
-    (closed_agree (λ s t h. named_lower s.names (folded name) ≡ None) _ _ (opened_agree (λ s t h. named_lower s.names (folded name) ≡ None) _ _ (body_agree name)))))
+    (closed_agree (λ s t h. named_lower s.names (folded name) ≡ None) _ _
+    (opened_agree (λ s t h. named_lower s.names (folded name) ≡ None) _ _ (body_agree name)))))
 behind_agree command.Read =
-    unless_agree _ _ _ _ _ (λ s t h. ap not (is_read_same s t h)) (where_agree _ _ _ _ _ (λ s t h. h.has_entry) (makes_agree Always _ _ (λ s t h w. reads s t h)))
+    unless_agree _ _ _ _ _ (λ s t h. ap not (is_read_same s t h))
+    (where_agree _ _ _ _ _ (λ s t h. h.has_entry) (makes_agree Always _ _ (λ s t h w. reads s t h)))
 behind_agree command.Execute = executes_agree command.Execute item.Execute Execute (λ a file d. refl)
 behind_agree command.Iterate = executes_agree command.Iterate item.Iterate Iterate (λ a file d. refl)
 behind_agree command.Reverse = executes_agree command.Reverse item.Reverse Reverse (λ a file d. refl)
@@ -728,9 +853,13 @@ behind_agree command.Integers = lists_agree kind.GlobalInteger _ _ (makes_agree 
 behind_agree command.Strings = lists_agree kind.GlobalString _ _ (makes_agree Always _ _ (λ s t h w. no_command s t item.Strings h refl))
 behind_agree command.Macro =
     unless_agree _ _ _ _ _ (λ s t h. ap not (is_read_same s t h)) (opened_agree Always _ _ (next_agree Always StyleNameHere _ _ (λ name.
-    new_agree (λ s. macro_lower s.macros (folded name)) (λ t. is_none (lookup (bytes_eq (folded name)) t.macros)) (NameTaken name) _ _ (λ s t h. ap (λ (ms : List (List ℕ × List ℕ)). is_none (lookup (bytes_eq (folded name)) ms)) h.macros)
-    (closed_agree (λ s t h. macro_lower s.macros (folded name) ≡ None) _ _ (opened_agree (λ s t h. macro_lower s.macros (folded name) ≡ None) _ _ (next_agree (λ s t h. macro_lower s.macros (folded name) ≡ None) TextHere _ _ (λ text.
-    closed_agree (λ s t h. macro_lower s.macros (folded name) ≡ None) _ _ (makes_agree (λ s t h. macro_lower s.macros (folded name) ≡ None) _ _ (λ s t h w. adds_macro (folded name) text s t h)))))))))
+    new_agree (λ s. macro_lower s.macros (folded name)) (λ t. is_none (lookup (bytes_eq (folded name)) t.macros)) (NameTaken name) _ _
+    (λ s t h. ap (λ (ms : List (List ℕ × List ℕ)). is_none (lookup (bytes_eq (folded name)) ms)) h.macros)
+    (closed_agree (λ s t h. macro_lower s.macros (folded name) ≡ None) _ _
+    (opened_agree (λ s t h. macro_lower s.macros (folded name) ≡ None) _ _
+    (next_agree (λ s t h. macro_lower s.macros (folded name) ≡ None) TextHere _ _ (λ text.
+    closed_agree (λ s t h. macro_lower s.macros (folded name) ≡ None) _ _
+    (makes_agree (λ s t h. macro_lower s.macros (folded name) ≡ None) _ _ (λ s t h w. adds_macro (folded name) text s t h)))))))))
 
 -- a command by its word
 pub word_agree : (letters : List ℕ) → Agree (numbered.Named letters) (in_names.Named letters)

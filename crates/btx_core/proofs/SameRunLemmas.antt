@@ -1,5 +1,6 @@
 -- What the commands of a style come to is the same, with numbers and in names.
-use Rattle.std.proofs.Common.{◌≡◌, ℕ, zero, suc, ◌+◌, ◌<◌, ◌≤◌, ◌==◌, Bool, true, false, if◌then◌else◌, List, [], ◌∷◌, ◌++◌, length, map, filter, reverse, Option, None, Some, option_map, sym, ap, ap₂, subst, ◌∙◌, refl, arith, append_assoc, true≢false, codes}
+use Rattle.std.proofs.Common.{◌≡◌, ℕ, zero, suc, ◌+◌, ◌<◌, ◌≤◌, ◌==◌, Bool, true, false, if◌then◌else◌, List, [], ◌∷◌, ◌++◌, length, map, filter, reverse}
+use Rattle.std.proofs.Common.{Option, None, Some, option_map, sym, ap, ap₂, subst, ◌∙◌, refl, arith, append_assoc, true≢false, codes}
 use mathlib.Core.List.{reverse-cons}
 use Rattle.std.specs.List.{position, range_with_len}
 use Rattle.std.specs.Option.{option_or, option_map_or}
@@ -52,10 +53,12 @@ use Rattle.btx_machine.specs.language.Saying.{logging}
 use Rattle.btx_machine.specs.language.States.{State as NumberedState, Outcome as Came, Done as CameDone, Stopped as CameStopped, Limit as CameLimit}
 use Rattle.btx_core.specs.language.Meanings.{Done, Limited, Meaning, Outcome, Stopped, then_do}
 use Rattle.btx_core.specs.language.Notes.{error, shows}
-use Rattle.btx_core.specs.language.Runs.{Ascends, CommandsCome, GoesOn, IsInOrder, IsListBehind, NoneBefore, cleared, command_does, sort_key, visits, visits_all}
+use Rattle.btx_core.specs.language.Runs.{Ascends, CommandsCome, GoesOn, IsInOrder, IsListBehind, NoneBefore, cleared, command_does, sort_key, visits}
+use Rattle.btx_core.specs.language.Runs.{visits_all}
 use Rattle.btx_core.specs.laws.SameLibraries.{limit_met}
 use Rattle.btx_core.specs.laws.SameStyles.{AreCommandsOf, commands_of, stands_for}
-use Rattle.btx_core.specs.language.Styles.{Body, Command, Entry, Execute, Function, Iterate, Job, Library, Literal, Read, Reverse, Says, Sort, State, Style, Word}
+use Rattle.btx_core.specs.language.Styles.{Body, Command, Entry, Execute, Function, Iterate, Job, Library, Literal, Read, Reverse, Says, Sort, State, Style}
+use Rattle.btx_core.specs.language.Styles.{Word}
 use Rattle.btx_core.proofs.ComputedLemmas.{computed}
 use Rattle.btx_core.proofs.MeaningLemmas as named
 use Rattle.btx_core.proofs.MeaningSame as meaning
@@ -73,7 +76,8 @@ reads library left s =
 
 -- ---- the name of what a name names
 
-skipped : {A : Type 0} (make : A → Callee) (o : Option A) (b : Option Callee) (c : Callee) → ((x : A) → make x ≡ c → ⊥) → option_or (option_map make o) b ≡ Some c → b ≡ Some c
+skipped : {A : Type 0} (make : A → Callee) (o : Option A) (b : Option Callee) (c : Callee) → ((x : A) → make x ≡ c → ⊥) → option_or (option_map make o) b
+    ≡ Some c → b ≡ Some c
 skipped make None b c apart e = e
 skipped make (Some x) b c apart e = absurd (apart x (same_Some (make x) c e))
 
@@ -81,7 +85,8 @@ not_made : {A : Type 0} (make : A → Callee) (o : Option A) (c : Callee) → ((
 not_made make None c apart e = absurd (cc)
 not_made make (Some x) c apart e = apart x (same_Some (make x) c e)
 
-taken : {A : Type 0} (make : A → Callee) (o : Option A) (b : Option Callee) (i : A) → ((x y : A) → make x ≡ make y → x ≡ y) → (b ≡ Some (make i) → ⊥) → option_or (option_map make o) b ≡ Some (make i) → o ≡ Some i
+taken : {A : Type 0} (make : A → Callee) (o : Option A) (b : Option Callee) (i : A) → ((x y : A) → make x ≡ make y → x ≡ y) → (b ≡ Some (make i) → ⊥)
+    → option_or (option_map make o) b ≡ Some (make i) → o ≡ Some i
 taken make None b i one apart e = absurd (apart e)
 taken make (Some x) b i one apart e = ap Some (one x i (same_Some (make x) (make i) e))
 
@@ -98,9 +103,11 @@ entry_string_named names n i e =
     let h2 = skipped callee.Field (position (bytes_eq n) names.fields) _ c (λ x e. absurd (cc)) h1 in
     let h3 = skipped callee.EntryInteger (position (bytes_eq n) names.entry_integers) _ c (λ x e. absurd (cc)) h2 in
     named_at n names.entry_strings i (taken callee.EntryString (position (bytes_eq n) names.entry_strings) _ i (λ x y e. cc)
-    (λ e. not_made callee.GlobalString (position (bytes_eq n) names.global_strings) c (λ x e. absurd (cc)) (skipped callee.GlobalInteger (position (bytes_eq n) names.global_integers) _ c (λ x e. absurd (cc)) e)) h3)
+    (λ e. not_made callee.GlobalString (position (bytes_eq n) names.global_strings) c (λ x e. absurd (cc))
+    (skipped callee.GlobalInteger (position (bytes_eq n) names.global_integers) _ c (λ x e. absurd (cc)) e)) h3)
 
-pub global_integer_named : (names : Names) (n : List ℕ) (i : ℕ) → named_lower names n ≡ Some (callee.GlobalInteger i) → slice_index_or names.global_integers i [] ≡ n
+pub global_integer_named : (names : Names) (n : List ℕ) (i : ℕ) → named_lower names n ≡ Some (callee.GlobalInteger i)
+    → slice_index_or names.global_integers i [] ≡ n
 unfolding named_lower
 global_integer_named names n i e =
     let is_called : Option (List ℕ) → Bool = λ other. option_map_or (bytes_eq n) other false in
@@ -146,16 +153,20 @@ module _ (job : NumberedJob) (style : Style) (library : Library) (h : SameJob jo
   abbrev pub means : Meaning
   means = named.by_steps computed here
 
-  means_same : (f : Callee) → known (token.Run f) → (d w b : ℕ) (S : NumberedState) (s : State) → Same S s → SameCame (by_steps.meaning job (token.Run f) d w b S) (means.word (word (token.Run f)) d w b s)
-  means_same f k = meaning.meaning_same job computed here word of (λ f. refl) Same known (steps.step_same job style library h before) (steps.test_same job style library h before) (steps.deepens_same job style library h before) (token.Run f) k
+  means_same : (f : Callee) → known (token.Run f) → (d w b : ℕ) (S : NumberedState) (s : State) → Same S s
+      → SameCame (by_steps.meaning job (token.Run f) d w b S) (means.word (word (token.Run f)) d w b s)
+  means_same f k = meaning.meaning_same job computed here word of (λ f. refl) Same known (steps.step_same job style library h before)
+      (steps.test_same job style library h before) (steps.deepens_same job style library h before) (token.Run f) k
 
-  then_same : (o : Came) (p : Outcome) → SameCame o p → (go : ℕ → NumberedState → Came) (go' : ℕ → State → Outcome) → ((b : ℕ) (S : NumberedState) (s : State) → Same S s → SameCame (go b S) (go' b s))
+  then_same : (o : Came) (p : Outcome) → SameCame o p → (go : ℕ → NumberedState → Came) (go' : ℕ → State → Outcome)
+      → ((b : ℕ) (S : NumberedState) (s : State) → Same S s → SameCame (go b S) (go' b s))
       → SameCame (then_act o go) (then_do p go')
   then_same = meaning.then_same job computed here word of (λ f. refl) Same known
 
   -- ---- what a function left on the stack
 
-  left_over_is : table.IsError job style library of body entry (of_job.named job style library h) (of_job.keyed job style library h) (of_job.typed job style library h) (of_job.default job style library h) h.same_library.preamble note.LeftOver (codes "The literal stack isn't empty")
+  left_over_is : table.IsError job style library of body entry (of_job.named job style library h) (of_job.keyed job style library h)
+      (of_job.typed job style library h) (of_job.default job style library h) h.same_library.preamble note.LeftOver (codes "The literal stack isn't empty")
   unfolding note_text note_kind has_place
   left_over_is = record { of_text = refl; of_kind = refl; of_place = refl }
 
@@ -186,18 +197,29 @@ module _ (job : NumberedJob) (style : Style) (library : Library) (h : SameJob jo
       else record (shows s.literals (error (codes "The literal stack isn't empty") (record s { executed = name }))) { literals = [] }
 
   cleared_at : (t : Bool) (xs : List Numbered) → (length xs == 0) ≡ t → (name : List ℕ) (frame : State) (T : Store)
-      → cleared_if t name (state_of frame (with_literals xs T)) ≡ stacked (saying (left_over t xs) T.current (vars (named_frame frame name) T)) (with_literals [] T)
+      → cleared_if t name (state_of frame (with_literals xs T)) ≡ stacked (saying (left_over t xs) T.current (vars (named_frame frame name) T))
+      (with_literals [] T)
   cleared_at true [] e name frame T = refl
   cleared_at true (x ∷ xs) e name frame T = let no : suc (length xs) ≡ 0 = eqb-true (suc (length xs)) 0 e in absurd (omega (arith, no))
   cleared_at false xs e name frame T =
       let f = named_frame frame name in
       let S = with_literals xs T in
-      ap (λ (t : State). record (shows (map lit xs) t) { literals = [] }) (table.error_same job style library of body entry (of_job.named job style library h) (of_job.keyed job style library h) (of_job.typed job style library h) (of_job.default job style library h) h.same_library.preamble (vars f T) S note.LeftOver (codes "The literal stack isn't empty") left_over_is)
-      ∙ ap (λ (t : State). record t { literals = [] }) (table.shows_same job style library of body entry (of_job.named job style library h) (of_job.keyed job style library h) (of_job.typed job style library h) (of_job.default job style library h) h.same_library.preamble xs (saying (said.Noted (note.LeftOver ∷ [])) T.current (vars f T)) S)
+      ap (λ (t : State). record (shows (map lit xs) t) { literals = [] })
+      (table.error_same job style library of body entry (of_job.named job style library h) (of_job.keyed job style library h)
+      (of_job.typed job style library h) (of_job.default job style library h) h.same_library.preamble (vars f T) S note.LeftOver
+      (codes "The literal stack isn't empty") left_over_is)
+      ∙ ap (λ (t : State). record t { literals = [] })
+      (table.shows_same job style library of body entry (of_job.named job style library h) (of_job.keyed job style library h)
+      (of_job.typed job style library h) (of_job.default job style library h) h.same_library.preamble xs
+      (saying (said.Noted (note.LeftOver ∷ [])) T.current (vars f T)) S)
       ∙ ap (λ (l : List Line). record (stacked (vars f T) (with_literals [] T)) { log = l })
-      (append_assoc frame.log (table.line_of job style library of body entry (of_job.named job style library h) (of_job.keyed job style library h) (of_job.typed job style library h) (of_job.default job style library h) h.same_library.preamble f T.current note.LeftOver ∷ []) (map (table.line_of job style library of body entry (of_job.named job style library h) (of_job.keyed job style library h) (of_job.typed job style library h) (of_job.default job style library h) h.same_library.preamble f T.current) (map note.Shown xs)))
+      (append_assoc frame.log (table.line_of job style library of body entry (of_job.named job style library h) (of_job.keyed job style library h)
+      (of_job.typed job style library h) (of_job.default job style library h) h.same_library.preamble f T.current note.LeftOver ∷ [])
+      (map (table.line_of job style library of body entry (of_job.named job style library h) (of_job.keyed job style library h)
+      (of_job.typed job style library h) (of_job.default job style library h) h.same_library.preamble f T.current) (map note.Shown xs)))
 
-  cleared_same : (c : Commanded) (name : List ℕ) → name ≡ command_word c → (S : NumberedState) (s : State) → Same S s → Same (numbered.cleared job c S) (cleared name s)
+  cleared_same : (c : Commanded) (name : List ℕ) → name ≡ command_word c → (S : NumberedState) (s : State) → Same S s
+      → Same (numbered.cleared job c S) (cleared name s)
   cleared_same c name named S s r =
       let T = S.store in
       let xs = T.literals in
@@ -205,23 +227,34 @@ module _ (job : NumberedJob) (style : Style) (library : Library) (h : SameJob jo
       let is : cleared name s ≡ stacked (saying words T.current (vars (named_frame s name) T)) (with_literals [] T) =
       ap (cleared name) r.is ∙ ap (λ n. cleared_if (n == 0) name (state_of s T)) (length-map xs lit) ∙ cleared_at (length xs == 0) xs refl name s T in
       subst (Same (numbered.cleared job c S)) (sym is)
-      (steps.behind job style library h before T S.out (named_frame s name) (command_word c) (answers.answer next.Nothing words (with_literals [] T)) refl (tt, tt) r.whole named (steps.named_out job style library h before S.out s name r.out))
+      (steps.behind job style library h before T S.out (named_frame s name) (command_word c) (answers.answer next.Nothing words (with_literals [] T)) refl
+      (tt, tt) r.whole named (steps.named_out job style library h before S.out s name r.out))
 
   -- ---- the function of a command
 
   abbrev entries : ℕ
   entries = length job.library.entries
 
-  at_entry : (e : Option ℕ) → ((i : ℕ) → e ≡ Some i → i < entries) → (S : NumberedState) (s : State) → Same S s → Same (record S { store = record S.store { current = e } }) (record s { entry = option_map entry e })
+  at_entry : (e : Option ℕ) → ((i : ℕ) → e ≡ Some i → i < entries) → (S : NumberedState) (s : State) → Same S s
+      → Same (record S { store = record S.store { current = e } }) (record s { entry = option_map entry e })
   at_entry e lt S s r =
       let w = r.whole in
       record {
-        whole = record { literals = w.literals; integers = w.integers; strings = w.strings; entries = w.entries; entry_integers = w.entry_integers; entry_strings = w.entry_strings; current = λ i is. let less = lt i is in let size = w.entries in omega (arith, less, size) };
+        whole = record {
+          literals = w.literals;
+          integers = w.integers;
+          strings = w.strings;
+          entries = w.entries;
+          entry_integers = w.entry_integers;
+          entry_strings = w.entry_strings;
+          current = λ i is. let less = lt i is in let size = w.entries in omega (arith, less, size);
+        };
         is = ap (λ (u : State). record u { entry = option_map entry e }) r.is;
         out = record { lines = r.out.lines; pending = r.out.pending; log = r.out.log; warnings = r.out.warnings; errors = r.out.errors };
       }
 
-  visit_same : (c : Commanded) (name : List ℕ) → name ≡ command_word c → (f : Callee) → known (token.Run f) → (e : Option ℕ) → ((i : ℕ) → e ≡ Some i → i < entries) → (left : ℕ) (S : NumberedState) (s : State) → Same S s
+  visit_same : (c : Commanded) (name : List ℕ) → name ≡ command_word c → (f : Callee) → known (token.Run f) → (e : Option ℕ)
+      → ((i : ℕ) → e ≡ Some i → i < entries) → (left : ℕ) (S : NumberedState) (s : State) → Same S s
       → SameCame (visit job c f e left S) (visits means name (of f) (option_map entry e) left s)
   unfolding visit
   visit_same c name named f k e lt left S s r =
@@ -231,11 +264,13 @@ module _ (job : NumberedJob) (style : Style) (library : Library) (h : SameJob jo
   AllIn [] = Unit {0}
   AllIn (x ∷ xs) = (x < entries) × AllIn xs
 
-  visits_same : (c : Commanded) (name : List ℕ) → name ≡ command_word c → (f : Callee) → known (token.Run f) → (xs : List ℕ) → AllIn xs → (left : ℕ) (S : NumberedState) (s : State) → Same S s
+  visits_same : (c : Commanded) (name : List ℕ) → name ≡ command_word c → (f : Callee) → known (token.Run f) → (xs : List ℕ) → AllIn xs
+      → (left : ℕ) (S : NumberedState) (s : State) → Same S s
       → SameCame (in_order (λ e. visit job c f (Some e)) xs left S) (visits_all means name (of f) (map entry xs) left s)
   visits_same c name named f k [] all left S s r = (r, refl)
   visits_same c name named f k (x ∷ xs) all left S s r =
-      then_same _ _ (visit_same c name named f k (Some x) (λ i is. subst (λ j. j < entries) (same_Some x i is) all.0) left S s r) _ _ (visits_same c name named f k xs all.1)
+      then_same _ _ (visit_same c name named f k (Some x) (λ i is. subst (λ j. j < entries) (same_Some x i is) all.0) left S s r) _ _
+      (visits_same c name named f k xs all.1)
 
   -- ---- the list of entries
 
@@ -248,7 +283,8 @@ module _ (job : NumberedJob) (style : Style) (library : Library) (h : SameJob jo
   all_ranged a (suc n) le = (omega (arith, le), all_ranged (a + 1) n (omega (arith, le)))
 
   entries_are : library.entries ≡ map entry (range_with_len 0 entries)
-  entries_are = fill_by_all entry library.entries entries (of_job.no_one job style library h) (of_job.entries_length (of_job.numbers job style library h) _ job.library.entries library.entries h.same_library.entries)
+  entries_are = fill_by_all entry library.entries entries (of_job.no_one job style library h)
+      (of_job.entries_length (of_job.numbers job style library h) _ job.library.entries library.entries h.same_library.entries)
       (λ k lt. sym (unwrap_or-slice_get library.entries k (of_job.no_one job style library h)))
 
   -- ---- SORT
@@ -266,12 +302,15 @@ module _ (job : NumberedJob) (style : Style) (library : Library) (h : SameJob jo
       let keys = steps.keys job style library h before in
       let none = steps.none job style library h before in
       ap (λ (u : State). u.entry_strings (entry e).key (codes "sort.key$")) r.is
-      ∙ ap (λ (k : List ℕ). by_name keys (λ j. by_name es (item_at (item_at strings none j).strings []) []) (λ n. []) k (codes "sort.key$")) (of_job.key_names job style library h e)
-      ∙ ap (λ (f : List ℕ → List ℕ). f (codes "sort.key$")) (value_at keys (λ j. by_name es (item_at (item_at strings none j).strings []) []) (λ n. []) e (of_job.key_number job style library h e lt))
+      ∙ ap (λ (k : List ℕ). by_name keys (λ j. by_name es (item_at (item_at strings none j).strings []) []) (λ n. []) k (codes "sort.key$"))
+      (of_job.key_names job style library h e)
+      ∙ ap (λ (f : List ℕ → List ℕ). f (codes "sort.key$"))
+      (value_at keys (λ j. by_name es (item_at (item_at strings none j).strings []) []) (λ n. []) e (of_job.key_number job style library h e lt))
       ∙ ap (by_name es (item_at (item_at strings none e).strings []) []) (sym name)
       ∙ value_at es (item_at (item_at strings none e).strings []) [] 0 (of_job.entry_string_number job style library h 0 there)
 
-  none_before : (S : NumberedState) (s : State) → Same S s → (x : ℕ) (ys : List ℕ) → x < entries → AllIn ys → orders.NoneBefore (key_of S) x ys → NoneBefore (sort_key s) (entry x) (map entry ys)
+  none_before : (S : NumberedState) (s : State) → Same S s → (x : ℕ) (ys : List ℕ) → x < entries → AllIn ys → orders.NoneBefore (key_of S) x ys
+      → NoneBefore (sort_key s) (entry x) (map entry ys)
   none_before S s r x [] lt all k = tt
   none_before S s r x (y ∷ ys) lt all k = (ap₂ comes_first (key_is S s r y all.0) (key_is S s r x lt) ∙ k.0, none_before S s r x ys lt all.1 k.1)
 
@@ -279,13 +318,16 @@ module _ (job : NumberedJob) (style : Style) (library : Library) (h : SameJob jo
   ascends S s r [] all k = tt
   ascends S s r (y ∷ ys) all k = (none_before S s r y ys all.0 all.1 k.0, ascends S s r ys all.1 k.1)
 
-  ties_in : (S : NumberedState) (s : State) → Same S s → (wanted : List ℕ) (ys : List ℕ) → AllIn ys → filter (λ x. bytes_eq (sort_key s x) wanted) (map entry ys) ≡ map entry (filter (λ x. bytes_eq (key_of S x) wanted) ys)
+  ties_in : (S : NumberedState) (s : State) → Same S s → (wanted : List ℕ) (ys : List ℕ) → AllIn ys
+      → filter (λ x. bytes_eq (sort_key s x) wanted) (map entry ys) ≡ map entry (filter (λ x. bytes_eq (key_of S x) wanted) ys)
   ties_in S s r wanted [] all = refl
   ties_in S s r wanted (y ∷ ys) all =
-      ap (λ (k : List ℕ). if bytes_eq k wanted then entry y ∷ filter (λ x. bytes_eq (sort_key s x) wanted) (map entry ys) else filter (λ x. bytes_eq (sort_key s x) wanted) (map entry ys)) (key_is S s r y all.0)
+      ap (λ (k : List ℕ). if bytes_eq k wanted then entry y ∷ filter (λ x. bytes_eq (sort_key s x) wanted) (map entry ys) else filter
+      (λ x. bytes_eq (sort_key s x) wanted) (map entry ys)) (key_is S s r y all.0)
       ∙ ap (λ (zs : List Entry). if bytes_eq (key_of S y) wanted then entry y ∷ zs else zs) (ties_in S s r wanted ys all.1)
       ∙ by (bytes_eq (key_of S y) wanted) where
-        by : (t : Bool) → (if t then entry y ∷ map entry (filter (λ x. bytes_eq (key_of S x) wanted) ys) else map entry (filter (λ x. bytes_eq (key_of S x) wanted) ys))
+        by : (t : Bool) → (if t then entry y ∷ map entry (filter (λ x. bytes_eq (key_of S x) wanted) ys) else map entry
+            (filter (λ x. bytes_eq (key_of S x) wanted) ys))
             ≡ map entry (if t then y ∷ filter (λ x. bytes_eq (key_of S x) wanted) ys else filter (λ x. bytes_eq (key_of S x) wanted) ys)
         by true = refl
         by false = refl
@@ -301,13 +343,15 @@ module _ (job : NumberedJob) (style : Style) (library : Library) (h : SameJob jo
       by true m = (l.0, m)
       by false m = (k.0, l)
 
-  in_order_behind : (S : NumberedState) (s : State) → Same S s → (list : List ℕ) → AllIn list → IsInOrder (sort_key s) (map entry list) (map entry (sorted (key_of S) list))
+  in_order_behind : (S : NumberedState) (s : State) → Same S s → (list : List ℕ) → AllIn list
+      → IsInOrder (sort_key s) (map entry list) (map entry (sorted (key_of S) list))
   in_order_behind S s r list all =
       let sorted_is = (sorted_once (key_of S) list (sorted (key_of S) list)).1 refl in
       let all_in = all_sorted _ list all in
       record {
         ascends = ascends S s r (sorted (key_of S) list) all_in sorted_is.ascends;
-        ties_kept = λ wanted. ties_in S s r wanted (sorted (key_of S) list) all_in ∙ ap (map entry) (sorted_is.ties_kept wanted) ∙ sym (ties_in S s r wanted list all);
+        ties_kept = λ wanted. ties_in S s r wanted (sorted (key_of S) list) all_in ∙ ap (map entry) (sorted_is.ties_kept wanted)
+            ∙ sym (ties_in S s r wanted list all);
       }
 
   -- ---- commands, one after another
@@ -338,17 +382,25 @@ module _ (job : NumberedJob) (style : Style) (library : Library) (h : SameJob jo
   goes_same (CameLimit kind S b) (Stopped s) k Next go n = absurd (true≢false k)
 
   logged_same : (lines : List Line) (S : NumberedState) (s : State) → Same S s → Same (logging lines S) (record s { log = s.log ++ lines })
-  logged_same lines S s r = record { whole = r.whole; is = ap (λ (u : State). record u { log = s.log ++ lines }) r.is; out = steps.logs_same before lines S.out s r.out }
+  logged_same lines S s r = record {
+    whole = r.whole;
+    is = ap (λ (u : State). record u { log = s.log ++ lines }) r.is;
+    out =
+        steps.logs_same before lines S.out s r.out;
+  }
 
   read_same : (left : ℕ) (S : NumberedState) (s : State) → Same S s
-      → SameCame (option_map_or (λ (kind : Limit). CameLimit kind (logging (map message_line job.library.messages) S) left) (read_limit job.library.ending) (CameDone (logging (map message_line job.library.messages) S) left)) (reads library left s)
+      → SameCame (option_map_or (λ (kind : Limit). CameLimit kind (logging (map message_line job.library.messages) S) left) (read_limit job.library.ending)
+      (CameDone (logging (map message_line job.library.messages) S) left)) (reads library left s)
   read_same left S s r =
       let lines = map message_line job.library.messages in
       let read : State = record s { log = s.log ++ library.log } in
-      let same : Same (logging lines S) read = subst (λ (l : List Line). Same (logging lines S) (record s { log = s.log ++ l })) (sym h.same_library.log) (logged_same lines S s r) in
+      let same : Same (logging lines S) read = subst (λ (l : List Line). Same (logging lines S) (record s { log = s.log ++ l })) (sym h.same_library.log)
+      (logged_same lines S s r) in
       by job.library.ending library.limit h.same_library.limit read same where
         by : (end : LibraryEnd) (met : Option Limit) → met ≡ limit_met end → (read : State) → Same (logging (map message_line job.library.messages) S) read
-            → SameCame (option_map_or (λ (kind : Limit). CameLimit kind (logging (map message_line job.library.messages) S) left) (read_limit end) (CameDone (logging (map message_line job.library.messages) S) left))
+            → SameCame (option_map_or (λ (kind : Limit). CameLimit kind (logging (map message_line job.library.messages) S) left) (read_limit end)
+            (CameDone (logging (map message_line job.library.messages) S) left))
             (option_map_or (λ (limit : Limit). Limited limit read left) met (Done read left))
         by ending.Whole None e read k = (k, refl)
         by ending.FileLimit (Some limit) e read k = (k, (sym (same_Some limit _ e), refl))
@@ -357,7 +409,8 @@ module _ (job : NumberedJob) (style : Style) (library : Library) (h : SameJob jo
         by ending.FileLimit None e read k = absurd (cc)
         by ending.StringLimit None e read k = absurd (cc)
 
-  executed_is : (make : Function → List Command) (c : Callee) (first : List Command) → option_map make (stands_for (of_job.numbers job style library h) c) ≡ Some first → first ≡ make (of c)
+  executed_is : (make : Function → List Command) (c : Callee) (first : List Command) → option_map make (stands_for (of_job.numbers job style library h) c)
+      ≡ Some first → first ≡ make (of c)
   executed_is make c first e = by (stands_for (of_job.numbers job style library h) c) refl e where
     by : (o : Option Function) → stands_for (of_job.numbers job style library h) c ≡ o → option_map make o ≡ Some first → first ≡ make (of c)
     by None g e = absurd (cc)
@@ -378,18 +431,21 @@ module _ (job : NumberedJob) (style : Style) (library : Library) (h : SameJob jo
 
   map_reverse : (xs : List ℕ) → map entry (reverse xs) ≡ reverse (map entry xs)
   map_reverse [] = refl
-  map_reverse (x ∷ xs) = ap (map entry) (reverse-cons x xs) ∙ map_both (reverse xs) (x ∷ []) ∙ ap (λ (es : List Entry). es ++ entry x ∷ []) (map_reverse xs) ∙ sym (reverse-cons (entry x) (map entry xs)) where
-    map_both : (xs ys : List ℕ) → map entry (xs ++ ys) ≡ map entry xs ++ map entry ys
-    map_both [] ys = refl
-    map_both (x ∷ xs) ys = ap (λ (es : List Entry). entry x ∷ es) (map_both xs ys)
+  map_reverse (x ∷ xs) = ap (map entry) (reverse-cons x xs) ∙ map_both (reverse xs) (x ∷ []) ∙ ap (λ (es : List Entry). es ++ entry x ∷ []) (map_reverse xs)
+      ∙ sym (reverse-cons (entry x) (map entry xs)) where
+        map_both : (xs ys : List ℕ) → map entry (xs ++ ys) ≡ map entry xs ++ map entry ys
+        map_both [] ys = refl
+        map_both (x ∷ xs) ys = ap (λ (es : List Entry). entry x ∷ es) (map_both xs ys)
 
   -- an item that is a command
-  commanded : (x : Item) (items : List Item) (c : Command) (more : List Command) (list next : List ℕ) (left : ℕ) (S : NumberedState) (s : State) → list_after job x list S.store ≡ next
+  commanded : (x : Item) (items : List Item) (c : Command) (more : List Command) (list next : List ℕ) (left : ℕ) (S : NumberedState) (s : State)
+      → list_after job x list S.store ≡ next
       → IsListBehind library c (map entry list) s (map entry next) → SameCame (do_item job list x left S) (command_does means library (map entry list) c left s)
       → ((b : ℕ) (T : NumberedState) (t : State) → Same T t → Comes items more next b T t) → Comes (x ∷ items) (c ∷ more) list left S s
   unfolding do_items
   commanded x items c more list next left S s e behind same rest =
-      let g = goes_same (do_item job list x left S) (command_does means library (map entry list) c left s) same (CommandsCome means library more (map entry next)) (do_items job items next)
+      let g = goes_same (do_item job list x left S) (command_does means library (map entry list) c left s) same
+      (CommandsCome means library more (map entry next)) (do_items job items next)
       (λ b T t r. let comes = rest b T t r in (comes.outcome, comes.come, comes.same)) in
       record {
         outcome = g.outcome;
@@ -404,45 +460,58 @@ module _ (job : NumberedJob) (style : Style) (library : Library) (h : SameJob jo
   of_item x = commands_of (of_job.numbers job style library h) job.style.file x
 
   -- an item that is nothing there
-  declared : (x : Item) (items : List Item) (more : List Command) → ((list : List ℕ) (left : ℕ) (S : NumberedState) → do_items job (x ∷ items) list left S ≡ do_items job items list left S) → Rest items more
+  declared : (x : Item) (items : List Item) (more : List Command)
+      → ((list : List ℕ) (left : ℕ) (S : NumberedState) → do_items job (x ∷ items) list left S ≡ do_items job items list left S) → Rest items more
       → (list : List ℕ) → AllIn list → (left : ℕ) (S : NumberedState) (s : State) → Same S s → Comes (x ∷ items) more list left S s
   declared x items more e rest list all left S s r =
       let comes = rest list all left S s r in
       record { outcome = comes.outcome; come = comes.come; same = subst (λ (o : Came). SameCame o comes.outcome) (sym (e list left S)) comes.same }
 
-  item_same : (x : Item) (items : List Item) (more : List Command) (first : List Command) → of_item x ≡ Some first → IsKnownItem (length job.style.bodies) x → Rest items more
+  item_same : (x : Item) (items : List Item) (more : List Command) (first : List Command) → of_item x ≡ Some first → IsKnownItem (length job.style.bodies) x
+      → Rest items more
       → (list : List ℕ) → AllIn list → (left : ℕ) (S : NumberedState) (s : State) → Same S s → Comes (x ∷ items) (first ++ more) list left S s
   unfolding do_items do_item command_word
   item_same (item.Message complaint line) items more first e k rest list all left S s r =
       subst (λ f. Comes (item.Message complaint line ∷ items) (f ++ more) list left S s) (same_Some _ first e)
-      (commanded (item.Message complaint line) items (Says (complaint_line complaint line job.style.file)) more list list left S s refl refl (logged_same (complaint_line complaint line job.style.file ∷ []) S s r, refl) (rest list all))
+      (commanded (item.Message complaint line) items (Says (complaint_line complaint line job.style.file)) more list list left S s refl refl
+      (logged_same (complaint_line complaint line job.style.file ∷ []) S s r, refl) (rest list all))
   item_same item.Read items more first e k rest list all left S s r =
       subst (λ f. Comes (item.Read ∷ items) (f ++ more) list left S s) (same_Some _ first e)
-      (commanded item.Read items Read more list (range_with_len 0 entries) left S s refl (sym entries_are) (read_same left S s r) (rest (range_with_len 0 entries) (all_ranged 0 entries (omega arith))))
+      (commanded item.Read items Read more list (range_with_len 0 entries) left S s refl (sym entries_are) (read_same left S s r)
+      (rest (range_with_len 0 entries) (all_ranged 0 entries (omega arith))))
   item_same (item.Execute f) items more first e k rest list all left S s r =
       subst (λ cs. Comes (item.Execute f ∷ items) (cs ++ more) list left S s) (sym (executed_is (λ (f : Function). Execute f ∷ []) f first e))
-      (commanded (item.Execute f) items (Execute (of f)) more list list left S s refl refl (visit_same command.Execute (codes "EXECUTE") refl f (function_known f k) None (λ i is. absurd (cc)) left S s r) (rest list all))
+      (commanded (item.Execute f) items (Execute (of f)) more list list left S s refl refl
+      (visit_same command.Execute (codes "EXECUTE") refl f (function_known f k) None (λ i is. absurd (cc)) left S s r) (rest list all))
   item_same (item.Iterate f) items more first e k rest list all left S s r =
       subst (λ cs. Comes (item.Iterate f ∷ items) (cs ++ more) list left S s) (sym (executed_is (λ (f : Function). Iterate f ∷ []) f first e))
-      (commanded (item.Iterate f) items (Iterate (of f)) more list list left S s refl refl (visits_same command.Iterate (codes "ITERATE") refl f (function_known f k) list all left S s r) (rest list all))
+      (commanded (item.Iterate f) items (Iterate (of f)) more list list left S s refl refl
+      (visits_same command.Iterate (codes "ITERATE") refl f (function_known f k) list all left S s r) (rest list all))
   item_same (item.Reverse f) items more first e k rest list all left S s r =
       subst (λ cs. Comes (item.Reverse f ∷ items) (cs ++ more) list left S s) (sym (executed_is (λ (f : Function). Reverse f ∷ []) f first e))
       (commanded (item.Reverse f) items (Reverse (of f)) more list list left S s refl refl
-      (subst (λ (es : List Entry). SameCame (in_order (λ e. visit job command.Reverse f (Some e)) (reverse list) left S) (visits_all means (codes "REVERSE") (of f) es left s)) (map_reverse list)
+      (subst (λ (es : List Entry). SameCame (in_order (λ e. visit job command.Reverse f (Some e)) (reverse list) left S)
+      (visits_all means (codes "REVERSE") (of f) es left s)) (map_reverse list)
       (visits_same command.Reverse (codes "REVERSE") refl f (function_known f k) (reverse list) (reversed_in list all) left S s r)) (rest list all))
   item_same item.Sort items more first e k rest list all left S s r =
       subst (λ f. Comes (item.Sort ∷ items) (f ++ more) list left S s) (same_Some _ first e)
-      (commanded item.Sort items Sort more list (sorted (key_of S) list) left S s refl (in_order_behind S s r list all) (r, refl) (rest (sorted (key_of S) list) (all_sorted _ list all)))
+      (commanded item.Sort items Sort more list (sorted (key_of S) list) left S s refl (in_order_behind S s r list all) (r, refl)
+      (rest (sorted (key_of S) list) (all_sorted _ list all)))
   item_same item.Entry items more first e k rest list all left S s r =
-      subst (λ f. Comes (item.Entry ∷ items) (f ++ more) list left S s) (same_Some _ first e) (declared item.Entry items more (λ list left S. refl) rest list all left S s r)
+      subst (λ f. Comes (item.Entry ∷ items) (f ++ more) list left S s) (same_Some _ first e)
+      (declared item.Entry items more (λ list left S. refl) rest list all left S s r)
   item_same (item.Function n) items more first e k rest list all left S s r =
-      subst (λ f. Comes (item.Function n ∷ items) (f ++ more) list left S s) (same_Some _ first e) (declared (item.Function n) items more (λ list left S. refl) rest list all left S s r)
+      subst (λ f. Comes (item.Function n ∷ items) (f ++ more) list left S s) (same_Some _ first e)
+      (declared (item.Function n) items more (λ list left S. refl) rest list all left S s r)
   item_same item.Integers items more first e k rest list all left S s r =
-      subst (λ f. Comes (item.Integers ∷ items) (f ++ more) list left S s) (same_Some _ first e) (declared item.Integers items more (λ list left S. refl) rest list all left S s r)
+      subst (λ f. Comes (item.Integers ∷ items) (f ++ more) list left S s) (same_Some _ first e)
+      (declared item.Integers items more (λ list left S. refl) rest list all left S s r)
   item_same item.Strings items more first e k rest list all left S s r =
-      subst (λ f. Comes (item.Strings ∷ items) (f ++ more) list left S s) (same_Some _ first e) (declared item.Strings items more (λ list left S. refl) rest list all left S s r)
+      subst (λ f. Comes (item.Strings ∷ items) (f ++ more) list left S s) (same_Some _ first e)
+      (declared item.Strings items more (λ list left S. refl) rest list all left S s r)
   item_same item.Macro items more first e k rest list all left S s r =
-      subst (λ f. Comes (item.Macro ∷ items) (f ++ more) list left S s) (same_Some _ first e) (declared item.Macro items more (λ list left S. refl) rest list all left S s r)
+      subst (λ f. Comes (item.Macro ∷ items) (f ++ more) list left S s) (same_Some _ first e)
+      (declared item.Macro items more (λ list left S. refl) rest list all left S s r)
 
   abbrev AllKnown : List Item → Type 0
   AllKnown [] = Unit {0}
@@ -453,7 +522,8 @@ module _ (job : NumberedJob) (style : Style) (library : Library) (h : SameJob jo
   items_known (x ∷ xs) k = (k 0 x refl, items_known xs (λ place y e. k (suc place) y e))
 
   -- the commands come to what the items come to
-  items_same : (items : List Item) (commands : List Command) → AreCommandsOf (of_job.numbers job style library h) job.style.file items commands → AllKnown items → Rest items commands
+  items_same : (items : List Item) (commands : List Command) → AreCommandsOf (of_job.numbers job style library h) job.style.file items commands → AllKnown items
+      → Rest items commands
   unfolding do_items
   items_same [] commands is k list all left S s r = record {
     outcome = Done s left;
@@ -461,7 +531,8 @@ module _ (job : NumberedJob) (style : Style) (library : Library) (h : SameJob jo
     same = (r, refl);
   }
   items_same (x ∷ items) commands is k list all left S s r =
-      subst (λ (cs : List Command). Comes (x ∷ items) cs list left S s) (sym is.4) (item_same x items is.1 is.0 is.2 k.0 (items_same items is.1 is.3 k.1) list all left S s r)
+      subst (λ (cs : List Command). Comes (x ∷ items) cs list left S s) (sym is.4)
+      (item_same x items is.1 is.0 is.2 k.0 (items_same items is.1 is.3 k.1) list all left S s r)
 
   pub run_same : (left : ℕ) (S : NumberedState) (s : State) → Same S s → Comes job.style.items style.commands [] left S s
   run_same left S s r = items_same job.style.items style.commands h.same_style.commands (items_known job.style.items h.refers.commands) [] tt left S s r

@@ -1,5 +1,7 @@
 -- A state of a run with numbers and one in names stay the same, step by step.
-use Rattle.std.proofs.Common.{◌≡◌, ℕ, ℤ, pos, zero, suc, ◌+◌, ◌-◌, ◌<◌, ◌==◌, ◌^◌, max, min, Bool, true, false, if◌then◌else◌, List, [], ◌∷◌, ◌++◌, length, map, count_by, nat_lt, replicate, take, Result, Option, None, Some, option_map, sym, ap, ap₂, subst, ◌∙◌, refl, arith, append_assoc, append-nil}
+use Rattle.std.proofs.Common.{◌≡◌, ℕ, ℤ, pos, zero, suc, ◌+◌, ◌-◌, ◌<◌, ◌==◌, ◌^◌, max, min, Bool, true, false, if◌then◌else◌, List, [], ◌∷◌, ◌++◌, length, map}
+use Rattle.std.proofs.Common.{count_by, nat_lt, replicate, take, Result, Option, None, Some, option_map, sym, ap, ap₂, subst, ◌∙◌, refl, arith, append_assoc}
+use Rattle.std.proofs.Common.{append-nil}
 use Rattle.std.specs.List.{flat_map}
 use Rattle.std.specs.Prelude.{slice_get, slice_index_or, slice_set}
 use Rattle.std.proofs.lemmas.List.Sums.{sum_by-append}
@@ -43,7 +45,8 @@ use Rattle.btx_machine.specs.language.States.{Out, state}
 use Rattle.btx_machine.specs.language.States.{State as NumberedState}
 use Rattle.btx_machine.specs.language.Steps.{token_effect, turn_of}
 use Rattle.btx_core.specs.language.Files.Counts.{counts_of}
-use Rattle.btx_core.specs.language.Functions.{AFunction, AnyLiteral, Effect, Leaves, Meets, Runs, Opens, Loops, assigns, by_rule, function_effect, not_what_was_asked, on_literals, or_instead, push, push_instead, push_text, row, test_of, tested, word_effect}
+use Rattle.btx_core.specs.language.Functions.{AFunction, AnyLiteral, Effect, Leaves, Meets, Runs, Opens, Loops, assigns, by_rule, function_effect}
+use Rattle.btx_core.specs.language.Functions.{not_what_was_asked, on_literals, or_instead, push, push_instead, push_text, row, test_of, tested, word_effect}
 use Rattle.btx_core.specs.language.Meanings.{deeper}
 use Rattle.btx_core.specs.language.Notes.{empty_stack, error, errors}
 use Rattle.btx_core.specs.language.Notes.{name_of as shown_name}
@@ -85,21 +88,35 @@ pub record SameOut (before : List Line) (out : Out) (s : State) : Type 0 where
   pub warnings : out.warnings ≡ (counts_of s.log).warnings
   pub errors : out.errors ≡ (counts_of s.log).errors
 
-pub logs_same : (before : List Line) (lines : List Line) (out : Out) (s : State) → SameOut before out s → SameOut before (lines_logged lines out) (record s { log = s.log ++ lines })
+pub logs_same : (before : List Line) (lines : List Line) (out : Out) (s : State) → SameOut before out s
+    → SameOut before (lines_logged lines out) (record s { log = s.log ++ lines })
 unfolding lines_logged
 logs_same before [] out s h = subst (λ (log : List Line). SameOut before out (record s { log = log })) (sym (append-nil s.log)) h
 logs_same before (line ∷ lines) out s h =
     let next : State = record s { log = s.log ++ line ∷ [] } in
-    let one : SameOut before (record out { log = out.log ++ ended_line line.text; warnings = counted_if (is_warning line.kind) out.warnings; errors = counted_if (is_error line.kind) out.errors }) next = record {
+    let one : SameOut before (record out {
+      log = out.log ++ ended_line line.text;
+      warnings = counted_if (is_warning line.kind) out.warnings;
+      errors =
+          counted_if (is_error line.kind) out.errors;
+    }) next = record {
       lines = h.lines;
       pending = h.pending;
-      log = ended_both s.log (line ∷ []) ∙ ap₂ (λ (a b : List ℕ). a ++ b) h.log (append-nil (ended_line line.text)) ∙ append_assoc (ended before) out.log (ended_line line.text);
-      warnings = ap (counted_if (is_warning line.kind)) h.warnings ∙ counted_more (is_warning line.kind) (count_by (λ (line : Line). is_warning line.kind) s.log)
+      log = ended_both s.log (line ∷ []) ∙ ap₂ (λ (a b : List ℕ). a ++ b) h.log (append-nil (ended_line line.text))
+          ∙ append_assoc (ended before) out.log (ended_line line.text);
+      warnings = ap (counted_if (is_warning line.kind)) h.warnings
+          ∙ counted_more (is_warning line.kind) (count_by (λ (line : Line). is_warning line.kind) s.log)
           ∙ ap (λ n. min n (2 ^ 64 - 1)) (sym (count_both (λ (line : Line). is_warning line.kind) s.log line));
       errors = ap (counted_if (is_error line.kind)) h.errors ∙ counted_more (is_error line.kind) (count_by (λ (line : Line). is_error line.kind) s.log)
           ∙ ap (λ n. min n (2 ^ 64 - 1)) (sym (count_both (λ (line : Line). is_error line.kind) s.log line));
     } in
-    subst (λ (log : List Line). SameOut before (lines_logged lines (record out { log = out.log ++ ended_line line.text; warnings = counted_if (is_warning line.kind) out.warnings; errors = counted_if (is_error line.kind) out.errors })) (record s { log = log }))
+    subst (λ (log : List Line). SameOut before
+    (lines_logged lines (record out {
+      log = out.log ++ ended_line line.text;
+      warnings = counted_if (is_warning line.kind) out.warnings;
+      errors =
+          counted_if (is_error line.kind) out.errors;
+    })) (record s { log = log }))
     (append_assoc s.log (line ∷ []) lines) (logs_same before lines _ next one)
 
 -- ---- a state
@@ -183,21 +200,33 @@ module _ (job : NumberedJob) (style : Style) (library : Library) (h : SameJob jo
   saying said.Nothing current frame = frame
   saying (said.Wrote text) current frame = record frame { pending = frame.pending ++ text }
   saying said.EndedLine current frame = record frame { lines = frame.lines ++ frame.pending ∷ []; pending = [] }
-  saying (said.Noted notes) current frame = record frame { log = frame.log ++ map (note_line job.style frame.executed (option_map (λ (e : ℕ). key_of (entry_of job e)) current)) notes }
+  saying (said.Noted notes) current frame =
+      record frame { log = frame.log ++ map (note_line job.style frame.executed (option_map (λ (e : ℕ). key_of (entry_of job e)) current)) notes }
 
-  said_same : (words : Said) (executed : List ℕ) (current : Option ℕ) (out : Out) (s : State) → s.executed ≡ executed → SameOut before out s → SameOut before (said_on job executed current words out) (saying words current s)
+  said_same : (words : Said) (executed : List ℕ) (current : Option ℕ) (out : Out) (s : State) → s.executed ≡ executed → SameOut before out s
+      → SameOut before (said_on job executed current words out) (saying words current s)
   unfolding said_on
   said_same said.Nothing executed current out s e k = k
   said_same (said.Wrote text) executed current out s e k =
       record { lines = k.lines; pending = ap (λ (t : List ℕ). t ++ text) k.pending; log = k.log; warnings = k.warnings; errors = k.errors }
   said_same said.EndedLine executed current out s e k =
-      record { lines = ap₂ (λ (ls : List (List ℕ)) (t : List ℕ). ls ++ t ∷ []) k.lines k.pending; pending = refl; log = k.log; warnings = k.warnings; errors = k.errors }
+      record {
+        lines = ap₂ (λ (ls : List (List ℕ)) (t : List ℕ). ls ++ t ∷ []) k.lines k.pending;
+        pending = refl;
+        log = k.log;
+        warnings = k.warnings;
+        errors =
+            k.errors;
+      }
   said_same (said.Noted notes) executed current out s e k =
-      subst (λ (name : List ℕ). SameOut before (lines_logged (map (note_line job.style name (option_map (λ (e : ℕ). key_of (entry_of job e)) current)) notes) out)
-      (saying (said.Noted notes) current s)) e (logs_same before (map (note_line job.style s.executed (option_map (λ (e : ℕ). key_of (entry_of job e)) current)) notes) out s k)
+      subst (λ (name : List ℕ). SameOut before (lines_logged (map (note_line job.style name (option_map (λ (e : ℕ). key_of (entry_of job e)) current)) notes)
+      out)
+      (saying (said.Noted notes) current s)) e
+      (logs_same before (map (note_line job.style s.executed (option_map (λ (e : ℕ). key_of (entry_of job e)) current)) notes) out s k)
 
   -- what is said changes nothing of a store in names
-  saying_of : (words : Said) (current : Option ℕ) (frame : State) (s : Store) → stacked (saying words current (vars frame s)) s ≡ state_of (saying words current frame) s
+  saying_of : (words : Said) (current : Option ℕ) (frame : State) (s : Store) → stacked (saying words current (vars frame s)) s
+      ≡ state_of (saying words current frame) s
   saying_of said.Nothing current frame s = refl
   saying_of (said.Wrote text) current frame s = refl
   saying_of said.EndedLine current frame s = refl
@@ -218,7 +247,8 @@ module _ (job : NumberedJob) (style : Style) (library : Library) (h : SameJob jo
   SameEffect = meaning.SameEffect job computed here word of (λ f. refl) SameState known
 
   -- each token of a function is known
-  tokens_known : (i : ℕ) → i < length job.style.bodies → meaning.AllKnown job computed here word of (λ f. refl) SameState known (slice_index_or job.style.bodies i [])
+  tokens_known : (i : ℕ) → i < length job.style.bodies → meaning.AllKnown job computed here word of (λ f. refl) SameState known
+      (slice_index_or job.style.bodies i [])
   tokens_known i lt = all (slice_index_or job.style.bodies i []) (λ place t e. wider t (h.refers.bodies i place t e)) where
     wider_callee : (c : Callee) → IsKnown names i c → IsKnown names (length job.style.bodies) c
     wider_callee (callee.BuiltIn b) k = k
@@ -235,7 +265,8 @@ module _ (job : NumberedJob) (style : Style) (library : Library) (h : SameJob jo
     wider (token.Quote c) k = wider_callee c k
     wider (token.Run c) k = wider_callee c k
 
-    all : (ts : List Token) → ((place : ℕ) (t : Token) → slice_get ts place ≡ Some t → known t) → meaning.AllKnown job computed here word of (λ f. refl) SameState known ts
+    all : (ts : List Token) → ((place : ℕ) (t : Token) → slice_get ts place ≡ Some t → known t)
+        → meaning.AllKnown job computed here word of (λ f. refl) SameState known ts
     all [] k = refl
     all (t ∷ ts) k = (k 0 t refl, all ts (λ place u e. k (suc place) u e))
 
@@ -258,7 +289,8 @@ module _ (job : NumberedJob) (style : Style) (library : Library) (h : SameJob jo
       of_then : Token → Body → Body
       of_then t b = Then (word t) b
 
-    tree_is : (i : ℕ) → i < length job.style.bodies → meaning.tree job computed here word of (λ f. refl) SameState known (slice_index_or job.style.bodies i []) ≡ body i
+    tree_is : (i : ℕ) → i < length job.style.bodies → meaning.tree job computed here word of (λ f. refl) SameState known (slice_index_or job.style.bodies i [])
+        ≡ body i
     tree_is i lt = tree_of (slice_index_or job.style.bodies i []) ∙ of_job.body_is job style library h i lt
   follows_same (next.Loop f g) k S t r = (refl, (refl, (k.0, (k.1, r))))
 
@@ -277,22 +309,26 @@ module _ (job : NumberedJob) (style : Style) (library : Library) (h : SameJob jo
       })
 
   -- the state behind a step that assigns nothing
-  pub behind : (S : Store) (out : Out) (frame : State) (executed : List ℕ) (a : Answer) → with_literals [] a.store ≡ with_literals [] S → Fine job h.refers a → Whole S → frame.executed ≡ executed → SameOut before out frame
+  pub behind : (S : Store) (out : Out) (frame : State) (executed : List ℕ) (a : Answer) → with_literals [] a.store ≡ with_literals [] S → Fine job h.refers a
+      → Whole S → frame.executed ≡ executed → SameOut before out frame
       → SameState (state a.store (said_on job executed a.store.current a.said out)) (stacked (saying a.said a.store.current (vars frame S)) a.store)
   behind S out frame executed a e k w named o =
       let rest = whole_other S a.store e k.0 w in
       let moved : stacked (saying a.said a.store.current (vars frame S)) a.store ≡ state_of (saying a.said a.store.current frame) a.store =
-      ap (λ (T : Store). stacked (saying a.said a.store.current (vars frame T)) a.store) (sym (restored S a.store e)) ∙ saying_of a.said a.store.current frame a.store in
+      ap (λ (T : Store). stacked (saying a.said a.store.current (vars frame T)) a.store) (sym (restored S a.store e))
+      ∙ saying_of a.said a.store.current frame a.store in
       subst (SameState (state a.store (said_on job executed a.store.current a.said out))) (sym moved) (record {
         whole = rest;
         is = again a.said a.store.current frame a.store;
-        out = out_of (said_on job executed a.store.current a.said out) (saying a.said a.store.current frame) a.store (said_same a.said executed a.store.current out frame named o);
+        out = out_of (said_on job executed a.store.current a.said out) (saying a.said a.store.current frame) a.store
+            (said_same a.said executed a.store.current out frame named o);
       }) where
         -- variables are read from all but the literals
         restored : (S T : Store) → with_literals [] T ≡ with_literals [] S → with_literals S.literals T ≡ S
         restored S T e = ap (with_literals S.literals) e
 
-        again : (words : Said) (current : Option ℕ) (frame : State) (s : Store) → state_of (saying words current frame) s ≡ state_of (state_of (saying words current frame) s) s
+        again : (words : Said) (current : Option ℕ) (frame : State) (s : Store) → state_of (saying words current frame) s
+            ≡ state_of (state_of (saying words current frame) s) s
         again words current frame s = refl
 
   -- a store in names, behind an answer
@@ -300,10 +336,13 @@ module _ (job : NumberedJob) (style : Style) (library : Library) (h : SameJob jo
   now frame a = follows a.next (stacked (saying a.said a.store.current (vars frame a.store)) a.store)
 
   -- variables are read from all but the literals
-  to_now : (S : Store) (frame : State) (a : Answer) → with_literals [] a.store ≡ with_literals [] S → follows a.next (stacked (saying a.said a.store.current (vars frame S)) a.store) ≡ now frame a
-  to_now S frame a e = ap (λ (T : Store). follows a.next (stacked (saying a.said a.store.current (vars frame T)) a.store)) (sym (ap (with_literals S.literals) e))
+  to_now : (S : Store) (frame : State) (a : Answer) → with_literals [] a.store ≡ with_literals [] S
+      → follows a.next (stacked (saying a.said a.store.current (vars frame S)) a.store) ≡ now frame a
+  to_now S frame a e = ap (λ (T : Store). follows a.next (stacked (saying a.said a.store.current (vars frame T)) a.store))
+      (sym (ap (with_literals S.literals) e))
 
-  now_same : (out : Out) (frame : State) (executed : List ℕ) (a : Answer) (e : Effect) → HasNext job h.refers a.next → Whole a.store → frame.executed ≡ executed → SameOut before out frame → e ≡ now frame a
+  now_same : (out : Out) (frame : State) (executed : List ℕ) (a : Answer) (e : Effect) → HasNext job h.refers a.next → Whole a.store → frame.executed ≡ executed
+      → SameOut before out frame → e ≡ now frame a
       → SameEffect a.next (state a.store (said_on job executed a.store.current a.said out)) e
   now_same out frame executed a e k w named o is =
       let S = state a.store (said_on job executed a.store.current a.said out) in
@@ -311,7 +350,8 @@ module _ (job : NumberedJob) (style : Style) (library : Library) (h : SameJob jo
       let same : SameState S t = record {
         whole = w;
         is = refl;
-        out = out_of (said_on job executed a.store.current a.said out) (saying a.said a.store.current frame) a.store (said_same a.said executed a.store.current out frame named o);
+        out = out_of (said_on job executed a.store.current a.said out) (saying a.said a.store.current frame) a.store
+            (said_same a.said executed a.store.current out frame named o);
       } in
       subst (SameEffect a.next S) (sym (is ∙ ap (follows a.next) (saying_of a.said a.store.current frame a.store))) (follows_same a.next k S t same)
 
@@ -319,7 +359,8 @@ module _ (job : NumberedJob) (style : Style) (library : Library) (h : SameJob jo
 
   silent : (x : Numbered) (s : Store) → (pushes said.Nothing x s).said ≡ said.Nothing
   silent x s = by (nat_lt (length s.literals) MOST_LITERALS) where
-    by : (t : Bool) → (if t then answers.says said.Nothing (with_literals (x ∷ s.literals) s) else answers.answer (next.End limit.Literals) said.Nothing s).said ≡ said.Nothing
+    by : (t : Bool) → (if t then answers.says said.Nothing (with_literals (x ∷ s.literals) s) else answers.answer (next.End limit.Literals) said.Nothing s).said
+        ≡ said.Nothing
     by true = refl
     by false = refl
 
@@ -329,12 +370,15 @@ module _ (job : NumberedJob) (style : Style) (library : Library) (h : SameJob jo
     by true = refl
     by false = silent (literal.Text text) s
 
-  nothing_said : (one other : List ℕ) (current : Option ℕ) (words : Said) (out : Out) → words ≡ said.Nothing → said_on job one current words out ≡ said_on job other current words out
+  nothing_said : (one other : List ℕ) (current : Option ℕ) (words : Said) (out : Out) → words ≡ said.Nothing → said_on job one current words out
+      ≡ said_on job other current words out
   unfolding said_on
   nothing_said one other current words out e = ap (λ w. said_on job one current w out) e ∙ sym (ap (λ w. said_on job other current w out) e)
 
-  literal_same : (S : NumberedState) (s : State) (a : Answer) (e : Effect) → SameState S s → a.said ≡ said.Nothing → with_literals [] a.store ≡ with_literals [] S.store → Fine job h.refers a
-      → e ≡ follows a.next (stacked (saying a.said a.store.current (vars s S.store)) a.store) → SameEffect a.next (state a.store (said_on job [] a.store.current a.said S.out)) e
+  literal_same : (S : NumberedState) (s : State) (a : Answer) (e : Effect) → SameState S s → a.said ≡ said.Nothing → with_literals [] a.store
+      ≡ with_literals [] S.store → Fine job h.refers a
+      → e ≡ follows a.next (stacked (saying a.said a.store.current (vars s S.store)) a.store)
+      → SameEffect a.next (state a.store (said_on job [] a.store.current a.said S.out)) e
   literal_same S s a e r quiet stay k is =
       subst (λ o. SameEffect a.next (state a.store o) e) (nothing_said s.executed [] a.store.current a.said S.out quiet)
       (now_same S.out s s.executed a e k.1 (whole_other S.store a.store stay k.0 r.whole) refl r.out (is ∙ to_now S.store s a stay))
@@ -342,7 +386,10 @@ module _ (job : NumberedJob) (style : Style) (library : Library) (h : SameJob jo
   -- ---- `:=`
 
   abbrev table_known : Store → Callee → Type 0
-  table_known = table.Known job style library of body entry (of_job.named job style library h) (of_job.keyed job style library h) (of_job.typed job style library h) (of_job.default job style library h) h.same_library.preamble gi gs ei es keys (λ f. refl) (λ i. name_of names (callee.User i)) (λ i. name_of names (callee.Field i)) (λ i. refl) (λ i. refl) (λ i. refl) (λ i. refl) (λ i. refl) (λ i. refl) (of_job.key_names job style library h)
+  table_known = table.Known job style library of body entry (of_job.named job style library h) (of_job.keyed job style library h)
+      (of_job.typed job style library h) (of_job.default job style library h) h.same_library.preamble gi gs ei es keys (λ f. refl)
+      (λ i. name_of names (callee.User i)) (λ i. name_of names (callee.Field i)) (λ i. refl) (λ i. refl) (λ i. refl) (λ i. refl) (λ i. refl) (λ i. refl)
+      (of_job.key_names job style library h)
 
   -- a variable that the style has is in the store
   known_in : (s : Store) → Whole s → (c : Callee) → Has job h.refers c → table_known s c
@@ -364,28 +411,50 @@ module _ (job : NumberedJob) (style : Style) (library : Library) (h : SameJob jo
 
   -- an assignment leaves as many values as there were
   whole_integers : (s : Store) (xs : List ℤ) → length xs ≡ length s.integers → Whole s → Whole (record s { integers = xs })
-  whole_integers s xs e w = record { literals = w.literals; integers = e ∙ w.integers; strings = w.strings; entries = w.entries; entry_integers = w.entry_integers; entry_strings = w.entry_strings; current = w.current }
+  whole_integers s xs e w = record {
+    literals = w.literals;
+    integers = e ∙ w.integers;
+    strings = w.strings;
+    entries = w.entries;
+    entry_integers =
+        w.entry_integers;
+    entry_strings = w.entry_strings;
+    current = w.current;
+  }
 
   whole_strings : (s : Store) (xs : List (List ℕ)) → length xs ≡ length s.strings → Whole s → Whole (record s { strings = xs })
-  whole_strings s xs e w = record { literals = w.literals; integers = w.integers; strings = e ∙ w.strings; entries = w.entries; entry_integers = w.entry_integers; entry_strings = w.entry_strings; current = w.current }
+  whole_strings s xs e w = record {
+    literals = w.literals;
+    integers = w.integers;
+    strings = e ∙ w.strings;
+    entries = w.entries;
+    entry_integers =
+        w.entry_integers;
+    entry_strings = w.entry_strings;
+    current = w.current;
+  }
 
   set_length : {A : Type 0} (xs : List A) (i : ℕ) (v : A) → length (slice_set xs i v) ≡ length xs
   set_length [] i v = refl
   set_length (x ∷ xs) zero v = refl
   set_length (x ∷ xs) (suc i) v = ap suc (set_length xs i v)
 
-  whole_entry : (s : Store) (e : ℕ) (y : EntryVariables) → e < length s.entries → length y.integers ≡ length (item s.entries none e).integers → length y.strings ≡ length (item s.entries none e).strings
+  whole_entry : (s : Store) (e : ℕ) (y : EntryVariables) → e < length s.entries → length y.integers ≡ length (item s.entries none e).integers
+      → length y.strings ≡ length (item s.entries none e).strings
       → Whole s → Whole (record s { entries = slice_set s.entries e y })
   whole_entry s e y lt ints texts w = record {
     literals = w.literals;
     integers = w.integers;
     strings = w.strings;
     entries = set_length s.entries e y ∙ w.entries;
-    entry_integers = λ j less. let same = set_length s.entries e y in ap (λ (f : ℕ → EntryVariables). length (f j).integers) (item_set s.entries none y e lt) ∙ of_integers j (j == e) refl (omega (arith, less, same));
-    entry_strings = λ j less. let same = set_length s.entries e y in ap (λ (f : ℕ → EntryVariables). length (f j).strings) (item_set s.entries none y e lt) ∙ of_strings j (j == e) refl (omega (arith, less, same));
+    entry_integers = λ j less. let same = set_length s.entries e y in ap (λ (f : ℕ → EntryVariables). length (f j).integers) (item_set s.entries none y e lt)
+        ∙ of_integers j (j == e) refl (omega (arith, less, same));
+    entry_strings = λ j less. let same = set_length s.entries e y in ap (λ (f : ℕ → EntryVariables). length (f j).strings) (item_set s.entries none y e lt)
+        ∙ of_strings j (j == e) refl (omega (arith, less, same));
     current = λ j is. let same = set_length s.entries e y in let k = w.current j is in omega (arith, k, same);
   } where
-    of_integers : (j : ℕ) (t : Bool) → (j == e) ≡ t → j < length s.entries → length (if t then y else item s.entries none j).integers ≡ length names.entry_integers
+    of_integers : (j : ℕ) (t : Bool) → (j == e) ≡ t → j < length s.entries → length (if t then y else item s.entries none j).integers
+        ≡ length names.entry_integers
     of_integers j true f less = ints ∙ w.entry_integers e lt
     of_integers j false f less = w.entry_integers j less
 
@@ -398,12 +467,14 @@ module _ (job : NumberedJob) (style : Style) (library : Library) (h : SameJob jo
   whole_assigned (callee.GlobalInteger i) (literal.Text n) s w = w
   whole_assigned (callee.GlobalInteger i) (literal.Function n) s w = w
   whole_assigned (callee.GlobalInteger i) literal.Missing s w = w
-  whole_assigned (callee.GlobalString i) (literal.Text text) s w = whole_strings s (slice_set s.strings i (take job.global_max text)) (set_length s.strings i (take job.global_max text)) w
+  whole_assigned (callee.GlobalString i) (literal.Text text) s w = whole_strings s (slice_set s.strings i (take job.global_max text))
+      (set_length s.strings i (take job.global_max text)) w
   whole_assigned (callee.GlobalString i) (literal.Integer n) s w = w
   whole_assigned (callee.GlobalString i) (literal.Function n) s w = w
   whole_assigned (callee.GlobalString i) literal.Missing s w = w
   whole_assigned (callee.EntryInteger i) v s w = by s.current refl v where
-    by : (c : Option ℕ) → s.current ≡ c → (v : Numbered) → Whole (variables.in_entry (λ entry. variables.stores_integer (variables.with_entry_integer entry i) v) c s).store
+    by : (c : Option ℕ) → s.current ≡ c → (v : Numbered)
+        → Whole (variables.in_entry (λ entry. variables.stores_integer (variables.with_entry_integer entry i) v) c s).store
     by None e v = w
     by (Some x) e (literal.Integer n) =
         let values = variables.values_of s.entries x in
@@ -412,11 +483,13 @@ module _ (job : NumberedJob) (style : Style) (library : Library) (h : SameJob jo
     by (Some x) e (literal.Function n) = w
     by (Some x) e literal.Missing = w
   whole_assigned (callee.EntryString i) v s w = by s.current refl v where
-    by : (c : Option ℕ) → s.current ≡ c → (v : Numbered) → Whole (variables.in_entry (λ entry. variables.stores_string job.entry_max (variables.with_entry_string entry i) v) c s).store
+    by : (c : Option ℕ) → s.current ≡ c → (v : Numbered)
+        → Whole (variables.in_entry (λ entry. variables.stores_string job.entry_max (variables.with_entry_string entry i) v) c s).store
     by None e v = w
     by (Some x) e (literal.Text text) =
         let values = variables.values_of s.entries x in
-        whole_entry s x (record values { strings = slice_set values.strings i (take job.entry_max text) }) (w.current x e) refl (set_length values.strings i (take job.entry_max text)) w
+        whole_entry s x (record values { strings = slice_set values.strings i (take job.entry_max text) }) (w.current x e) refl
+        (set_length values.strings i (take job.entry_max text)) w
     by (Some x) e (literal.Integer n) = w
     by (Some x) e (literal.Function n) = w
     by (Some x) e literal.Missing = w
@@ -435,23 +508,53 @@ module _ (job : NumberedJob) (style : Style) (library : Library) (h : SameJob jo
   assigned : (xs : List Numbered) (frame : State) (s : Store) → HasAll job h.refers xs → Whole s → Assigned frame (with_literals xs s)
   unfolding built_in_run
   assigned [] frame s k w = record {
-    same = table.complained_same job style library of body entry (of_job.named job style library h) (of_job.keyed job style library h) (of_job.typed job style library h) (of_job.default job style library h) h.same_library.preamble (note.EmptyStack ∷ note.EmptyStack ∷ []) (empty_stack ∷ empty_stack ∷ []) (table.empty_is job style library of body entry (of_job.named job style library h) (of_job.keyed job style library h) (of_job.typed job style library h) (of_job.default job style library h) h.same_library.preamble, (table.empty_is job style library of body entry (of_job.named job style library h) (of_job.keyed job style library h) (of_job.typed job style library h) (of_job.default job style library h) h.same_library.preamble, refl)) stand_in.Nothing (vars frame s) (with_literals [] s);
+    same = table.complained_same job style library of body entry (of_job.named job style library h) (of_job.keyed job style library h)
+        (of_job.typed job style library h) (of_job.default job style library h) h.same_library.preamble (note.EmptyStack ∷ note.EmptyStack ∷ [])
+        (empty_stack ∷ empty_stack ∷ []) (
+          table.empty_is job style library of body entry (of_job.named job style library h) (of_job.keyed job style library h)
+              (of_job.typed job style library h) (of_job.default job style library h) h.same_library.preamble,
+          (
+            table.empty_is job style library of body entry (of_job.named job style library h) (of_job.keyed job style library h) (of_job.typed job style library h)
+                (of_job.default job style library h) h.same_library.preamble,
+            refl,
+          ),
+        ) stand_in.Nothing (vars frame s) (with_literals [] s);
     whole = whole_with s [] tt w;
   }
   assigned ((literal.Integer n) ∷ []) frame s k w = record {
-    same = table.complained_same job style library of body entry (of_job.named job style library h) (of_job.keyed job style library h) (of_job.typed job style library h) (of_job.default job style library h) h.same_library.preamble (note.EmptyStack ∷ []) (empty_stack ∷ []) (table.empty_is job style library of body entry (of_job.named job style library h) (of_job.keyed job style library h) (of_job.typed job style library h) (of_job.default job style library h) h.same_library.preamble, refl) stand_in.Nothing (vars frame s) (with_literals [] s);
+    same = table.complained_same job style library of body entry (of_job.named job style library h) (of_job.keyed job style library h)
+        (of_job.typed job style library h) (of_job.default job style library h) h.same_library.preamble (note.EmptyStack ∷ []) (empty_stack ∷ []) (
+          table.empty_is job style library of body entry (of_job.named job style library h) (of_job.keyed job style library h) (of_job.typed job style library h)
+              (of_job.default job style library h) h.same_library.preamble,
+          refl,
+        ) stand_in.Nothing (vars frame s) (with_literals [] s);
     whole = whole_with s [] tt w;
   }
   assigned ((literal.Text n) ∷ []) frame s k w = record {
-    same = table.complained_same job style library of body entry (of_job.named job style library h) (of_job.keyed job style library h) (of_job.typed job style library h) (of_job.default job style library h) h.same_library.preamble (note.EmptyStack ∷ []) (empty_stack ∷ []) (table.empty_is job style library of body entry (of_job.named job style library h) (of_job.keyed job style library h) (of_job.typed job style library h) (of_job.default job style library h) h.same_library.preamble, refl) stand_in.Nothing (vars frame s) (with_literals [] s);
+    same = table.complained_same job style library of body entry (of_job.named job style library h) (of_job.keyed job style library h)
+        (of_job.typed job style library h) (of_job.default job style library h) h.same_library.preamble (note.EmptyStack ∷ []) (empty_stack ∷ []) (
+          table.empty_is job style library of body entry (of_job.named job style library h) (of_job.keyed job style library h) (of_job.typed job style library h)
+              (of_job.default job style library h) h.same_library.preamble,
+          refl,
+        ) stand_in.Nothing (vars frame s) (with_literals [] s);
     whole = whole_with s [] tt w;
   }
   assigned ((literal.Function n) ∷ []) frame s k w = record {
-    same = table.complained_same job style library of body entry (of_job.named job style library h) (of_job.keyed job style library h) (of_job.typed job style library h) (of_job.default job style library h) h.same_library.preamble (note.EmptyStack ∷ []) (empty_stack ∷ []) (table.empty_is job style library of body entry (of_job.named job style library h) (of_job.keyed job style library h) (of_job.typed job style library h) (of_job.default job style library h) h.same_library.preamble, refl) stand_in.Nothing (vars frame s) (with_literals [] s);
+    same = table.complained_same job style library of body entry (of_job.named job style library h) (of_job.keyed job style library h)
+        (of_job.typed job style library h) (of_job.default job style library h) h.same_library.preamble (note.EmptyStack ∷ []) (empty_stack ∷ []) (
+          table.empty_is job style library of body entry (of_job.named job style library h) (of_job.keyed job style library h) (of_job.typed job style library h)
+              (of_job.default job style library h) h.same_library.preamble,
+          refl,
+        ) stand_in.Nothing (vars frame s) (with_literals [] s);
     whole = whole_with s [] tt w;
   }
   assigned (literal.Missing ∷ []) frame s k w = record {
-    same = table.complained_same job style library of body entry (of_job.named job style library h) (of_job.keyed job style library h) (of_job.typed job style library h) (of_job.default job style library h) h.same_library.preamble (note.EmptyStack ∷ []) (empty_stack ∷ []) (table.empty_is job style library of body entry (of_job.named job style library h) (of_job.keyed job style library h) (of_job.typed job style library h) (of_job.default job style library h) h.same_library.preamble, refl) stand_in.Nothing (vars frame s) (with_literals [] s);
+    same = table.complained_same job style library of body entry (of_job.named job style library h) (of_job.keyed job style library h)
+        (of_job.typed job style library h) (of_job.default job style library h) h.same_library.preamble (note.EmptyStack ∷ []) (empty_stack ∷ []) (
+          table.empty_is job style library of body entry (of_job.named job style library h) (of_job.keyed job style library h) (of_job.typed job style library h)
+              (of_job.default job style library h) h.same_library.preamble,
+          refl,
+        ) stand_in.Nothing (vars frame s) (with_literals [] s);
     whole = whole_with s [] tt w;
   }
   assigned (x ∷ y ∷ xs) frame s k w = of_top x k.0 where
@@ -464,21 +567,48 @@ module _ (job : NumberedJob) (style : Style) (library : Library) (h : SameJob jo
     taken : Literal → Result (State → Effect) (List ℕ)
     taken top = on_literals (AFunction ∷ AnyLiteral ∷ []) (assigns here) (top ∷ lit y ∷ map lit xs)
 
-    ruled : (top : Numbered) → by_rule (row computed here built_in.Assign) (state_of frame (with_literals (top ∷ y ∷ xs) s)) ≡ or_instead (taken (lit top)) None (state_of frame below)
-    ruled top = ap (λ (t : Bool). if t then push_instead None (errors (replicate (2 - suc (suc (length (map lit xs)))) empty_stack) (state_of frame below)) else or_instead (taken (lit top)) None (state_of frame below))
-        (table.at_least_two job style library of body entry (of_job.named job style library h) (of_job.keyed job style library h) (of_job.typed job style library h) (of_job.default job style library h) h.same_library.preamble (length (map lit xs)))
+    ruled : (top : Numbered) → by_rule (row computed here built_in.Assign) (state_of frame (with_literals (top ∷ y ∷ xs) s))
+        ≡ or_instead (taken (lit top)) None (state_of frame below)
+    ruled top = ap (λ (t : Bool). if t then push_instead None (errors (replicate (2 - suc (suc (length (map lit xs)))) empty_stack) (state_of frame below)) else
+        or_instead (taken (lit top)) None (state_of frame below))
+        (table.at_least_two job style library of body entry (of_job.named job style library h) (of_job.keyed job style library h)
+        (of_job.typed job style library h) (of_job.default job style library h) h.same_library.preamble (length (map lit xs)))
 
-    wrong_kind : (top : Numbered) → table.IsError job style library of body entry (of_job.named job style library h) (of_job.keyed job style library h) (of_job.typed job style library h) (of_job.default job style library h) h.same_library.preamble (note.WrongKind top wanted.Function) (not_what_was_asked AFunction (lit top)) → Leaves (error (not_what_was_asked AFunction (lit top)) (state_of frame below)) ≡ now frame (answers.complains (note.WrongKind top wanted.Function) stand_in.Nothing below)
-    wrong_kind top is = table.complained_same job style library of body entry (of_job.named job style library h) (of_job.keyed job style library h) (of_job.typed job style library h) (of_job.default job style library h) h.same_library.preamble (note.WrongKind top wanted.Function ∷ []) (not_what_was_asked AFunction (lit top) ∷ []) (is, refl) stand_in.Nothing (vars frame s) below
+    wrong_kind : (top : Numbered) → table.IsError job style library of body entry (of_job.named job style library h) (of_job.keyed job style library h)
+        (of_job.typed job style library h) (of_job.default job style library h) h.same_library.preamble (note.WrongKind top wanted.Function)
+        (not_what_was_asked AFunction (lit top)) → Leaves (error (not_what_was_asked AFunction (lit top)) (state_of frame below))
+        ≡ now frame (answers.complains (note.WrongKind top wanted.Function) stand_in.Nothing below)
+    wrong_kind top is = table.complained_same job style library of body entry (of_job.named job style library h) (of_job.keyed job style library h)
+        (of_job.typed job style library h) (of_job.default job style library h) h.same_library.preamble (note.WrongKind top wanted.Function ∷ [])
+        (not_what_was_asked AFunction (lit top) ∷ []) (is, refl) stand_in.Nothing (vars frame s) below
 
     of_top : (top : Numbered) → HasLiteral job h.refers top → Assigned frame (with_literals (top ∷ y ∷ xs) s)
     of_top (literal.Function c) has = record {
-      same = ruled (literal.Function c) ∙ table.assigns_same job style library of body entry (of_job.named job style library h) (of_job.keyed job style library h) (of_job.typed job style library h) (of_job.default job style library h) h.same_library.preamble gi gs ei es keys (λ f. refl) (λ i. name_of names (callee.User i)) (λ i. name_of names (callee.Field i)) (λ i. refl) (λ i. refl) (λ i. refl) (λ i. refl) (λ i. refl) (λ i. refl) (of_job.key_names job style library h) c y frame below (known_in below whole_below c has);
+      same = ruled (literal.Function c) ∙ table.assigns_same job style library of body entry (of_job.named job style library h)
+          (of_job.keyed job style library h) (of_job.typed job style library h) (of_job.default job style library h) h.same_library.preamble gi gs ei es keys
+          (λ f. refl) (λ i. name_of names (callee.User i)) (λ i. name_of names (callee.Field i)) (λ i. refl) (λ i. refl) (λ i. refl) (λ i. refl) (λ i. refl)
+          (λ i. refl) (of_job.key_names job style library h) c y frame below (known_in below whole_below c has);
       whole = whole_assigned c y below whole_below;
     }
-    of_top (literal.Integer n) has = record { same = ruled (literal.Integer n) ∙ wrong_kind (literal.Integer n) (table.no_function job style library of body entry (of_job.named job style library h) (of_job.keyed job style library h) (of_job.typed job style library h) (of_job.default job style library h) h.same_library.preamble (literal.Integer n)); whole = whole_below }
-    of_top (literal.Text n) has = record { same = ruled (literal.Text n) ∙ wrong_kind (literal.Text n) (table.no_function job style library of body entry (of_job.named job style library h) (of_job.keyed job style library h) (of_job.typed job style library h) (of_job.default job style library h) h.same_library.preamble (literal.Text n)); whole = whole_below }
-    of_top literal.Missing has = record { same = ruled literal.Missing ∙ wrong_kind literal.Missing (table.no_function job style library of body entry (of_job.named job style library h) (of_job.keyed job style library h) (of_job.typed job style library h) (of_job.default job style library h) h.same_library.preamble literal.Missing); whole = whole_below }
+    of_top (literal.Integer n) has = record {
+      same = ruled (literal.Integer n)
+          ∙ wrong_kind (literal.Integer n)
+          (table.no_function job style library of body entry (of_job.named job style library h) (of_job.keyed job style library h)
+          (of_job.typed job style library h) (of_job.default job style library h) h.same_library.preamble (literal.Integer n));
+      whole = whole_below;
+    }
+    of_top (literal.Text n) has = record {
+      same = ruled (literal.Text n)
+          ∙ wrong_kind (literal.Text n) (table.no_function job style library of body entry (of_job.named job style library h) (of_job.keyed job style library h)
+          (of_job.typed job style library h) (of_job.default job style library h) h.same_library.preamble (literal.Text n));
+      whole = whole_below;
+    }
+    of_top literal.Missing has = record {
+      same = ruled literal.Missing
+          ∙ wrong_kind literal.Missing (table.no_function job style library of body entry (of_job.named job style library h) (of_job.keyed job style library h)
+          (of_job.typed job style library h) (of_job.default job style library h) h.same_library.preamble literal.Missing);
+      whole = whole_below;
+    }
 
   -- ---- each step
 
@@ -493,18 +623,23 @@ module _ (job : NumberedJob) (style : Style) (library : Library) (h : SameJob jo
     same : function_effect computed here (of c) (state_of frame S) ≡ now frame (function_run job c S)
     whole : Whole (function_run job c S).store
 
-  plainly : (frame : State) (c : Callee) (S : Store) → is_assignment (token.Run c) ≡ false → Has job h.refers c → Whole S → function_effect computed here (of c) (state_of frame S) ≡ now frame (function_run job c S) → Ran frame c S
+  plainly : (frame : State) (c : Callee) (S : Store) → is_assignment (token.Run c) ≡ false → Has job h.refers c → Whole S
+      → function_effect computed here (of c) (state_of frame S) ≡ now frame (function_run job c S) → Ran frame c S
   unfolding step_of
   plainly frame c S plain has w e = record {
     same = e;
-    whole = whole_other S (function_run job c S).store (variables_stay job (token.Run c) S plain) (step_fine job h.refers types (token.Run c) S has w.literals).0 w;
+    whole = whole_other S (function_run job c S).store (variables_stay job (token.Run c) S plain)
+        (step_fine job h.refers types (token.Run c) S has w.literals).0 w;
   }
 
-  built_in_ran : (frame : State) (f : BuiltIn) (S : Store) → is_assignment (token.Run (callee.BuiltIn f)) ≡ false → (f ≡ built_in.Assign → ⊥) → Whole S → Ran frame (callee.BuiltIn f) S
+  built_in_ran : (frame : State) (f : BuiltIn) (S : Store) → is_assignment (token.Run (callee.BuiltIn f)) ≡ false → (f ≡ built_in.Assign → ⊥) → Whole S
+      → Ran frame (callee.BuiltIn f) S
   unfolding step_of function_run
   built_in_ran frame f S plain apart w =
       plainly frame (callee.BuiltIn f) S plain tt w
-      (table.built_in_same job style library of body entry (of_job.named job style library h) (of_job.keyed job style library h) (of_job.typed job style library h) (of_job.default job style library h) h.same_library.preamble f apart (vars frame S) S ∙ to_now S frame (built_in_run job f S) (variables_stay job (token.Run (callee.BuiltIn f)) S plain))
+      (table.built_in_same job style library of body entry (of_job.named job style library h) (of_job.keyed job style library h)
+      (of_job.typed job style library h) (of_job.default job style library h) h.same_library.preamble f apart (vars frame S) S
+      ∙ to_now S frame (built_in_run job f S) (variables_stay job (token.Run (callee.BuiltIn f)) S plain))
 
   assignment_ran : (frame : State) (S : Store) → Whole S → Ran frame (callee.BuiltIn built_in.Assign) S
   unfolding function_run
@@ -516,37 +651,67 @@ module _ (job : NumberedJob) (style : Style) (library : Library) (h : SameJob jo
   ran frame (callee.BuiltIn f) S k w = built_in_ran frame f S refl (λ e. absurd (cc)) w
   ran frame (callee.User i) S k w = plainly frame (callee.User i) S refl k w refl
   ran frame (callee.Field i) S k w = plainly frame (callee.Field i) S refl k w
-      (table.variable_same job style library of body entry (of_job.named job style library h) (of_job.keyed job style library h) (of_job.typed job style library h) (of_job.default job style library h) h.same_library.preamble gi gs ei es keys (λ f. refl) (λ i. name_of names (callee.User i)) (λ i. name_of names (callee.Field i)) (λ i. refl) (λ i. refl) (λ i. refl) (λ i. refl) (λ i. refl) (λ i. refl) (of_job.key_names job style library h) (callee.Field i) (λ e j is. let same : i ≡ j = cc in of_job.valued job style library h e j (omega (arith, k, same))) frame S refl kind.Field (name_of names (callee.Field i)) refl)
+      (table.variable_same job style library of body entry (of_job.named job style library h) (of_job.keyed job style library h)
+      (of_job.typed job style library h) (of_job.default job style library h) h.same_library.preamble gi gs ei es keys (λ f. refl)
+      (λ i. name_of names (callee.User i)) (λ i. name_of names (callee.Field i)) (λ i. refl) (λ i. refl) (λ i. refl) (λ i. refl) (λ i. refl) (λ i. refl)
+      (of_job.key_names job style library h) (callee.Field i) (λ e j is. let same : i ≡ j = cc in
+      of_job.valued job style library h e j (omega (arith, k, same))) frame S refl kind.Field (name_of names (callee.Field i)) refl)
   ran frame (callee.EntryInteger i) S k w = plainly frame (callee.EntryInteger i) S refl k w
-      (table.variable_same job style library of body entry (of_job.named job style library h) (of_job.keyed job style library h) (of_job.typed job style library h) (of_job.default job style library h) h.same_library.preamble gi gs ei es keys (λ f. refl) (λ i. name_of names (callee.User i)) (λ i. name_of names (callee.Field i)) (λ i. refl) (λ i. refl) (λ i. refl) (λ i. refl) (λ i. refl) (λ i. refl) (of_job.key_names job style library h) (callee.EntryInteger i) (λ e j is. absurd (cc)) frame S (known_in S w (callee.EntryInteger i) k) kind.EntryInteger (name_of names (callee.EntryInteger i)) refl)
+      (table.variable_same job style library of body entry (of_job.named job style library h) (of_job.keyed job style library h)
+      (of_job.typed job style library h) (of_job.default job style library h) h.same_library.preamble gi gs ei es keys (λ f. refl)
+      (λ i. name_of names (callee.User i)) (λ i. name_of names (callee.Field i)) (λ i. refl) (λ i. refl) (λ i. refl) (λ i. refl) (λ i. refl) (λ i. refl)
+      (of_job.key_names job style library h) (callee.EntryInteger i) (λ e j is. absurd (cc)) frame S (known_in S w (callee.EntryInteger i) k)
+      kind.EntryInteger (name_of names (callee.EntryInteger i)) refl)
   ran frame (callee.EntryString i) S k w = plainly frame (callee.EntryString i) S refl k w
-      (table.variable_same job style library of body entry (of_job.named job style library h) (of_job.keyed job style library h) (of_job.typed job style library h) (of_job.default job style library h) h.same_library.preamble gi gs ei es keys (λ f. refl) (λ i. name_of names (callee.User i)) (λ i. name_of names (callee.Field i)) (λ i. refl) (λ i. refl) (λ i. refl) (λ i. refl) (λ i. refl) (λ i. refl) (of_job.key_names job style library h) (callee.EntryString i) (λ e j is. absurd (cc)) frame S (known_in S w (callee.EntryString i) k) kind.EntryString (name_of names (callee.EntryString i)) refl)
+      (table.variable_same job style library of body entry (of_job.named job style library h) (of_job.keyed job style library h)
+      (of_job.typed job style library h) (of_job.default job style library h) h.same_library.preamble gi gs ei es keys (λ f. refl)
+      (λ i. name_of names (callee.User i)) (λ i. name_of names (callee.Field i)) (λ i. refl) (λ i. refl) (λ i. refl) (λ i. refl) (λ i. refl) (λ i. refl)
+      (of_job.key_names job style library h) (callee.EntryString i) (λ e j is. absurd (cc)) frame S (known_in S w (callee.EntryString i) k) kind.EntryString
+      (name_of names (callee.EntryString i)) refl)
   ran frame (callee.GlobalInteger i) S k w = plainly frame (callee.GlobalInteger i) S refl k w
-      (table.variable_same job style library of body entry (of_job.named job style library h) (of_job.keyed job style library h) (of_job.typed job style library h) (of_job.default job style library h) h.same_library.preamble gi gs ei es keys (λ f. refl) (λ i. name_of names (callee.User i)) (λ i. name_of names (callee.Field i)) (λ i. refl) (λ i. refl) (λ i. refl) (λ i. refl) (λ i. refl) (λ i. refl) (of_job.key_names job style library h) (callee.GlobalInteger i) (λ e j is. absurd (cc)) frame S (known_in S w (callee.GlobalInteger i) k) kind.GlobalInteger (name_of names (callee.GlobalInteger i)) refl)
+      (table.variable_same job style library of body entry (of_job.named job style library h) (of_job.keyed job style library h)
+      (of_job.typed job style library h) (of_job.default job style library h) h.same_library.preamble gi gs ei es keys (λ f. refl)
+      (λ i. name_of names (callee.User i)) (λ i. name_of names (callee.Field i)) (λ i. refl) (λ i. refl) (λ i. refl) (λ i. refl) (λ i. refl) (λ i. refl)
+      (of_job.key_names job style library h) (callee.GlobalInteger i) (λ e j is. absurd (cc)) frame S (known_in S w (callee.GlobalInteger i) k)
+      kind.GlobalInteger (name_of names (callee.GlobalInteger i)) refl)
   ran frame (callee.GlobalString i) S k w = plainly frame (callee.GlobalString i) S refl k w
-      (table.variable_same job style library of body entry (of_job.named job style library h) (of_job.keyed job style library h) (of_job.typed job style library h) (of_job.default job style library h) h.same_library.preamble gi gs ei es keys (λ f. refl) (λ i. name_of names (callee.User i)) (λ i. name_of names (callee.Field i)) (λ i. refl) (λ i. refl) (λ i. refl) (λ i. refl) (λ i. refl) (λ i. refl) (of_job.key_names job style library h) (callee.GlobalString i) (λ e j is. absurd (cc)) frame S (known_in S w (callee.GlobalString i) k) kind.GlobalString (name_of names (callee.GlobalString i)) refl)
+      (table.variable_same job style library of body entry (of_job.named job style library h) (of_job.keyed job style library h)
+      (of_job.typed job style library h) (of_job.default job style library h) h.same_library.preamble gi gs ei es keys (λ f. refl)
+      (λ i. name_of names (callee.User i)) (λ i. name_of names (callee.Field i)) (λ i. refl) (λ i. refl) (λ i. refl) (λ i. refl) (λ i. refl) (λ i. refl)
+      (of_job.key_names job style library h) (callee.GlobalString i) (λ e j is. absurd (cc)) frame S (known_in S w (callee.GlobalString i) k)
+      kind.GlobalString (name_of names (callee.GlobalString i)) refl)
 
   pub named_out : (out : Out) (s : State) (name : List ℕ) → SameOut before out s → SameOut before out (record s { executed = name })
   named_out out s name o = record { lines = o.lines; pending = o.pending; log = o.log; warnings = o.warnings; errors = o.errors }
 
   -- what a token does with numbers, its word does in names
-  pub step_same : (x : Token) (S : NumberedState) (s : State) → known x → SameState S s → SameEffect (token_effect job x S).next (token_effect job x S).state (word_effect computed here (word x) s)
+  pub step_same : (x : Token) (S : NumberedState) (s : State) → known x → SameState S s → SameEffect (token_effect job x S).next (token_effect job x S).state
+      (word_effect computed here (word x) s)
   unfolding token_effect step_of
   step_same (token.Text n) S s k r =
       let text = slice_index_or job.style.texts n [] in
-      literal_same S s (pushes_text said.Nothing text S.store) (push_text text s) r (silent_text text S.store) (variables_stay job (token.Text n) S.store refl) (fine_of (token.Text n) S s k r)
-      (ap (push_text text) r.is ∙ table.text_same job style library of body entry (of_job.named job style library h) (of_job.keyed job style library h) (of_job.typed job style library h) (of_job.default job style library h) h.same_library.preamble said.Nothing text (vars s S.store) S.store)
+      literal_same S s (pushes_text said.Nothing text S.store) (push_text text s) r (silent_text text S.store) (variables_stay job (token.Text n) S.store refl)
+      (fine_of (token.Text n) S s k r)
+      (ap (push_text text) r.is ∙ table.text_same job style library of body entry (of_job.named job style library h) (of_job.keyed job style library h)
+      (of_job.typed job style library h) (of_job.default job style library h) h.same_library.preamble said.Nothing text (vars s S.store) S.store)
   step_same (token.Integer n) S s k r =
-      literal_same S s (pushes said.Nothing (literal.Integer n) S.store) (push (Integer n) s) r (silent (literal.Integer n) S.store) (variables_stay job (token.Integer n) S.store refl) (fine_of (token.Integer n) S s k r)
-      (ap (push (Integer n)) r.is ∙ table.push_same job style library of body entry (of_job.named job style library h) (of_job.keyed job style library h) (of_job.typed job style library h) (of_job.default job style library h) h.same_library.preamble said.Nothing (literal.Integer n) (vars s S.store) S.store)
+      literal_same S s (pushes said.Nothing (literal.Integer n) S.store) (push (Integer n) s) r (silent (literal.Integer n) S.store)
+      (variables_stay job (token.Integer n) S.store refl) (fine_of (token.Integer n) S s k r)
+      (ap (push (Integer n)) r.is ∙ table.push_same job style library of body entry (of_job.named job style library h) (of_job.keyed job style library h)
+      (of_job.typed job style library h) (of_job.default job style library h) h.same_library.preamble said.Nothing (literal.Integer n) (vars s S.store)
+      S.store)
   step_same (token.Quote c) S s k r =
-      literal_same S s (pushes said.Nothing (literal.Function c) S.store) (push (Quoted (of c)) s) r (silent (literal.Function c) S.store) (variables_stay job (token.Quote c) S.store refl) (fine_of (token.Quote c) S s k r)
-      (ap (push (Quoted (of c))) r.is ∙ table.push_same job style library of body entry (of_job.named job style library h) (of_job.keyed job style library h) (of_job.typed job style library h) (of_job.default job style library h) h.same_library.preamble said.Nothing (literal.Function c) (vars s S.store) S.store)
+      literal_same S s (pushes said.Nothing (literal.Function c) S.store) (push (Quoted (of c)) s) r (silent (literal.Function c) S.store)
+      (variables_stay job (token.Quote c) S.store refl) (fine_of (token.Quote c) S s k r)
+      (ap (push (Quoted (of c))) r.is ∙ table.push_same job style library of body entry (of_job.named job style library h) (of_job.keyed job style library h)
+      (of_job.typed job style library h) (of_job.default job style library h) h.same_library.preamble said.Nothing (literal.Function c) (vars s S.store)
+      S.store)
   step_same (token.Run c) S s k r =
       let frame : State = record s { executed = shown_name (of c) } in
       let is : frame ≡ state_of frame S.store = ap (λ (u : State). record u { executed = shown_name (of c) }) r.is in
       let done = ran frame c S.store k r.whole in
-      now_same S.out frame (name_of names c) (function_run job c S.store) (function_effect computed here (of c) frame) (fine_of (token.Run c) S s k r).1 done.whole (of_job.named job style library h c)
+      now_same S.out frame (name_of names c) (function_run job c S.store) (function_effect computed here (of c) frame) (fine_of (token.Run c) S s k r).1
+      done.whole (of_job.named job style library h c)
       (named_out S.out s (shown_name (of c)) r.out) (ap (function_effect computed here (of c)) is ∙ done.same)
 
   -- ---- tests of loops, and depths
@@ -566,11 +731,14 @@ module _ (job : NumberedJob) (style : Style) (library : Library) (h : SameJob jo
       let is : frame ≡ state_of frame S.store = ap (λ (u : State). record u { executed = name }) r.is in
       let test = control.tested S.store.literals S.store in
       let same : test_of s ≡ (test.again, stacked (saying test.said test.store.current (vars frame S.store)) test.store) =
-      ap (λ (u : State). tested u.literals u) is ∙ table.tested_same job style library of body entry (of_job.named job style library h) (of_job.keyed job style library h) (of_job.typed job style library h) (of_job.default job style library h) h.same_library.preamble S.store.literals (vars frame S.store) S.store
+      ap (λ (u : State). tested u.literals u) is ∙ table.tested_same job style library of body entry (of_job.named job style library h)
+      (of_job.keyed job style library h) (of_job.typed job style library h) (of_job.default job style library h) h.same_library.preamble S.store.literals
+      (vars frame S.store) S.store
       ∙ ap (λ c. (test.again, stacked (saying test.said c (vars frame S.store)) test.store)) (current_kept S.store.literals S.store) in (
         sym (ap (λ (p : Bool × State). p.0) same),
         subst (SameState (turn_of job S).state) (sym (ap (λ (p : Bool × State). p.1) same))
-            (tested_state frame S test.said test.store (tested_whole S.store.literals S.store) (tested_fine job h.refers types S.store.literals S.store r.whole.literals) r.whole (named_out S.out s name r.out)),
+            (tested_state frame S test.said test.store (tested_whole S.store.literals S.store)
+            (tested_fine job h.refers types S.store.literals S.store r.whole.literals) r.whole (named_out S.out s name r.out)),
       ) where
         current_kept : (xs : List Numbered) (s : Store) → s.current ≡ (control.tested xs s).store.current
         current_kept [] s = refl
@@ -579,16 +747,26 @@ module _ (job : NumberedJob) (style : Style) (library : Library) (h : SameJob jo
         current_kept (literal.Function n ∷ xs) s = refl
         current_kept (literal.Missing ∷ xs) s = refl
 
-        tested_state : (frame : State) (S : NumberedState) (words : Said) (store : Store) → with_literals [] store ≡ with_literals [] S.store → HasAll job h.refers store.literals → Whole S.store → SameOut before S.out frame
+        tested_state : (frame : State) (S : NumberedState) (words : Said) (store : Store) → with_literals [] store ≡ with_literals [] S.store
+            → HasAll job h.refers store.literals → Whole S.store → SameOut before S.out frame
             → SameState (state store (said_on job frame.executed store.current words S.out)) (stacked (saying words store.current (vars frame S.store)) store)
         tested_state frame S words store e k w o = behind S.store S.out frame frame.executed (answers.answer next.Nothing words store) e (k, tt) w refl o
 
-  pub deepens_same : (S : NumberedState) (s : State) (d : ℕ) → SameState S s → SameState (record S { store = record S.store { deepest = max S.store.deepest d } }) (deeper d s)
+  pub deepens_same : (S : NumberedState) (s : State) (d : ℕ) → SameState S s
+      → SameState (record S { store = record S.store { deepest = max S.store.deepest d } }) (deeper d s)
   deepens_same S s d r =
       let store : Store = record S.store { deepest = max S.store.deepest d } in
       let w = r.whole in
       record {
-        whole = record { literals = w.literals; integers = w.integers; strings = w.strings; entries = w.entries; entry_integers = w.entry_integers; entry_strings = w.entry_strings; current = w.current };
+        whole = record {
+          literals = w.literals;
+          integers = w.integers;
+          strings = w.strings;
+          entries = w.entries;
+          entry_integers = w.entry_integers;
+          entry_strings = w.entry_strings;
+          current = w.current;
+        };
         is = ap (deeper d) r.is ∙ sym (ap (λ (u : State). state_of (record u { deepest = max u.deepest d }) store) r.is);
         out = record { lines = r.out.lines; pending = r.out.pending; log = r.out.log; warnings = r.out.warnings; errors = r.out.errors };
       }

@@ -70,16 +70,22 @@ same_unread file =
 -- ---- commands
 
 -- a command that stands here
-command_agree : (s : NumberedStyle) (t : SoFar) (here : Place) (o : CommandOutcome) → SameSoFar s t → Gap here here → numbered.CommandHere s here o → (e : CommandEnd) × Next LettersHere Named t here e × SameEnd o e
+command_agree : (s : NumberedStyle) (t : SoFar) (here : Place) (o : CommandOutcome) → SameSoFar s t → Gap here here → numbered.CommandHere s here o
+    → (e : CommandEnd) × Next LettersHere Named t here e × SameEnd o e
 command_agree s t here o h g (inl k) = let r = word_agree k.0 s t k.1 o h tt k.3 in (r.0, inl (k.0, k.1, (here, g, k.2), r.1), r.2)
-command_agree s t here o h g (inr k) =
-    (ended_at (Some k.0) t k.1, inr (k.0, k.1, (here, g, k.2), refl), subst (λ (o : CommandOutcome). SameEnd o (ended_at (Some k.0) t k.1)) (sym k.3) (record { wrong = refl; style = h; place = refl }))
+command_agree s t here o h g (inr k) = (
+  ended_at (Some k.0) t k.1,
+  inr (k.0, k.1, (here, g, k.2), refl),
+  subst (λ (o : CommandOutcome). SameEnd o (ended_at (Some k.0) t k.1)) (sym k.3)
+      (record { wrong = refl; style = h; place = refl }),
+)
 
 -- how far the reading has come behind a command
 abbrev Behind : Option Complaint → CommandEnd → StyleState → Type 0
 Behind wrong e next = (t : SoFar) × (p : Place) × FollowsOn e wrong t p × SameSoFar next.style t × (p ≡ next.place)
 
-behind : (wrong : Option Complaint) (s : NumberedStyle) (place : Place) (next : StyleState) (e : CommandEnd) → numbered.GoesOn wrong s place next → SameSoFar s e.style → e.place ≡ place → Behind wrong e next
+behind : (wrong : Option Complaint) (s : NumberedStyle) (place : Place) (next : StyleState) (e : CommandEnd) → numbered.GoesOn wrong s place next
+    → SameSoFar s e.style → e.place ≡ place → Behind wrong e next
 behind None s place next e k h same = subst (Behind None e) (sym k) (e.style, e.place, (refl, refl), h, same)
 behind (Some c) s place next e k h same =
     let said = and_messages s e.style ((c, place.number) ∷ []) h in
@@ -115,13 +121,15 @@ style_at end = record {
   types = unwrap_or end.types (λ name. None);
 }
 
-type_same : (s : NumberedStyle) (t : SoFar) (h : SameSoFar s t) (name : List ℕ) → IsMeant (numbers_of s h.functions) (option_map callee.User (type_of s name)) (unwrap_or t.types (λ name. None) name)
+type_same : (s : NumberedStyle) (t : SoFar) (h : SameSoFar s t) (name : List ℕ) → IsMeant (numbers_of s h.functions) (option_map callee.User (type_of s name))
+    (unwrap_or t.types (λ name. None) name)
 type_same s t h name = by s.before_read h.types where
   by : (before : Option ℕ) → SameTypes (numbers_of s h.functions) s.names before t.types
       → IsMeant (numbers_of s h.functions) (option_map callee.User (as_type before (named_lower s.names name))) (unwrap_or t.types (λ name. None) name)
   by None k = ap (λ (types : Option (List ℕ → Option Function)). unwrap_or types (λ name. None) name) k
   by (Some count) k =
-      subst (λ (types : Option (List ℕ → Option Function)). IsMeant (numbers_of s h.functions) (option_map callee.User (as_type (Some count) (named_lower s.names name))) (unwrap_or types (λ name. None) name)) (sym k.1) (k.2 name)
+      subst (λ (types : Option (List ℕ → Option Function)). IsMeant (numbers_of s h.functions)
+      (option_map callee.User (as_type (Some count) (named_lower s.names name))) (unwrap_or types (λ name. None) name)) (sym k.1) (k.2 name)
 
 same_at : (s : NumberedStyle) (t : SoFar) → SameSoFar s t → IsSameStyle s (style_at t)
 same_at s t h = record {

@@ -42,14 +42,16 @@ ascends : (key : Entry → List ℕ) (ys : List Entry) → Ascends key ys → or
 ascends key [] up = tt
 ascends key (y ∷ ys) up = (none_before key y ys up.0, ascends key ys up.1)
 
-same_ties : (key : Entry → List ℕ) (xs ys zs : List Entry) → IsInOrder key xs ys → IsInOrder key xs zs → (z : Entry) → filter (ties (by_key key) z) ys ≡ filter (ties (by_key key) z) zs
+same_ties : (key : Entry → List ℕ) (xs ys zs : List Entry) → IsInOrder key xs ys → IsInOrder key xs zs → (z : Entry) → filter (ties (by_key key) z) ys
+    ≡ filter (ties (by_key key) z) zs
 same_ties key xs ys zs h k z =
     filter_agree (ties (by_key key) z) (λ x. bytes_eq (key x) (key z)) (ties_are key z) ys
     ∙ h.ties_kept (key z) ∙ sym (k.ties_kept (key z))
     ∙ sym (filter_agree (ties (by_key key) z) (λ x. bytes_eq (key x) (key z)) (ties_are key z) zs)
 
 pub order_one : (key : Entry → List ℕ) (xs ys zs : List Entry) → IsInOrder key xs ys → IsInOrder key xs zs → ys ≡ zs
-order_one key xs ys zs h k = order.one_order (by_key key) (by_key_order key) ys zs (ascends key ys h.ascends) (ascends key zs k.ascends) (same_ties key xs ys zs h k)
+order_one key xs ys zs h k = order.one_order (by_key key) (by_key_order key) ys zs (ascends key ys h.ascends) (ascends key zs k.ascends)
+    (same_ties key xs ys zs h k)
 
 -- ---- and there is one
 
@@ -65,7 +67,8 @@ ascends_back key (y ∷ ys) up = (none_before_back key y ys up.0, ascends_back k
 pub tells : (key : Entry → List ℕ) (wanted : List ℕ) (x y : Entry) → by_key key y x ≡ true → bytes_eq (key x) wanted ≡ true → bytes_eq (key y) wanted ≡ false
 tells key wanted x y below one =
     ⊎_elim
-    (λ t. absurd (true≢false (sym below ∙ ap (λ k. precedes k (key x)) ((bytes_eq-Decides (key y) wanted).0 t ∙ sym ((bytes_eq-Decides (key x) wanted).0 one)) ∙ order.not_below_itself (by_key key) (by_key_order key) x)))
+    (λ t. absurd (true≢false (sym below ∙ ap (λ k. precedes k (key x)) ((bytes_eq-Decides (key y) wanted).0 t ∙ sym ((bytes_eq-Decides (key x) wanted).0 one))
+    ∙ order.not_below_itself (by_key key) (by_key_order key) x)))
     (λ f. f)
     (cases_Bool (bytes_eq (key y) wanted))
 

@@ -48,7 +48,8 @@ use Rattle.btx_core.specs.language.Files.Counts.{counts_of}
 use Rattle.btx_core.specs.refinement.Files.Readings.{job_named, reading_of}
 use Rattle.btx_core.specs.refinement.ComputedProduct.{product_of_files, product}
 use Rattle.btx_machine.specs.language.Saying.{ended_line}
-use Rattle.btx_core.specs.laws.ByNumbers.{item_by, IsListBehind, GoesOn, ItemsCome, IsStyleProduct, IsReadBy, AreRead, IsLibrary, IsStyleOf, IsProductOfFiles, IsTheProduct}
+use Rattle.btx_core.specs.laws.ByNumbers.{item_by, IsListBehind, GoesOn, ItemsCome, IsStyleProduct, IsReadBy, AreRead, IsLibrary, IsStyleOf, IsProductOfFiles}
+use Rattle.btx_core.specs.laws.ByNumbers.{IsTheProduct}
 
 -- ---- commands
 
@@ -95,12 +96,14 @@ behind_only job item.Integers list store next h = h
 behind_only job item.Strings list store next h = h
 behind_only job item.Macro list store next h = h
 
-goes : (o : Outcome) (Next : ℕ → State → Outcome → Type 0) (go : ℕ → State → Outcome) → ((left : ℕ) (s : State) → Next left s (go left s)) → GoesOn o Next (then_do o go)
+goes : (o : Outcome) (Next : ℕ → State → Outcome → Type 0) (go : ℕ → State → Outcome) → ((left : ℕ) (s : State) → Next left s (go left s))
+    → GoesOn o Next (then_do o go)
 goes (Done s left) Next go h = h left s
 goes (Stopped s) Next go h = refl
 goes (Limit kind s left) Next go h = refl
 
-goes_only : (o : Outcome) (Next : ℕ → State → Outcome → Type 0) (go : ℕ → State → Outcome) (outcome : Outcome) → ((left : ℕ) (s : State) (r : Outcome) → Next left s r → r ≡ go left s)
+goes_only : (o : Outcome) (Next : ℕ → State → Outcome → Type 0) (go : ℕ → State → Outcome) (outcome : Outcome)
+    → ((left : ℕ) (s : State) (r : Outcome) → Next left s r → r ≡ go left s)
     → GoesOn o Next outcome → outcome ≡ then_do o go
 goes_only (Done s left) Next go outcome h g = h left s outcome g
 goes_only (Stopped s) Next go outcome h g = g
@@ -113,32 +116,39 @@ come job (x ∷ xs) list left s =
     let next = list_after job x list s.store in (
       next,
       behind job x list s.store,
-      subst (λ o. GoesOn o (ItemsCome (meaning job) job xs next) (then_do (do_item job list x left s) (do_items job xs next))) (sym (item_same job list x left s))
+      subst (λ o. GoesOn o (ItemsCome (meaning job) job xs next) (then_do (do_item job list x left s) (do_items job xs next)))
+          (sym (item_same job list x left s))
           (goes (do_item job list x left s) (ItemsCome (meaning job) job xs next) (do_items job xs next) (λ left s. come job xs next left s)),
     )
 
-come_only : (job : Job) (xs : List Item) (list : List ℕ) (left : ℕ) (s : State) (outcome : Outcome) → ItemsCome (meaning job) job xs list left s outcome → outcome ≡ do_items job xs list left s
+come_only : (job : Job) (xs : List Item) (list : List ℕ) (left : ℕ) (s : State) (outcome : Outcome) → ItemsCome (meaning job) job xs list left s outcome
+    → outcome ≡ do_items job xs list left s
 unfolding do_items
 come_only job [] list left s outcome h = h
 come_only job (x ∷ xs) list left s outcome h =
     let next = list_after job x list s.store in
     let same = behind_only job x list s.store h.0 h.1 in
     let g = subst (λ n. GoesOn (item_by (meaning job) job list x left s) (ItemsCome (meaning job) job xs n) outcome) same h.2 in
-    goes_only (item_by (meaning job) job list x left s) (ItemsCome (meaning job) job xs next) (do_items job xs next) outcome (λ left s r k. come_only job xs next left s r k) g
+    goes_only (item_by (meaning job) job list x left s) (ItemsCome (meaning job) job xs next) (do_items job xs next) outcome
+    (λ left s r k. come_only job xs next left s r k) g
     ∙ ap (λ o. then_do o (do_items job xs next)) (item_same job list x left s)
 
 -- ---- a style
 
-executed : (job : Job) (counts : LogCounts) (line_length budget : ℕ) → IsStyleProduct job counts line_length budget (style_product job counts line_length budget)
+executed : (job : Job) (counts : LogCounts) (line_length budget : ℕ)
+    → IsStyleProduct job counts line_length budget (style_product job counts line_length budget)
 executed job counts line_length budget = record {
   means = by_steps job;
   meant = exists.holds job;
-  outcome = do_items job job.style.items [] budget (state (first_store job) (record { lines = []; pending = []; log = []; warnings = counts.warnings; errors = counts.errors }));
-  come = come job job.style.items [] budget (state (first_store job) (record { lines = []; pending = []; log = []; warnings = counts.warnings; errors = counts.errors }));
+  outcome = do_items job job.style.items [] budget
+      (state (first_store job) (record { lines = []; pending = []; log = []; warnings = counts.warnings; errors = counts.errors }));
+  come = come job job.style.items [] budget
+      (state (first_store job) (record { lines = []; pending = []; log = []; warnings = counts.warnings; errors = counts.errors }));
   product_is = refl;
 }
 
-executed_only : (job : Job) (counts : LogCounts) (line_length budget : ℕ) (product : Product) → IsStyleProduct job counts line_length budget product → product ≡ style_product job counts line_length budget
+executed_only : (job : Job) (counts : LogCounts) (line_length budget : ℕ) (product : Product) → IsStyleProduct job counts line_length budget product
+    → product ≡ style_product job counts line_length budget
 executed_only job counts line_length budget product h =
     let first = state (first_store job) (record { lines = []; pending = []; log = []; warnings = counts.warnings; errors = counts.errors }) in
     let come = subst (λ means. ItemsCome means job job.style.items [] budget first h.outcome) (same_tokens job h.means h.meant) h.come in
@@ -149,7 +159,8 @@ styled file text = style-read file text
 
 styled_only : (file text : List ℕ) (style : Style) → IsStyleOf file text style → style ≡ style_of file text
 styled_only file text style h =
-    (one-reading (style_state (unread_style file predefined) (beginning text)) h.0 (style-read file text).0 style (style_of file text) h.1 (style-read file text).1).1
+    (one-reading (style_state (unread_style file predefined) (beginning text)) h.0 (style-read file text).0 style (style_of file text) h.1
+    (style-read file text).1).1
 
 -- ---- databases
 
@@ -164,37 +175,48 @@ one_by goes too_long wanted reading database =
     (events_from (keeping wanted) reading.known wants.Item database.text) in
     record last { known = with_current_stored last.known }
 
-read_by : (goes too_long : Bool) (wanted : Request) (reading : Reading) (database : Database) → IsReadBy goes too_long wanted reading database (one_by goes too_long wanted reading database)
+read_by : (goes too_long : Bool) (wanted : Request) (reading : Reading) (database : Database)
+    → IsReadBy goes too_long wanted reading database (one_by goes too_long wanted reading database)
 read_by false too_long wanted reading database = refl
 read_by true true wanted reading database = refl
 read_by true false wanted reading database =
     (events_from (keeping wanted) reading.known wants.Item database.text, is_reading (keeping wanted) reading.known wants.Item database.text, refl)
 
-read_by_only : (goes too_long : Bool) (wanted : Request) (reading : Reading) (database : Database) (next : Reading) → IsReadBy goes too_long wanted reading database next → next ≡ one_by goes too_long wanted reading database
+read_by_only : (goes too_long : Bool) (wanted : Request) (reading : Reading) (database : Database) (next : Reading)
+    → IsReadBy goes too_long wanted reading database next → next ≡ one_by goes too_long wanted reading database
 read_by_only false too_long wanted reading database next h = h
 read_by_only true true wanted reading database next h = h
 read_by_only true false wanted reading database next h =
-    h.2 ∙ ap (λ events. record (fold (read_next wanted database) reading events) { known = with_current_stored (fold (read_next wanted database) reading events).known })
+    h.2 ∙ ap (λ events. record (fold (read_next wanted database) reading events) {
+      known =
+          with_current_stored (fold (read_next wanted database) reading events).known;
+    })
     (one_reading (keeping wanted) h.0 reading.known wants.Item database.text h.1)
 
 all_read : (wanted : Request) (reading : Reading) (databases : List Database) → AreRead wanted reading databases (fold (read_one wanted) reading databases)
 all_read wanted reading [] = refl
-all_read wanted reading (database ∷ databases) =
-    (read_one wanted reading database, read_by (goes_on reading.known.ending) (is_too_long database.text) wanted reading database, all_read wanted (read_one wanted reading database) databases)
+all_read wanted reading (database ∷ databases) = (
+  read_one wanted reading database,
+  read_by (goes_on reading.known.ending) (is_too_long database.text) wanted reading database,
+  all_read wanted (read_one wanted reading database) databases,
+)
 
-all_read_only : (wanted : Request) (reading : Reading) (databases : List Database) (last : Reading) → AreRead wanted reading databases last → last ≡ fold (read_one wanted) reading databases
+all_read_only : (wanted : Request) (reading : Reading) (databases : List Database) (last : Reading) → AreRead wanted reading databases last
+    → last ≡ fold (read_one wanted) reading databases
 all_read_only wanted reading [] last h = h
 all_read_only wanted reading (database ∷ databases) last h =
     let same = read_by_only (goes_on reading.known.ending) (is_too_long database.text) wanted reading database h.0 h.1 in
     all_read_only wanted h.0 databases last h.2 ∙ ap (λ next. fold (read_one wanted) next databases) same
 
-gathered : (wanted : Request) (macros : List (List ℕ × List ℕ)) (databases : List Database) → IsLibrary wanted macros databases (library_of wanted macros databases)
+gathered : (wanted : Request) (macros : List (List ℕ × List ℕ)) (databases : List Database)
+    → IsLibrary wanted macros databases (library_of wanted macros databases)
 unfolding library_of
 gathered wanted macros databases =
     let first : Reading = record { known = with_macros macros; messages = [] } in
     (fold (read_one wanted) first databases, all_read wanted first databases, refl)
 
-gathered_only : (wanted : Request) (macros : List (List ℕ × List ℕ)) (databases : List Database) (library : Library) → IsLibrary wanted macros databases library → library ≡ library_of wanted macros databases
+gathered_only : (wanted : Request) (macros : List (List ℕ × List ℕ)) (databases : List Database) (library : Library) → IsLibrary wanted macros databases library
+    → library ≡ library_of wanted macros databases
 unfolding library_of
 gathered_only wanted macros databases library h =
     let first : Reading = record { known = with_macros macros; messages = [] } in
@@ -205,18 +227,24 @@ gathered_only wanted macros databases library h =
 abbrev work : Style → Library → Options → Job
 work style library options = record { style = style; library = library; mode = options.text; entry_max = options.entry_max; global_max = options.global_max }
 
-of_files : (job : AuxJob) (read : FilesRead) (options : Options) (counts : LogCounts) (budget : ℕ) → IsProductOfFiles job read options counts budget (product_of_files job read options counts budget)
+of_files : (job : AuxJob) (read : FilesRead) (options : Options) (counts : LogCounts) (budget : ℕ)
+    → IsProductOfFiles job read options counts budget (product_of_files job read options counts budget)
 of_files job (Ends ending) options counts budget = refl
 of_files job (Found found) options counts budget = record {
   style = style_in found;
   styled = styled found.style.name found.style.bytes;
-  library = library_of (asked (style_in found) job options.min_crossrefs) (style_in found).macros (map (λ (file : NamedFile). record { file = file.name; text = file.bytes }) found.databases);
-  gathered = gathered (asked (style_in found) job options.min_crossrefs) (style_in found).macros (map (λ (file : NamedFile). record { file = file.name; text = file.bytes }) found.databases);
-  executed = executed (work (style_in found) (library_of (asked (style_in found) job options.min_crossrefs) (style_in found).macros (map (λ (file : NamedFile). record { file = file.name; text = file.bytes }) found.databases)) options)
+  library = library_of (asked (style_in found) job options.min_crossrefs) (style_in found).macros
+      (map (λ (file : NamedFile). record { file = file.name; text = file.bytes }) found.databases);
+  gathered = gathered (asked (style_in found) job options.min_crossrefs) (style_in found).macros
+      (map (λ (file : NamedFile). record { file = file.name; text = file.bytes }) found.databases);
+  executed = executed (work (style_in found)
+      (library_of (asked (style_in found) job options.min_crossrefs) (style_in found).macros
+      (map (λ (file : NamedFile). record { file = file.name; text = file.bytes }) found.databases)) options)
       counts options.line budget;
 }
 
-of_files_only : (job : AuxJob) (read : FilesRead) (options : Options) (counts : LogCounts) (budget : ℕ) (rest : Product) → IsProductOfFiles job read options counts budget rest → rest ≡ product_of_files job read options counts budget
+of_files_only : (job : AuxJob) (read : FilesRead) (options : Options) (counts : LogCounts) (budget : ℕ) (rest : Product)
+    → IsProductOfFiles job read options counts budget rest → rest ≡ product_of_files job read options counts budget
 of_files_only job (Ends ending) options counts budget rest h = h
 of_files_only job (Found found) options counts budget rest h =
     let databases : List Database = map (λ (file : NamedFile). record { file = file.name; text = file.bytes }) found.databases in

@@ -1,5 +1,6 @@
 -- A text is one style: what commands come to is determined.
-use Rattle.std.proofs.Common.{◌≡◌, ℕ, ◌==◌, ◌||◌, ◌+◌, length, unwrap_or, ◌⊎◌, inl, inr, Bool, true, false, List, [], ◌∷◌, ◌++◌, Option, None, Some, is_some, sym, ap, subst, ◌∙◌, refl, true≢false}
+use Rattle.std.proofs.Common.{◌≡◌, ℕ, ◌==◌, ◌||◌, ◌+◌, length, unwrap_or, ◌⊎◌, inl, inr, Bool, true, false, List, [], ◌∷◌, ◌++◌, Option, None, Some, is_some}
+use Rattle.std.proofs.Common.{sym, ap, subst, ◌∙◌, refl, true≢false}
 use Rattle.btx_text.specs.language.Class.{begins_name}
 use Rattle.btx_text.specs.language.Keys.{folded}
 use Rattle.btx_bst.specs.declared.command.Command.{Command as CommandName}
@@ -25,7 +26,9 @@ use Rattle.btx_bst.specs.laws.Places.{beginning}
 use Rattle.btx_bst.proofs.TokenSpellingLemmas.{gap_one, Agrees, spaced, sign_agrees, name_agrees, text_agrees, letters_agrees}
 use Rattle.btx_bst.proofs.WordSpellingLemmas.{token-met}
 use Rattle.btx_core.specs.language.Styles.{Function, Declared, Defined, Command, Execute, Iterate, Reverse, Style}
-use Rattle.btx_core.specs.language.StyleTexts.{SoFar, meaning, unread, and_name, and_command, and_says, CommandEnd, ended_at, Rule, Next, Opened, Closed, Where, Makes, Names, Lists, body_of, wrong_in, wrong_till, HasBody, is_function, Executes, Behind, Named, FollowsOn, AreCommands, IsStyle, is_a_field}
+use Rattle.btx_core.specs.language.StyleTexts.{SoFar, meaning, unread, and_name, and_command, and_says, CommandEnd, ended_at, Rule, Next, Opened, Closed, Where}
+use Rattle.btx_core.specs.language.StyleTexts.{Makes, Names, Lists, body_of, wrong_in, wrong_till, HasBody, is_function, Executes, Behind, Named, FollowsOn}
+use Rattle.btx_core.specs.language.StyleTexts.{AreCommands, IsStyle, is_a_field}
 use Rattle.btx_text.specs.laws.Bytes.{open_brace, close_brace}
 
 -- a byte that may stand in a list of names: its `}`, or one with which a name begins
@@ -65,7 +68,8 @@ next_one {A} R r rest h g s p o o' (inl k) (inr l) = absurd (took_slip k.0 l.0 k
 next_one {A} R r rest h g s p o o' (inr k) (inl l) = absurd (took_slip l.0 k.0 l.1 k.1 (one_read R r h p (Took l.0 l.1) (Slip k.0 k.1) l.2 k.2))
 next_one {A} R r rest h g s p o o' (inr k) (inr l) =
     let e = one_read R r h p (Slip k.0 k.1) (Slip l.0 l.1) k.2 l.2 in
-    k.3 ∙ ap (λ c. ended_at (Some c) s k.1) (slip_value {A = A} k.0 l.0 k.1 l.1 e) ∙ ap (λ q. ended_at (Some l.0) s q) (slip_place {A = A} k.0 l.0 k.1 l.1 e) ∙ sym l.3
+    k.3 ∙ ap (λ c. ended_at (Some c) s k.1) (slip_value {A = A} k.0 l.0 k.1 l.1 e) ∙ ap (λ q. ended_at (Some l.0) s q) (slip_place {A = A} k.0 l.0 k.1 l.1 e)
+    ∙ sym l.3
 
 opened_one : (rest : Rule) → One rest → One (Opened rest)
 opened_one rest g = next_one (StyleSignHere open_brace NoOpen) (λ p. brace_in 123 NoOpen p p.line) (λ none. rest) (sign_agrees 123 NoOpen) (λ none. g)
@@ -129,10 +133,12 @@ one_missing [] c d h k = h ∙ sym k
 one_missing (b ∷ bs) c d h k = h.1 ∙ sym k.1
 
 -- something that is neither a name nor the end of a list
-missing_here : (p : Place) (wrong : Complaint) (to : Place) → Gap p to → IsMissing is_list_byte NoName wrong to.line → IsMissing is_list_byte NoName wrong (ink p).line
+missing_here : (p : Place) (wrong : Complaint) (to : Place) → Gap p to → IsMissing is_list_byte NoName wrong to.line
+    → IsMissing is_list_byte NoName wrong (ink p).line
 missing_here p wrong to g m = subst (λ (r : Place). IsMissing is_list_byte NoName wrong r.line) (sym (gap_one p to g)) m
 
-names_one : (k : Kind) (rest : Rule) → One rest → (names names' : List (List ℕ)) (s : SoFar) (p : Place) (o o' : CommandEnd) → Names k names rest s p o → Names k names' rest s p o' → o ≡ o'
+names_one : (k : Kind) (rest : Rule) → One rest → (names names' : List (List ℕ)) (s : SoFar) (p : Place) (o o' : CommandEnd) → Names k names rest s p o
+    → Names k names' rest s p o' → o ≡ o'
 names_one k rest g [] [] s p o o' (inl h) (inl l) =
     let e = one_read (StyleSignHere close_brace NoClose) (λ p. brace_in 125 NoClose p p.line) (sign_agrees 125 NoClose) p (Took tt h.0) (Took tt l.0) h.1 l.1 in
     g s l.0 o o' (subst (λ q. rest s q o) (took_place tt tt h.0 l.0 e) h.2) l.2
@@ -157,7 +163,8 @@ names_one k rest g [] [] s p o o' (inr (inr h)) (inr (inl l)) =
     absurd (missing_line l.0 (ink p).line (missing_here p l.0 l.1 l.2 l.3) (list_name (ink p).line (named_line p h.0 h.1 h.2)))
 names_one k rest g [] [] s p o o' (inr (inr h)) (inr (inr l)) =
     let e = one_name p h.0 l.0 h.1 l.1 h.2 l.2 in
-    h.4 ∙ ap (λ n. ended_at (Some (NameTaken n)) s h.1) (took_value h.0 l.0 h.1 l.1 e) ∙ ap (λ q. ended_at (Some (NameTaken l.0)) s q) (took_place h.0 l.0 h.1 l.1 e) ∙ sym l.4
+    h.4 ∙ ap (λ n. ended_at (Some (NameTaken n)) s h.1) (took_value h.0 l.0 h.1 l.1 e)
+    ∙ ap (λ q. ended_at (Some (NameTaken l.0)) s q) (took_place h.0 l.0 h.1 l.1 e) ∙ sym l.4
 names_one k rest g [] (n ∷ ns) s p o o' (inl h) l =
     let c = closed_line p h.0 h.1 in
     absurd (close_is_no_name (ink p).line c.0 c.1 (named_line p n l.0 l.1))
@@ -326,7 +333,8 @@ executes_one command made = where_one _ _ _ (opened_one _ (named_one _ by)) wher
       ⊎ (((f : Function) → meaning style name ≡ Some f → is_function f ≡ true → ⊥) × (o ≡ ended_at (Some (Unknown name)) style from)))
   by name s p o o' (inl h) (inl k) =
       let same = function_one h.0 k.0 (sym h.1 ∙ k.1) in
-      closed_one (Makes (and_command (made k.0))) (makes_one (and_command (made k.0))) s p o o' (subst (λ f. Closed (Makes (and_command (made f))) s p o) same h.3) k.3
+      closed_one (Makes (and_command (made k.0))) (makes_one (and_command (made k.0))) s p o o'
+      (subst (λ f. Closed (Makes (and_command (made f))) s p o) same h.3) k.3
   by name s p o o' (inl h) (inr k) = absurd (k.0 h.0 h.1 h.2)
   by name s p o o' (inr h) (inl k) = absurd (h.0 k.0 k.1 k.2)
   by name s p o o' (inr h) (inr k) = h.1 ∙ sym k.1
@@ -341,7 +349,8 @@ behind_one command.Reverse = executes_one command.Reverse Reverse
 behind_one command.Sort = where_one _ _ _ (makes_one _)
 behind_one command.Integers = lists_one kind.GlobalInteger _ (makes_one _)
 behind_one command.Strings = lists_one kind.GlobalString _ (makes_one _)
-behind_one command.Macro = where_one _ _ _ (opened_one _ (named_one _ (λ name. where_one _ _ _ (closed_one _ (opened_one _ (text_one _ (λ text. closed_one _ (makes_one _))))))))
+behind_one command.Macro = where_one _ _ _
+    (opened_one _ (named_one _ (λ name. where_one _ _ _ (closed_one _ (opened_one _ (text_one _ (λ text. closed_one _ (makes_one _))))))))
 
 pub word_named : (c : CommandName) → command_named (folded (command_word_of c)) ≡ Some c
 unfolding command_named
@@ -379,7 +388,8 @@ one_gap p q r g h = sym (gap_one p q g) ∙ gap_one p r h
 
 pub skips_one : (p q : Place) → Skips p q → skipped p ≡ q
 skips_one p q h = at h.2 where
-  at : ((after : List (List ℕ)) × (p.after ≡ h.0 ++ [] ∷ after) × (q ≡ place_at (p.number + length h.0 + 1) [] after)) ⊎ ((p.after ≡ h.0) × (q ≡ place_at (p.number + length h.0) [] [])) → skipped p ≡ q
+  at : ((after : List (List ℕ)) × (p.after ≡ h.0 ++ [] ∷ after) × (q ≡ place_at (p.number + length h.0 + 1) [] after))
+      ⊎ ((p.after ≡ h.0) × (q ≡ place_at (p.number + length h.0) [] [])) → skipped p ≡ q
   at (inl k) = ap (skipped_from p.number) k.1 ∙ skipped-lines p.number p.line h.0 k.0 h.1 ∙ sym k.2
   at (inr k) = ap (skipped_from p.number) k.0 ∙ skipped-to_end p.number p.line h.0 h.1 ∙ sym k.1
 

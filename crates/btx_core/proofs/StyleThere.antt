@@ -1,5 +1,6 @@
 -- Each text is a style: commands, one after another, and its end.
-use Rattle.std.proofs.Common.{◌≡◌, ◌⊎◌, inl, inr, ℕ, zero, suc, ◌+◌, ◌<◌, ◌≤◌, ◌==◌, ◌||◌, Bool, true, false, cond, List, [], ◌∷◌, ◌++◌, length, Option, None, Some, is_some, unwrap_or, sym, ap, subst, ◌∙◌, refl, arith, true≢false}
+use Rattle.std.proofs.Common.{◌≡◌, ◌⊎◌, inl, inr, ℕ, zero, suc, ◌+◌, ◌<◌, ◌≤◌, ◌==◌, ◌||◌, Bool, true, false, cond, List, [], ◌∷◌, ◌++◌, length, Option, None}
+use Rattle.std.proofs.Common.{Some, is_some, unwrap_or, sym, ap, subst, ◌∙◌, refl, arith, true≢false}
 use Rattle.std.specs.Str.{bytes_eq}
 use Rattle.std.specs.Prelude.{codes}
 use Rattle.std.proofs.lemmas.Slice.Eq.{bytes_eq-Decides}
@@ -30,7 +31,9 @@ use Rattle.btx_bst.proofs.SizeLemmas.{ink-size, skipped-size}
 use Rattle.btx_bst.proofs.ListLemmas.{Sized, closing-size, opening-size, name_at-size, quoted_at-size, front_of-size}
 use Rattle.btx_bst.proofs.BodyTurnLemmas.{is_ended, met_at-size}
 use Rattle.btx_core.specs.language.Styles.{Function, Declared, Defined, Command, Execute, Iterate, Reverse, Style}
-use Rattle.btx_core.specs.language.StyleTexts.{SoFar, meaning, unread, and_name, and_command, and_says, CommandEnd, ended_at, Rule, Next, Opened, Closed, Where, Makes, Names, Lists, body_of, wrong_in, wrong_till, HasBody, is_function, Executes, Behind, Named, FollowsOn, AreCommands, IsStyle, is_a_field}
+use Rattle.btx_core.specs.language.StyleTexts.{SoFar, meaning, unread, and_name, and_command, and_says, CommandEnd, ended_at, Rule, Next, Opened, Closed, Where}
+use Rattle.btx_core.specs.language.StyleTexts.{Makes, Names, Lists, body_of, wrong_in, wrong_till, HasBody, is_function, Executes, Behind, Named, FollowsOn}
+use Rattle.btx_core.specs.language.StyleTexts.{AreCommands, IsStyle, is_a_field}
 use Rattle.btx_core.proofs.StyleLemmas.{skips_one, word_named, is_list_byte}
 use Rattle.btx_bst.proofs.WrittenLemmas.{ink_twice}
 
@@ -38,17 +41,20 @@ use Rattle.btx_bst.proofs.WrittenLemmas.{ink_twice}
 abbrev Has : Rule → Type 0
 Has R = (n : ℕ) (s : SoFar) (p : Place) → size p ≤ n → (o : CommandEnd) × R s p o × (size o.place ≤ n)
 
-unfoldable pub next_has : {A : Type 0} (R : StyleGrammar A) (r : Place → Read A) (rest : A → Rule) → Agrees R r → ((p : Place) → Sized (size p) (r (ink p))) → ((a : A) → Has (rest a)) → Has (Next R rest)
+unfoldable pub next_has : {A : Type 0} (R : StyleGrammar A) (r : Place → Read A) (rest : A → Rule) → Agrees R r → ((p : Place) → Sized (size p) (r (ink p)))
+    → ((a : A) → Has (rest a)) → Has (Next R rest)
 next_has {A} R r rest h sized g n s p le = by (r (ink p)) ((spaced R r h).met p) (sized p) where
   by : (x : Read A) → BehindGap R p x → Sized (size p) x → (o : CommandEnd) × Next R rest s p o × (size o.place ≤ n)
   by (Took a q) m z = let k = g a n s q (omega (arith, z, le)) in (k.0, inl (a, q, m, k.1), k.2)
   by (Slip c q) m z = (ended_at (Some c) s q, inr (c, q, m, refl), omega (arith, z, le))
 
 unfoldable pub opened_has : (rest : Rule) → Has rest → Has (Opened rest)
-opened_has rest g = next_has (StyleSignHere open_brace NoOpen) (λ p. brace_in 123 NoOpen p p.line) (λ none. rest) (sign_agrees 123 NoOpen) opening-size (λ none. g)
+opened_has rest g = next_has (StyleSignHere open_brace NoOpen) (λ p. brace_in 123 NoOpen p p.line) (λ none. rest) (sign_agrees 123 NoOpen) opening-size
+    (λ none. g)
 
 unfoldable pub closed_has : (rest : Rule) → Has rest → Has (Closed rest)
-closed_has rest g = next_has (StyleSignHere close_brace NoClose) (λ p. brace_in 125 NoClose p p.line) (λ none. rest) (sign_agrees 125 NoClose) closing-size (λ none. g)
+closed_has rest g = next_has (StyleSignHere close_brace NoClose) (λ p. brace_in 125 NoClose p p.line) (λ none. rest) (sign_agrees 125 NoClose) closing-size
+    (λ none. g)
 
 unfoldable pub named_has : (rest : List ℕ → Rule) → ((name : List ℕ) → Has (rest name)) → Has (Next StyleNameHere rest)
 named_has rest g = next_has StyleNameHere (λ p. name_in p p.line) rest name_agrees name_at-size g
@@ -67,7 +73,8 @@ makes_has change n s p le = (ended_at None (change s) p, refl, le)
 
 -- ---- lists
 
-unfoldable pub missing_both : (c d : Complaint) (line : List ℕ) → IsMissing (λ b. b == close_brace) NoClose c line → IsMissing begins_name NoName d line → IsMissing is_list_byte NoName d line
+unfoldable pub missing_both : (c d : Complaint) (line : List ℕ) → IsMissing (λ b. b == close_brace) NoClose c line → IsMissing begins_name NoName d line
+    → IsMissing is_list_byte NoName d line
 missing_both c d [] h k = k
 missing_both c d (b ∷ bs) h k = (by (b == close_brace) (begins_name b) h.0 k.0, k.1) where
   by : (t u : Bool) → t ≡ false → u ≡ false → (t || u) ≡ false
@@ -86,13 +93,17 @@ names_within (suc m) k rest g n s p le lt =
     by (closing p) ((spaced (StyleSignHere close_brace NoClose) (λ p. brace_in 125 NoClose p p.line) (sign_agrees 125 NoClose)).met p) (closing-size p)
     (next_name p) ((spaced StyleNameHere (λ p. name_in p p.line) name_agrees).met p) (name_at-size p)
     (λ s q le lt. names_within m k rest g n s q le lt) where
-      by : (x : Read (Unit {0})) → BehindGap (StyleSignHere close_brace NoClose) p x → Sized (size p) x → (y : Read (List ℕ)) → BehindGap StyleNameHere p y → Sized (size p) y
+      by : (x : Read (Unit {0})) → BehindGap (StyleSignHere close_brace NoClose) p x → Sized (size p) x → (y : Read (List ℕ)) → BehindGap StyleNameHere p y
+          → Sized (size p) y
           → ((s : SoFar) (q : Place) → size q ≤ n → size q < m → NamesFrom k rest n s q) → NamesFrom k rest n s p
       by (Took none q) h z y i u again = let r = g n s q (omega (arith, z, le)) in (r.0, ([], inl (q, h, r.1)), r.2)
       by (Slip c q) h z (Slip d r) i u again =
           let here = gap_same p i.0 h.0 i.1 h.1 in
-          let missing = missing_both c d i.0.line (subst (λ (x : Place). IsMissing (λ b. b == close_brace) NoClose c x.line) (sym here) h.2.1) i.2.1 in
-          (ended_at (Some d) s i.0, ([], inr (inl (d, i.0, i.1, missing, refl))), omega (arith, le, subst (λ (x : Place). size x ≤ size p) (gap_one p i.0 i.1) (ink-size p)))
+          let missing = missing_both c d i.0.line (subst (λ (x : Place). IsMissing (λ b. b == close_brace) NoClose c x.line) (sym here) h.2.1) i.2.1 in (
+            ended_at (Some d) s i.0,
+            ([], inr (inl (d, i.0, i.1, missing, refl))),
+            omega (arith, le, subst (λ (x : Place). size x ≤ size p) (gap_one p i.0 i.1) (ink-size p)),
+          )
       by (Slip c q) h z (Took name r) i u again = taken (is_some (meaning s name)) refl where
         taken : (t : Bool) → is_some (meaning s name) ≡ t → NamesFrom k rest n s p
         taken true e = (ended_at (Some (NameTaken name)) s r, ([], inr (inr (name, r, i, e, refl))), omega (arith, u, le))
@@ -207,7 +218,11 @@ executes_has command made = where_has _ _ _ (opened_has _ (named_has _ by)) wher
           × (((f : Function) × (meaning s name ≡ Some f) × (is_function f ≡ true) × Closed (Makes (and_command (made f))) s p o)
           ⊎ (((f : Function) → meaning s name ≡ Some f → is_function f ≡ true → ⊥) × (o ≡ ended_at (Some (Unknown name)) s p))) × (size o.place ≤ n)
       is true k = let r = closed_has (Makes (and_command (made f))) (makes_has (and_command (made f))) n s p le in (r.0, inl (f, e, k, r.1), r.2)
-      is false k = (ended_at (Some (Unknown name)) s p, inr ((λ g h l. absurd (true≢false (sym l ∙ ap is_function (some_function g f (sym h ∙ e)) ∙ k))), refl), le)
+      is false k = (
+        ended_at (Some (Unknown name)) s p,
+        inr ((λ g h l. absurd (true≢false (sym l ∙ ap is_function (some_function g f (sym h ∙ e)) ∙ k))), refl),
+        le,
+      )
 
 unfoldable pub behind_has : (c : CommandName) → Has (Behind c)
 behind_has command.Entry = where_has _ _ _ (lists_has kind.Field _ (lists_has kind.EntryInteger _ (lists_has kind.EntryString _ (makes_has _))))
@@ -219,13 +234,15 @@ behind_has command.Reverse = executes_has command.Reverse Reverse
 behind_has command.Sort = where_has _ _ _ (makes_has _)
 behind_has command.Integers = lists_has kind.GlobalInteger _ (makes_has _)
 behind_has command.Strings = lists_has kind.GlobalString _ (makes_has _)
-behind_has command.Macro = where_has _ _ _ (opened_has _ (named_has _ (λ name. where_has _ _ _ (closed_has _ (opened_has _ (text_has _ (λ text. closed_has _ (makes_has _))))))))
+behind_has command.Macro = where_has _ _ _
+    (opened_has _ (named_has _ (λ name. where_has _ _ _ (closed_has _ (opened_has _ (text_has _ (λ text. closed_has _ (makes_has _))))))))
 
 abbrev IsItsWord : List ℕ → Option CommandName → Type 0
 IsItsWord name None = Unit {0}
 IsItsWord name (Some c) = name ≡ folded (command_word_of c)
 
-unfoldable pub its_word : (name lit : List ℕ) (c : CommandName) (rest : Option CommandName) → lit ≡ folded (command_word_of c) → IsItsWord name rest → IsItsWord name (cond (bytes_eq name lit) (Some c) rest)
+unfoldable pub its_word : (name lit : List ℕ) (c : CommandName) (rest : Option CommandName) → lit ≡ folded (command_word_of c) → IsItsWord name rest
+    → IsItsWord name (cond (bytes_eq name lit) (Some c) rest)
 its_word name lit c rest e h = at (bytes_eq name lit) refl where
   at : (t : Bool) → bytes_eq name lit ≡ t → IsItsWord name (cond t (Some c) rest)
   at true f = (bytes_eq-Decides name lit).0 f ∙ e
@@ -245,7 +262,8 @@ no_word letters e c h = let f : command_named (folded letters) ≡ Some c = ap c
 
 unfoldable pub word_has : (letters : List ℕ) → Has (Named letters)
 word_has letters n s p le = by (command_named (folded letters)) refl (named_word (folded letters)) where
-  by : (o : Option CommandName) → command_named (folded letters) ≡ o → IsItsWord (folded letters) o → (end : CommandEnd) × Named letters s p end × (size end.place ≤ n)
+  by : (o : Option CommandName) → command_named (folded letters) ≡ o → IsItsWord (folded letters) o → (end : CommandEnd) × Named letters s p end
+      × (size end.place ≤ n)
   by None e w = (ended_at (Some (NotCommand letters)) s p, inr (no_word letters e, refl), le)
   by (Some c) e w = let k = behind_has c n s p le in (k.0, inl (c, w, k.1), k.2)
 
@@ -284,7 +302,8 @@ skips-most p q h = subst (λ (x : Place). size x + length p.line ≤ size p) (sk
 abbrev Follows : CommandEnd → ℕ → Type 0
 Follows o n = (s : SoFar) × (p : Place) × FollowsOn o o.wrong s p × (size p < n)
 
-unfoldable pub follows_by : (o : CommandEnd) (w : Option Complaint) (n : ℕ) → (size o.place < n) ⊎ ((size o.place ≤ n) × (0 < length o.place.line) × (is_some w ≡ true)) → (s : SoFar) × (p : Place) × FollowsOn o w s p × (size p < n)
+unfoldable pub follows_by : (o : CommandEnd) (w : Option Complaint) (n : ℕ) → (size o.place < n)
+    ⊎ ((size o.place ≤ n) × (0 < length o.place.line) × (is_some w ≡ true)) → (s : SoFar) × (p : Place) × FollowsOn o w s p × (size p < n)
 follows_by o None n (inl lt) = (o.style, o.place, (refl, refl), lt)
 follows_by o None n (inr h) = absurd (true≢false (sym h.2))
 follows_by o (Some c) n (inl lt) =
@@ -298,7 +317,8 @@ follows_by o (Some c) n (inr h) =
 
 -- a command where something stands
 abbrev Begun : SoFar → Place → Type 0
-Begun s p = (o : CommandEnd) × Next LettersHere Named s p o × ((size o.place < size p) ⊎ ((size o.place ≤ size p) × (0 < length o.place.line) × (is_some o.wrong ≡ true)))
+Begun s p = (o : CommandEnd) × Next LettersHere Named s p o
+    × ((size o.place < size p) ⊎ ((size o.place ≤ size p) × (0 < length o.place.line) × (is_some o.wrong ≡ true)))
 
 unfoldable pub begun : (s : SoFar) (p : Place) → Gap p p → 0 < length p.line → Begun s p
 begun s p g some = by (letters_at p) (letters_agrees.met p) (front_of-size NoCommand p p.line _ (size p) refl some (omega arith)) where

@@ -1,5 +1,7 @@
 -- The table of built-in functions, in names: what each does is what it does with numbers. Numbers of functions and of entries are named by `of` and `entry`.
-use Rattle.std.proofs.Common.{◌≡◌, ℕ, ℤ, pos, negsuc, zero, suc, ◌-◌, ◌<◌, ◌≤◌, ◌==◌, Bool, true, false, not, List, [], ◌∷◌, ◌++◌, length, map, drop, take, replicate, slice_set, decimal, Option, None, Some, Result, Ok, Err, option_map, option_and_then, is_none, if◌then◌else◌, nat_lt, sym, ap, ap₂, subst, ◌∙◌, refl, arith, append_assoc, append-nil, true≢false, codes, int_eq, int_lt, ◌+ℤ◌, ◌-ℤ◌}
+use Rattle.std.proofs.Common.{◌≡◌, ℕ, ℤ, pos, negsuc, zero, suc, ◌-◌, ◌<◌, ◌≤◌, ◌==◌, Bool, true, false, not, List, [], ◌∷◌, ◌++◌, length, map, drop, take}
+use Rattle.std.proofs.Common.{replicate, slice_set, decimal, Option, None, Some, Result, Ok, Err, option_map, option_and_then, is_none, if◌then◌else◌, nat_lt}
+use Rattle.std.proofs.Common.{sym, ap, ap₂, subst, ◌∙◌, refl, arith, append_assoc, append-nil, true≢false, codes, int_eq, int_lt, ◌+ℤ◌, ◌-ℤ◌}
 use Rattle.std.specs.List.{list_all}
 use Rattle.std.specs.Option.{option_or, option_map_or}
 use Rattle.std.specs.Str.{bytes_eq}
@@ -37,11 +39,16 @@ use Rattle.btx_step.specs.language.Notes.{note_line, note_text, place_of, note_k
 use Rattle.btx_step.specs.language.Operands as operands
 use Rattle.btx_step.specs.language.Operands.{Any, Of}
 use Rattle.btx_step.specs.language.Stores.{Store, EntryVariables}
-use Rattle.btx_core.specs.language.Styles.{set, Declared, Defined, Body, Entry, Function, Built, Integer, Text, Quoted, Missing, Job, Library, Literal, State, Style}
+use Rattle.btx_core.specs.language.Styles.{set, Declared, Defined, Body, Entry, Function, Built, Integer, Text, Quoted, Missing, Job, Library, Literal, State}
+use Rattle.btx_core.specs.language.Styles.{Style}
 use Rattle.btx_core.specs.language.Notes.{cut_to, name_of, shown, logs, place, error, errors, shows, empty_stack, no_entry, not_ascii}
-use Rattle.btx_core.specs.language.Functions.{Effect, Leaves, Meets, Runs, Opens, Loops, push, push_text_in, push_instead, zero_instead, empty_instead, Operand, AnyLiteral, AnInteger, AString, AFunction, AField, Value, not_what_was_asked, Does, on_literals, or_instead, by_rule, takes}
+use Rattle.btx_core.specs.language.Functions.{Effect, Leaves, Meets, Runs, Opens, Loops, push, push_text_in, push_instead, zero_instead, empty_instead, Operand}
+use Rattle.btx_core.specs.language.Functions.{AnyLiteral, AnInteger, AString, AFunction, AField, Value, not_what_was_asked, Does, on_literals, or_instead}
+use Rattle.btx_core.specs.language.Functions.{by_rule, takes}
 use Rattle.std.specs.Fmt.{signed_decimal}
-use Rattle.btx_core.specs.language.Functions.{function_effect, push_truth, push_text, in_entry, equals, push_result, code_of, character_of, changes_case, is_empty_field, is_positive, calls_type, row, built_in_effect, missing_without_entry, swaps, formats_name, assigns, tested}
+use Rattle.btx_core.specs.language.Functions.{function_effect, push_truth, push_text, in_entry, equals, push_result, code_of, character_of, changes_case}
+use Rattle.btx_core.specs.language.Functions.{is_empty_field, is_positive, calls_type, row, built_in_effect, missing_without_entry, swaps, formats_name}
+use Rattle.btx_core.specs.language.Functions.{assigns, tested}
 use Rattle.btx_core.specs.language.Names.{sections, has_third, numbered_name}
 use Rattle.btx_core.specs.language.Strings.{in_case, purified, text_length, text_prefix, width}
 use Rattle.btx_core.proofs.ComputedLemmas.{computed, in_case_same, formatted_same}
@@ -159,7 +166,8 @@ module _ (job : NumberedJob) (style : Style) (library : Library) (of : Callee �
 
   -- ---- notes
 
-  place_by : (frame : State) (current : Option ℕ) → codes " while executing " ++ frame.executed ++ option_map_or (λ (entry : Entry). codes " for entry " ++ entry.key) (option_map entry current) [] ≡ place_of frame.executed (key_now current)
+  place_by : (frame : State) (current : Option ℕ) → codes " while executing " ++ frame.executed
+      ++ option_map_or (λ (entry : Entry). codes " for entry " ++ entry.key) (option_map entry current) [] ≡ place_of frame.executed (key_now current)
   unfolding place_of
   place_by frame None = append-nil (codes " while executing " ++ frame.executed)
   place_by frame (Some e) =
@@ -172,7 +180,8 @@ module _ (job : NumberedJob) (style : Style) (library : Library) (of : Callee �
     pub of_kind : note_kind n ≡ line.Error
     pub of_place : has_place n ≡ true
 
-  line_same : (frame : State) (s : Store) (n : Note) (text : List ℕ) → IsError n text → message line.Error (text ++ place (in_names frame s)) ≡ line_of frame s.current n
+  line_same : (frame : State) (s : Store) (n : Note) (text : List ℕ) → IsError n text → message line.Error (text ++ place (in_names frame s))
+      ≡ line_of frame s.current n
   unfolding note_line
   line_same frame s n text h =
       ap (λ p. message line.Error (text ++ p)) (place_by frame s.current)
@@ -180,7 +189,8 @@ module _ (job : NumberedJob) (style : Style) (library : Library) (of : Callee �
       ∙ ap (λ k. message k (note_text job.style n ++ place_of frame.executed (key_now s.current))) (sym h.of_kind)
       ∙ ap (λ (z : Bool). message (note_kind n) (note_text job.style n ++ (if z then place_of frame.executed (key_now s.current) else []))) (sym h.of_place)
 
-  pub error_same : (frame : State) (s : Store) (n : Note) (text : List ℕ) → IsError n text → error text (in_names frame s) ≡ in_names (saying (said.Noted (n ∷ [])) s.current frame) s
+  pub error_same : (frame : State) (s : Store) (n : Note) (text : List ℕ) → IsError n text → error text (in_names frame s)
+      ≡ in_names (saying (said.Noted (n ∷ [])) s.current frame) s
   error_same frame s n text h = ap (λ l. record (in_names frame s) { log = frame.log ++ l ∷ [] }) (line_same frame s n text h)
 
   abbrev pub AreErrors : List Note → List (List ℕ) → Type 0
@@ -188,7 +198,8 @@ module _ (job : NumberedJob) (style : Style) (library : Library) (of : Callee �
   AreErrors (n ∷ ns) (t ∷ ts) = IsError n t × AreErrors ns ts
   AreErrors ns ts = true ≡ false
 
-  pub errors_same : (ns : List Note) (ts : List (List ℕ)) → AreErrors ns ts → (frame : State) (s : Store) → errors ts (in_names frame s) ≡ in_names (saying (said.Noted ns) s.current frame) s
+  pub errors_same : (ns : List Note) (ts : List (List ℕ)) → AreErrors ns ts → (frame : State) (s : Store) → errors ts (in_names frame s)
+      ≡ in_names (saying (said.Noted ns) s.current frame) s
   errors_same [] [] h frame s = ap (λ l. record (in_names frame s) { log = l }) (sym (append-nil frame.log))
   errors_same (n ∷ ns) (t ∷ ts) (h, hs) frame s =
       ap (errors ts) (error_same frame s n t h)
@@ -212,29 +223,36 @@ module _ (job : NumberedJob) (style : Style) (library : Library) (of : Callee �
   unfolding note_line note_text note_kind has_place
   warning_line frame current text = ap (message line.Warning) (sym (append-nil text))
 
-  pub shows_same : (xs : List Numbered) (frame : State) (s : Store) → shows (map lit xs) (in_names frame s) ≡ in_names (saying (said.Noted (map note.Shown xs)) s.current frame) s
+  pub shows_same : (xs : List Numbered) (frame : State) (s : Store) → shows (map lit xs) (in_names frame s)
+      ≡ in_names (saying (said.Noted (map note.Shown xs)) s.current frame) s
   shows_same [] frame s = ap (λ l. record (in_names frame s) { log = l }) (sym (append-nil frame.log))
   shows_same (x ∷ xs) frame s =
       ap (λ l. shows (map lit xs) (record (in_names frame s) { log = frame.log ++ l ∷ [] })) (shown_line frame s.current x)
       ∙ shows_same xs (saying (said.Noted (note.Shown x ∷ [])) s.current frame) s
-      ∙ ap (λ l. record (in_names frame s) { log = l }) (append_assoc frame.log (line_of frame s.current (note.Shown x) ∷ []) (map (line_of frame s.current) (map note.Shown xs)))
+      ∙ ap (λ l. record (in_names frame s) { log = l })
+      (append_assoc frame.log (line_of frame s.current (note.Shown x) ∷ []) (map (line_of frame s.current) (map note.Shown xs)))
 
   -- ---- results
 
-  pub push_same : (words : Said) (x : Numbered) (frame : State) (s : Store) → push (lit x) (in_names (saying words s.current frame) s) ≡ answered frame (pushes words x s)
+  pub push_same : (words : Said) (x : Numbered) (frame : State) (s : Store) → push (lit x) (in_names (saying words s.current frame) s)
+      ≡ answered frame (pushes words x s)
   push_same words x frame s =
-      ap (λ n. if nat_lt n MOST_LITERALS then Leaves (record t { literals = lit x ∷ map lit s.literals }) else Meets limit.Literals t) (length-map s.literals lit)
+      ap (λ n. if nat_lt n MOST_LITERALS then Leaves (record t { literals = lit x ∷ map lit s.literals }) else Meets limit.Literals t)
+      (length-map s.literals lit)
       ∙ choose (nat_lt (length s.literals) MOST_LITERALS) where
         t : State
         t = in_names (saying words s.current frame) s
 
-        choose : (b : Bool) → (if b then Leaves (record t { literals = lit x ∷ map lit s.literals }) else Meets limit.Literals t) ≡ answered frame (if b then answers.says words (answers.with_literals (x ∷ s.literals) s) else answers.answer (next.End limit.Literals) words s)
+        choose : (b : Bool) → (if b then Leaves (record t { literals = lit x ∷ map lit s.literals }) else Meets limit.Literals t)
+            ≡ answered frame (if b then answers.says words (answers.with_literals (x ∷ s.literals) s) else answers.answer (next.End limit.Literals) words s)
         choose true = refl
         choose false = refl
 
-  pub text_same : (words : Said) (text : List ℕ) (frame : State) (s : Store) → push_text_in (in_names (saying words s.current frame) s) text (in_names frame s) ≡ answered frame (answers.pushes_text words text s)
+  pub text_same : (words : Said) (text : List ℕ) (frame : State) (s : Store) → push_text_in (in_names (saying words s.current frame) s) text (in_names frame s)
+      ≡ answered frame (answers.pushes_text words text s)
   text_same words text frame s = choose (nat_lt greatest_string (length text)) where
-    choose : (b : Bool) → (if b then Meets limit.String (in_names frame s) else push (Text text) (in_names (saying words s.current frame) s)) ≡ answered frame (if b then answers.quiet (next.End limit.String) s else answers.pushes words (literal.Text text) s)
+    choose : (b : Bool) → (if b then Meets limit.String (in_names frame s) else push (Text text) (in_names (saying words s.current frame) s))
+        ≡ answered frame (if b then answers.quiet (next.End limit.String) s else answers.pushes words (literal.Text text) s)
     choose true = refl
     choose false = push_same words (literal.Text text) frame s
 
@@ -243,12 +261,15 @@ module _ (job : NumberedJob) (style : Style) (library : Library) (of : Callee �
   stand stand_in.Zero = zero_instead
   stand stand_in.Empty = empty_instead
 
-  pub complained_same : (ns : List Note) (ts : List (List ℕ)) → AreErrors ns ts → (instead : StandIn) → Same (λ s. push_instead (stand instead) (errors ts s)) (answers.complained ns instead)
+  pub complained_same : (ns : List Note) (ts : List (List ℕ)) → AreErrors ns ts → (instead : StandIn)
+      → Same (λ s. push_instead (stand instead) (errors ts s)) (answers.complained ns instead)
   complained_same ns ts h stand_in.Nothing frame s = ap Leaves (errors_same ns ts h frame s)
-  complained_same ns ts h stand_in.Zero frame s = ap (push (Integer (pos 0))) (errors_same ns ts h frame s) ∙ push_same (said.Noted ns) (literal.Integer (pos 0)) frame s
+  complained_same ns ts h stand_in.Zero frame s = ap (push (Integer (pos 0))) (errors_same ns ts h frame s)
+      ∙ push_same (said.Noted ns) (literal.Integer (pos 0)) frame s
   complained_same ns ts h stand_in.Empty frame s = ap (push (Text [])) (errors_same ns ts h frame s) ∙ push_same (said.Noted ns) (literal.Text []) frame s
 
-  complains_same : (n : Note) (t : List ℕ) → IsError n t → (instead : StandIn) → Same (λ s. push_instead (stand instead) (error t s)) (answers.complains n instead)
+  complains_same : (n : Note) (t : List ℕ) → IsError n t → (instead : StandIn)
+      → Same (λ s. push_instead (stand instead) (error t s)) (answers.complains n instead)
   complains_same n t h instead = complained_same (n ∷ []) (t ∷ []) (h, refl) instead
 
   -- ---- operands
@@ -331,22 +352,27 @@ module _ (job : NumberedJob) (style : Style) (library : Library) (of : Callee �
   none_then None f h = refl
   none_then (Some a) f h = h a
 
-  not_applied : (os : List Operand) (now : operands.Does (map asked os)) (xs : List Numbered) → length xs < length os → operands.applied (map asked os) now xs ≡ None
+  not_applied : (os : List Operand) (now : operands.Does (map asked os)) (xs : List Numbered) → length xs < length os → operands.applied (map asked os) now xs
+      ≡ None
   not_applied [] now [] h = absurd (omega (arith, h))
   not_applied [] now (x ∷ xs) h = absurd (omega (arith, h))
   not_applied (o ∷ os) now [] h = refl
-  not_applied (o ∷ os) now (x ∷ xs) h = none_then (operands.seen_as (asked o) x) (λ v. operands.applied (map asked os) (now v) xs) (λ v. not_applied os (now v) xs (omega (arith, h)))
+  not_applied (o ∷ os) now (x ∷ xs) h = none_then (operands.seen_as (asked o) x) (λ v. operands.applied (map asked os) (now v) xs)
+      (λ v. not_applied os (now v) xs (omega (arith, h)))
 
   all_absent : (os : List Operand) → operands.absent (map asked os) [] ≡ replicate (length os) note.EmptyStack
   all_absent [] = refl
   all_absent (o ∷ os) = ap (λ ns. note.EmptyStack ∷ ns) (all_absent os)
 
-  are_absent : (os : List Operand) (xs : List Numbered) (w : List Note) → length xs < length os → operands.or_else (operands.absent (map asked os) xs) w ≡ replicate (length os - length xs) note.EmptyStack
+  are_absent : (os : List Operand) (xs : List Numbered) (w : List Note) → length xs < length os → operands.or_else (operands.absent (map asked os) xs) w
+      ≡ replicate (length os - length xs) note.EmptyStack
   are_absent [] [] w h = absurd (omega (arith, h))
   are_absent [] (x ∷ xs) w h = absurd (omega (arith, h))
-  are_absent (o ∷ os) [] w h = let same : suc (length os) ≡ suc (length os) - 0 = omega arith in ap (λ ns. note.EmptyStack ∷ ns) (all_absent os) ∙ ap (λ k. replicate k note.EmptyStack) same
+  are_absent (o ∷ os) [] w h = let same : suc (length os) ≡ suc (length os) - 0 = omega arith in ap (λ ns. note.EmptyStack ∷ ns) (all_absent os)
+      ∙ ap (λ k. replicate k note.EmptyStack) same
   are_absent (o ∷ os) (x ∷ xs) w h =
-      let same : length os - length xs ≡ suc (length os) - suc (length xs) = omega arith in are_absent os xs w (omega (arith, h)) ∙ ap (λ k. replicate k note.EmptyStack) same
+      let same : length os - length xs ≡ suc (length os) - suc (length xs) = omega arith in are_absent os xs w (omega (arith, h))
+      ∙ ap (λ k. replicate k note.EmptyStack) same
 
   errors_absent : (k : ℕ) → AreErrors (replicate k note.EmptyStack) (replicate k empty_stack)
   errors_absent zero = refl
@@ -363,16 +389,19 @@ module _ (job : NumberedJob) (style : Style) (library : Library) (of : Callee �
       ap₂ side (length-map s.literals lit) (drop_map (length os) s.literals)
       ∙ by (nat_lt (length s.literals) (length os)) refl
       ∙ ap (λ k. answered frame (operands.or_default (operands.applied (map asked os) now s.literals) (operands.Push instead)
-      (operands.or_else (operands.absent (map asked os) s.literals) (operands.wrong (map asked os) s.literals)) s.literals (drop k s.literals) s)) (sym (length-map os asked)) where
+      (operands.or_else (operands.absent (map asked os) s.literals) (operands.wrong (map asked os) s.literals)) s.literals (drop k s.literals) s))
+      (sym (length-map os asked)) where
         side : ℕ → List Literal → Effect
-        side n ys = if nat_lt n (length os) then push_instead (stand instead) (errors (replicate (length os - n) empty_stack) (record (in_names frame s) { literals = ys }))
+        side n ys = if nat_lt n (length os) then push_instead (stand instead)
+            (errors (replicate (length os - n) empty_stack) (record (in_names frame s) { literals = ys }))
             else or_instead (on_literals os does (map lit s.literals)) (stand instead) (record (in_names frame s) { literals = ys })
 
         below : Store
         below = answers.with_literals (drop (length os) s.literals) s
 
         finish : (r : Result (State → Effect) (List ℕ)) (m : Option (Store → Answer)) (ns : List Note) → RelatedResult r m ns
-            → or_instead r (stand instead) (in_names frame below) ≡ answered frame (operands.or_default m (operands.Push instead) ns s.literals (drop (length os) s.literals) s)
+            → or_instead r (stand instead) (in_names frame below)
+            ≡ answered frame (operands.or_default m (operands.Push instead) ns s.literals (drop (length os) s.literals) s)
         finish (Ok does) (Some now) ns h = h frame below
         finish (Err text) None (n ∷ []) h = complains_same n text h instead frame below
         finish (Ok does) None ns h = absurd (true≢false h)
@@ -382,19 +411,24 @@ module _ (job : NumberedJob) (style : Style) (library : Library) (of : Callee �
 
         by : (b : Bool) → nat_lt (length s.literals) (length os) ≡ b → side (length s.literals) (map lit (drop (length os) s.literals))
             ≡ answered frame (operands.or_default (operands.applied (map asked os) now s.literals) (operands.Push instead)
-            (operands.or_else (operands.absent (map asked os) s.literals) (operands.wrong (map asked os) s.literals)) s.literals (drop (length os) s.literals) s)
+            (operands.or_else (operands.absent (map asked os) s.literals) (operands.wrong (map asked os) s.literals)) s.literals (drop (length os) s.literals)
+            s)
         by true h =
             ap (λ (z : Bool). if z then push_instead (stand instead) (errors (replicate (length os - length s.literals) empty_stack) (in_names frame below))
             else or_instead (on_literals os does (map lit s.literals)) (stand instead) (in_names frame below)) h
-            ∙ complained_same (replicate (length os - length s.literals) note.EmptyStack) (replicate (length os - length s.literals) empty_stack) (errors_absent (length os - length s.literals)) instead frame below
+            ∙ complained_same (replicate (length os - length s.literals) note.EmptyStack) (replicate (length os - length s.literals) empty_stack)
+            (errors_absent (length os - length s.literals)) instead frame below
             ∙ sym (ap₂ (λ m ns. answered frame (operands.or_default m (operands.Push instead) ns s.literals (drop (length os) s.literals) s))
-            (not_applied os now s.literals (ltb-true (length s.literals) (length os) h)) (are_absent os s.literals (operands.wrong (map asked os) s.literals) (ltb-true (length s.literals) (length os) h)))
+            (not_applied os now s.literals (ltb-true (length s.literals) (length os) h))
+            (are_absent os s.literals (operands.wrong (map asked os) s.literals) (ltb-true (length s.literals) (length os) h)))
         by false h =
             ap (λ (z : Bool). if z then push_instead (stand instead) (errors (replicate (length os - length s.literals) empty_stack) (in_names frame below))
             else or_instead (on_literals os does (map lit s.literals)) (stand instead) (in_names frame below)) h
-            ∙ finish (on_literals os does (map lit s.literals)) (operands.applied (map asked os) now s.literals) (operands.wrong (map asked os) s.literals) (enough os does now rel s.literals (ltb-false (length s.literals) (length os) h))
+            ∙ finish (on_literals os does (map lit s.literals)) (operands.applied (map asked os) now s.literals) (operands.wrong (map asked os) s.literals)
+            (enough os does now rel s.literals (ltb-false (length s.literals) (length os) h))
             ∙ sym (ap (λ ns. answered frame (operands.or_default (operands.applied (map asked os) now s.literals) (operands.Push instead)
-            (operands.or_else ns (operands.wrong (map asked os) s.literals)) s.literals (drop (length os) s.literals) s)) (none_absent os s.literals (ltb-false (length s.literals) (length os) h)))
+            (operands.or_else ns (operands.wrong (map asked os) s.literals)) s.literals (drop (length os) s.literals) s))
+            (none_absent os s.literals (ltb-false (length s.literals) (length os) h)))
 
   -- ---- rows
 
@@ -451,7 +485,8 @@ module _ (job : NumberedJob) (style : Style) (library : Library) (of : Callee �
 
   result_same : (n : ℤ) → Same (push_result n) (arithmetic.result_of n)
   result_same n frame s = by (arithmetic.fits n) where
-    by : (b : Bool) → (if b then push (Integer n) (in_names frame s) else push_instead zero_instead (error overflow (in_names frame s))) ≡ answered frame (if b then answers.pushed (literal.Integer n) s else answers.complains note.Overflow stand_in.Zero s)
+    by : (b : Bool) → (if b then push (Integer n) (in_names frame s) else push_instead zero_instead (error overflow (in_names frame s)))
+        ≡ answered frame (if b then answers.pushed (literal.Integer n) s else answers.complains note.Overflow stand_in.Zero s)
     by true = pushed_same (literal.Integer n) frame s
     by false = complains_same note.Overflow overflow overflow_is stand_in.Zero frame s
 
@@ -462,17 +497,22 @@ module _ (job : NumberedJob) (style : Style) (library : Library) (of : Callee �
 
   character_same : (n : ℤ) → Same (character_of n) (arithmetic.gives_character n)
   character_same (pos n) frame s = by (nat_lt n 128) where
-    by : (b : Bool) → (if b then push (Text (n ∷ [])) (in_names frame s) else push_instead empty_instead (error (not_ascii (pos n)) (in_names frame s))) ≡ answered frame (if b then answers.pushed (literal.Text (n ∷ [])) s else answers.complains (note.NotAscii (pos n)) stand_in.Empty s)
+    by : (b : Bool) → (if b then push (Text (n ∷ [])) (in_names frame s) else push_instead empty_instead (error (not_ascii (pos n)) (in_names frame s)))
+        ≡ answered frame (if b then answers.pushed (literal.Text (n ∷ [])) s else answers.complains (note.NotAscii (pos n)) stand_in.Empty s)
     by true = pushed_same (literal.Text (n ∷ [])) frame s
     by false = complains_same (note.NotAscii (pos n)) (not_ascii (pos n)) (not_ascii_is (pos n)) stand_in.Empty frame s
   character_same (negsuc n) frame s = complains_same (note.NotAscii (negsuc n)) (not_ascii (negsuc n)) (not_ascii_is (negsuc n)) stand_in.Empty frame s
 
   case_same : (letter text : List ℕ) → Same (changes_case computed here letter text) (strings.changes_case letter text)
   case_same letter text frame s = by (conversion_of letter) where
-    by : (c : Option Conversion) → option_map_or (λ (to : Conversion). push_text (in_case computed to text) (in_names frame s)) c (push_text_in (error (no_conversion letter) (in_names frame s)) text (in_names frame s))
-        ≡ answered frame (answers.pushes_text (answers.noted (only_if (option_map_or (λ (to : Conversion). no_complaints) c (record no_complaints { illegal_conversion = true })).illegal_conversion (note.NoConversion letter)))
+    by : (c : Option Conversion) → option_map_or (λ (to : Conversion). push_text (in_case computed to text) (in_names frame s)) c
+        (push_text_in (error (no_conversion letter) (in_names frame s)) text (in_names frame s))
+        ≡ answered frame (answers.pushes_text
+        (answers.noted (only_if (option_map_or (λ (to : Conversion). no_complaints) c
+        (record no_complaints { illegal_conversion = true })).illegal_conversion (note.NoConversion letter)))
         (option_map_or (λ (to : Conversion). cased_parts to [] (elements_of Bytes text)) c text) s)
-    by None = ap (λ t. push_text_in t text (in_names frame s)) (error_same frame s (note.NoConversion letter) (no_conversion letter) (no_conversion_is letter)) ∙ text_same (said.Noted (note.NoConversion letter ∷ [])) text frame s
+    by None = ap (λ t. push_text_in t text (in_names frame s)) (error_same frame s (note.NoConversion letter) (no_conversion letter) (no_conversion_is letter))
+        ∙ text_same (said.Noted (note.NoConversion letter ∷ [])) text frame s
     by (Some to) = ap (λ t. push_text t (in_names frame s)) (in_case_same to text) ∙ texts_same (cased_parts to [] (elements_of Bytes text)) frame s
 
   empty_same : (f : Option (List ℕ)) → Same (push_truth (is_empty_field f)) (strings.finds_empty f)
@@ -483,10 +523,12 @@ module _ (job : NumberedJob) (style : Style) (library : Library) (of : Callee �
   missing_same None = truth_same true
   missing_same (Some text) = truth_same false
 
-  in_entry_same : (does : Entry → State → Effect) (now : ℕ → Store → Answer) → ((i : ℕ) (frame : State) (s : Store) → s.current ≡ Some i → does (entry i) (in_names frame s) ≡ answered frame (now i s))
+  in_entry_same : (does : Entry → State → Effect) (now : ℕ → Store → Answer)
+      → ((i : ℕ) (frame : State) (s : Store) → s.current ≡ Some i → does (entry i) (in_names frame s) ≡ answered frame (now i s))
       → Same (in_entry does) (λ s. variables.in_entry now s.current s)
   in_entry_same does now h frame s = by s.current refl where
-    by : (c : Option ℕ) → s.current ≡ c → option_map_or (λ (entry : Entry). does entry (in_names frame s)) (option_map entry c) (Leaves (error no_entry (in_names frame s))) ≡ answered frame (variables.in_entry now c s)
+    by : (c : Option ℕ) → s.current ≡ c → option_map_or (λ (entry : Entry). does entry (in_names frame s)) (option_map entry c)
+        (Leaves (error no_entry (in_names frame s))) ≡ answered frame (variables.in_entry now c s)
     by None e = complains_same note.NoEntry no_entry no_entry_is stand_in.Nothing frame s
     by (Some i) e = h i frame s e
 
@@ -495,13 +537,16 @@ module _ (job : NumberedJob) (style : Style) (library : Library) (of : Callee �
   positive_same (pos (suc n)) = lt-ltb 0 (suc n) (omega arith)
   positive_same (negsuc n) = refl
 
-  calls_same : (own other : Option ℕ) → Same (λ s. option_map_or (λ (f : Function). Runs f s) (option_or (option_map (λ (f : ℕ). of (callee.User f)) own) (option_map (λ (f : ℕ). of (callee.User f)) other)) (Leaves s))
+  calls_same : (own other : Option ℕ)
+      → Same (λ s. option_map_or (λ (f : Function). Runs f s)
+      (option_or (option_map (λ (f : ℕ). of (callee.User f)) own) (option_map (λ (f : ℕ). of (callee.User f)) other)) (Leaves s))
       (option_map_or (λ (function : ℕ). answers.quiet (next.Run (callee.User function))) (option_or own other) answers.done)
   calls_same None None frame s = refl
   calls_same None (Some f) frame s = refl
   calls_same (Some f) other frame s = refl
 
-  type_same : (own : Option ℕ) → option_map_or name_of (option_map (λ (f : ℕ). of (callee.User f)) own) [] ≡ option_map_or (λ (function : ℕ). number_name job.style.names (callee.User function)) own []
+  type_same : (own : Option ℕ) → option_map_or name_of (option_map (λ (f : ℕ). of (callee.User f)) own) []
+      ≡ option_map_or (λ (function : ℕ). number_name job.style.names (callee.User function)) own []
   type_same None = refl
   type_same (Some f) = named (callee.User f)
 
@@ -518,10 +563,12 @@ module _ (job : NumberedJob) (style : Style) (library : Library) (of : Callee �
   equals_row = rule (AnyLiteral ∷ AnyLiteral ∷ []) stand_in.Zero equals arithmetic.equals equals_same
 
   greater_row : RowSame built_in.Greater
-  greater_row = rule two_integers stand_in.Zero (λ b a. push_truth (int_lt b a)) (λ b a. answers.pushed (answers.truth (int_lt b a))) (λ b a. truth_same (int_lt b a))
+  greater_row = rule two_integers stand_in.Zero (λ b a. push_truth (int_lt b a)) (λ b a. answers.pushed (answers.truth (int_lt b a)))
+      (λ b a. truth_same (int_lt b a))
 
   less_row : RowSame built_in.Less
-  less_row = rule two_integers stand_in.Zero (λ b a. push_truth (int_lt a b)) (λ b a. answers.pushed (answers.truth (int_lt a b))) (λ b a. truth_same (int_lt a b))
+  less_row = rule two_integers stand_in.Zero (λ b a. push_truth (int_lt a b)) (λ b a. answers.pushed (answers.truth (int_lt a b)))
+      (λ b a. truth_same (int_lt a b))
 
   plus_row : RowSame built_in.Plus
   plus_row = rule two_integers stand_in.Zero (λ b a. push_result (a +ℤ b)) (λ b a. arithmetic.result_of (a +ℤ b)) (λ b a. result_same (a +ℤ b))
@@ -530,13 +577,16 @@ module _ (job : NumberedJob) (style : Style) (library : Library) (of : Callee �
   minus_row = rule two_integers stand_in.Zero (λ b a. push_result (a -ℤ b)) (λ b a. arithmetic.result_of (a -ℤ b)) (λ b a. result_same (a -ℤ b))
 
   concatenate_row : RowSame built_in.Concatenate
-  concatenate_row = rule (AString ∷ AString ∷ []) stand_in.Empty (λ last first. push_text (first ++ last)) (λ last first. answers.pushed_text (first ++ last)) (λ last first. texts_same (first ++ last))
+  concatenate_row = rule (AString ∷ AString ∷ []) stand_in.Empty (λ last first. push_text (first ++ last)) (λ last first. answers.pushed_text (first ++ last))
+      (λ last first. texts_same (first ++ last))
 
   add_period_row : RowSame built_in.AddPeriod
-  add_period_row = rule (AString ∷ []) stand_in.Empty (λ text. push_text (add_period_of text)) (λ text. answers.pushed_text (add_period_of text)) (λ text. texts_same (add_period_of text))
+  add_period_row = rule (AString ∷ []) stand_in.Empty (λ text. push_text (add_period_of text)) (λ text. answers.pushed_text (add_period_of text))
+      (λ text. texts_same (add_period_of text))
 
   call_type_row : RowSame built_in.CallType
-  call_type_row = rule [] stand_in.Nothing (in_entry (calls_type computed here)) ((table.row built_in.CallType).does job) (in_entry_same (calls_type computed here) _ (λ i frame s e.
+  call_type_row = rule [] stand_in.Nothing (in_entry (calls_type computed here)) ((table.row built_in.CallType).does job)
+      (in_entry_same (calls_type computed here) _ (λ i frame s e.
       ap₂ (λ own other. option_map_or (λ (f : Function). Runs f (in_names frame s)) (option_or own other) (Leaves (in_names frame s))) (typed i) default
       ∙ calls_same (entry_type (entry_of job i)) (type_of job.style (codes "default.type")) frame s))
 
@@ -547,7 +597,8 @@ module _ (job : NumberedJob) (style : Style) (library : Library) (of : Callee �
   chr_row = rule (AString ∷ []) stand_in.Zero code_of arithmetic.gives_code code_same
 
   cite_row : RowSame built_in.Cite
-  cite_row = rule [] stand_in.Nothing (in_entry (λ entry. push_text entry.key)) ((table.row built_in.Cite).does job) (in_entry_same (λ entry. push_text entry.key) _ (λ i frame s e.
+  cite_row = rule [] stand_in.Nothing (in_entry (λ entry. push_text entry.key)) ((table.row built_in.Cite).does job)
+      (in_entry_same (λ entry. push_text entry.key) _ (λ i frame s e.
       ap (λ k. push_text k (in_names frame s)) (keyed i) ∙ texts_same (key_of (entry_of job i)) frame s))
 
   duplicate_row : RowSame built_in.Duplicate
@@ -558,38 +609,48 @@ module _ (job : NumberedJob) (style : Style) (library : Library) (of : Callee �
   empty_row = rule (AField ∷ []) stand_in.Zero (λ f. push_truth (is_empty_field f)) strings.finds_empty empty_same
 
   if_row : RowSame built_in.If
-  if_row = rule (AFunction ∷ AFunction ∷ AnInteger ∷ []) stand_in.Nothing (λ otherwise positive n. Runs (if is_positive n then positive else otherwise)) ((table.row built_in.If).does job) is where
-    choose : (b : Bool) (otherwise positive : Callee) → (if b then of positive else of otherwise) ≡ of (if b then positive else otherwise)
-    choose true otherwise positive = refl
-    choose false otherwise positive = refl
+  if_row = rule (AFunction ∷ AFunction ∷ AnInteger ∷ []) stand_in.Nothing (λ otherwise positive n. Runs (if is_positive n then positive else otherwise))
+      ((table.row built_in.If).does job) is where
+        choose : (b : Bool) (otherwise positive : Callee) → (if b then of positive else of otherwise) ≡ of (if b then positive else otherwise)
+        choose true otherwise positive = refl
+        choose false otherwise positive = refl
 
-    is : (otherwise positive : Callee) (n : ℤ) → Same (Runs (if is_positive n then of positive else of otherwise)) (answers.quiet (next.Run (if control.is_positive n then positive else otherwise)))
-    is otherwise positive n frame s =
-        ap (λ (b : Bool). Runs (if b then of positive else of otherwise) (in_names frame s)) (positive_same n)
-        ∙ ap (λ f. Runs f (in_names frame s)) (choose (control.is_positive n) otherwise positive)
+        is : (otherwise positive : Callee) (n : ℤ) → Same (Runs (if is_positive n then of positive else of otherwise))
+            (answers.quiet (next.Run (if control.is_positive n then positive else otherwise)))
+        is otherwise positive n frame s =
+            ap (λ (b : Bool). Runs (if b then of positive else of otherwise) (in_names frame s)) (positive_same n)
+            ∙ ap (λ f. Runs f (in_names frame s)) (choose (control.is_positive n) otherwise positive)
 
   int_chr_row : RowSame built_in.IntToChr
   int_chr_row = rule (AnInteger ∷ []) stand_in.Empty character_of arithmetic.gives_character character_same
 
   int_str_row : RowSame built_in.IntToStr
-  int_str_row = rule (AnInteger ∷ []) stand_in.Empty (λ n. push (Text (signed_decimal n))) ((table.row built_in.IntToStr).does job) (λ n. pushed_same (literal.Text (signed_decimal n)))
+  int_str_row = rule (AnInteger ∷ []) stand_in.Empty (λ n. push (Text (signed_decimal n))) ((table.row built_in.IntToStr).does job)
+      (λ n. pushed_same (literal.Text (signed_decimal n)))
 
   -- `missing$` without an entry
-  missing_none : (xs : List Numbered) (frame : State) (s : Store) → Leaves (error no_entry (if length (map lit xs) == 0 then error empty_stack (record (in_names frame s) { literals = drop 1 (map lit xs) }) else record (in_names frame s) { literals = drop 1 (map lit xs) }))
+  missing_none : (xs : List Numbered) (frame : State) (s : Store)
+      → Leaves (error no_entry (if length (map lit xs) == 0 then error empty_stack (record (in_names frame s) { literals = drop 1 (map lit xs) }) else record
+      (in_names frame s) { literals = drop 1 (map lit xs) }))
       ≡ answered frame (answers.complained (operands.absent (Any ∷ []) xs ++ note.NoEntry ∷ []) stand_in.Nothing (answers.with_literals (drop 1 xs) s))
-  missing_none [] frame s = complained_same (note.EmptyStack ∷ note.NoEntry ∷ []) (empty_stack ∷ no_entry ∷ []) (empty_is, (no_entry_is, refl)) stand_in.Nothing frame (answers.with_literals [] s)
+  missing_none [] frame s = complained_same (note.EmptyStack ∷ note.NoEntry ∷ []) (empty_stack ∷ no_entry ∷ []) (empty_is, (no_entry_is, refl)) stand_in.Nothing
+      frame (answers.with_literals [] s)
   missing_none (x ∷ xs) frame s =
-      ap (λ (z : Bool). Leaves (error no_entry (if z then error empty_stack (record (in_names frame s) { literals = map lit xs }) else record (in_names frame s) { literals = map lit xs }))) (not_zero (length (map lit xs)))
+      ap (λ (z : Bool). Leaves (error no_entry
+      (if z then error empty_stack (record (in_names frame s) { literals = map lit xs }) else record (in_names frame s) { literals = map lit xs })))
+      (not_zero (length (map lit xs)))
       ∙ complains_same note.NoEntry no_entry no_entry_is stand_in.Nothing frame (answers.with_literals xs s)
 
   missing_row : RowSame built_in.Missing
   missing_row = rule (AField ∷ []) stand_in.Zero (λ f. push_truth (is_none f)) entries.finds_missing missing_same
 
   newline_row : RowSame built_in.NewLine
-  newline_row = rule [] stand_in.Nothing (λ s. Leaves (record s { lines = s.lines ++ s.pending ∷ []; pending = [] })) ((table.row built_in.NewLine).does job) (λ frame s. refl)
+  newline_row = rule [] stand_in.Nothing (λ s. Leaves (record s { lines = s.lines ++ s.pending ∷ []; pending = [] })) ((table.row built_in.NewLine).does job)
+      (λ frame s. refl)
 
   num_names_row : RowSame built_in.NumNames
-  num_names_row = rule (AString ∷ []) stand_in.Zero (λ text. push (Integer (pos (length (names_of text))))) ((table.row built_in.NumNames).does job) (λ text. pushed_same (literal.Integer (pos (length (names_of text)))))
+  num_names_row = rule (AString ∷ []) stand_in.Zero (λ text. push (Integer (pos (length (names_of text))))) ((table.row built_in.NumNames).does job)
+      (λ text. pushed_same (literal.Integer (pos (length (names_of text)))))
 
   pop_row : RowSame built_in.Pop
   pop_row = rule (AnyLiteral ∷ []) stand_in.Nothing (λ x. Leaves) ((table.row built_in.Pop).does job) (λ x frame s. refl)
@@ -599,7 +660,8 @@ module _ (job : NumberedJob) (style : Style) (library : Library) (of : Callee �
       (λ frame s. ap (λ t. push (Text t) (in_names frame s)) preamble ∙ pushed_same (literal.Text job.library.preamble) frame s)
 
   purify_row : RowSame built_in.Purify
-  purify_row = rule (AString ∷ []) stand_in.Empty (λ text. push_text (purified computed text)) ((table.row built_in.Purify).does job) (λ text. texts_same (purify_of text))
+  purify_row = rule (AString ∷ []) stand_in.Empty (λ text. push_text (purified computed text)) ((table.row built_in.Purify).does job)
+      (λ text. texts_same (purify_of text))
 
   quote_row : RowSame built_in.Quote
   quote_row = rule [] stand_in.Nothing (push (Text (codes "\""))) ((table.row built_in.Quote).does job) (pushed_same (literal.Text (codes "\"")))
@@ -612,19 +674,23 @@ module _ (job : NumberedJob) (style : Style) (library : Library) (of : Callee �
       (λ frame s. ap (λ t. Leaves (record t { literals = [] })) (shows_same s.literals frame s))
 
   substring_row : RowSame built_in.Substring
-  substring_row = rule (AnInteger ∷ AnInteger ∷ AString ∷ []) stand_in.Empty (λ size start text. push_text (substring_of text start size)) ((table.row built_in.Substring).does job)
+  substring_row = rule (AnInteger ∷ AnInteger ∷ AString ∷ []) stand_in.Empty (λ size start text. push_text (substring_of text start size))
+      ((table.row built_in.Substring).does job)
       (λ size start text. texts_same (substring_of text start size))
 
   text_length_row : RowSame built_in.TextLength
-  text_length_row = rule (AString ∷ []) stand_in.Zero (λ text. push (Integer (pos (text_length computed job.mode text)))) ((table.row built_in.TextLength).does job)
+  text_length_row = rule (AString ∷ []) stand_in.Zero (λ text. push (Integer (pos (text_length computed job.mode text))))
+      ((table.row built_in.TextLength).does job)
       (λ text. pushed_same (literal.Integer (pos (text_length_of job.mode text))))
 
   text_prefix_row : RowSame built_in.TextPrefix
-  text_prefix_row = rule (AnInteger ∷ AString ∷ []) stand_in.Empty (λ count text. push_text (text_prefix computed job.mode text count)) ((table.row built_in.TextPrefix).does job)
+  text_prefix_row = rule (AnInteger ∷ AString ∷ []) stand_in.Empty (λ count text. push_text (text_prefix computed job.mode text count))
+      ((table.row built_in.TextPrefix).does job)
       (λ count text. texts_same (text_prefix_of job.mode text count))
 
   top_row : RowSame built_in.Top
-  top_row = rule (AnyLiteral ∷ []) stand_in.Nothing (λ x s. Leaves (shows (x ∷ []) s)) ((table.row built_in.Top).does job) (λ v frame s. ap Leaves (shows_same (v ∷ []) frame s))
+  top_row = rule (AnyLiteral ∷ []) stand_in.Nothing (λ x s. Leaves (shows (x ∷ []) s)) ((table.row built_in.Top).does job)
+      (λ v frame s. ap Leaves (shows_same (v ∷ []) frame s))
 
   type_row : RowSame built_in.Type
   type_row = rule [] stand_in.Nothing (in_entry (λ entry. push_text (option_map_or name_of entry.kind []))) ((table.row built_in.Type).does job)
@@ -638,13 +704,16 @@ module _ (job : NumberedJob) (style : Style) (library : Library) (of : Callee �
       (λ text frame s. ap (λ l. Leaves (record (in_names frame s) { log = frame.log ++ l ∷ [] })) (warning_line frame s.current text))
 
   while_row : RowSame built_in.While
-  while_row = rule (AFunction ∷ AFunction ∷ []) stand_in.Nothing (λ body test. Loops test body) ((table.row built_in.While).does job) (λ body test frame s. refl)
+  while_row = rule (AFunction ∷ AFunction ∷ []) stand_in.Nothing (λ body test. Loops test body) ((table.row built_in.While).does job)
+      (λ body test frame s. refl)
 
   width_row : RowSame built_in.Width
-  width_row = rule (AString ∷ []) stand_in.Zero (λ text. push (Integer (pos (width computed text)))) ((table.row built_in.Width).does job) (λ text. pushed_same (literal.Integer (pos (width_of text))))
+  width_row = rule (AString ∷ []) stand_in.Zero (λ text. push (Integer (pos (width computed text)))) ((table.row built_in.Width).does job)
+      (λ text. pushed_same (literal.Integer (pos (width_of text))))
 
   write_row : RowSame built_in.Write
-  write_row = rule (AString ∷ []) stand_in.Nothing (λ text s. Leaves (record s { pending = s.pending ++ text })) ((table.row built_in.Write).does job) (λ text frame s. refl)
+  write_row = rule (AString ∷ []) stand_in.Nothing (λ text s. Leaves (record s { pending = s.pending ++ text })) ((table.row built_in.Write).does job)
+      (λ text frame s. refl)
 
   -- ---- `format.name$`
 
@@ -656,7 +725,8 @@ module _ (job : NumberedJob) (style : Style) (library : Library) (of : Callee �
   sections_same : (name : List ℕ) → sections computed name ≡ sections_of name
   unfolding sections_of
   sections_same name = by (split_at_comma name) where
-    by : (c : Option (List ℕ × List ℕ)) → option_map_or (λ (cut : List ℕ × List ℕ). cut_again cut.0 cut.1 (split_at_comma cut.1)) c (One name) ≡ cut_first name c
+    by : (c : Option (List ℕ × List ℕ)) → option_map_or (λ (cut : List ℕ × List ℕ). cut_again cut.0 cut.1 (split_at_comma cut.1)) c (One name)
+        ≡ cut_first name c
     by None = refl
     by (Some cut) = refl
 
@@ -684,7 +754,8 @@ module _ (job : NumberedJob) (style : Style) (library : Library) (of : Callee �
 
   by_found : (format : List ℕ) (number : ℤ) (string : List ℕ) (items : List FormatItem) (c m b : Bool)
       → AreErrors (notes_for format number string (record no_complaints { comma_at_end = c; too_many_commas = m; illegal_format = not b }))
-      (only_if c (final_comma number string) ++ only_if m (too_many_commas number string) ++ only_if (is_none (if b then Some items else None)) (illegal_format format))
+      (only_if c (final_comma number string) ++ only_if m (too_many_commas number string) ++ only_if (is_none (if b then Some items else None))
+      (illegal_format format))
   by_found format number string items true true true = (final_is number string, (many_is number string, refl))
   by_found format number string items true true false = (final_is number string, (many_is number string, (illegal_is format, refl)))
   by_found format number string items true false true = (final_is number string, refl)
@@ -699,21 +770,25 @@ module _ (job : NumberedJob) (style : Style) (library : Library) (of : Callee �
       only_if (ends_in_comma name) (final_comma number string) ++ only_if (has_third computed (sections computed name)) (too_many_commas number string)
       ++ only_if (is_none (computed.items format)) (illegal_format format)
 
-  found_name : (format : List ℕ) (number : ℤ) (string name : List ℕ) → AreErrors (notes_for format number string (one_name_complaints name format)) (texts_for format number string name)
+  found_name : (format : List ℕ) (number : ℤ) (string name : List ℕ) → AreErrors (notes_for format number string (one_name_complaints name format))
+      (texts_for format number string name)
   unfolding one_name_complaints
   found_name format number string name =
-      subst (λ (m : Bool). AreErrors (notes_for format number string (one_name_complaints name format)) (only_if (ends_in_comma name) (final_comma number string) ++ only_if m (too_many_commas number string)
+      subst (λ (m : Bool). AreErrors (notes_for format number string (one_name_complaints name format))
+      (only_if (ends_in_comma name) (final_comma number string) ++ only_if m (too_many_commas number string)
       ++ only_if (is_none (computed.items format)) (illegal_format format)))
       (sym (ap (has_third computed) (sections_same name) ∙ third_same (sections_of name)))
       (by_found format number string (items_of format) (ends_in_comma name) (has_third_comma (sections_of name)) (is_legal format))
 
   name_notes : (format : List ℕ) (number : ℤ) (string : List ℕ) (n : Option (List ℕ))
-      → AreErrors (notes_for format number string (option_map_or (λ (name : List ℕ). one_name_complaints name format) n (record no_complaints { no_such_name = true })))
+      → AreErrors (notes_for format number string
+      (option_map_or (λ (name : List ℕ). one_name_complaints name format) n (record no_complaints { no_such_name = true })))
       (option_map_or (texts_for format number string) n (no_such_name number string ∷ []))
   name_notes format number string None = (no_name_is number string, refl)
   name_notes format number string (Some name) = found_name format number string name
 
-  noted_same : (ns : List Note) (ts : List (List ℕ)) → AreErrors ns ts → (frame : State) (s : Store) → errors ts (in_names frame s) ≡ in_names (saying (answers.noted ns) s.current frame) s
+  noted_same : (ns : List Note) (ts : List (List ℕ)) → AreErrors ns ts → (frame : State) (s : Store) → errors ts (in_names frame s)
+      ≡ in_names (saying (answers.noted ns) s.current frame) s
   noted_same [] [] h frame s = refl
   noted_same (n ∷ ns) (t ∷ ts) h frame s = errors_same (n ∷ ns) (t ∷ ts) h frame s
   noted_same [] (t ∷ ts) h frame s = absurd (true≢false h)
@@ -729,10 +804,12 @@ module _ (job : NumberedJob) (style : Style) (library : Library) (of : Callee �
     is format number string frame s =
         ap₂ (λ t x. push_text_in t x (in_names frame s))
         (ap (λ n. errors (option_map_or (texts_for format number string) n (no_such_name number string ∷ [])) (in_names frame s)) (nth_same number string)
-        ∙ noted_same (notes_for format number string (format_name_complaints string number format)) (option_map_or (texts_for format number string) (nth_name string number) (no_such_name number string ∷ []))
+        ∙ noted_same (notes_for format number string (format_name_complaints string number format))
+        (option_map_or (texts_for format number string) (nth_name string number) (no_such_name number string ∷ []))
         (name_notes format number string (nth_name string number)) frame s)
         (formatted_same job.mode format number string)
-        ∙ text_same (answers.noted (notes_for format number string (format_name_complaints string number format))) (format_name_text job.mode string number format) frame s
+        ∙ text_same (answers.noted (notes_for format number string (format_name_complaints string number format)))
+        (format_name_text job.mode string number format) frame s
 
   -- ---- `swap$`, and all together
 
@@ -744,15 +821,21 @@ module _ (job : NumberedJob) (style : Style) (library : Library) (of : Callee �
 
   swap_with : (xs : List Numbered) (frame : State) (s : Store) → swaps computed here (in_names frame (answers.with_literals xs s))
       ≡ answered frame (table.runs built_in.Swap ((table.row built_in.Swap).does job) (answers.with_literals xs s))
-  swap_with [] frame s = complained_same (note.EmptyStack ∷ note.EmptyStack ∷ []) (empty_stack ∷ empty_stack ∷ []) (empty_is, (empty_is, refl)) stand_in.Nothing frame (answers.with_literals [] s)
-  swap_with (x ∷ []) frame s = complained_same (note.EmptyStack ∷ []) (empty_stack ∷ []) (empty_is, refl) stand_in.Nothing frame (answers.with_literals (x ∷ []) s)
+  swap_with [] frame s = complained_same (note.EmptyStack ∷ note.EmptyStack ∷ []) (empty_stack ∷ empty_stack ∷ []) (empty_is, (empty_is, refl)) stand_in.Nothing
+      frame (answers.with_literals [] s)
+  swap_with (x ∷ []) frame s = complained_same (note.EmptyStack ∷ []) (empty_stack ∷ []) (empty_is, refl) stand_in.Nothing frame
+      (answers.with_literals (x ∷ []) s)
   swap_with (x ∷ y ∷ xs) frame s =
-      ap (λ (z : Bool). if z then Leaves (errors (replicate (2 - length (map lit (x ∷ y ∷ xs))) empty_stack) (in_names frame (answers.with_literals (x ∷ y ∷ xs) s)))
+      ap (λ (z : Bool). if z then Leaves (errors (replicate (2 - length (map lit (x ∷ y ∷ xs))) empty_stack)
+      (in_names frame (answers.with_literals (x ∷ y ∷ xs) s)))
       else by_rule (row computed here built_in.Swap) (in_names frame (answers.with_literals (x ∷ y ∷ xs) s))) (at_least_two (length (map lit xs)))
-      ∙ ap (λ (z : Bool). if z then push_instead None (errors (replicate (2 - length (map lit (x ∷ y ∷ xs))) empty_stack) (in_names frame (answers.with_literals xs s)))
+      ∙ ap (λ (z : Bool). if z then push_instead None
+      (errors (replicate (2 - length (map lit (x ∷ y ∷ xs))) empty_stack) (in_names frame (answers.with_literals xs s)))
       else Leaves (in_names frame (answers.with_literals (y ∷ x ∷ xs) s))) (at_least_two (length (map lit xs)))
 
-  missing_with : (c : Option ℕ) (frame : State) (s : Store) → s.current ≡ c → option_map_or (λ (entry : Entry). by_rule (row computed here built_in.Missing) (in_names frame s)) (option_map entry c) (missing_without_entry computed here (in_names frame s))
+  missing_with : (c : Option ℕ) (frame : State) (s : Store) → s.current ≡ c
+      → option_map_or (λ (entry : Entry). by_rule (row computed here built_in.Missing) (in_names frame s)) (option_map entry c)
+      (missing_without_entry computed here (in_names frame s))
       ≡ answered frame (table.runs_missing c s)
   missing_with None frame s e = missing_none s.literals frame s
   missing_with (Some i) frame s e = missing_row frame s
@@ -805,16 +888,25 @@ module _ (job : NumberedJob) (style : Style) (library : Library) (of : Callee �
       ≡ ((control.tested xs s).again, in_names (saying (control.tested xs s).said s.current frame) (control.tested xs s).store)
   tested_same [] frame s = ap (λ (t : State). (false, t)) (error_same frame (answers.with_literals [] s) note.EmptyStack empty_stack empty_is)
   tested_same (literal.Integer n ∷ xs) frame s = ap (λ (b : Bool). (b, in_names frame (answers.with_literals xs s))) (positive_same n)
-  tested_same (literal.Text x ∷ xs) frame s = ap (λ (t : State). (false, t)) (error_same frame (answers.with_literals xs s) (note.WrongKind (literal.Text x) wanted.Integer) (not_what_was_asked AnInteger (lit (literal.Text x))) (no_integer (literal.Text x)))
-  tested_same (literal.Function x ∷ xs) frame s = ap (λ (t : State). (false, t)) (error_same frame (answers.with_literals xs s) (note.WrongKind (literal.Function x) wanted.Integer) (not_what_was_asked AnInteger (lit (literal.Function x))) (no_integer (literal.Function x)))
-  tested_same (literal.Missing ∷ xs) frame s = ap (λ (t : State). (false, t)) (error_same frame (answers.with_literals xs s) (note.WrongKind literal.Missing wanted.Integer) (not_what_was_asked AnInteger Missing) (no_integer literal.Missing))
+  tested_same (literal.Text x ∷ xs) frame s =
+      ap (λ (t : State). (false, t)) (error_same frame (answers.with_literals xs s) (note.WrongKind (literal.Text x) wanted.Integer)
+      (not_what_was_asked AnInteger (lit (literal.Text x))) (no_integer (literal.Text x)))
+  tested_same (literal.Function x ∷ xs) frame s =
+      ap (λ (t : State). (false, t)) (error_same frame (answers.with_literals xs s) (note.WrongKind (literal.Function x) wanted.Integer)
+      (not_what_was_asked AnInteger (lit (literal.Function x))) (no_integer (literal.Function x)))
+  tested_same (literal.Missing ∷ xs) frame s =
+      ap (λ (t : State). (false, t)) (error_same frame (answers.with_literals xs s) (note.WrongKind literal.Missing wanted.Integer)
+      (not_what_was_asked AnInteger Missing) (no_integer literal.Missing))
 
   -- ---- `:=`
 
-  cut_line : (frame : State) (current : Option ℕ) (size most : ℕ) → message line.Warning (codes "string of " ++ decimal size ++ codes " bytes cut to " ++ decimal most
-      ++ (codes " while executing " ++ frame.executed ++ option_map_or (λ (entry : Entry). codes " for entry " ++ entry.key) (option_map entry current) [])) ≡ line_of frame current (note.Cut size most)
+  cut_line : (frame : State) (current : Option ℕ) (size most : ℕ)
+      → message line.Warning (codes "string of " ++ decimal size ++ codes " bytes cut to " ++ decimal most
+      ++ (codes " while executing " ++ frame.executed ++ option_map_or (λ (entry : Entry). codes " for entry " ++ entry.key) (option_map entry current) []))
+      ≡ line_of frame current (note.Cut size most)
   unfolding note_line note_text note_kind has_place
-  cut_line frame current size most = ap (λ p. message line.Warning (codes "string of " ++ decimal size ++ codes " bytes cut to " ++ decimal most ++ p)) (place_by frame current)
+  cut_line frame current size most = ap (λ p. message line.Warning (codes "string of " ++ decimal size ++ codes " bytes cut to " ++ decimal most ++ p))
+      (place_by frame current)
 
   not_assignable_is : (c : Callee) → IsError (note.NotAssignable c) (not_assignable (of c))
   unfolding note_text note_kind has_place
@@ -851,86 +943,130 @@ module _ (job : NumberedJob) (style : Style) (library : Library) (of : Callee �
     abbrev pub Known : Store → Callee → Type 0
     Known s (callee.GlobalInteger i) = (gi.find (gi.name i) ≡ Some i) × (i < length s.integers)
     Known s (callee.GlobalString i) = (gs.find (gs.name i) ≡ Some i) × (i < length s.strings)
-    Known s (callee.EntryInteger i) = (e : ℕ) → s.current ≡ Some e → (keys.find (keys.name e) ≡ Some e) × ((e < length s.entries) × ((ei.find (ei.name i) ≡ Some i) × (i < length (item s.entries none e).integers)))
-    Known s (callee.EntryString i) = (e : ℕ) → s.current ≡ Some e → (keys.find (keys.name e) ≡ Some e) × ((e < length s.entries) × ((es.find (es.name i) ≡ Some i) × (i < length (item s.entries none e).strings)))
+    Known s (callee.EntryInteger i) = (e : ℕ) → s.current ≡ Some e → (keys.find (keys.name e) ≡ Some e)
+        × ((e < length s.entries) × ((ei.find (ei.name i) ≡ Some i) × (i < length (item s.entries none e).integers)))
+    Known s (callee.EntryString i) = (e : ℕ) → s.current ≡ Some e → (keys.find (keys.name e) ≡ Some e)
+        × ((e < length s.entries) × ((es.find (es.name i) ≡ Some i) × (i < length (item s.entries none e).strings)))
     Known s c = true ≡ true
 
-    pub complaint : (n : Note) (t : List ℕ) → IsError n t → (frame : State) (s : Store) → Leaves (error t (now_in_names frame s)) ≡ answers_now frame (answers.complains n stand_in.Nothing s)
+    pub complaint : (n : Note) (t : List ℕ) → IsError n t → (frame : State) (s : Store) → Leaves (error t (now_in_names frame s))
+        ≡ answers_now frame (answers.complains n stand_in.Nothing s)
     complaint n t h frame s = complains_same n t h stand_in.Nothing (vars frame s) s
 
-    cuts : (most : ℕ) (text : List ℕ) (frame : State) (s : Store) → Leaves (cut_to most text (now_in_names frame s)) ≡ answers_now frame (answers.says (answers.noted (only_if (nat_lt most (length text)) (note.Cut (length text) most))) s)
+    cuts : (most : ℕ) (text : List ℕ) (frame : State) (s : Store) → Leaves (cut_to most text (now_in_names frame s))
+        ≡ answers_now frame (answers.says (answers.noted (only_if (nat_lt most (length text)) (note.Cut (length text) most))) s)
     cuts most text frame s = choose (nat_lt most (length text)) where
-      choose : (b : Bool) → Leaves (if b then logs line.Warning (codes "string of " ++ decimal (length text) ++ codes " bytes cut to " ++ decimal most ++ place (now_in_names frame s)) (now_in_names frame s) else now_in_names frame s)
+      choose : (b : Bool) → Leaves (if b then logs line.Warning (codes "string of " ++ decimal (length text) ++ codes " bytes cut to " ++ decimal most
+          ++ place (now_in_names frame s)) (now_in_names frame s) else now_in_names frame s)
           ≡ answers_now frame (answers.says (answers.noted (only_if b (note.Cut (length text) most))) s)
       choose true = ap (λ l. Leaves (record (now_in_names frame s) { log = frame.log ++ l ∷ [] })) (cut_line frame s.current (length text) most)
       choose false = refl
 
-    entry_case : (does : Entry → State → Effect) (now : ℕ → Store → Answer) (frame : State) (s : Store) → ((e : ℕ) → s.current ≡ Some e → does (entry e) (now_in_names frame s) ≡ answers_now frame (now e s))
+    entry_case : (does : Entry → State → Effect) (now : ℕ → Store → Answer) (frame : State) (s : Store)
+        → ((e : ℕ) → s.current ≡ Some e → does (entry e) (now_in_names frame s) ≡ answers_now frame (now e s))
         → in_entry does (now_in_names frame s) ≡ answers_now frame (variables.in_entry now s.current s)
     entry_case does now frame s h = by s.current refl where
-      by : (c : Option ℕ) → s.current ≡ c → option_map_or (λ (entry : Entry). does entry (now_in_names frame s)) (option_map entry c) (Leaves (error no_entry (now_in_names frame s))) ≡ answers_now frame (variables.in_entry now c s)
+      by : (c : Option ℕ) → s.current ≡ c → option_map_or (λ (entry : Entry). does entry (now_in_names frame s)) (option_map entry c)
+          (Leaves (error no_entry (now_in_names frame s))) ≡ answers_now frame (variables.in_entry now c s)
       by None e = complaint note.NoEntry no_entry no_entry_is frame s
       by (Some i) e = h i e
 
-    global_integer : (i : ℕ) (v : Numbered) (frame : State) (s : Store) → Known s (callee.GlobalInteger i) → assigns here (Declared kind.GlobalInteger (gi.name i)) (lit v) (now_in_names frame s) ≡ answers_now frame (variables.assigns job (callee.GlobalInteger i) v s)
-    global_integer i (literal.Integer n) frame s k = ap (λ m. Leaves (record (now_in_names frame s) { integers = m })) (set_item gi s.integers (pos 0) n i k.0 k.1)
+    global_integer : (i : ℕ) (v : Numbered) (frame : State) (s : Store) → Known s (callee.GlobalInteger i)
+        → assigns here (Declared kind.GlobalInteger (gi.name i)) (lit v) (now_in_names frame s)
+        ≡ answers_now frame (variables.assigns job (callee.GlobalInteger i) v s)
+    global_integer i (literal.Integer n) frame s k =
+        ap (λ m. Leaves (record (now_in_names frame s) { integers = m })) (set_item gi s.integers (pos 0) n i k.0 k.1)
     global_integer i (literal.Text n) frame s k = complaint (note.WrongKind (literal.Text n) wanted.Integer) _ (no_integer (literal.Text n)) frame s
     global_integer i (literal.Function n) frame s k = complaint (note.WrongKind (literal.Function n) wanted.Integer) _ (no_integer (literal.Function n)) frame s
     global_integer i literal.Missing frame s k = complaint (note.WrongKind literal.Missing wanted.Integer) _ (no_integer literal.Missing) frame s
 
-    global_string : (i : ℕ) (v : Numbered) (frame : State) (s : Store) → Known s (callee.GlobalString i) → assigns here (Declared kind.GlobalString (gs.name i)) (lit v) (now_in_names frame s) ≡ answers_now frame (variables.assigns job (callee.GlobalString i) v s)
+    global_string : (i : ℕ) (v : Numbered) (frame : State) (s : Store) → Known s (callee.GlobalString i)
+        → assigns here (Declared kind.GlobalString (gs.name i)) (lit v) (now_in_names frame s)
+        ≡ answers_now frame (variables.assigns job (callee.GlobalString i) v s)
     global_string i (literal.Text text) frame s k =
-        ap (λ m. Leaves (cut_to job.global_max text (record (now_in_names frame s) { strings = m }))) (set_item gs s.strings [] (take job.global_max text) i k.0 k.1)
+        ap (λ m. Leaves (cut_to job.global_max text (record (now_in_names frame s) { strings = m })))
+        (set_item gs s.strings [] (take job.global_max text) i k.0 k.1)
         ∙ cuts job.global_max text frame (variables.with_global_string i (take job.global_max text) s)
     global_string i (literal.Integer n) frame s k = complaint (note.WrongKind (literal.Integer n) wanted.Text) _ (no_string (literal.Integer n)) frame s
     global_string i (literal.Function n) frame s k = complaint (note.WrongKind (literal.Function n) wanted.Text) _ (no_string (literal.Function n)) frame s
     global_string i literal.Missing frame s k = complaint (note.WrongKind literal.Missing wanted.Text) _ (no_string literal.Missing) frame s
 
-    entry_integer : (i : ℕ) (v : Numbered) (frame : State) (s : Store) → Known s (callee.EntryInteger i) → assigns here (Declared kind.EntryInteger (ei.name i)) (lit v) (now_in_names frame s) ≡ answers_now frame (variables.assigns job (callee.EntryInteger i) v s)
-    entry_integer i (literal.Integer n) frame s k = entry_case (λ entry s. Leaves (record s { entry_integers = set entry.key (set (ei.name i) n (s.entry_integers entry.key)) s.entry_integers })) _ frame s (λ e c.
+    entry_integer : (i : ℕ) (v : Numbered) (frame : State) (s : Store) → Known s (callee.EntryInteger i)
+        → assigns here (Declared kind.EntryInteger (ei.name i)) (lit v) (now_in_names frame s)
+        ≡ answers_now frame (variables.assigns job (callee.EntryInteger i) v s)
+    entry_integer i (literal.Integer n) frame s k =
+        entry_case (λ entry s. Leaves (record s { entry_integers = set entry.key (set (ei.name i) n (s.entry_integers entry.key)) s.entry_integers })) _ frame s
+        (λ e c.
         let known = k e c in
         let y : EntryVariables = record (item s.entries none e) { integers = slice_set (item s.entries none e).integers i n } in
-        ap (λ key. Leaves (record (now_in_names frame s) { entry_integers = set key (set (ei.name i) n ((now_in_names frame s).entry_integers key)) (now_in_names frame s).entry_integers })) (key_names e)
+        ap (λ key. Leaves (record (now_in_names frame s) {
+          entry_integers = set key (set (ei.name i) n ((now_in_names frame s).entry_integers key))
+              (now_in_names frame s).entry_integers;
+        })) (key_names e)
         ∙ ap₂ (λ m strings. Leaves (record (now_in_names frame s) { entry_integers = m; entry_strings = by_name keys strings (λ n. []) }))
-        (set_both keys ei s.entries none (λ v. v.integers) (λ xs v. record v { integers = xs }) (λ xs v. refl) (pos 0) n e i known.0 known.1.0 known.1.1.0 known.1.1.1)
+        (set_both keys ei s.entries none (λ v. v.integers) (λ xs v. record v { integers = xs }) (λ xs v. refl) (pos 0) n e i known.0 known.1.0 known.1.1.0
+        known.1.1.1)
         (kept s.entries none y e (λ v. by_name es (item v.strings []) []) known.1.0 refl))
-    entry_integer i (literal.Text n) frame s k = entry_case (λ entry s. Leaves (error (not_what_was_asked AnInteger (lit (literal.Text n))) s)) _ frame s (λ e c. complaint (note.WrongKind (literal.Text n) wanted.Integer) _ (no_integer (literal.Text n)) frame s)
-    entry_integer i (literal.Function n) frame s k = entry_case (λ entry s. Leaves (error (not_what_was_asked AnInteger (lit (literal.Function n))) s)) _ frame s (λ e c. complaint (note.WrongKind (literal.Function n) wanted.Integer) _ (no_integer (literal.Function n)) frame s)
-    entry_integer i literal.Missing frame s k = entry_case (λ entry s. Leaves (error (not_what_was_asked AnInteger (lit literal.Missing)) s)) _ frame s (λ e c. complaint (note.WrongKind literal.Missing wanted.Integer) _ (no_integer literal.Missing) frame s)
+    entry_integer i (literal.Text n) frame s k = entry_case (λ entry s. Leaves (error (not_what_was_asked AnInteger (lit (literal.Text n))) s)) _ frame s
+        (λ e c. complaint (note.WrongKind (literal.Text n) wanted.Integer) _ (no_integer (literal.Text n)) frame s)
+    entry_integer i (literal.Function n) frame s k = entry_case (λ entry s. Leaves (error (not_what_was_asked AnInteger (lit (literal.Function n))) s)) _ frame
+        s (λ e c. complaint (note.WrongKind (literal.Function n) wanted.Integer) _ (no_integer (literal.Function n)) frame s)
+    entry_integer i literal.Missing frame s k = entry_case (λ entry s. Leaves (error (not_what_was_asked AnInteger (lit literal.Missing)) s)) _ frame s
+        (λ e c. complaint (note.WrongKind literal.Missing wanted.Integer) _ (no_integer literal.Missing) frame s)
 
-    entry_string : (i : ℕ) (v : Numbered) (frame : State) (s : Store) → Known s (callee.EntryString i) → assigns here (Declared kind.EntryString (es.name i)) (lit v) (now_in_names frame s) ≡ answers_now frame (variables.assigns job (callee.EntryString i) v s)
-    entry_string i (literal.Text text) frame s k = entry_case (λ entry s. Leaves (cut_to job.entry_max text (record s { entry_strings = set entry.key (set (es.name i) (take job.entry_max text) (s.entry_strings entry.key)) s.entry_strings }))) _ frame s (λ e c.
+    entry_string : (i : ℕ) (v : Numbered) (frame : State) (s : Store) → Known s (callee.EntryString i)
+        → assigns here (Declared kind.EntryString (es.name i)) (lit v) (now_in_names frame s)
+        ≡ answers_now frame (variables.assigns job (callee.EntryString i) v s)
+    entry_string i (literal.Text text) frame s k =
+        entry_case (λ entry s. Leaves (cut_to job.entry_max text
+        (record s { entry_strings = set entry.key (set (es.name i) (take job.entry_max text) (s.entry_strings entry.key)) s.entry_strings }))) _ frame s (λ e c.
         let known = k e c in
         let n : List ℕ = take job.entry_max text in
         let y : EntryVariables = record (item s.entries none e) { strings = slice_set (item s.entries none e).strings i n } in
-        ap (λ key. Leaves (cut_to job.entry_max text (record (now_in_names frame s) { entry_strings = set key (set (es.name i) n ((now_in_names frame s).entry_strings key)) (now_in_names frame s).entry_strings }))) (key_names e)
-        ∙ ap₂ (λ m integers. Leaves (cut_to job.entry_max text (record (now_in_names frame s) { entry_strings = m; entry_integers = by_name keys integers (λ n. pos 0) })))
+        ap (λ key. Leaves (cut_to job.entry_max text
+        (record (now_in_names frame s) {
+          entry_strings = set key (set (es.name i) n ((now_in_names frame s).entry_strings key))
+              (now_in_names frame s).entry_strings;
+        }))) (key_names e)
+        ∙ ap₂ (λ m integers. Leaves (cut_to job.entry_max text
+        (record (now_in_names frame s) { entry_strings = m; entry_integers = by_name keys integers (λ n. pos 0) })))
         (set_both keys es s.entries none (λ v. v.strings) (λ xs v. record v { strings = xs }) (λ xs v. refl) [] n e i known.0 known.1.0 known.1.1.0 known.1.1.1)
         (kept s.entries none y e (λ v. by_name ei (item v.integers (pos 0)) (pos 0)) known.1.0 refl)
         ∙ cuts job.entry_max text frame (variables.with_entry_string e i n s))
-    entry_string i (literal.Integer n) frame s k = entry_case (λ entry s. Leaves (error (not_what_was_asked AString (lit (literal.Integer n))) s)) _ frame s (λ e c. complaint (note.WrongKind (literal.Integer n) wanted.Text) _ (no_string (literal.Integer n)) frame s)
-    entry_string i (literal.Function n) frame s k = entry_case (λ entry s. Leaves (error (not_what_was_asked AString (lit (literal.Function n))) s)) _ frame s (λ e c. complaint (note.WrongKind (literal.Function n) wanted.Text) _ (no_string (literal.Function n)) frame s)
-    entry_string i literal.Missing frame s k = entry_case (λ entry s. Leaves (error (not_what_was_asked AString (lit literal.Missing)) s)) _ frame s (λ e c. complaint (note.WrongKind literal.Missing wanted.Text) _ (no_string literal.Missing) frame s)
+    entry_string i (literal.Integer n) frame s k = entry_case (λ entry s. Leaves (error (not_what_was_asked AString (lit (literal.Integer n))) s)) _ frame s
+        (λ e c. complaint (note.WrongKind (literal.Integer n) wanted.Text) _ (no_string (literal.Integer n)) frame s)
+    entry_string i (literal.Function n) frame s k = entry_case (λ entry s. Leaves (error (not_what_was_asked AString (lit (literal.Function n))) s)) _ frame s
+        (λ e c. complaint (note.WrongKind (literal.Function n) wanted.Text) _ (no_string (literal.Function n)) frame s)
+    entry_string i literal.Missing frame s k = entry_case (λ entry s. Leaves (error (not_what_was_asked AString (lit literal.Missing)) s)) _ frame s
+        (λ e c. complaint (note.WrongKind literal.Missing wanted.Text) _ (no_string literal.Missing) frame s)
 
-    refused : (c : Callee) (f : Function) (v : Numbered) (frame : State) (s : Store) → of c ≡ f → Leaves (error (not_assignable f) (now_in_names frame s)) ≡ answers_now frame (answers.complains (note.NotAssignable c) stand_in.Nothing s)
-    refused c f v frame s e = ap (λ g. Leaves (error (not_assignable g) (now_in_names frame s))) (sym e) ∙ complaint (note.NotAssignable c) (not_assignable (of c)) (not_assignable_is c) frame s
+    refused : (c : Callee) (f : Function) (v : Numbered) (frame : State) (s : Store) → of c ≡ f → Leaves (error (not_assignable f) (now_in_names frame s))
+        ≡ answers_now frame (answers.complains (note.NotAssignable c) stand_in.Nothing s)
+    refused c f v frame s e = ap (λ g. Leaves (error (not_assignable g) (now_in_names frame s))) (sym e)
+        ∙ complaint (note.NotAssignable c) (not_assignable (of c)) (not_assignable_is c) frame s
 
     -- `:=` of a value to a function that the style has does in names what it does with numbers
-    pub assigns_same : (c : Callee) (v : Numbered) (frame : State) (s : Store) → Known s c → assigns here (of c) (lit v) (now_in_names frame s) ≡ answers_now frame (variables.assigns job c v s)
-    assigns_same (callee.GlobalInteger i) v frame s k = ap (λ f. assigns here f (lit v) (now_in_names frame s)) (global_integers i) ∙ global_integer i v frame s k
+    pub assigns_same : (c : Callee) (v : Numbered) (frame : State) (s : Store) → Known s c → assigns here (of c) (lit v) (now_in_names frame s)
+        ≡ answers_now frame (variables.assigns job c v s)
+    assigns_same (callee.GlobalInteger i) v frame s k = ap (λ f. assigns here f (lit v) (now_in_names frame s)) (global_integers i)
+        ∙ global_integer i v frame s k
     assigns_same (callee.GlobalString i) v frame s k = ap (λ f. assigns here f (lit v) (now_in_names frame s)) (global_strings i) ∙ global_string i v frame s k
     assigns_same (callee.EntryInteger i) v frame s k = ap (λ f. assigns here f (lit v) (now_in_names frame s)) (entry_integers i) ∙ entry_integer i v frame s k
     assigns_same (callee.EntryString i) v frame s k = ap (λ f. assigns here f (lit v) (now_in_names frame s)) (entry_strings i) ∙ entry_string i v frame s k
-    assigns_same (callee.BuiltIn i) v frame s k = ap (λ f. assigns here f (lit v) (now_in_names frame s)) (built i) ∙ refused (callee.BuiltIn i) _ v frame s (built i)
+    assigns_same (callee.BuiltIn i) v frame s k = ap (λ f. assigns here f (lit v) (now_in_names frame s)) (built i)
+        ∙ refused (callee.BuiltIn i) _ v frame s (built i)
     assigns_same (callee.User i) v frame s k = ap (λ f. assigns here f (lit v) (now_in_names frame s)) (users i) ∙ refused (callee.User i) _ v frame s (users i)
-    assigns_same (callee.Field i) v frame s k = ap (λ f. assigns here f (lit v) (now_in_names frame s)) (fields i) ∙ refused (callee.Field i) _ v frame s (fields i)
+    assigns_same (callee.Field i) v frame s k = ap (λ f. assigns here f (lit v) (now_in_names frame s)) (fields i)
+        ∙ refused (callee.Field i) _ v frame s (fields i)
 
     -- ---- variables and fields that are run
 
     pub pushes_now : (x : Numbered) (frame : State) (s : Store) → push (lit x) (now_in_names frame s) ≡ answers_now frame (answers.pushed x s)
     pushes_now x frame s = push_same said.Nothing x (vars frame s) s ∙ choose (nat_lt (length s.literals) MOST_LITERALS) where
-      choose : (b : Bool) → answered (vars frame s) (if b then answers.says said.Nothing (answers.with_literals (x ∷ s.literals) s) else answers.answer (next.End limit.Literals) said.Nothing s)
-          ≡ answers_now frame (if b then answers.says said.Nothing (answers.with_literals (x ∷ s.literals) s) else answers.answer (next.End limit.Literals) said.Nothing s)
+      choose : (b : Bool) → answered (vars frame s)
+          (if b then answers.says said.Nothing (answers.with_literals (x ∷ s.literals) s) else answers.answer (next.End limit.Literals) said.Nothing s)
+          ≡ answers_now frame (if b then answers.says said.Nothing (answers.with_literals (x ∷ s.literals) s) else answers.answer (next.End limit.Literals)
+          said.Nothing s)
       choose true = refl
       choose false = refl
 
@@ -939,8 +1075,10 @@ module _ (job : NumberedJob) (style : Style) (library : Library) (of : Callee �
     field_literal (Some text) = refl
 
     -- a field or variable that is run does in names what it does with numbers; `valued`: an entry has the values of fields that it has with numbers
-    pub variable_same : (c : Callee) (valued : (e i : ℕ) → c ≡ callee.Field i → (entry e).value (field_name i) ≡ entry_value i (entry_of job e)) (frame : State) (s : Store) → Known s c
-        → (kind_ : Kind) (name : List ℕ) → of c ≡ Declared kind_ name → function_effect computed here (of c) (now_in_names frame s) ≡ answers_now frame (function_run job c s)
+    pub variable_same : (c : Callee) (valued : (e i : ℕ) → c ≡ callee.Field i → (entry e).value (field_name i) ≡ entry_value i (entry_of job e)) (frame : State)
+        (s : Store) → Known s c
+        → (kind_ : Kind) (name : List ℕ) → of c ≡ Declared kind_ name → function_effect computed here (of c) (now_in_names frame s)
+        ≡ answers_now frame (function_run job c s)
     unfolding function_run
     variable_same (callee.Field i) valued frame s k kind_ name is =
         ap (λ f. function_effect computed here f (now_in_names frame s)) (fields i)
@@ -959,14 +1097,16 @@ module _ (job : NumberedJob) (style : Style) (library : Library) (of : Callee �
         ap (λ f. function_effect computed here f (now_in_names frame s)) (entry_integers i)
         ∙ entry_case (λ entry s. push (Integer (s.entry_integers entry.key (ei.name i))) s) _ frame s (λ e c.
         ap (λ key. push (Integer ((now_in_names frame s).entry_integers key (ei.name i))) (now_in_names frame s)) (key_names e)
-        ∙ ap (λ (m : List ℕ → ℤ). push (Integer (m (ei.name i))) (now_in_names frame s)) (value_at keys (λ j. by_name ei (item (item s.entries none j).integers (pos 0)) (pos 0)) (λ n. pos 0) e (k e c).0)
+        ∙ ap (λ (m : List ℕ → ℤ). push (Integer (m (ei.name i))) (now_in_names frame s))
+        (value_at keys (λ j. by_name ei (item (item s.entries none j).integers (pos 0)) (pos 0)) (λ n. pos 0) e (k e c).0)
         ∙ ap (λ n. push (Integer n) (now_in_names frame s)) (value_at ei (item (item s.entries none e).integers (pos 0)) (pos 0) i (k e c).1.1.0)
         ∙ pushes_now (literal.Integer (item (item s.entries none e).integers (pos 0) i)) frame s)
     variable_same (callee.EntryString i) valued frame s k kind_ name is =
         ap (λ f. function_effect computed here f (now_in_names frame s)) (entry_strings i)
         ∙ entry_case (λ entry s. push (Text (s.entry_strings entry.key (es.name i))) s) _ frame s (λ e c.
         ap (λ key. push (Text ((now_in_names frame s).entry_strings key (es.name i))) (now_in_names frame s)) (key_names e)
-        ∙ ap (λ (m : List ℕ → List ℕ). push (Text (m (es.name i))) (now_in_names frame s)) (value_at keys (λ j. by_name es (item (item s.entries none j).strings []) []) (λ n. []) e (k e c).0)
+        ∙ ap (λ (m : List ℕ → List ℕ). push (Text (m (es.name i))) (now_in_names frame s))
+        (value_at keys (λ j. by_name es (item (item s.entries none j).strings []) []) (λ n. []) e (k e c).0)
         ∙ ap (λ n. push (Text n) (now_in_names frame s)) (value_at es (item (item s.entries none e).strings []) [] i (k e c).1.1.0)
         ∙ pushes_now (literal.Text (item (item s.entries none e).strings [] i)) frame s)
     variable_same (callee.User i) valued frame s k kind_ name is = ap (λ f. function_effect computed here f (now_in_names frame s)) (users i)

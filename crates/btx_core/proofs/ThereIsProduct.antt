@@ -41,12 +41,14 @@ behind_there library (Iterate f) list s = (list, refl)
 behind_there library (Reverse f) list s = (list, refl)
 behind_there library Sort list s = there_is_order (sort_key s) list
 
-unfoldable pub goes_there : (o : Outcome) (Next : ℕ → State → Outcome → Type 0) → ((left : ℕ) (s : State) → (r : Outcome) × Next left s r) → (r : Outcome) × GoesOn o Next r
+unfoldable pub goes_there : (o : Outcome) (Next : ℕ → State → Outcome → Type 0) → ((left : ℕ) (s : State) → (r : Outcome) × Next left s r)
+    → (r : Outcome) × GoesOn o Next r
 goes_there (Done s left) Next n = n left s
 goes_there (Stopped s) Next n = (Stopped s, refl)
 goes_there (Limited kind s left) Next n = (Limited kind s left, refl)
 
-unfoldable pub come_there : (means : Meaning) (library : Library) (cs : List Command) (list : List Entry) (left : ℕ) (s : State) → (r : Outcome) × CommandsCome means library cs list left s r
+unfoldable pub come_there : (means : Meaning) (library : Library) (cs : List Command) (list : List Entry) (left : ℕ) (s : State)
+    → (r : Outcome) × CommandsCome means library cs list left s r
 come_there means library [] list left s = (Done s left, refl)
 come_there means library (c ∷ cs) list left s =
     let b = behind_there library c list s in
@@ -73,7 +75,8 @@ module _ (the : Divisions) (are : AreDivisions the) (options : Options) (wide : 
         },
       )
 
-  unfoldable pub styled_there : (files : Files) (job : AuxSaid) (name text : List ℕ) (log : List Line) → (p : Product) × IsStyled files job name text log options p
+  unfoldable pub styled_there : (files : Files) (job : AuxSaid) (name text : List ℕ) (log : List Line)
+      → (p : Product) × IsStyled files job name text log options p
   styled_there files job name text log =
       let databases : List Database = map (λ (file : NamedFile). record { file = file.name; text = file.bytes }) (files_found files job.databases) in
       let s = there_is_style name text in
@@ -82,7 +85,8 @@ module _ (the : Divisions) (are : AreDivisions the) (options : Options) (wide : 
       let e = executed_there work (log ++ databases_logged files [] job.databases) in
       (e.0, record { style = s.0; styled = s.1; library = l.0; gathered = l.1; executed = e.1 })
 
-  unfoldable pub found_there : (t : Bool) (files : Files) (job : AuxSaid) (name text : List ℕ) (log : List Line) → (p : Product) × IsFound t files job name text log options p
+  unfoldable pub found_there : (t : Bool) (files : Files) (job : AuxSaid) (name text : List ℕ) (log : List Line)
+      → (p : Product) × IsFound t files job name text log options p
   found_there true files job name text log = (ends_with (ended.Limit limit.File) 0 0 [] log, refl)
   found_there false files job name text log = styled_there files job name text log
 

@@ -1,7 +1,12 @@
 -- The worked jobs of btx_run, computed for the one product that stands in the relation.
 use Rattle.std.proofs.Common.{codes, refl, ap, ◌∙◌, ◌≡◌, ◌≤◌, arith}
-use Rattle.btx_core.proofs.ThereIsProduct.{behind_there, goes_there, come_there, executed_there, styled_there, found_there, named_there, asked_there, behind_files_there, holds}
-use Rattle.btx_core.proofs.StyleThere.{next_has, opened_has, closed_has, named_has, text_has, where_has, makes_has, missing_both, gap_same, names_within, lists_has, met-less, met-most, plain-less, spells-less, breaks-most, body_has, some_function, executes_has, behind_has, its_word, named_word, no_word, word_has, full_more, full_lines, skips_met, skips-most, follows_by, begun, gap_again, commands_by, commands_within, there_is_style, plain_divided, rest_divided, open_divided, word_divided, divided_within, divided}
+use Rattle.btx_core.proofs.ThereIsProduct.{behind_there, goes_there, come_there, executed_there, styled_there, found_there, named_there, asked_there}
+use Rattle.btx_core.proofs.ThereIsProduct.{behind_files_there, holds}
+use Rattle.btx_core.proofs.StyleThere.{next_has, opened_has, closed_has, named_has, text_has, where_has, makes_has, missing_both, gap_same, names_within}
+use Rattle.btx_core.proofs.StyleThere.{lists_has, met-less, met-most, plain-less, spells-less, breaks-most, body_has, some_function, executes_has, behind_has}
+use Rattle.btx_core.proofs.StyleThere.{its_word, named_word, no_word, word_has, full_more, full_lines, skips_met, skips-most, follows_by, begun, gap_again}
+use Rattle.btx_core.proofs.StyleThere.{commands_by, commands_within, there_is_style, plain_divided, rest_divided, open_divided, word_divided, divided_within}
+use Rattle.btx_core.proofs.StyleThere.{divided}
 use Rattle.btx_core.proofs.LibraryLemmas.{events_by, events_there, there_is_reading, all_read, gathering, there_is_library}
 use Rattle.btx_core.proofs.SortLemmas.{there_is_order}
 use Rattle.std.specs.Fmt.{digits}
@@ -58,7 +63,19 @@ use Rattle.btx_bst.specs.language.MessageTexts.{complaint_text}
 
 -- opens each definition that the rows compute with
 unfoldable pub computes : Unit {0}
-unfolding digits line_pieces trimmed mark_of place_text said learned included opened_by run within job_events pieces_of aux_command_named words_of job_of_files aux_complaint_text aux_note_text aux_note_kind skip_white till_white from_white last_white break_of cut_within cut_of body_turn body_end built_ins built_in_of command_named entry_command function_command read_command run_command sort_command declare macro_command len_till list_turn list_end complaint_text named_lower behind_white ink_from skipped_from lines_size size item_turn style_from style_of turns_within digits_value signed integer_at word_front library_of body_of longest_run_len enclosed_len unmarked_len field_at after_comma more_in command_of head_of head_at behind_at expected_step events_within events_from lines_begun name_here open_in sign_in key_here squeezed part_in value_within value_at slot_of slip_text message_text inherited checked check_messages entries_of reference_messages form_of place_of note_text note_kind has_place note_line sorted_by built_in_run function_run step_of command_word visit do_item do_items meaning loop_of end_word last_line lines_logged said_on token_effect turn_of style_line no_style_line database_line no_database_line style_read style_named after_job behind_there goes_there come_there executed_there styled_there found_there named_there asked_there behind_files_there holds next_has opened_has closed_has named_has text_has where_has makes_has missing_both gap_same names_within lists_has met-less met-most plain-less spells-less breaks-most body_has some_function executes_has behind_has its_word named_word no_word word_has full_more full_lines skips_met skips-most follows_by begun gap_again commands_by commands_within there_is_style plain_divided rest_divided open_divided word_divided divided_within divided events_by events_there there_is_reading all_read gathering there_is_library there_is_order
+unfolding digits line_pieces trimmed mark_of place_text said learned included opened_by run within job_events pieces_of aux_command_named words_of job_of_files
+    aux_complaint_text aux_note_text aux_note_kind skip_white till_white from_white last_white break_of cut_within cut_of body_turn body_end built_ins
+    built_in_of command_named entry_command function_command read_command run_command sort_command declare macro_command len_till list_turn list_end
+    complaint_text named_lower behind_white ink_from skipped_from lines_size size item_turn style_from style_of turns_within digits_value signed integer_at
+    word_front library_of body_of longest_run_len enclosed_len unmarked_len field_at after_comma more_in command_of head_of head_at behind_at expected_step
+    events_within events_from lines_begun name_here open_in sign_in key_here squeezed part_in value_within value_at slot_of slip_text message_text inherited
+    checked check_messages entries_of reference_messages form_of place_of note_text note_kind has_place note_line sorted_by built_in_run function_run step_of
+    command_word visit do_item do_items meaning loop_of end_word last_line lines_logged said_on token_effect turn_of style_line no_style_line database_line
+    no_database_line style_read style_named after_job behind_there goes_there come_there executed_there styled_there found_there named_there asked_there
+    behind_files_there holds next_has opened_has closed_has named_has text_has where_has makes_has missing_both gap_same names_within lists_has met-less
+    met-most plain-less spells-less breaks-most body_has some_function executes_has behind_has its_word named_word no_word word_has full_more full_lines
+    skips_met skips-most follows_by begun gap_again commands_by commands_within there_is_style plain_divided rest_divided open_divided word_divided
+    divided_within divided events_by events_there there_is_reading all_read gathering there_is_library there_is_order
 computes = tt
 
 -- the product that stands in the relation comes to what is said

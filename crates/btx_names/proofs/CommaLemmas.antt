@@ -1,5 +1,6 @@
 -- The commas of a name that count say its form.
-use Rattle.std.proofs.Common.{◌≡◌, ℕ, suc, ◌+◌, Bool, true, false, not, cond, eqb, min, ◌&&◌, List, [], ◌∷◌, ◌++◌, Option, Some, None, length, take, drop, refl, sym, ◌∙◌, ap, arith, append_assoc, length-append}
+use Rattle.std.proofs.Common.{◌≡◌, ℕ, suc, ◌+◌, Bool, true, false, not, cond, eqb, min, ◌&&◌, List, [], ◌∷◌, ◌++◌, Option, Some, None, length, take, drop, refl}
+use Rattle.std.proofs.Common.{sym, ◌∙◌, ap, arith, append_assoc, length-append}
 use Rattle.std.proofs.lemmas.Bool.{eqb-true, and_parts, and_right, lt-ltb}
 use Rattle.std.proofs.lemmas.List.{take_at, drop_at, get_or_at}
 use Rattle.std.specs.Prelude.{filter, nat_lt}
@@ -15,11 +16,13 @@ use Rattle.btx_names.specs.laws.NameParts.{is_all_breaks}
 
 -- ---- a place, by what stands before and behind it
 
-pub comma_here : (string before : List ℕ) (b : ℕ) (bs : List ℕ) → string ≡ before ++ b ∷ bs → is_comma_at string (length before) ≡ (eqb (depth_of before) 0 && eqb b 44)
+pub comma_here : (string before : List ℕ) (b : ℕ) (bs : List ℕ) → string ≡ before ++ b ∷ bs → is_comma_at string (length before)
+    ≡ (eqb (depth_of before) 0 && eqb b 44)
 comma_here string before b bs is = rw (is, take_at before (b ∷ bs) (length before) refl, get_or_at before b bs 0 (length before) refl) refl
 
 pub behind : (string before : List ℕ) (b : ℕ) (bs : List ℕ) → string ≡ before ++ b ∷ bs → drop (length before + 1) string ≡ bs
-behind string before b bs is = rw (is ∙ sym (append_assoc before (b ∷ []) bs)) (drop_at (before ++ b ∷ []) bs (length before + 1) (length-append before (b ∷ [])))
+behind string before b bs is = rw (is ∙ sym (append_assoc before (b ∷ []) bs))
+    (drop_at (before ++ b ∷ []) bs (length before + 1) (length-append before (b ∷ [])))
 
 -- ---- counting from front to back
 
@@ -73,7 +76,8 @@ first_here depth b bs is = rw is (at (is_all_breaks bs) refl) where
   low : depth_after depth b ≡ 0
   low = rw (eqb-true depth 0 parts.0, eqb-true b 44 parts.1) refl
 
-  at : (t : Bool) → is_all_breaks bs ≡ t → cond (not t) (suc (commas_from (depth_after depth b) bs)) (commas_from (depth_after depth b) bs) ≡ cond t 0 (suc (commas_from 0 bs))
+  at : (t : Bool) → is_all_breaks bs ≡ t → cond (not t) (suc (commas_from (depth_after depth b) bs)) (commas_from (depth_after depth b) bs)
+      ≡ cond t 0 (suc (commas_from 0 bs))
   at true all = none_counts (depth_after depth b) bs all
   at false all = ap (λ n. suc (commas_from n bs)) low
 

@@ -1,5 +1,6 @@
 -- Lemmas on places in a list of tokens.
-use Rattle.std.proofs.Common.{◌≡◌, ℕ, suc, ◌+◌, ◌-◌, ◌<◌, ◌≤◌, Bool, true, false, cond, ltb, List, [], ◌∷◌, ◌++◌, length, get_or, take, drop, refl, ◌∙◌, ap, arith}
+use Rattle.std.proofs.Common.{◌≡◌, ℕ, suc, ◌+◌, ◌-◌, ◌<◌, ◌≤◌, Bool, true, false, cond, ltb, List, [], ◌∷◌, ◌++◌, length, get_or, take, drop, refl, ◌∙◌, ap}
+use Rattle.std.proofs.Common.{arith}
 use Rattle.std.proofs.lemmas.Bool.{lt-ltb}
 use Rattle.std.proofs.lemmas.List.{drop_all, drop_more, take_more, take-map, length-map, take_rest, length-take-le}
 use Rattle.btx_names.specs.language.Tokens.{NameToken as Token}
@@ -22,7 +23,8 @@ pub before_first_next : (test : TokenTest) (bytes : List ℕ) (tokens : List Nam
 unfolding before_first
 before_first_next test bytes tokens i default h is = rw (drop_more tokens i default h, is) refl
 
-pub before_first_all : (test : TokenTest) (bytes : List ℕ) (tokens : List NameToken) (i : ℕ) → length tokens ≤ i → before_first (passes test) (tokens_in bytes (drop i tokens)) ≡ 0
+pub before_first_all : (test : TokenTest) (bytes : List ℕ) (tokens : List NameToken) (i : ℕ) → length tokens ≤ i
+    → before_first (passes test) (tokens_in bytes (drop i tokens)) ≡ 0
 unfolding before_first
 before_first_all test bytes tokens i h = rw (drop_all i tokens h) refl
 
@@ -47,7 +49,8 @@ up_to_last_push test [] token = refl
 up_to_last_push test (first ∷ tokens) token =
     ap (λ n. cond (ltb 0 n) (suc n) (cond (passes test first) 1 0)) (up_to_last_push test tokens token) ∙ at (passes test token) where
       at : (t : Bool) →
-          cond (ltb 0 (cond t (length tokens + 1) (up_to_last (passes test) tokens))) (suc (cond t (length tokens + 1) (up_to_last (passes test) tokens))) (cond (passes test first) 1 0)
+          cond (ltb 0 (cond t (length tokens + 1) (up_to_last (passes test) tokens))) (suc (cond t (length tokens + 1) (up_to_last (passes test) tokens)))
+          (cond (passes test first) 1 0)
           ≡ cond t (suc (length tokens) + 1) (up_to_last (passes test) (first ∷ tokens))
       at true = let some : ltb 0 (length tokens + 1) ≡ true = lt-ltb 0 (length tokens + 1) (omega arith) in rw some (omega arith)
       at false = refl
@@ -67,15 +70,26 @@ one_more bytes tokens i default some le =
 pub up_to_last_here : (test : TokenTest) (bytes : List ℕ) (tokens : List NameToken) (i : ℕ) (default : NameToken) → 0 < i → i ≤ length tokens →
     passes test (token_of bytes (get_or tokens (i - 1) default)) ≡ true → up_to_last (passes test) (tokens_in bytes (take i tokens)) ≡ i
 up_to_last_here test bytes tokens i default some le is =
-    let len : length (tokens_in bytes (take (i - 1) tokens)) ≡ i - 1 = length-map (take (i - 1) tokens) (token_of bytes) ∙ length-take-le (i - 1) tokens (omega arith) in
-    rw (one_more bytes tokens i default some le, up_to_last_push test (tokens_in bytes (take (i - 1) tokens)) (token_of bytes (get_or tokens (i - 1) default)), is) (omega (arith, len))
+    let len : length (tokens_in bytes (take (i - 1) tokens)) ≡ i - 1 = length-map (take (i - 1) tokens) (token_of bytes)
+    ∙ length-take-le (i - 1) tokens (omega arith) in
+    rw (
+      one_more bytes tokens i default some le,
+      up_to_last_push test (tokens_in bytes (take (i - 1) tokens)) (token_of bytes (get_or tokens (i - 1) default)),
+      is,
+    ) (omega (arith, len))
 
 pub up_to_last_next : (test : TokenTest) (bytes : List ℕ) (tokens : List NameToken) (i : ℕ) (default : NameToken) → 0 < i → i ≤ length tokens →
-    passes test (token_of bytes (get_or tokens (i - 1) default)) ≡ false → up_to_last (passes test) (tokens_in bytes (take i tokens)) ≡ up_to_last (passes test) (tokens_in bytes (take (i - 1) tokens))
+    passes test (token_of bytes (get_or tokens (i - 1) default)) ≡ false → up_to_last (passes test) (tokens_in bytes (take i tokens))
+    ≡ up_to_last (passes test) (tokens_in bytes (take (i - 1) tokens))
 up_to_last_next test bytes tokens i default some le is =
-    rw (one_more bytes tokens i default some le, up_to_last_push test (tokens_in bytes (take (i - 1) tokens)) (token_of bytes (get_or tokens (i - 1) default)), is) refl
+    rw (
+      one_more bytes tokens i default some le,
+      up_to_last_push test (tokens_in bytes (take (i - 1) tokens)) (token_of bytes (get_or tokens (i - 1) default)),
+      is,
+    ) refl
 
-pub up_to_last_none : (test : TokenTest) (bytes : List ℕ) (tokens : List NameToken) (i : ℕ) → i ≡ 0 → up_to_last (passes test) (tokens_in bytes (take i tokens)) ≡ 0
+pub up_to_last_none : (test : TokenTest) (bytes : List ℕ) (tokens : List NameToken) (i : ℕ) → i ≡ 0 → up_to_last (passes test) (tokens_in bytes (take i tokens))
+    ≡ 0
 unfolding up_to_last
 up_to_last_none test bytes tokens i is = rw is refl
 

@@ -1,5 +1,6 @@
 -- A name ends in a comma where it has a comma at depth 0 that no token follows.
-use Rattle.std.proofs.Common.{◌≡◌, ℕ, suc, ◌+◌, Bool, true, false, not, cond, eqb, ◌&&◌, ◌||◌, List, [], ◌∷◌, ◌++◌, Option, Some, None, length, reverse, refl, sym, ◌∙◌, ap, arith, append_assoc, length-append}
+use Rattle.std.proofs.Common.{◌≡◌, ℕ, suc, ◌+◌, Bool, true, false, not, cond, eqb, ◌&&◌, ◌||◌, List, [], ◌∷◌, ◌++◌, Option, Some, None, length, reverse, refl}
+use Rattle.std.proofs.Common.{sym, ◌∙◌, ap, arith, append_assoc, length-append}
 use Rattle.std.proofs.lemmas.Bool.{eqb-true, and_parts, and_right, lt-ltb, true≢false}
 use Rattle.std.proofs.lemmas.List.{reverse-append}
 use Rattle.std.proofs.lemmas.List.Folds.{find-append}
@@ -67,7 +68,8 @@ stays depth (b ∷ bs) all =
 no_token : (s : List ℕ) → last_ink s ≡ None → is_all_breaks s ≡ true
 no_token [] none = refl
 no_token (b ∷ bs) none = at (last_ink bs) (is_ink b) refl (no_token bs) (sym (last_push b bs) ∙ none) where
-  at : (last : Option ℕ) (ink : Bool) → is_ink b ≡ ink → (last ≡ None → is_all_breaks bs ≡ true) → option_or last (cond ink (Some b) None) ≡ None → is_all_breaks (b ∷ bs) ≡ true
+  at : (last : Option ℕ) (ink : Bool) → is_ink b ≡ ink → (last ≡ None → is_all_breaks bs ≡ true) → option_or last (cond ink (Some b) None) ≡ None
+      → is_all_breaks (b ∷ bs) ≡ true
   at (Some x) ink is more none = cc
   at None true is more none = cc
   at None false is more none = rw (blank b is) (more refl)
@@ -85,7 +87,8 @@ ends_push depth b bs = rw (last_push b bs) (at (last_ink bs) refl) where
   deep : ℕ
   deep = fold depth_after (depth_after depth b) bs
 
-  later : (x : ℕ) (t : Bool) → last_ink bs ≡ Some x → ((eqb depth 0 && eqb b 44) && is_all_breaks bs) ≡ t → (eqb x 44 && eqb deep 0) ≡ (t || (eqb x 44 && eqb deep 0))
+  later : (x : ℕ) (t : Bool) → last_ink bs ≡ Some x → ((eqb depth 0 && eqb b 44) && is_all_breaks bs) ≡ t → (eqb x 44 && eqb deep 0)
+      ≡ (t || (eqb x 44 && eqb deep 0))
   later x true last is =
       let parts = and_parts (eqb depth 0 && eqb b 44) (is_all_breaks bs) is in
       let here = and_parts (eqb depth 0) (eqb b 44) parts.0 in

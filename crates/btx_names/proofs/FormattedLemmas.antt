@@ -1,5 +1,6 @@
 -- Lemmas on a name in a format.
-use Rattle.std.proofs.Common.{Ok, Err, Result, cond, Bool, true, false, ◌≡◌, ℕ, zero, suc, ◌-◌, ◌≤◌, ◌∙◌, ap, length, ℤ, pos, Some, None, List, [], refl, sym, arith}
+use Rattle.std.proofs.Common.{Ok, Err, Result, cond, Bool, true, false, ◌≡◌, ℕ, zero, suc, ◌-◌, ◌≤◌, ◌∙◌, ap, length, ℤ, pos, Some, None, List, [], refl, sym}
+use Rattle.std.proofs.Common.{arith}
 use Rattle.std.specs.Prelude.{slice_get, IfOk, IsTrue, ◌||◌}
 use Rattle.btx_names.specs.language.NameLists.{names_of}
 use Rattle.btx_text.specs.declared.element_kind.TextMode.{TextMode}
@@ -36,14 +37,16 @@ pub ruleset before_steps = (names_before_some)
 
 -- ---- one name
 
-pub one_illegal : (mode : TextMode) (name format : List ℕ) (sections : Sections) (legal : Bool) (complaints : Complaints) → sections ≡ sections_of name → legal ≡ is_legal format →
+pub one_illegal : (mode : TextMode) (name format : List ℕ) (sections : Sections) (legal : Bool) (complaints : Complaints) → sections ≡ sections_of name
+    → legal ≡ is_legal format →
     legal ≡ false → complaints ≡ complaints_with (ends_in_comma name) (has_third_comma sections) legal →
     (one_name_text mode name format ≡ []) × (one_name_complaints name format ≡ complaints)
 unfolding one_name_text one_name_complaints
 one_illegal mode name format sections legal complaints cut asked illegal are =
     (rw (sym asked, illegal) refl, rw (are, cut, asked) refl)
 
-pub one_legal : (mode : TextMode) (name format : List ℕ) (sections : Sections) (legal : Bool) (parts : NameParts) (complaints : Complaints) → sections ≡ sections_of name →
+pub one_legal : (mode : TextMode) (name format : List ℕ) (sections : Sections) (legal : Bool) (parts : NameParts) (complaints : Complaints)
+    → sections ≡ sections_of name →
     legal ≡ is_legal format → legal ≡ true → parts ≡ parts_by sections → complaints ≡ complaints_with (ends_in_comma name) (has_third_comma sections) legal →
     (one_name_text mode name format ≡ formatted mode parts format) × (one_name_complaints name format ≡ complaints)
 unfolding one_name_text one_name_complaints
@@ -51,8 +54,10 @@ one_legal mode name format sections legal parts complaints cut asked is_so made 
     (rw (sym asked, is_so, made, cut) refl, rw (are, cut, asked) refl)
 
 -- a fault on the way is the fault of the whole
-pub answers_fault : (mode : TextMode) (name format text : List ℕ) (sections : Sections) (parts : NameParts) (fault : Fault) → sections ≡ sections_of name → parts ≡ parts_by sections →
-    WritesLegal 1000000 (is_legal format) (Err fault) text (formatted mode parts format) → Answers (Err fault) (one_name_text mode name format) (one_name_complaints name format)
+pub answers_fault : (mode : TextMode) (name format text : List ℕ) (sections : Sections) (parts : NameParts) (fault : Fault) → sections ≡ sections_of name
+    → parts ≡ parts_by sections →
+    WritesLegal 1000000 (is_legal format) (Err fault) text (formatted mode parts format)
+    → Answers (Err fault) (one_name_text mode name format) (one_name_complaints name format)
 unfolding one_name_text one_name_complaints
 answers_fault mode name format text sections parts Memory cut made h = tt
 answers_fault mode name format text sections parts StringLimit cut made h = rw (h.0, sym cut, sym made) h.1
@@ -67,7 +72,9 @@ right_with false true legal w l = cc
 right_with true third legal w l = cc
 right_with false false false w l = cc
 
-pub written_right : (r : Result Bool Fault) (mode : TextMode) (name format text : List ℕ) (parts : NameParts) (wrong : Bool) → WritesLegal 1000000 (is_legal format) r text (formatted mode parts format) → parts ≡ parts_of name → wrong ≡ (ends_in_comma name || has_third_comma (sections_of name)) → wrong ≡ false →
+pub written_right : (r : Result Bool Fault) (mode : TextMode) (name format text : List ℕ) (parts : NameParts) (wrong : Bool)
+    → WritesLegal 1000000 (is_legal format) r text (formatted mode parts format) → parts ≡ parts_of name
+    → wrong ≡ (ends_in_comma name || has_third_comma (sections_of name)) → wrong ≡ false →
     IfOk r (λ written. IsTrue written → IsWritten mode name format text)
 unfolding one_name_text one_name_complaints
 written_right (Ok true) mode name format text parts wrong w p is f = λ t. record {
@@ -77,7 +84,8 @@ written_right (Ok true) mode name format text parts wrong w p is f = λ t. recor
 written_right (Ok false) mode name format text parts wrong w p is f = λ t. cc
 written_right (Err e) mode name format text parts wrong w p is f = tt
 
-pub text_right : (mode : TextMode) (names format text name : List ℕ) (number : ℤ) → nth_name names number ≡ Some name → IsWritten mode name format text → length text ≤ 1000000 → IsText mode names number format text
+pub text_right : (mode : TextMode) (names format text name : List ℕ) (number : ℤ) → nth_name names number ≡ Some name → IsWritten mode name format text
+    → length text ≤ 1000000 → IsText mode names number format text
 text_right mode names format text name number n w l = record {
   text_is = w.text_is ∙ sym (ap (λ o. text_of_answer mode o format) n);
   right = ap (λ o. complaints_of_answer o format) n ∙ w.right;

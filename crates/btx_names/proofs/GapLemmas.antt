@@ -1,5 +1,6 @@
 -- Names and tokens are the pieces between what separates them.
-use Rattle.std.proofs.Common.{◌≡◌, ℕ, zero, suc, ◌+◌, ◌-◌, ◌<◌, Bool, true, false, cond, eqb, ltb, ◌&&◌, List, [], ◌∷◌, ◌++◌, length, take, map, refl, sym, ◌∙◌, ap, arith, append_assoc, length-append}
+use Rattle.std.proofs.Common.{◌≡◌, ℕ, zero, suc, ◌+◌, ◌-◌, ◌<◌, Bool, true, false, cond, eqb, ltb, ◌&&◌, List, [], ◌∷◌, ◌++◌, length, take, map, refl, sym, ◌∙◌}
+use Rattle.std.proofs.Common.{ap, arith, append_assoc, length-append}
 use Rattle.std.proofs.lemmas.Bool.{eqb-true, and_parts, and_right, lt-ltb}
 use Rattle.std.proofs.lemmas.List.{take_at, drop_at, append-nil, get_or_at}
 use Rattle.std.specs.Prelude.{filter, slice_range}
@@ -13,7 +14,8 @@ use Rattle.btx_names.specs.language.NameLists.{is_separator, pieces_from, names_
 use Rattle.btx_names.specs.laws.NameLists.{separators_of}
 use Rattle.btx_names.specs.laws.Gaps.{pieces_between, and_gap, byte_gap}
 use Rattle.btx_names.proofs.SplitLemmas.{break_keeps}
-use Rattle.btx_names.proofs.SeparatorLemmas.{IsInk, separator_is_ink, separator_is_white, ink_separates_nothing, white_keeps, places_from, depth_push, filter_places}
+use Rattle.btx_names.proofs.SeparatorLemmas.{IsInk, separator_is_ink, separator_is_white, ink_separates_nothing, white_keeps, places_from, depth_push}
+use Rattle.btx_names.proofs.SeparatorLemmas.{filter_places}
 
 -- ---- a piece so far, in front of the others
 
@@ -56,11 +58,13 @@ NamesAre string before cur rest =
     string ≡ before ++ (cur ++ rest) →
     pieces_between (length before) (map and_gap (places_from (before ++ cur) rest)) string ≡ prepend cur (pieces_from 0 (depth_of (before ++ cur)) rest)
 
-no_place : (before bs : List ℕ) (b : ℕ) → (eqb (depth_of before) 0 && is_separator (b ∷ bs)) ≡ false → places_from before (b ∷ bs) ≡ places_from (before ++ b ∷ []) bs
+no_place : (before bs : List ℕ) (b : ℕ) → (eqb (depth_of before) 0 && is_separator (b ∷ bs)) ≡ false → places_from before (b ∷ bs)
+    ≡ places_from (before ++ b ∷ []) bs
 unfolding places_from
 no_place before bs b none = rw none refl
 
-a_place : (before bs : List ℕ) (b : ℕ) → (eqb (depth_of before) 0 && is_separator (b ∷ bs)) ≡ true → places_from before (b ∷ bs) ≡ length before ∷ places_from (before ++ b ∷ []) bs
+a_place : (before bs : List ℕ) (b : ℕ) → (eqb (depth_of before) 0 && is_separator (b ∷ bs)) ≡ true → places_from before (b ∷ bs) ≡ length before
+    ∷ places_from (before ++ b ∷ []) bs
 unfolding places_from
 a_place before bs b is = rw is refl
 
@@ -96,10 +100,17 @@ a_separator string before cur rest b x y z test more is =
     let four : depth_of past ≡ 0 = depth_push (((all ++ b ∷ []) ++ x ∷ []) ++ y ∷ []) z ∙ rw three ink.1.1.0.keeps in
     let joined : past ++ ([] ++ rest) ≡ before ++ (cur ++ b ∷ x ∷ y ∷ z ∷ rest) = simp append_assoc in
     let size : length past ≡ length all + 4 =
-    omega (arith, length-append all (b ∷ []), length-append (all ++ b ∷ []) (x ∷ []), length-append ((all ++ b ∷ []) ++ x ∷ []) (y ∷ []), length-append (((all ++ b ∷ []) ++ x ∷ []) ++ y ∷ []) (z ∷ [])) in
+    omega (
+      arith,
+      length-append all (b ∷ []),
+      length-append (all ++ b ∷ []) (x ∷ []),
+      length-append ((all ++ b ∷ []) ++ x ∷ []) (y ∷ []),
+      length-append (((all ++ b ∷ []) ++ x ∷ []) ++ y ∷ []) (z ∷ []),
+    ) in
     let places : places_from all (b ∷ x ∷ y ∷ z ∷ rest) ≡ length all ∷ places_from past rest =
     a_place all (x ∷ y ∷ z ∷ rest) b test
-    ∙ ap (λ ps. length all ∷ ps) (ink_is_no_place (all ++ b ∷ []) (y ∷ z ∷ rest) x ink.0 ∙ ink_is_no_place ((all ++ b ∷ []) ++ x ∷ []) (z ∷ rest) y ink.1.0 ∙ ink_is_no_place (((all ++ b ∷ []) ++ x ∷ []) ++ y ∷ []) rest z ink.1.1.0) in
+    ∙ ap (λ ps. length all ∷ ps) (ink_is_no_place (all ++ b ∷ []) (y ∷ z ∷ rest) x ink.0 ∙ ink_is_no_place ((all ++ b ∷ []) ++ x ∷ []) (z ∷ rest) y ink.1.0
+    ∙ ink_is_no_place (((all ++ b ∷ []) ++ x ∷ []) ++ y ∷ []) rest z ink.1.1.0) in
     let nothing : past ++ [] ≡ past = append-nil past in
     let others : pieces_between (length past) (map and_gap (places_from past rest)) string ≡ pieces_from 0 0 rest =
     ap (λ xs. pieces_between (length past) (map and_gap (places_from xs rest)) string) (sym nothing)
@@ -122,9 +133,12 @@ either_way string before cur rest b x y z false test one four = no_separator str
 names_are : (string before cur rest : List ℕ) → NamesAre string before cur rest
 unfolding pieces_from pieces_between places_from prepend is_separator
 names_are string before cur [] = λ is. rw (is, drop_at before (cur ++ []) (length before) refl) refl
-names_are string before cur (b ∷ []) = no_separator string before cur [] b (and_right (eqb (depth_of (before ++ cur)) 0) false refl) (names_are string before (cur ++ b ∷ []) [])
-names_are string before cur (b ∷ x ∷ []) = no_separator string before cur (x ∷ []) b (and_right (eqb (depth_of (before ++ cur)) 0) false refl) (names_are string before (cur ++ b ∷ []) (x ∷ []))
-names_are string before cur (b ∷ x ∷ y ∷ []) = no_separator string before cur (x ∷ y ∷ []) b (and_right (eqb (depth_of (before ++ cur)) 0) false refl) (names_are string before (cur ++ b ∷ []) (x ∷ y ∷ []))
+names_are string before cur (b ∷ []) = no_separator string before cur [] b (and_right (eqb (depth_of (before ++ cur)) 0) false refl)
+    (names_are string before (cur ++ b ∷ []) [])
+names_are string before cur (b ∷ x ∷ []) = no_separator string before cur (x ∷ []) b (and_right (eqb (depth_of (before ++ cur)) 0) false refl)
+    (names_are string before (cur ++ b ∷ []) (x ∷ []))
+names_are string before cur (b ∷ x ∷ y ∷ []) = no_separator string before cur (x ∷ y ∷ []) b (and_right (eqb (depth_of (before ++ cur)) 0) false refl)
+    (names_are string before (cur ++ b ∷ []) (x ∷ y ∷ []))
 names_are string before cur (b ∷ x ∷ y ∷ z ∷ rest) =
     either_way string before cur rest b x y z (eqb (depth_of (before ++ cur)) 0 && is_separator (b ∷ x ∷ y ∷ z ∷ rest)) refl
     (names_are string before (cur ++ b ∷ []) (x ∷ y ∷ z ∷ rest))
@@ -145,11 +159,13 @@ break_places before [] = []
 break_places before (b ∷ bs) =
     cond (eqb (depth_of before) 0 && is_break b) (length before ∷ break_places (before ++ b ∷ []) bs) (break_places (before ++ b ∷ []) bs)
 
-filter_breaks : (string before rest : List ℕ) → string ≡ before ++ rest → filter (breaks_at string) (range_with_len (length before) (length rest)) ≡ break_places before rest
+filter_breaks : (string before rest : List ℕ) → string ≡ before ++ rest → filter (breaks_at string) (range_with_len (length before) (length rest))
+    ≡ break_places before rest
 unfolding break_places
 filter_breaks string before [] is = refl
 filter_breaks string before (b ∷ bs) is =
-    let test : breaks_at string (length before) ≡ (eqb (depth_of before) 0 && is_break b) = rw (is, take_at before (b ∷ bs) (length before) refl, get_or_at before b bs 0 (length before) refl) refl in
+    let test : breaks_at string (length before) ≡ (eqb (depth_of before) 0 && is_break b) =
+    rw (is, take_at before (b ∷ bs) (length before) refl, get_or_at before b bs 0 (length before) refl) refl in
     let next : length (before ++ b ∷ []) ≡ length before + 1 = length-append before (b ∷ []) in
     let more = filter_breaks string (before ++ b ∷ []) bs (is ∙ sym (append_assoc before (b ∷ []) bs)) in
     rw (test, sym next, more) refl
@@ -191,7 +207,9 @@ goes_on depth b [] bs test low =
     let none : is_break b ≡ false = rw zero_depth at test in
     let size : suc (run_len Break (depth_after 0 b) bs) - 1 ≡ run_len Break (depth_after 0 b) bs = omega arith in
     rw (zero_depth, none, size) refl
-goes_on depth b (c ∷ cs) bs test low = rw test (ap (λ xs. (c ∷ xs) ∷ texts_of (tokens_from (run_len Break (depth_after depth b) bs) bs)) (append_assoc cs (b ∷ []) (take (run_len Break (depth_after depth b) bs) bs)))
+goes_on depth b (c ∷ cs) bs test low =
+    rw test (ap (λ xs. (c ∷ xs) ∷ texts_of (tokens_from (run_len Break (depth_after depth b) bs) bs))
+    (append_assoc cs (b ∷ []) (take (run_len Break (depth_after depth b) bs) bs)))
 
 tokens_step : (string before cur bs : List ℕ) (b : ℕ) (t : Bool) → (eqb (depth_of (before ++ cur)) 0 && is_break b) ≡ t →
     TokensAre string (before ++ cur ++ b ∷ []) [] bs → TokensAre string before (cur ++ b ∷ []) bs → TokensAre string before cur (b ∷ bs)
@@ -228,7 +246,8 @@ tokens_are : (string before cur rest : List ℕ) → TokensAre string before cur
 unfolding break_places pieces_between
 tokens_are string before cur [] = λ is low. rw (is, drop_at before (cur ++ []) (length before) refl) (tokens_end cur (depth_of (before ++ cur)))
 tokens_are string before cur (b ∷ bs) =
-    tokens_step string before cur bs b (eqb (depth_of (before ++ cur)) 0 && is_break b) refl (tokens_are string (before ++ cur ++ b ∷ []) [] bs) (tokens_are string before (cur ++ b ∷ []) bs)
+    tokens_step string before cur bs b (eqb (depth_of (before ++ cur)) 0 && is_break b) refl (tokens_are string (before ++ cur ++ b ∷ []) [] bs)
+    (tokens_are string before (cur ++ b ∷ []) bs)
 
 pub tokens_between : (text : List ℕ) → map (λ token. token.text) (tokens_of text) ≡ filter is_some_text (pieces_between 0 (map byte_gap (breaks_of text)) text)
 unfolding tokens_of words

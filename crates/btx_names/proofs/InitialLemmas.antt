@@ -35,6 +35,7 @@ unfolding initial_of lettered_of
 initial_from mode s lettered is = rw is (at s) where
   at : (s : List ℕ) → initial_of mode s ≡ first_text (elements_of mode (lettered_of s))
   at [] = rw (elements_of_nothing mode) refl
-  at (b ∷ bs) = elim (begins_initial (b ∷ bs)) as (λ t. cond t (first_text (elements_of mode (b ∷ bs))) (initial_of mode bs) ≡ first_text (elements_of mode (cond t (b ∷ bs) (lettered_of bs)))) [ true ↦ refl | false ↦ at bs ]
+  at (b ∷ bs) = elim (begins_initial (b ∷ bs)) as (λ t. cond t (first_text (elements_of mode (b ∷ bs))) (initial_of mode bs)
+      ≡ first_text (elements_of mode (cond t (b ∷ bs) (lettered_of bs)))) [ true ↦ refl | false ↦ at bs ]
 
 pub ruleset initial_steps = (initial_from)

@@ -1,5 +1,6 @@
 -- The items of a legal format, written one after another, are the format, and its literals are its bytes at depth 0.
-use Rattle.std.proofs.Common.{◌≡◌, ℕ, zero, suc, ◌+◌, ◌-◌, ◌<◌, ◌≤◌, Bool, true, false, not, cond, eqb, ◌&&◌, ◌||◌, List, [], ◌∷◌, ◌++◌, Option, Some, None, ◌⊎◌, inl, inr, length, take, drop, refl, sym, ◌∙◌, ap, arith, append_assoc, length-append}
+use Rattle.std.proofs.Common.{◌≡◌, ℕ, zero, suc, ◌+◌, ◌-◌, ◌<◌, ◌≤◌, Bool, true, false, not, cond, eqb, ◌&&◌, ◌||◌, List, [], ◌∷◌, ◌++◌, Option, Some, None}
+use Rattle.std.proofs.Common.{◌⊎◌, inl, inr, length, take, drop, refl, sym, ◌∙◌, ap, arith, append_assoc, length-append}
 use Rattle.std.proofs.lemmas.Bool.{true≢false, cases_lt, eqb-true, eq-eqb, ne_eqb, and_parts}
 use Rattle.std.proofs.lemmas.List.{take-append-drop, drop_all, drop-drop, map-append, append-nil, take_at, get_or_at}
 use Rattle.std.proofs.lemmas.List.Sums.{fold-append}
@@ -12,8 +13,10 @@ use Rattle.btx_names.specs.declared.format_items.PartName.TheVariants.{First, Vo
 use Rattle.btx_names.specs.declared.runs.Stop.{Stop}
 use Rattle.btx_names.specs.declared.runs.Stop.TheVariants.{Letter, Closing, Brace}
 use Rattle.btx_names.specs.language.Runs.{stops, run_len}
-use Rattle.btx_names.specs.language.Formats.{FormatPiece, FormatItem, Literal, Name, Illegal, part_named, is_doubled, between_of, behind_between, piece_item, split_item, inside_item, group_item, item_at, item_rest, items_from, items_of, is_illegal, is_legal}
-use Rattle.btx_names.specs.laws.FormatTexts.{in_braces, letter_of, letters_of_part, text_of_between, text_of_piece, text_of_item, text_of_items, in_lower_case, literal_bytes, literals_bytes, is_brace, copies_at, copied_of}
+use Rattle.btx_names.specs.language.Formats.{FormatPiece, FormatItem, Literal, Name, Illegal, part_named, is_doubled, between_of, behind_between, piece_item}
+use Rattle.btx_names.specs.language.Formats.{split_item, inside_item, group_item, item_at, item_rest, items_from, items_of, is_illegal, is_legal}
+use Rattle.btx_names.specs.laws.FormatTexts.{in_braces, letter_of, letters_of_part, text_of_between, text_of_piece, text_of_item, text_of_items, in_lower_case}
+use Rattle.btx_names.specs.laws.FormatTexts.{literal_bytes, literals_bytes, is_brace, copies_at, copied_of}
 use Rattle.btx_names.proofs.RunLemmas.{run_len-le}
 use Rattle.btx_names.proofs.SeparatorLemmas.{depth_push}
 use Rattle.btx_names.proofs.SplitLemmas.{never}
@@ -87,7 +90,8 @@ between_joined (b ∷ bs) low = at (eqb b 123) refl where
       let cut = run_cut Closing 0 bs (closes 0 bs (ap (λ n. fold depth_after n bs) (sym start) ∙ low)) in
       let close : cut.byte ≡ 125 = eqb-true cut.byte 125 cut.is_stop in
       let rest : drop (size + 1) bs ≡ cut.rest = sym (drop-drop 1 size bs) ∙ ap (λ xs. drop 1 xs) cut.behind in
-      let whole : take size bs ++ 125 ∷ cut.rest ≡ bs = ap (λ c. take size bs ++ c ∷ cut.rest) (sym close) ∙ ap (λ xs. take size bs ++ xs) (sym cut.behind) ∙ take-append-drop size bs in
+      let whole : take size bs ++ 125 ∷ cut.rest ≡ bs = ap (λ c. take size bs ++ c ∷ cut.rest) (sym close) ∙ ap (λ xs. take size bs ++ xs) (sym cut.behind)
+      ∙ take-append-drop size bs in
       ap (λ xs. in_braces (take size bs) ++ xs) rest
       ∙ ap (λ xs. 123 ∷ xs) (append_assoc (take size bs) (125 ∷ []) cut.rest ∙ whole)
       ∙ ap (λ c. c ∷ bs) (sym is_brace)
@@ -95,8 +99,10 @@ between_joined (b ∷ bs) low = at (eqb b 123) refl where
 named : (letter : ℕ) (part : PartName) → part_named letter ≡ Some part → to_ascii_lowercase letter ≡ letter_of part
 unfolding part_named
 named letter part is =
-    at (eqb (to_ascii_lowercase letter) 102) (eqb (to_ascii_lowercase letter) 118) (eqb (to_ascii_lowercase letter) 108) (eqb (to_ascii_lowercase letter) 106) refl refl refl refl is where
-      at : (f v l j : Bool) → eqb (to_ascii_lowercase letter) 102 ≡ f → eqb (to_ascii_lowercase letter) 118 ≡ v → eqb (to_ascii_lowercase letter) 108 ≡ l → eqb (to_ascii_lowercase letter) 106 ≡ j →
+    at (eqb (to_ascii_lowercase letter) 102) (eqb (to_ascii_lowercase letter) 118) (eqb (to_ascii_lowercase letter) 108) (eqb (to_ascii_lowercase letter) 106)
+    refl refl refl refl is where
+      at : (f v l j : Bool) → eqb (to_ascii_lowercase letter) 102 ≡ f → eqb (to_ascii_lowercase letter) 118 ≡ v → eqb (to_ascii_lowercase letter) 108 ≡ l
+          → eqb (to_ascii_lowercase letter) 106 ≡ j →
           cond f (Some First) (cond v (Some Von) (cond l (Some Last) (cond j (Some Jr) None))) ≡ Some part → to_ascii_lowercase letter ≡ letter_of part
       at true v l j a b c d same = let e : First ≡ part = cc in eqb-true _ 102 a ∙ ap letter_of e
       at false true l j a b c d same = let e : Von ≡ part = cc in eqb-true _ 118 b ∙ ap letter_of e
@@ -156,7 +162,14 @@ piece_written : (before : List ℕ) (letter : ℕ) (rest : List ℕ) (part : Par
 unfolding piece_item
 piece_written before letter rest part is low = at (has_no_letter (behind_between (behind_letters letter rest))) where
   piece : FormatPiece
-  piece = record { before = before; part = part; is_full = is_doubled letter rest; between = between_of (behind_letters letter rest); after = behind_between (behind_letters letter rest) }
+  piece = record {
+    before = before;
+    part = part;
+    is_full = is_doubled letter rest;
+    between = between_of (behind_letters letter rest);
+    after =
+        behind_between (behind_letters letter rest);
+  }
 
   lower : to_ascii_lowercase letter ≡ letter_of part
   lower = named letter part is
@@ -172,10 +185,13 @@ piece_written before letter rest part is low = at (has_no_letter (behind_between
   at true legal =
       let letters = letters_of_part part piece.is_full in
       let between = text_of_between piece.between in
-      let joined : text_of_piece piece ≡ before ++ (letters ++ (between ++ piece.after)) = append_assoc (before ++ letters) between piece.after ∙ append_assoc before letters (between ++ piece.after) in
-      braces_lower (text_of_piece piece) (before ++ letter ∷ rest) (ap in_lower_case joined ∙ behind_lower before _ (letter ∷ rest) (from_letter part letter rest lower level))
+      let joined : text_of_piece piece ≡ before ++ (letters ++ (between ++ piece.after)) = append_assoc (before ++ letters) between piece.after
+      ∙ append_assoc before letters (between ++ piece.after) in
+      braces_lower (text_of_piece piece) (before ++ letter ∷ rest)
+      (ap in_lower_case joined ∙ behind_lower before _ (letter ∷ rest) (from_letter part letter rest lower level))
 
-lettered_written : (before : List ℕ) (letter : ℕ) (rest : List ℕ) (named_part : Option PartName) → part_named letter ≡ named_part → fold depth_after 0 (letter ∷ rest) ≡ 0 →
+lettered_written : (before : List ℕ) (letter : ℕ) (rest : List ℕ) (named_part : Option PartName) → part_named letter ≡ named_part
+    → fold depth_after 0 (letter ∷ rest) ≡ 0 →
     IsWritten (lettered_item before letter rest named_part) (in_braces (before ++ letter ∷ rest))
 lettered_written before letter rest None is low legal = absurd (true≢false legal)
 lettered_written before letter rest (Some part) is low legal = piece_written before letter rest part is low legal
@@ -187,7 +203,8 @@ split_written before (letter ∷ rest) low legal = lettered_written before lette
 inside_written : (inside : List ℕ) → fold depth_after 0 inside ≡ 0 → IsWritten (inside_item inside) (in_braces inside)
 unfolding inside_item
 inside_written inside low legal =
-    split_written (take size inside) (drop size inside) (at (cases_lt size (length inside))) legal ∙ ap (λ xs. in_lower_case (in_braces xs)) (take-append-drop size inside) where
+    split_written (take size inside) (drop size inside) (at (cases_lt size (length inside))) legal
+    ∙ ap (λ xs. in_lower_case (in_braces xs)) (take-append-drop size inside) where
       size : ℕ
       size = run_len Letter 0 inside
 
@@ -213,7 +230,8 @@ group_written rest = at (eqb (run_len Closing 0 rest) (length rest)) refl where
       let less : size < length rest = omega (arith, other, run_len-le Closing 0 rest) in
       let cut = run_cut Closing 0 rest less in
       let close : cut.byte ≡ 125 = eqb-true cut.byte 125 cut.is_stop in
-      let whole : in_braces (take size rest) ≡ 123 ∷ take (suc size) rest = ap (λ xs. 123 ∷ xs) (ap (λ c. take size rest ++ c ∷ []) (sym close) ∙ sym cut.with_it) in
+      let whole : in_braces (take size rest) ≡ 123 ∷ take (suc size) rest =
+      ap (λ xs. 123 ∷ xs) (ap (λ c. take size rest ++ c ∷ []) (sym close) ∙ sym cut.with_it) in
       inside_written (take size rest) cut.level legal ∙ ap in_lower_case whole
 
 -- ---- the items
@@ -225,7 +243,8 @@ item_written b bs = at (eqb b 123) (eqb b 125) refl refl where
   size = run_len Brace 0 (b ∷ bs)
 
   at : (t u : Bool) → eqb b 123 ≡ t → eqb b 125 ≡ u →
-      IsWritten (cond t (group_item bs) (cond u Illegal (Literal (take size (b ∷ bs))))) (b ∷ take (cond t (suc (run_len Closing 0 bs)) (cond u 0 (size - 1))) bs)
+      IsWritten (cond t (group_item bs) (cond u Illegal (Literal (take size (b ∷ bs)))))
+      (b ∷ take (cond t (suc (run_len Closing 0 bs)) (cond u 0 (size - 1))) bs)
   at true u is_open is_close legal =
       group_written bs legal ∙ ap (λ c. in_lower_case (c ∷ take (suc (run_len Closing 0 bs)) bs)) (sym (eqb-true b 123 is_open))
   at false true is_open is_close legal = absurd (true≢false legal)
@@ -239,7 +258,8 @@ or_parts : (a b : Bool) → (a || b) ≡ false → (a ≡ false) × (b ≡ false
 or_parts true b is = absurd (true≢false is)
 or_parts false b is = (refl, is)
 
-items_written : (skip : ℕ) (s : List ℕ) → list_any is_illegal (items_from skip s) ≡ false → in_lower_case (text_of_items (items_from skip s)) ≡ in_lower_case (drop skip s)
+items_written : (skip : ℕ) (s : List ℕ) → list_any is_illegal (items_from skip s) ≡ false → in_lower_case (text_of_items (items_from skip s))
+    ≡ in_lower_case (drop skip s)
 unfolding items_from
 items_written zero [] legal = refl
 items_written (suc skip) [] legal = refl
@@ -269,7 +289,8 @@ copied_from : ℕ → List ℕ → List ℕ
 copied_from depth [] = []
 copied_from depth (b ∷ bs) = cond (eqb depth 0 && not (is_brace b)) (b ∷ copied_from (depth_after depth b) bs) (copied_from (depth_after depth b) bs)
 
-map_cond : (f : ℕ → ℕ) (t : Bool) (place b : ℕ) (places rest : List ℕ) → f place ≡ b → map f places ≡ rest → map f (cond t (place ∷ places) places) ≡ cond t (b ∷ rest) rest
+map_cond : (f : ℕ → ℕ) (t : Bool) (place b : ℕ) (places rest : List ℕ) → f place ≡ b → map f places ≡ rest → map f (cond t (place ∷ places) places)
+    ≡ cond t (b ∷ rest) rest
 map_cond f true place b places rest head tail = same_head _ _ _ _ head tail
 map_cond f false place b places rest head tail = tail
 
@@ -286,14 +307,16 @@ copied_places string before (b ∷ bs) is =
     let more = copied_places string (before ++ b ∷ []) bs again in
     let rest = filter (copies_at string) (range_with_len (length before + 1) (length bs)) in
     let others : map (slice_index string) rest ≡ copied_from (depth_after (depth_of before) b) bs =
-    ap (λ n. map (slice_index string) (filter (copies_at string) (range_with_len n (length bs)))) (sym next) ∙ more ∙ ap (λ n. copied_from n bs) (depth_push before b) in
+    ap (λ n. map (slice_index string) (filter (copies_at string) (range_with_len n (length bs)))) (sym next) ∙ more
+    ∙ ap (λ n. copied_from n bs) (depth_push before b) in
     rw test (map_cond (slice_index string) (eqb (depth_of before) 0 && not (is_brace b)) (length before) b rest _ byte others)
 
 -- nothing inside a group is copied
 deep_copies_nothing : (depth b : ℕ) (bs : List ℕ) → copied_from (suc depth) (b ∷ bs) ≡ copied_from (depth_after (suc depth) b) bs
 unfolding copied_from
 deep_copies_nothing depth b bs = at (eqb (suc depth) 0) (ne_eqb (suc depth) 0 (omega arith)) where
-  at : (t : Bool) → t ≡ false → cond (t && not (is_brace b)) (b ∷ copied_from (depth_after (suc depth) b) bs) (copied_from (depth_after (suc depth) b) bs) ≡ copied_from (depth_after (suc depth) b) bs
+  at : (t : Bool) → t ≡ false → cond (t && not (is_brace b)) (b ∷ copied_from (depth_after (suc depth) b) bs) (copied_from (depth_after (suc depth) b) bs)
+      ≡ copied_from (depth_after (suc depth) b) bs
   at true is = absurd (true≢false is)
   at false is = refl
 
@@ -315,7 +338,8 @@ unfolding copied_from run_len
 run_copied [] = refl
 run_copied (b ∷ bs) = at (eqb b 123) (eqb b 125) refl refl (run_copied bs) where
   at : (t u : Bool) → eqb b 123 ≡ t → eqb b 125 ≡ u → take (run_len Brace 0 bs) bs ++ copied_from 0 (drop (run_len Brace 0 bs) bs) ≡ copied_from 0 bs →
-      take (cond (t || u) 0 (suc (run_len Brace (cond t 1 (cond u 0 0)) bs))) (b ∷ bs) ++ copied_from 0 (drop (cond (t || u) 0 (suc (run_len Brace (cond t 1 (cond u 0 0)) bs))) (b ∷ bs))
+      take (cond (t || u) 0 (suc (run_len Brace (cond t 1 (cond u 0 0)) bs))) (b ∷ bs)
+      ++ copied_from 0 (drop (cond (t || u) 0 (suc (run_len Brace (cond t 1 (cond u 0 0)) bs))) (b ∷ bs))
       ≡ cond (not (t || u)) (b ∷ copied_from (cond t 1 (cond u 0 0)) bs) (copied_from (cond t 1 (cond u 0 0)) bs)
   at true u is_open is_close on = rw (is_open) refl
   at false true is_open is_close on = rw (is_open, is_close) refl
@@ -325,7 +349,15 @@ lettered_copies_nothing : (before : List ℕ) (letter : ℕ) (rest : List ℕ) (
 unfolding piece_item
 lettered_copies_nothing before letter rest None = refl
 lettered_copies_nothing before letter rest (Some part) =
-    at (has_no_letter (behind_between (behind_letters letter rest))) (record { before = before; part = part; is_full = is_doubled letter rest; between = between_of (behind_letters letter rest); after = behind_between (behind_letters letter rest) }) where
+    at (has_no_letter (behind_between (behind_letters letter rest)))
+    (record {
+      before = before;
+      part = part;
+      is_full = is_doubled letter rest;
+      between = between_of (behind_letters letter rest);
+      after =
+          behind_between (behind_letters letter rest);
+    }) where
       at : (t : Bool) (piece : FormatPiece) → literal_bytes (cond t (Name piece) Illegal) ≡ []
       at true piece = refl
       at false piece = refl
@@ -351,7 +383,8 @@ item_copied b bs = at (eqb b 123) (eqb b 125) refl refl where
   size = run_len Brace 0 (b ∷ bs)
 
   at : (t u : Bool) → eqb b 123 ≡ t → eqb b 125 ≡ u →
-      literal_bytes (cond t (group_item bs) (cond u Illegal (Literal (take size (b ∷ bs))))) ++ copied_from 0 (drop (cond t (suc (run_len Closing 0 bs)) (cond u 0 (size - 1))) bs)
+      literal_bytes (cond t (group_item bs) (cond u Illegal (Literal (take size (b ∷ bs)))))
+      ++ copied_from 0 (drop (cond t (suc (run_len Closing 0 bs)) (cond u 0 (size - 1))) bs)
       ≡ copied_from 0 (b ∷ bs)
   at true u is_open is_close = rw (group_copies_nothing bs) (sym (past_group 0 bs) ∙ rw (is_open) refl)
   at false true is_open is_close = rw (is_open, is_close) refl

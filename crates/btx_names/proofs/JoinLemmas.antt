@@ -1,5 +1,6 @@
 -- What stands between the tokens of a piece.
-use Rattle.std.proofs.Common.{◌≡◌, ℕ, zero, suc, ◌<◌, Bool, true, false, cond, eqb, List, [], ◌∷◌, ◌++◌, Some, None, length, refl, sym, ◌∙◌, ap, arith, append_assoc}
+use Rattle.std.proofs.Common.{◌≡◌, ℕ, zero, suc, ◌<◌, Bool, true, false, cond, eqb, List, [], ◌∷◌, ◌++◌, Some, None, length, refl, sym, ◌∙◌, ap, arith}
+use Rattle.std.proofs.Common.{append_assoc}
 use Rattle.std.proofs.lemmas.Bool.{eqb-true, ne_eqb}
 use Rattle.btx_names.specs.declared.name_tokens.Joint.{Joint}
 use Rattle.std.specs.List.{join_by}
@@ -20,7 +21,8 @@ tokens_joined mode piece between token tokens is = ap (λ text. finished mode (t
 -- ---- without a string between
 
 -- what stands behind a token with others left is a period, if the token is abbreviated, and a tie
-behind_token : (mode : TextMode) (piece : FormatPiece) (so_far : List ℕ) (joint : Joint) (left : ℕ) (is_last : Bool) → piece.between ≡ None → 0 < left → eqb left 1 ≡ is_last →
+behind_token : (mode : TextMode) (piece : FormatPiece) (so_far : List ℕ) (joint : Joint) (left : ℕ) (is_last : Bool) → piece.between ≡ None → 0 < left
+    → eqb left 1 ≡ is_last →
     between_text mode piece so_far joint left ≡ period_of piece.is_full ++ tie_of mode (so_far ++ period_of piece.is_full) joint is_last ∷ []
 unfolding between_text
 behind_token mode piece so_far joint left is_last is some last = at (eqb left 0) refl where
@@ -35,10 +37,12 @@ last_left (suc n) = ne_eqb (suc (suc n)) 1 (λ e. absurd (omega arith)) ∙ sym 
 
 pub tokens_tied : (mode : TextMode) (piece : FormatPiece) (so_far : List ℕ) (token next : NameToken) (tokens : List NameToken) → piece.between ≡ None →
     let text = so_far ++ shown mode piece.is_full token.text ++ period_of piece.is_full in
-    with_tokens mode piece so_far (token ∷ next ∷ tokens) ≡ with_tokens mode piece (text ++ tie_of mode text token.joint (eqb (length tokens) 0) ∷ []) (next ∷ tokens)
+    with_tokens mode piece so_far (token ∷ next ∷ tokens) ≡ with_tokens mode piece (text ++ tie_of mode text token.joint (eqb (length tokens) 0) ∷ [])
+    (next ∷ tokens)
 tokens_tied mode piece so_far token next tokens is =
     let word = so_far ++ shown mode piece.is_full token.text in
     let tie = tie_of mode (word ++ period_of piece.is_full) token.joint (eqb (length tokens) 0) in
     with_tokens_cons mode piece so_far token (next ∷ tokens)
-    ∙ ap (λ text. with_tokens mode piece (word ++ text) (next ∷ tokens)) (behind_token mode piece word token.joint (length (next ∷ tokens)) (eqb (length tokens) 0) is (omega arith) (last_left (length tokens)))
+    ∙ ap (λ text. with_tokens mode piece (word ++ text) (next ∷ tokens))
+    (behind_token mode piece word token.joint (length (next ∷ tokens)) (eqb (length tokens) 0) is (omega arith) (last_left (length tokens)))
     ∙ ap (λ text. with_tokens mode piece text (next ∷ tokens)) (sym (append_assoc word (period_of piece.is_full) (tie ∷ [])))

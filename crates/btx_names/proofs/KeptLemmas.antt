@@ -1,5 +1,6 @@
 -- Lemmas on finding a name in a list from a place on.
-use Rattle.std.proofs.Common.{◌≡◌, ℕ, zero, suc, ◌+◌, ◌-◌, ◌<◌, ◌≤◌, Bool, true, false, eqb, None, Some, List, [], ◌∷◌, length, take, drop, refl, sym, ◌∙◌, ap, inl, inr, arith}
+use Rattle.std.proofs.Common.{◌≡◌, ℕ, zero, suc, ◌+◌, ◌-◌, ◌<◌, ◌≤◌, Bool, true, false, eqb, None, Some, List, [], ◌∷◌, length, take, drop, refl, sym, ◌∙◌, ap}
+use Rattle.std.proofs.Common.{inl, inr, arith}
 use Rattle.std.proofs.lemmas.List.{drop-drop, length-drop, take_all}
 use Rattle.std.proofs.lemmas.Bool.{ne_eqb, true≢false}
 use Rattle.std.specs.Prelude.{slice_get}
@@ -37,7 +38,8 @@ later_in_rest (name ∷ names) (suc known) n = let e : suc known + n ≡ suc (kn
 -- ---- the name at a place
 
 -- the first of the names from a place on
-pub name_at : (names : List ℕ) (from : ℕ) → (rest : List (List ℕ)) × (names_from names from ≡ take (first_name_len 0 (drop from names)) (drop from names) ∷ rest)
+pub name_at : (names : List ℕ) (from : ℕ)
+    → (rest : List (List ℕ)) × (names_from names from ≡ take (first_name_len 0 (drop from names)) (drop from names) ∷ rest)
 name_at names from = at (first_piece 0 (drop from names)) where
   at : Splits 0 (drop from names) (first_name_len 0 (drop from names)) →
       (rest : List (List ℕ)) × (names_from names from ≡ take (first_name_len 0 (drop from names)) (drop from names) ∷ rest)
@@ -45,7 +47,8 @@ name_at names from = at (first_piece 0 (drop from names)) where
   at (inr h) = (pieces_from 0 0 (drop (suc (suc (suc (first_name_len 0 (drop from names))))) (drop from names)), h.1)
 
 -- the names behind it
-pub names_behind : (names : List ℕ) (start len next : ℕ) → start ≤ length names → len ≡ first_name_len 0 (drop start names) → 3 ≤ length (drop start names) - len →
+pub names_behind : (names : List ℕ) (start len next : ℕ) → start ≤ length names → len ≡ first_name_len 0 (drop start names)
+    → 3 ≤ length (drop start names) - len →
     next ≡ start + len + 3 → (next ≤ length names) × (drop 1 (names_from names start) ≡ names_from names next)
 names_behind names start len next le is long to =
     let s = drop start names in
@@ -54,11 +57,13 @@ names_behind names start len next le is long to =
     let more = pieces_more s after refl (omega (arith, long, size)) in
     let e : start + first_name_len 0 s + 3 ≡ next = omega (arith, is, to) in (
       omega (arith, le, long, to, length-drop start names),
-      ap (drop 1) more ∙ ap (pieces_from 0 0) (ap (drop 3) (drop-drop (first_name_len 0 s) start names) ∙ drop-drop 3 (start + first_name_len 0 s) names ∙ ap (λ n. drop n names) e),
+      ap (drop 1) more ∙ ap (pieces_from 0 0) (ap (drop 3) (drop-drop (first_name_len 0 s) start names) ∙ drop-drop 3 (start + first_name_len 0 s) names
+          ∙ ap (λ n. drop n names) e),
     )
 
 -- there are none behind the last
-pub none_behind : (names : List ℕ) (start len : ℕ) → len ≡ first_name_len 0 (drop start names) → length (drop start names) - len < 3 → drop 1 (names_from names start) ≡ []
+pub none_behind : (names : List ℕ) (start len : ℕ) → len ≡ first_name_len 0 (drop start names) → length (drop start names) - len < 3
+    → drop 1 (names_from names start) ≡ []
 none_behind names start len is short =
     let s = drop start names in
     let after = drop (first_name_len 0 s) s in

@@ -1,5 +1,6 @@
 -- The laws of the parts of a name.
-use Rattle.std.proofs.Common.{◌≡◌, ℕ, zero, suc, ◌+◌, ◌-◌, ◌<◌, ◌≤◌, Bool, true, false, cond, List, [], ◌∷◌, ◌++◌, Option, Some, None, ◌⊎◌, inl, inr, length, take, drop, refl, sym, ◌∙◌, ap, arith, append_assoc}
+use Rattle.std.proofs.Common.{◌≡◌, ℕ, zero, suc, ◌+◌, ◌-◌, ◌<◌, ◌≤◌, Bool, true, false, cond, List, [], ◌∷◌, ◌++◌, Option, Some, None, ◌⊎◌, inl, inr, length}
+use Rattle.std.proofs.Common.{take, drop, refl, sym, ◌∙◌, ap, arith, append_assoc}
 use Rattle.std.specs.Prelude.{slice_get, nat_lt}
 use Rattle.std.proofs.lemmas.Bool.{true≢false, cases_lt}
 use Rattle.std.proofs.lemmas.List.{take-append-drop, drop_all, drop-drop, length-drop}
@@ -8,7 +9,8 @@ use Rattle.btx_names.specs.refinement.Steps.{passes}
 use Rattle.btx_names.specs.declared.token_counts.TokenTest.TheVariants.{Von, Apart}
 use Rattle.btx_names.specs.language.Runs.{run_len}
 use Rattle.btx_names.specs.language.Tokens.{NameToken, tokens_of}
-use Rattle.btx_names.specs.language.NameParts.{Sections, One, Two, Three, split_at_comma, cut_first, cut_again, sections_of, unsplit, parts_by, von_end, last_start, up_to_last, before_final}
+use Rattle.btx_names.specs.language.NameParts.{Sections, One, Two, Three, split_at_comma, cut_first, cut_again, sections_of, unsplit, parts_by, von_end}
+use Rattle.btx_names.specs.language.NameParts.{last_start, up_to_last, before_final}
 use Rattle.btx_names.specs.laws.NameParts.{parts_in_order, HasJrByForm, surname_of, before_last, final_of, is_all_breaks, parts_of}
 use Rattle.btx_names.proofs.SplitLemmas.{tokens_of-comma}
 use Rattle.btx_names.proofs.RangeLemmas.{up_to_last-lt, von_start-le}
@@ -26,7 +28,8 @@ tokens_of-cut text cut is = at (is_all_breaks (drop (run_len Comma 0 text + 1) t
   one_more : size + 1 ≡ suc size
   one_more = omega arith
 
-  at : (t : Bool) → is_all_breaks (drop (size + 1) text) ≡ t → cond t None (Some (take size text, drop (size + 1) text)) ≡ Some cut → tokens_of text ≡ tokens_of cut.0 ++ tokens_of cut.1
+  at : (t : Bool) → is_all_breaks (drop (size + 1) text) ≡ t → cond t None (Some (take size text, drop (size + 1) text)) ≡ Some cut
+      → tokens_of text ≡ tokens_of cut.0 ++ tokens_of cut.1
   at true all same = let never : ⊥ = cc in absurd never
   at false all same = within (cases_lt size (length text)) where
     pieces : cut ≡ (take size text, drop (size + 1) text)
@@ -56,7 +59,8 @@ covers name = at (split_at_comma name) refl where
       parts_in_order (cut_again surname rest cut) (parts_by (cut_again surname rest cut)) ≡ tokens_of surname ++ tokens_of rest
   at_second surname rest None is = ap (λ tokens. tokens ++ tokens_of rest) (take-append-drop (von_end (tokens_of surname)) (tokens_of surname))
   at_second surname rest (Some cut) is =
-      append_assoc (take (von_end (tokens_of surname)) (tokens_of surname) ++ drop (von_end (tokens_of surname)) (tokens_of surname)) (tokens_of cut.0) (tokens_of cut.1)
+      append_assoc (take (von_end (tokens_of surname)) (tokens_of surname) ++ drop (von_end (tokens_of surname)) (tokens_of surname)) (tokens_of cut.0)
+      (tokens_of cut.1)
       ∙ ap (λ tokens. tokens ++ (tokens_of cut.0 ++ tokens_of cut.1)) (take-append-drop (von_end (tokens_of surname)) (tokens_of surname))
       ∙ ap (λ tokens. tokens_of surname ++ tokens) (sym (tokens_of-cut rest cut is))
 
@@ -130,7 +134,8 @@ front_of-final (token ∷ before) behind (next ∷ front) final is some = one_mo
   one_more : (rest : List NameToken) × (front ≡ before ++ rest) → (rest : List NameToken) × (next ∷ front ≡ (token ∷ before) ++ rest)
   one_more more = (more.0, rw (head_is, more.1) refl)
 
-last_is_some : (tokens : List NameToken) (front : List NameToken) (final : NameToken) → tokens ≡ front ++ final ∷ [] → 0 < length (drop (last_start tokens) tokens)
+last_is_some : (tokens : List NameToken) (front : List NameToken) (final : NameToken) → tokens ≡ front ++ final ∷ []
+    → 0 < length (drop (last_start tokens) tokens)
 last_is_some [] [] final is = cc
 last_is_some [] (next ∷ front) final is = cc
 last_is_some (token ∷ tokens) front final is =
@@ -138,7 +143,8 @@ last_is_some (token ∷ tokens) front final is =
     let size = length-drop (last_start (token ∷ tokens)) (token ∷ tokens) in
     omega (arith, size)
 
-von_leaves_some : (tokens : List NameToken) (front : List NameToken) (final : NameToken) → tokens ≡ front ++ final ∷ [] → 0 < length (drop (von_end tokens) tokens)
+von_leaves_some : (tokens : List NameToken) (front : List NameToken) (final : NameToken) → tokens ≡ front ++ final ∷ []
+    → 0 < length (drop (von_end tokens) tokens)
 von_leaves_some [] [] final is = cc
 von_leaves_some [] (next ∷ front) final is = cc
 von_leaves_some (token ∷ tokens) front final is =

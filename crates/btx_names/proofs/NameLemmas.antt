@@ -1,5 +1,6 @@
 -- Lemmas on the names of a string.
-use Rattle.std.proofs.Common.{◌≡◌, ℕ, zero, suc, ◌+◌, ◌<◌, ◌≤◌, Bool, true, false, cond, eqb, ◌&&◌, List, [], ◌∷◌, length, take, drop, get_or, ◌⊎◌, inl, inr, refl, sym, ◌∙◌, ap, arith}
+use Rattle.std.proofs.Common.{◌≡◌, ℕ, zero, suc, ◌+◌, ◌<◌, ◌≤◌, Bool, true, false, cond, eqb, ◌&&◌, List, [], ◌∷◌, length, take, drop, get_or, ◌⊎◌, inl, inr}
+use Rattle.std.proofs.Common.{refl, sym, ◌∙◌, ap, arith}
 use Rattle.std.proofs.lemmas.List.{drop_all, drop_more, take_rest, drop-drop, length-drop, take_all}
 use Rattle.std.proofs.lemmas.Bool.{and_parts, leb-true, ne_eqb}
 use Rattle.std.proofs.lemmas.Bool.Decides.{nat_tests}
@@ -41,14 +42,16 @@ is_white-plain b plain = grind (arith, nat_tests)
 is_separator-plain : (b : ℕ) (bs : List ℕ) → is_plain b ≡ true → is_separator (b ∷ bs) ≡ false
 unfolding is_separator
 is_separator-plain b bs plain = at (nat_le 5 (length (b ∷ bs))) where
-  at : (fits : Bool) → (fits && is_white b && is_letter 97 (slice_index (b ∷ bs) 1) && is_letter 110 (slice_index (b ∷ bs) 2) && is_letter 100 (slice_index (b ∷ bs) 3) && is_white (slice_index (b ∷ bs) 4)) ≡ false
+  at : (fits : Bool) → (fits && is_white b && is_letter 97 (slice_index (b ∷ bs) 1) && is_letter 110 (slice_index (b ∷ bs) 2)
+      && is_letter 100 (slice_index (b ∷ bs) 3) && is_white (slice_index (b ∷ bs) 4)) ≡ false
   at true = rw (is_white-plain b plain) refl
   at false = refl
 
 pub name_len_plain : (depth : ℕ) (s : List ℕ) (i : ℕ) → i < length s → is_plain (get_or s i 0) ≡ true →
     first_name_len depth (drop i s) ≡ suc (first_name_len depth (drop (i + 1) s))
 name_len_plain depth s i h plain =
-    let none : (eqb depth 0 && is_separator (drop i s)) ≡ false = rw (drop_more s i 0 h, is_separator-plain (get_or s i 0) (drop (i + 1) s) plain) (and-false (eqb depth 0)) in
+    let none : (eqb depth 0 && is_separator (drop i s)) ≡ false = rw (drop_more s i 0 h, is_separator-plain (get_or s i 0) (drop (i + 1) s) plain)
+    (and-false (eqb depth 0)) in
     name_len_next depth s i h none ∙ ap (λ d. suc (first_name_len d (drop (i + 1) s))) (depth_after-plain depth (get_or s i 0) plain)
 
 pub ruleset name_len_steps = (name_len_here, name_len_next, name_len_plain, name_len_all, take_rest)
@@ -87,7 +90,8 @@ unfolding pieces_from
 length-pieces_from skip depth [] = omega arith
 length-pieces_from (suc skip) depth (b ∷ bs) = let h = length-pieces_from skip depth bs in omega arith
 length-pieces_from zero depth (b ∷ bs) =
-    at (eqb depth 0 && is_separator (b ∷ bs)) (length-pieces_from 3 0 bs) (pieces_from 0 (depth_after depth b) bs) (length-pieces_from 0 (depth_after depth b) bs) where
+    at (eqb depth 0 && is_separator (b ∷ bs)) (length-pieces_from 3 0 bs) (pieces_from 0 (depth_after depth b) bs)
+    (length-pieces_from 0 (depth_after depth b) bs) where
       at : (t : Bool) → length (pieces_from 3 0 bs) ≤ length bs + 1 → (pieces : List (List ℕ)) → length pieces ≤ length bs + 1 →
           length (cond t ((b ∷ []) ∷ pieces_from 3 0 bs) (onto_first b pieces)) ≤ length (b ∷ bs) + 1
       at true h pieces g = omega arith

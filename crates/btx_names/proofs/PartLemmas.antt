@@ -1,5 +1,6 @@
 -- Lemmas on the parts of a name and the list of its tokens.
-use Rattle.std.proofs.Common.{◌≡◌, ℕ, zero, suc, ◌+◌, ◌-◌, ◌<◌, ◌≤◌, List, [], ◌∷◌, ◌++◌, length, take, drop, refl, sym, ◌∙◌, ap, arith, get_or, set, add-one, min, Bool, true, false, cond, leb, eqb, length-append}
+use Rattle.std.proofs.Common.{◌≡◌, ℕ, zero, suc, ◌+◌, ◌-◌, ◌<◌, ◌≤◌, List, [], ◌∷◌, ◌++◌, length, take, drop, refl, sym, ◌∙◌, ap, arith, get_or, set, add-one}
+use Rattle.std.proofs.Common.{min, Bool, true, false, cond, leb, eqb, length-append}
 use Rattle.std.proofs.lemmas.Bool.{leb-true, leb-false, eqb-true, true≢false}
 use Rattle.std.proofs.lemmas.List.{take-map, drop-map, length-map, drop_all, take_at, drop_at, length-drop, drop-drop, drop_more, drop-set, get_or-set_same}
 use Rattle.std.proofs.lemmas.List.Elements.{All-take, All-drop, All-get_or, All-head, All-tail}
@@ -191,7 +192,8 @@ one_turn_more mode bytes tokens place next default lt held none is =
 
 -- ---- the sections of a name in the list of its tokens
 
-pub sections_split : (bytes : List ℕ) (list : TokenList) (sections : Sections) (all surname others jr first : List Token) → IsListOf bytes list sections → all ≡ tokens_in bytes list.tokens.items →
+pub sections_split : (bytes : List ℕ) (list : TokenList) (sections : Sections) (all surname others jr first : List Token) → IsListOf bytes list sections
+    → all ≡ tokens_in bytes list.tokens.items →
     surname ≡ take list.surname all → others ≡ drop list.surname all → jr ≡ take list.jr others → first ≡ drop list.jr others →
     (surname ≡ tokens_of (surname_of sections)) × (jr ≡ tokens_of (jr_of sections)) × (first ≡ tokens_of (first_section sections))
 sections_split bytes list sections all surname others jr first is kept one two three four =
@@ -228,7 +230,8 @@ von_from sections = cond (has_commas sections) 0 (von_start (tokens_of (surname_
 abbrev pub last_from : Sections → ℕ
 last_from sections = cond (has_commas sections) (von_end (tokens_of (surname_of sections))) (last_start (tokens_of (surname_of sections)))
 
-pub ranges_of_sections : (bytes : List ℕ) (list : TokenList) (ranges : Ranges) (sections : Sections) → IsListOf bytes list sections → AreRangesOf bytes list ranges →
+pub ranges_of_sections : (bytes : List ℕ) (list : TokenList) (ranges : Ranges) (sections : Sections) → IsListOf bytes list sections
+    → AreRangesOf bytes list ranges →
     (ranges.von_start ≡ von_from sections) × (ranges.last_start ≡ last_from sections)
 ranges_of_sections bytes list ranges sections is at =
     let surname = surname_of_list bytes list sections is in
@@ -265,7 +268,8 @@ pub parts_cut : (bytes : List ℕ) (list : TokenList) (ranges : Ranges) (section
     surname ≡ take list.surname all → others ≡ drop list.surname all → jr ≡ take list.jr others → behind ≡ drop list.jr others →
     before ≡ take ranges.von_start surname → rest ≡ drop ranges.von_start surname →
     von ≡ take (ranges.last_start - ranges.von_start) rest → last ≡ drop (ranges.last_start - ranges.von_start) rest →
-    (cond list.has_commas behind before ≡ (parts_by sections).first) × (von ≡ (parts_by sections).von) × (last ≡ (parts_by sections).last) × (jr ≡ (parts_by sections).jr)
+    (cond list.has_commas behind before ≡ (parts_by sections).first) × (von ≡ (parts_by sections).von) × (last ≡ (parts_by sections).last)
+    × (jr ≡ (parts_by sections).jr)
 parts_cut bytes list ranges sections all surname others jr behind before rest von last is within whole one two three four five six seven eight =
     let cut = sections_split bytes list sections all surname others jr behind is whole one two three four in
     let starts = ranges_of_sections bytes list ranges sections is within in

@@ -1,5 +1,6 @@
 -- Lemmas on the pieces of a formatted name.
-use Rattle.std.proofs.Common.{Err, ◌≡◌, ℕ, ◌+◌, ◌-◌, ◌<◌, ◌≤◌, Bool, true, false, not, ◌&&◌, cond, eqb, Option, Some, None, List, [], ◌∷◌, ◌++◌, length, take, drop, refl, sym, ◌∙◌, ap, arith, length-append, append_assoc}
+use Rattle.std.proofs.Common.{Err, ◌≡◌, ℕ, ◌+◌, ◌-◌, ◌<◌, ◌≤◌, Bool, true, false, not, ◌&&◌, cond, eqb, Option, Some, None, List, [], ◌∷◌, ◌++◌, length, take}
+use Rattle.std.proofs.Common.{drop, refl, sym, ◌∙◌, ap, arith, length-append, append_assoc}
 use Rattle.std.proofs.lemmas.List.{take-append-drop, length-take, take_at, drop_at, take-append-le, drop-append-le, length-drop, append-nil}
 use Rattle.std.proofs.lemmas.Bool.{eqb-true, false≢true}
 use Rattle.btx_names.specs.refinement.ItemViews.{is_nothing, has_nothing_between}
@@ -17,7 +18,8 @@ use Rattle.btx_names.specs.laws.FormattedNames.{shown}
 
 pub with_tokens_cons : (mode : TextMode) (piece : FormatPiece) (so_far : List ℕ) (token : NameToken) (tokens : List NameToken) →
     with_tokens mode piece so_far (token ∷ tokens)
-    ≡ with_tokens mode piece (so_far ++ shown mode piece.is_full token.text ++ between_text mode piece (so_far ++ shown mode piece.is_full token.text) token.joint (length tokens)) tokens
+    ≡ with_tokens mode piece (so_far ++ shown mode piece.is_full token.text ++ between_text mode piece (so_far ++ shown mode piece.is_full token.text)
+    token.joint (length tokens)) tokens
 unfolding with_tokens
 with_tokens_cons mode piece so_far token tokens = refl
 
@@ -26,7 +28,8 @@ unfolding with_tokens
 with_tokens_nil mode piece so_far = refl
 
 -- a piece's text only grows
-pub with_tokens_grows : (mode : TextMode) (piece : FormatPiece) (so_far : List ℕ) (tokens : List NameToken) → length so_far ≤ length (with_tokens mode piece so_far tokens)
+pub with_tokens_grows : (mode : TextMode) (piece : FormatPiece) (so_far : List ℕ) (tokens : List NameToken)
+    → length so_far ≤ length (with_tokens mode piece so_far tokens)
 unfolding with_tokens
 with_tokens_grows mode piece so_far [] = omega arith
 with_tokens_grows mode piece so_far (token ∷ tokens) =
@@ -65,7 +68,8 @@ joined mode piece between so_far (token ∷ next ∷ tokens) is =
     let word = shown mode piece.is_full token.text in
     let rest = flat_map (λ token. between ++ shown mode piece.is_full token.text) tokens in
     with_tokens_cons mode piece so_far token (next ∷ tokens)
-    ∙ ap (λ text. with_tokens mode piece (so_far ++ word ++ text) (next ∷ tokens)) (between_some mode piece between (so_far ++ word) token.joint (length (next ∷ tokens)) is (omega arith))
+    ∙ ap (λ text. with_tokens mode piece (so_far ++ word ++ text) (next ∷ tokens))
+    (between_some mode piece between (so_far ++ word) token.joint (length (next ∷ tokens)) is (omega arith))
     ∙ joined mode piece between (so_far ++ word ++ between) (next ∷ tokens) is
     ∙ in_a_row so_far word between (shown mode piece.is_full next.text) rest where
       in_a_row : (a b c d e : List ℕ) → a ++ b ++ c ++ (d ++ e) ≡ a ++ (b ++ (c ++ d ++ e))
@@ -91,7 +95,8 @@ one_token_more mode piece start old mid new before token tokens all le front fir
     )
 
 -- what a piece comes to is at least as long as its text so far, with one more token and what stands behind it
-pub grows_by_token : (mode : TextMode) (piece : FormatPiece) (start : ℕ) (text before : List ℕ) (token : NameToken) (tokens all : List NameToken) → start ≤ length text → take start text ≡ before →
+pub grows_by_token : (mode : TextMode) (piece : FormatPiece) (start : ℕ) (text before : List ℕ) (token : NameToken) (tokens all : List NameToken)
+    → start ≤ length text → take start text ≡ before →
     all ≡ token ∷ tokens →
     length text + length (shown mode piece.is_full token.text)
     + length (between_text mode piece (drop start text ++ shown mode piece.is_full token.text) token.joint (length tokens))
@@ -100,18 +105,32 @@ grows_by_token mode piece start text before token tokens all le front is =
     let word = shown mode piece.is_full token.text in
     let next = drop start text ++ word in
     let more = between_text mode piece next token.joint (length tokens) in
-    let step : with_tokens mode piece (drop start text) all ≡ with_tokens mode piece (next ++ more) tokens = rw is (with_tokens_cons mode piece (drop start text) token tokens) in
-    omega (arith, length-append before (with_tokens mode piece (drop start text) all), ap (λ (t : List ℕ). length t) step, with_tokens_grows mode piece (next ++ more) tokens, length-append next more, length-append (drop start text) word, length-drop start text, sym (ap (λ (t : List ℕ). length t) front), length-take start text)
+    let step : with_tokens mode piece (drop start text) all ≡ with_tokens mode piece (next ++ more) tokens =
+    rw is (with_tokens_cons mode piece (drop start text) token tokens) in
+    omega (
+      arith,
+      length-append before (with_tokens mode piece (drop start text) all),
+      ap (λ (t : List ℕ). length t) step,
+      with_tokens_grows mode piece (next ++ more) tokens,
+      length-append next more,
+      length-append (drop start text) word,
+      length-drop start text,
+      sym (ap (λ (t : List ℕ). length t) front),
+      length-take start text,
+    )
 
-pub shown_too_long : (mode : TextMode) (piece : FormatPiece) (start limit : ℕ) (text before wanted : List ℕ) (token : NameToken) (tokens all : List NameToken) → start ≤ length text →
+pub shown_too_long : (mode : TextMode) (piece : FormatPiece) (start limit : ℕ) (text before wanted : List ℕ) (token : NameToken) (tokens all : List NameToken)
+    → start ≤ length text →
     take start text ≡ before → all ≡ token ∷ tokens → with_tokens mode piece (drop start text) all ≡ wanted →
     limit < length (text ++ shown mode piece.is_full token.text) → limit < length (before ++ wanted)
 shown_too_long mode piece start limit text before wanted token tokens all le front is made long =
     let grown = rw made at (grows_by_token mode piece start text before token tokens all le front is) in
     omega (arith, grown, long, length-append text (shown mode piece.is_full token.text))
 
-pub between_too_long : (mode : TextMode) (piece : FormatPiece) (start limit : ℕ) (text mid before wanted : List ℕ) (token : NameToken) (tokens all : List NameToken) → start ≤ length text →
-    take start text ≡ before → all ≡ token ∷ tokens → with_tokens mode piece (drop start text) all ≡ wanted → mid ≡ text ++ shown mode piece.is_full token.text →
+pub between_too_long : (mode : TextMode) (piece : FormatPiece) (start limit : ℕ) (text mid before wanted : List ℕ) (token : NameToken)
+    (tokens all : List NameToken) → start ≤ length text →
+    take start text ≡ before → all ≡ token ∷ tokens → with_tokens mode piece (drop start text) all ≡ wanted → mid ≡ text ++ shown mode piece.is_full token.text
+    →
     limit < length (mid ++ between_text mode piece (drop start mid) token.joint (length tokens)) → limit < length (before ++ wanted)
 between_too_long mode piece start limit text mid before wanted token tokens all le front is made added long =
     let word = shown mode piece.is_full token.text in
@@ -121,7 +140,8 @@ between_too_long mode piece start limit text mid before wanted token tokens all 
     omega (arith, grown, long', length-append (text ++ word) more, length-append text word)
 
 -- the text at the end of a piece's tokens
-pub tokens_done : (mode : TextMode) (piece : FormatPiece) (start : ℕ) (text before all : List ℕ) (none : List NameToken) → take start text ≡ before → none ≡ [] →
+pub tokens_done : (mode : TextMode) (piece : FormatPiece) (start : ℕ) (text before all : List ℕ) (none : List NameToken) → take start text ≡ before → none ≡ []
+    →
     with_tokens mode piece (drop start text) none ≡ all → text ≡ before ++ all
 tokens_done mode piece start text before all none front is made =
     sym (take-append-drop start text) ∙ rw (front, sym made, is, with_tokens_nil mode piece (drop start text)) refl
@@ -136,7 +156,8 @@ nothing_between piece is = at piece.is_full piece.between is where
   at false (Some (b ∷ bs)) is = absurd (false≢true is)
 
 -- abbreviated tokens with nothing between
-pub initials_joined : (mode : TextMode) (piece : FormatPiece) (start : ℕ) (old : List ℕ) (tokens : List NameToken) → piece.is_full ≡ false → piece.between ≡ Some [] →
+pub initials_joined : (mode : TextMode) (piece : FormatPiece) (start : ℕ) (old : List ℕ) (tokens : List NameToken) → piece.is_full ≡ false
+    → piece.between ≡ Some [] →
     take start old ++ with_tokens mode piece (drop start old) tokens ≡ old ++ flat_map (λ token. initial_of mode token.text) tokens
 initials_joined mode piece start old tokens short is =
     ap (λ text. take start old ++ text) (joined mode piece [] (drop start old) tokens is ∙ ap (λ text. drop start old ++ text) (at tokens))
@@ -148,7 +169,8 @@ initials_joined mode piece start old tokens short is =
 
 -- ---- a piece
 
-pub piece_of_none : (mode : TextMode) (piece : FormatPiece) (tokens : List NameToken) (text : List ℕ) → length tokens ≡ 0 → text ≡ text ++ piece_text mode piece tokens
+pub piece_of_none : (mode : TextMode) (piece : FormatPiece) (tokens : List NameToken) (text : List ℕ) → length tokens ≡ 0
+    → text ≡ text ++ piece_text mode piece tokens
 unfolding piece_text
 piece_of_none mode piece [] text none = sym (append-nil text)
 piece_of_none mode piece (token ∷ tokens) text none = absurd (omega arith)
@@ -167,20 +189,23 @@ behind old more start is = (take_at old more start (sym is), drop_at old more st
 pub length-finished : (mode : TextMode) (text : List ℕ) → length text ≤ length (finished mode text) + 1
 unfolding finished
 length-finished mode text = at (ends_in_tie text) (ends_in_tie (without_last_byte text)) (is_short mode (without_last_byte text)) where
-  at : (one two three : Bool) → length text ≤ length (cond one (cond two (without_last_byte text) (cond three text (without_last_byte text ++ 32 ∷ []))) text) + 1
+  at : (one two three : Bool) → length text ≤ length (cond one (cond two (without_last_byte text) (cond three text (without_last_byte text ++ 32 ∷ []))) text) +
+      1
   at false two three = omega arith
   at true true three = omega (arith, length-take (length text - 1) text)
   at true false true = omega arith
   at true false false = omega (arith, length-append (without_last_byte text) (32 ∷ []), length-take (length text - 1) text)
 
 -- the whole piece, as the code makes it
-pub piece_made : (mode : TextMode) (piece : FormatPiece) (tokens : List NameToken) (start : ℕ) (old opened filled closed new : List ℕ) → 0 < length tokens → start ≡ length old →
+pub piece_made : (mode : TextMode) (piece : FormatPiece) (tokens : List NameToken) (start : ℕ) (old opened filled closed new : List ℕ) → 0 < length tokens
+    → start ≡ length old →
     opened ≡ old ++ piece.before → filled ≡ take start opened ++ with_tokens mode piece (drop start opened) tokens → closed ≡ filled ++ piece.after →
     new ≡ take start closed ++ finished mode (drop start closed) → new ≡ old ++ piece_text mode piece tokens
 piece_made mode piece tokens start old opened filled closed new some at first second third fourth =
     let one = behind old piece.before start at in
     let filled' : filled ≡ old ++ with_tokens mode piece piece.before tokens = rw (second, first, one.0, one.1) refl in
-    let closed' : closed ≡ old ++ (with_tokens mode piece piece.before tokens ++ piece.after) = rw (third, filled') (append_assoc old (with_tokens mode piece piece.before tokens) piece.after) in
+    let closed' : closed ≡ old ++ (with_tokens mode piece piece.before tokens ++ piece.after) =
+    rw (third, filled') (append_assoc old (with_tokens mode piece piece.before tokens) piece.after) in
     let two = behind old (with_tokens mode piece piece.before tokens ++ piece.after) start at in
     rw (fourth, closed', two.0, two.1, piece_of_some mode piece tokens some) refl
 
@@ -190,10 +215,18 @@ pub opened_too_long : (mode : TextMode) (piece : FormatPiece) (tokens : List Nam
 opened_too_long mode piece tokens limit old some long =
     let filled = with_tokens mode piece piece.before tokens in
     rw (piece_of_some mode piece tokens some)
-    (omega (arith, length-append old piece.before, with_tokens_grows mode piece piece.before tokens, length-append old (finished mode (filled ++ piece.after)), length-append filled piece.after, length-finished mode (filled ++ piece.after)))
+    (omega (
+      arith,
+      length-append old piece.before,
+      with_tokens_grows mode piece piece.before tokens,
+      length-append old (finished mode (filled ++ piece.after)),
+      length-append filled piece.after,
+      length-finished mode (filled ++ piece.after),
+    ))
 
 -- as its tokens with what stands before
-pub filled_too_long : (mode : TextMode) (piece : FormatPiece) (tokens : List NameToken) (start limit : ℕ) (old opened : List ℕ) → 0 < length tokens → start ≡ length old →
+pub filled_too_long : (mode : TextMode) (piece : FormatPiece) (tokens : List NameToken) (start limit : ℕ) (old opened : List ℕ) → 0 < length tokens
+    → start ≡ length old →
     opened ≡ old ++ piece.before → limit + 1 < length (take start opened ++ with_tokens mode piece (drop start opened) tokens) →
     limit < length (old ++ piece_text mode piece tokens)
 filled_too_long mode piece tokens start limit old opened some at first long =
@@ -201,21 +234,38 @@ filled_too_long mode piece tokens start limit old opened some at first long =
     let long' : limit + 1 < length (old ++ with_tokens mode piece piece.before tokens) = rw (first, one.0, one.1) at long in
     let filled = with_tokens mode piece piece.before tokens in
     rw (piece_of_some mode piece tokens some)
-    (omega (arith, length-append old (finished mode (filled ++ piece.after)), length-append old filled, length-append filled piece.after, length-finished mode (filled ++ piece.after)))
+    (omega (
+      arith,
+      length-append old (finished mode (filled ++ piece.after)),
+      length-append old filled,
+      length-append filled piece.after,
+      length-finished mode (filled ++ piece.after),
+    ))
 
 -- and as all of it
-pub closed_too_long : (mode : TextMode) (piece : FormatPiece) (tokens : List NameToken) (start limit : ℕ) (old opened filled : List ℕ) → 0 < length tokens → start ≡ length old →
-    opened ≡ old ++ piece.before → filled ≡ take start opened ++ with_tokens mode piece (drop start opened) tokens → limit + 1 < length (filled ++ piece.after) →
+pub closed_too_long : (mode : TextMode) (piece : FormatPiece) (tokens : List NameToken) (start limit : ℕ) (old opened filled : List ℕ) → 0 < length tokens
+    → start ≡ length old →
+    opened ≡ old ++ piece.before → filled ≡ take start opened ++ with_tokens mode piece (drop start opened) tokens → limit + 1 < length (filled ++ piece.after)
+    →
     limit < length (old ++ piece_text mode piece tokens)
 closed_too_long mode piece tokens start limit old opened filled some at first second long =
     let one = behind old piece.before start at in
     let made = with_tokens mode piece piece.before tokens in
     let filled' : filled ≡ old ++ made = rw (second, first, one.0, one.1) refl in
     rw (piece_of_some mode piece tokens some)
-    (omega (arith, length-append filled piece.after, ap (λ (t : List ℕ). length t) filled', length-append old (finished mode (made ++ piece.after)), length-append old made, length-append made piece.after, length-finished mode (made ++ piece.after)))
+    (omega (
+      arith,
+      length-append filled piece.after,
+      ap (λ (t : List ℕ). length t) filled',
+      length-append old (finished mode (made ++ piece.after)),
+      length-append old made,
+      length-append made piece.after,
+      length-finished mode (made ++ piece.after),
+    ))
 
 -- a group without a letter is, but for one byte, as long as what stands in it
-pub plain_too_long : (mode : TextMode) (limit : ℕ) (old same inside : List ℕ) → same ≡ old → limit + 1 < length (same ++ inside) → limit < length (old ++ finished mode inside)
+pub plain_too_long : (mode : TextMode) (limit : ℕ) (old same inside : List ℕ) → same ≡ old → limit + 1 < length (same ++ inside)
+    → limit < length (old ++ finished mode inside)
 plain_too_long mode limit old same inside is long =
     omega (arith, rw is at long, length-append old inside, length-append old (finished mode inside), length-finished mode inside)
 

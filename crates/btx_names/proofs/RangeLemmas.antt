@@ -12,7 +12,8 @@ use Rattle.btx_names.specs.language.NameParts.{before_final, up_to_last, before_
 use Rattle.btx_names.specs.refinement.NameParts.{von_start}
 
 -- up to the last before the final token: fewer than all
-pub up_to_last-lt : (test : TokenTest) (token : NameToken) (tokens : List NameToken) → up_to_last (passes test) (before_final (token ∷ tokens)) < length (token ∷ tokens)
+pub up_to_last-lt : (test : TokenTest) (token : NameToken) (tokens : List NameToken) → up_to_last (passes test) (before_final (token ∷ tokens))
+    < length (token ∷ tokens)
 unfolding up_to_last before_final
 up_to_last-lt test token [] = omega arith
 up_to_last-lt test token (next ∷ tokens) =

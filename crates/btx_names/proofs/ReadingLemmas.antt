@@ -1,5 +1,6 @@
 -- Lemmas on reading a name of a list once, from its beginning to its end.
-use Rattle.std.proofs.Common.{◌≡◌, ℕ, zero, suc, ◌+◌, ◌-◌, ◌<◌, ◌≤◌, Bool, true, false, cond, not, eqb, ltb, ◌&&◌, ◌||◌, List, [], ◌∷◌, ◌++◌, Option, Some, None, ◌⊎◌, inl, inr, length, take, drop, get_or, refl, sym, ◌∙◌, ap, subst, arith, append_assoc, length-append, add-one}
+use Rattle.std.proofs.Common.{◌≡◌, ℕ, zero, suc, ◌+◌, ◌-◌, ◌<◌, ◌≤◌, Bool, true, false, cond, not, eqb, ltb, ◌&&◌, ◌||◌, List, [], ◌∷◌, ◌++◌, Option, Some}
+use Rattle.std.proofs.Common.{None, ◌⊎◌, inl, inr, length, take, drop, get_or, refl, sym, ◌∙◌, ap, subst, arith, append_assoc, length-append, add-one}
 use Rattle.std.proofs.lemmas.Bool.{eqb-true, and_parts, false_from_ne_true, true≢false, cases_lt, le-ltb, lt-ltb, ne_eqb}
 use Rattle.std.proofs.lemmas.List.{append-nil, drop_all, drop-drop, drop-take, drop_more, length-drop}
 use Rattle.std.specs.List.{All}
@@ -66,7 +67,8 @@ name_jump depth (b ∷ bs) = at (eqb depth 0 && is_break b) refl (name_jump (dep
   at false is more = rw (separator_breaks (eqb depth 0) b bs is) (omega (arith, more))
 
 -- what passes over each byte of a token passes over the token
-jump : {T : Type 0} (f : ℕ → List ℕ → T) → ((depth : ℕ) → f depth [] ≡ f 0 []) → ((depth b : ℕ) (bs : List ℕ) → (eqb depth 0 && is_break b) ≡ false → f depth (b ∷ bs) ≡ f (depth_after depth b) bs) →
+jump : {T : Type 0} (f : ℕ → List ℕ → T) → ((depth : ℕ) → f depth [] ≡ f 0 [])
+    → ((depth b : ℕ) (bs : List ℕ) → (eqb depth 0 && is_break b) ≡ false → f depth (b ∷ bs) ≡ f (depth_after depth b) bs) →
     (depth : ℕ) (s : List ℕ) → f depth s ≡ f 0 (drop (run_len Break depth s) s)
 unfolding run_len
 jump f none passes depth [] = none depth
@@ -74,7 +76,8 @@ jump f none passes depth (b ∷ bs) = at (eqb depth 0 && is_break b) refl (jump 
   size : ℕ
   size = run_len Break (depth_after depth b) bs
 
-  at : (t : Bool) → (eqb depth 0 && is_break b) ≡ t → f (depth_after depth b) bs ≡ f 0 (drop size bs) → f depth (b ∷ bs) ≡ f 0 (drop (cond t 0 (suc size)) (b ∷ bs))
+  at : (t : Bool) → (eqb depth 0 && is_break b) ≡ t → f (depth_after depth b) bs ≡ f 0 (drop size bs)
+      → f depth (b ∷ bs) ≡ f 0 (drop (cond t 0 (suc size)) (b ∷ bs))
   at true is more = ap (λ d. f d (b ∷ bs)) (low_of depth (is_break b) is)
   at false is more = passes depth b bs is ∙ more
 
@@ -229,7 +232,8 @@ read_break name b bs read commas followed first second breaks none is = record {
   within = is.within;
   tokens = ap (λ tokens. read ++ tokens) (sym (tokens_of-break b bs breaks)) ∙ is.tokens;
   counts = sym (ap (λ t. cond t followed (commas + commas_from 0 (b ∷ bs))) all ∙ ap (λ n. cond (is_all_breaks bs) followed (commas + n)) counted) ∙ is.counts;
-  ending = sym (ap (λ t. cond t (ltb followed commas || ends 0 (b ∷ bs)) (ends 0 (b ∷ bs))) all ∙ ap (λ e. cond (is_all_breaks bs) (ltb followed commas || e) e) ended) ∙ is.ending;
+  ending = sym (ap (λ t. cond t (ltb followed commas || ends 0 (b ∷ bs)) (ends 0 (b ∷ bs))) all
+      ∙ ap (λ e. cond (is_all_breaks bs) (ltb followed commas || e) e) ended) ∙ is.ending;
   places = at commas is.places;
 } where
   all : is_all_breaks (b ∷ bs) ≡ is_all_breaks bs
@@ -355,9 +359,15 @@ pub read_ordered : (name rest : List ℕ) (read : List NameToken) (commas follow
     1 < followed → first ≤ second
 read_ordered name rest read commas followed first second is some =
     let more : 1 < commas = omega (arith, some, is.within) in
-    omega (arith, places_first name rest commas first second (omega (arith, more)) is.places, places_second name rest commas first second more is.places, behind_le (behind_comma name))
+    omega (
+      arith,
+      places_first name rest commas first second (omega (arith, more)) is.places,
+      places_second name rest commas first second more is.places,
+      behind_le (behind_comma name),
+    )
 
-pub read_tokens : (name : List ℕ) (read : List NameToken) (commas followed first second : ℕ) → IsRead name [] read commas followed first second → read ≡ tokens_of name
+pub read_tokens : (name : List ℕ) (read : List NameToken) (commas followed first second : ℕ) → IsRead name [] read commas followed first second
+    → read ≡ tokens_of name
 read_tokens name read commas followed first second is = sym (append-nil read) ∙ ap (λ tokens. read ++ tokens) (sym tokens_of_nothing) ∙ is.tokens
 
 pub read_ending : (name : List ℕ) (read : List NameToken) (commas followed first second : ℕ) → IsRead name [] read commas followed first second →
@@ -399,7 +409,8 @@ read_sections name read commas followed first second is = at (split_at_comma nam
   counted : followed ≡ commas_from 0 name
   counted = is.counts
 
-  at : (cut : Option (List ℕ × List ℕ)) → split_at_comma name ≡ cut → CountsAs name cut → AreSections (cut_first name cut) (tokens_of name) followed first second
+  at : (cut : Option (List ℕ × List ℕ)) → split_at_comma name ≡ cut → CountsAs name cut → AreSections (cut_first name cut) (tokens_of name) followed first
+      second
   at None is_cut count =
       let none : followed ≡ 0 = counted ∙ count in
       record {
@@ -437,7 +448,8 @@ read_sections name read commas followed first second is = at (split_at_comma nam
     at_second (Some more) is_more count_more =
         let two : 1 < followed = omega (arith, counted, count, count_more) in
         let others = tokens_of-cut cut.1 more is_more in
-        let split : length (tokens_of cut.1) ≡ length (tokens_of more.0) + length (tokens_of more.1) = ap (λ (tokens : List NameToken). length tokens) others ∙ length-append (tokens_of more.0) (tokens_of more.1) in
+        let split : length (tokens_of cut.1) ≡ length (tokens_of more.0) + length (tokens_of more.1) = ap (λ (tokens : List NameToken). length tokens) others
+        ∙ length-append (tokens_of more.0) (tokens_of more.1) in
         let behind : length (tokens_of more.1) ≡ length (tokens_of (behind_comma (behind_comma name))) =
         ap (λ s. length (tokens_of s)) (cut_behind cut.1 more is_more ∙ ap behind_comma (cut_behind name cut is_cut)) in
         let back = places_second name [] commas first second (omega (arith, two, is.within)) is.places in
@@ -488,13 +500,15 @@ pub reads_break : (names : List ℕ) (from place : ℕ) (read : List NameToken) 
     ReadsTo names from place read commas followed first second → ReadsTo names from (place + 1) read commas followed first second
 reads_break names from place read commas followed first second lt breaks none no_comma reads =
     let more = goes_on names from place lt breaks none reads.len in
-    let known : IsRead (first_name (drop from names)) (get_or names place 0 ∷ first_name (drop (place + 1) names)) read commas followed first second = rw more.1 at reads.is in
+    let known : IsRead (first_name (drop from names)) (get_or names place 0 ∷ first_name (drop (place + 1) names)) read commas followed first second =
+    rw more.1 at reads.is in
     record {
       started = omega (arith, reads.started);
       inside = omega (arith, lt);
       few = omega (arith, reads.few);
       len = more.0;
-      is = read_break (first_name (drop from names)) (get_or names place 0) (first_name (drop (place + 1) names)) read commas followed first second breaks no_comma known;
+      is = read_break (first_name (drop from names)) (get_or names place 0) (first_name (drop (place + 1) names)) read commas followed first second breaks
+          no_comma known;
     }
 
 pub reads_comma : (names : List ℕ) (from place : ℕ) (read : List NameToken) (count commas followed first second : ℕ) → place < length names →
@@ -536,7 +550,8 @@ reads_token names from place size read commas followed first second lt none is r
   len = omega (arith, reads.len, name_jump 0 rest, is, ap (first_name_len 0) rest_is);
   is =
       let one_more = read_token (first_name (drop from names)) (first_name rest) read commas followed first second some reads.is in
-      let in_list = subst (λ (t : NameToken). IsRead (first_name (drop from names)) (drop (run_len Break 0 (first_name rest)) (first_name rest)) (read ++ t ∷ []) commas commas first second) (name_token rest) one_more in
+      let in_list = subst (λ (t : NameToken). IsRead (first_name (drop from names)) (drop (run_len Break 0 (first_name rest)) (first_name rest))
+      (read ++ t ∷ []) commas commas first second) (name_token rest) one_more in
       subst (λ r. IsRead (first_name (drop from names)) r (read ++ token_at rest ∷ []) commas commas first second) after in_list;
 } where
   rest : List ℕ
@@ -557,7 +572,8 @@ pub reads_separator : (names : List ℕ) (from place : ℕ) (read : List NameTok
     ReadsTo names from place read commas followed first second →
     (IsRead (first_name (drop from names)) [] read commas followed first second) × (place + 1 ≡ from + first_name_len 0 (drop from names))
 reads_separator names from place read commas followed first second lt breaks is reads = (
-  read_break (first_name (drop from names)) (get_or names place 0) [] read commas followed first second breaks no_comma (rw (ap first_name split ∙ name_ends (get_or names place 0) (drop (place + 1) names) separator) at reads.is),
+  read_break (first_name (drop from names)) (get_or names place 0) [] read commas followed first second breaks no_comma
+      (rw (ap first_name split ∙ name_ends (get_or names place 0) (drop (place + 1) names) separator) at reads.is),
   omega (arith, reads.len, ap (first_name_len 0) split, ends_here (get_or names place 0) (drop (place + 1) names) separator),
 ) where
   split : drop place names ≡ get_or names place 0 ∷ drop (place + 1) names
@@ -584,8 +600,10 @@ reads_all names from place read commas followed first second le reads =
 pub name_is_read : (names : List ℕ) (from end : ℕ) (tokens : List KeptToken) (commas followed first second : ℕ) (read : ReadName) →
     IsRead (first_name (drop from names)) [] (tokens_in names tokens) commas followed first second → end ≡ from + first_name_len 0 (drop from names) →
     All (Hold names) tokens → read.place ≡ record { from = from; len = end - from } →
-    ((bytes : List ℕ) → tokens_in bytes read.list.tokens.items ≡ tokens_in bytes tokens) → ((bytes : List ℕ) → All (Hold bytes) tokens → All (Hold bytes) read.list.tokens.items) →
-    read.list.has_commas ≡ ltb 0 followed → read.list.surname ≡ cond (ltb 0 followed) first (length tokens) → read.list.jr ≡ cond (ltb 1 followed) (second - first) 0 →
+    ((bytes : List ℕ) → tokens_in bytes read.list.tokens.items ≡ tokens_in bytes tokens)
+    → ((bytes : List ℕ) → All (Hold bytes) tokens → All (Hold bytes) read.list.tokens.items) →
+    read.list.has_commas ≡ ltb 0 followed → read.list.surname ≡ cond (ltb 0 followed) first (length tokens)
+    → read.list.jr ≡ cond (ltb 1 followed) (second - first) 0 →
     read.ends_in_comma ≡ ltb followed commas → read.has_third_comma ≡ ltb 2 followed → IsNameAt names from read
 name_is_read names from end tokens commas followed first second read is ends_at held place same hold has_commas surname jr ending third = record {
   begins = ap (λ (place : Place). place.from) place;

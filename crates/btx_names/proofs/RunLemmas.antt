@@ -11,7 +11,8 @@ use Rattle.btx_names.specs.language.Runs.{stops, run_len}
 use Rattle.btx_names.specs.refinement.Steps.{is_passed}
 use Rattle.std.specs.Int.{is_in_range}
 
-pub run_len_here : (stop : Stop) (depth : ℕ) (s : List ℕ) (i : ℕ) → i < length s → (eqb depth 0 && stops stop (get_or s i 0)) ≡ true → run_len stop depth (drop i s) ≡ 0
+pub run_len_here : (stop : Stop) (depth : ℕ) (s : List ℕ) (i : ℕ) → i < length s → (eqb depth 0 && stops stop (get_or s i 0)) ≡ true
+    → run_len stop depth (drop i s) ≡ 0
 unfolding run_len
 run_len_here stop depth s i h test = rw (drop_more s i 0 h, test) refl
 

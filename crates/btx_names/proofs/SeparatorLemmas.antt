@@ -1,5 +1,6 @@
 -- A string has one more name than separators.
-use Rattle.std.proofs.Common.{◌≡◌, ℕ, zero, suc, ◌+◌, ◌<◌, Bool, true, false, cond, eqb, ◌&&◌, List, [], ◌∷◌, ◌++◌, length, refl, sym, ◌∙◌, ap, arith, append_assoc, length-append}
+use Rattle.std.proofs.Common.{◌≡◌, ℕ, zero, suc, ◌+◌, ◌<◌, Bool, true, false, cond, eqb, ◌&&◌, List, [], ◌∷◌, ◌++◌, length, refl, sym, ◌∙◌, ap, arith}
+use Rattle.std.proofs.Common.{append_assoc, length-append}
 use Rattle.std.proofs.lemmas.Bool.{eqb-true, and_parts, false_from_ne_true, true≢false, and_right}
 use Rattle.std.proofs.lemmas.List.{take_at, drop_at}
 use Rattle.std.proofs.lemmas.List.Sums.{fold-append}
@@ -19,7 +20,8 @@ pub record IsInk (b : ℕ) : Type 0 where
   pub not_white : is_white b ≡ false
   pub keeps : depth_after 0 b ≡ 0
 
-letter_is_ink : (lower b : ℕ) → is_letter lower b ≡ true → is_letter lower 32 ≡ false → is_letter lower 9 ≡ false → is_letter lower 13 ≡ false → is_letter lower 123 ≡ false → is_letter lower 125 ≡ false → IsInk b
+letter_is_ink : (lower b : ℕ) → is_letter lower b ≡ true → is_letter lower 32 ≡ false → is_letter lower 9 ≡ false → is_letter lower 13 ≡ false
+    → is_letter lower 123 ≡ false → is_letter lower 125 ≡ false → IsInk b
 letter_is_ink lower b is space tab return open_brace close_brace =
     record {
       not_white = rw (never (is_letter lower) b 32 is space, never (is_letter lower) b 9 is tab, never (is_letter lower) b 13 is return) refl;
@@ -44,8 +46,10 @@ separator_is_ink b (x ∷ y ∷ z ∷ bs) is =
     let last = and_parts _ _ is in
     let third = and_parts _ _ last.0 in
     let second = and_parts _ _ third.0 in
-    let first = and_parts _ _ second.0 in
-    (letter_is_ink 97 x first.1 refl refl refl refl refl, (letter_is_ink 110 y second.1 refl refl refl refl refl, (letter_is_ink 100 z third.1 refl refl refl refl refl, tt)))
+    let first = and_parts _ _ second.0 in (
+      letter_is_ink 97 x first.1 refl refl refl refl refl,
+      (letter_is_ink 110 y second.1 refl refl refl refl refl, (letter_is_ink 100 z third.1 refl refl refl refl refl, tt)),
+    )
 
 pub separator_is_white : (b : ℕ) (bs : List ℕ) → is_separator (b ∷ bs) ≡ true → is_white b ≡ true
 unfolding is_separator
@@ -64,11 +68,13 @@ places_from before (b ∷ bs) =
 pub depth_push : (before : List ℕ) (b : ℕ) → depth_of (before ++ b ∷ []) ≡ depth_after (depth_of before) b
 depth_push before b = fold-append depth_after 0 before (b ∷ [])
 
-pub filter_places : (string before rest : List ℕ) → string ≡ before ++ rest → filter (separates_at string) (range_with_len (length before) (length rest)) ≡ places_from before rest
+pub filter_places : (string before rest : List ℕ) → string ≡ before ++ rest → filter (separates_at string) (range_with_len (length before) (length rest))
+    ≡ places_from before rest
 unfolding places_from
 filter_places string before [] is = refl
 filter_places string before (b ∷ bs) is =
-    let test : separates_at string (length before) ≡ (eqb (depth_of before) 0 && is_separator (b ∷ bs)) = rw (is, take_at before (b ∷ bs) (length before) refl, drop_at before (b ∷ bs) (length before) refl) refl in
+    let test : separates_at string (length before) ≡ (eqb (depth_of before) 0 && is_separator (b ∷ bs)) =
+    rw (is, take_at before (b ∷ bs) (length before) refl, drop_at before (b ∷ bs) (length before) refl) refl in
     let next : length (before ++ b ∷ []) ≡ length before + 1 = length-append before (b ∷ []) in
     let more = filter_places string (before ++ b ∷ []) bs (is ∙ sym (append_assoc before (b ∷ []) bs)) in
     rw (test, sym next, more) refl
@@ -86,7 +92,8 @@ count_from skip before [] ink low = refl
 count_from (suc skip) before (b ∷ bs) ink low =
     let zero_depth = low (omega arith) in
     let deep : depth_of (before ++ b ∷ []) ≡ 0 = depth_push before b ∙ rw zero_depth ink.0.keeps in
-    let none : (eqb (depth_of before) 0 && is_separator (b ∷ bs)) ≡ false = and_right (eqb (depth_of before) 0) (is_separator (b ∷ bs)) (ink_separates_nothing b bs ink.0) in
+    let none : (eqb (depth_of before) 0 && is_separator (b ∷ bs)) ≡ false =
+    and_right (eqb (depth_of before) 0) (is_separator (b ∷ bs)) (ink_separates_nothing b bs ink.0) in
     let more = count_from skip (before ++ b ∷ []) bs ink.1 (λ some. deep) in
     rw (none, zero_depth) (rw deep at more)
 count_from zero before (b ∷ bs) ink low =

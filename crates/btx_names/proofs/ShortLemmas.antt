@@ -1,5 +1,6 @@
 -- Lemmas on texts that are no longer short: before a byte below 128, more text takes no character away.
-use Rattle.std.proofs.Common.{◌≡◌, ℕ, zero, suc, ◌+◌, ◌-◌, ◌<◌, ◌≤◌, Bool, true, false, cond, eqb, ◌&&◌, ◌||◌, List, [], ◌∷◌, ◌++◌, length, take, drop, get_or, count_by, ◌⊎◌, inl, inr, ⊎_elim, refl, sym, ◌∙◌, ap, arith, length-append, append_assoc}
+use Rattle.std.proofs.Common.{◌≡◌, ℕ, zero, suc, ◌+◌, ◌-◌, ◌<◌, ◌≤◌, Bool, true, false, cond, eqb, ◌&&◌, ◌||◌, List, [], ◌∷◌, ◌++◌, length, take, drop, get_or}
+use Rattle.std.proofs.Common.{count_by, ◌⊎◌, inl, inr, ⊎_elim, refl, sym, ◌∙◌, ap, arith, length-append, append_assoc}
 use Rattle.std.specs.List.{list_all}
 use Rattle.std.proofs.lemmas.Bool.{false≢true, and_parts, eqb-true, cases_lt, ltb-false, le-ltb}
 use Rattle.std.proofs.lemmas.Bool.Decides.{nat_tests}
@@ -97,7 +98,8 @@ unfolding group_len
 group_goes_on depth [] ys = inr refl
 group_goes_on depth (x ∷ xs) ys = at (eqb (depth_after depth x) 0) (group_goes_on (depth_after depth x) xs ys) where
   at : (t : Bool) → (group_len (depth_after depth x) (xs ++ ys) ≡ group_len (depth_after depth x) xs) ⊎ (group_len (depth_after depth x) xs ≡ length xs) →
-      (cond t 1 (suc (group_len (depth_after depth x) (xs ++ ys))) ≡ cond t 1 (suc (group_len (depth_after depth x) xs))) ⊎ (cond t 1 (suc (group_len (depth_after depth x) xs)) ≡ suc (length xs))
+      (cond t 1 (suc (group_len (depth_after depth x) (xs ++ ys))) ≡ cond t 1 (suc (group_len (depth_after depth x) xs)))
+      ⊎ (cond t 1 (suc (group_len (depth_after depth x) xs)) ≡ suc (length xs))
   at true h = inl refl
   at false (inl e) = inl (ap suc e)
   at false (inr e) = inr (ap suc e)
@@ -169,7 +171,8 @@ last_special depth x = not_true _ (λ h. absurd (false≢true (and_parts _ _ (an
 goes_last : (special wide : Bool) (x : ℕ) (more : List ℕ) →
     Goes (cond wide Wide (kind_of x)) (cond special Special (cond wide Wide (kind_of x))) [] x more
 goes_last special wide x more = record { counts = at special wide (eqb x 123) (eqb x 125); ends = inr (omega arith) } where
-  at : (special wide t u : Bool) → cond (is_character (cond wide Wide (cond t Open (cond u Close Byte)))) 1 0 ≤ cond (is_character (cond special Special (cond wide Wide (cond t Open (cond u Close Byte))))) 1 0
+  at : (special wide t u : Bool) → cond (is_character (cond wide Wide (cond t Open (cond u Close Byte)))) 1 0
+      ≤ cond (is_character (cond special Special (cond wide Wide (cond t Open (cond u Close Byte))))) 1 0
   at true true t u = omega arith
   at true false true u = omega arith
   at true false false true = omega arith
@@ -184,14 +187,17 @@ goes mode depth x [] b ys low =
     (goes_last (begins_special depth (x ∷ b ∷ ys)) (is_utf8 mode && begins_sequence (x ∷ [])) x (b ∷ ys))
 goes mode depth x (z ∷ xs) b ys low =
     rw (begins_same x (z ∷ xs) b ys low)
-    (goes_same (begins_special depth (x ∷ z ∷ xs)) (is_utf8 mode && begins_sequence (x ∷ z ∷ xs)) x (z ∷ xs) (b ∷ ys) (λ e. begins_len x (z ∷ xs) (and_parts _ _ e).1))
+    (goes_same (begins_special depth (x ∷ z ∷ xs)) (is_utf8 mode && begins_sequence (x ∷ z ∷ xs)) x (z ∷ xs) (b ∷ ys)
+    (λ e. begins_len x (z ∷ xs) (and_parts _ _ e).1))
 
 characters-cons : (mode : TextMode) (start depth x : ℕ) (xs : List ℕ) →
     characters mode 0 start depth (x ∷ xs)
-    ≡ cond (is_character (kind_at mode depth (x ∷ xs))) 1 0 + characters mode (more_of (kind_at mode depth (x ∷ xs)) (x ∷ xs)) (start + 1) (depth_after depth x) xs
+    ≡ cond (is_character (kind_at mode depth (x ∷ xs))) 1 0 + characters mode (more_of (kind_at mode depth (x ∷ xs)) (x ∷ xs)) (start + 1) (depth_after depth x)
+    xs
 unfolding elements_from
 characters-cons mode start depth x xs =
-    sum_by-cons (λ (part : Element). cond (is_character part.kind) 1 0) (element_at mode start depth (x ∷ xs)) (elements_from mode (more_of (kind_at mode depth (x ∷ xs)) (x ∷ xs)) (start + 1) (depth_after depth x) xs)
+    sum_by-cons (λ (part : Element). cond (is_character part.kind) 1 0) (element_at mode start depth (x ∷ xs))
+    (elements_from mode (more_of (kind_at mode depth (x ∷ xs)) (x ∷ xs)) (start + 1) (depth_after depth x) xs)
 
 characters_grow : (mode : TextMode) (skip start depth : ℕ) (xs : List ℕ) (b : ℕ) (ys : List ℕ) → b < 128 →
     characters mode skip start depth xs ≤ characters mode skip start depth (xs ++ b ∷ ys)
@@ -207,8 +213,10 @@ characters_grow mode zero start depth (x ∷ xs) b ys low =
     let more = at kind kind' h.ends rest in
     omega (arith, characters-cons mode start depth x xs, characters-cons mode start depth x (xs ++ b ∷ ys), counts, more) where
       at : (kind kind' : Kind) → (more_of kind' (x ∷ (xs ++ b ∷ ys)) ≡ more_of kind (x ∷ xs)) ⊎ (length xs ≤ more_of kind (x ∷ xs)) →
-          characters mode (more_of kind (x ∷ xs)) (start + 1) (depth_after depth x) xs ≤ characters mode (more_of kind (x ∷ xs)) (start + 1) (depth_after depth x) (xs ++ b ∷ ys) →
-          characters mode (more_of kind (x ∷ xs)) (start + 1) (depth_after depth x) xs ≤ characters mode (more_of kind' (x ∷ (xs ++ b ∷ ys))) (start + 1) (depth_after depth x) (xs ++ b ∷ ys)
+          characters mode (more_of kind (x ∷ xs)) (start + 1) (depth_after depth x) xs ≤ characters mode (more_of kind (x ∷ xs)) (start + 1)
+          (depth_after depth x) (xs ++ b ∷ ys) →
+          characters mode (more_of kind (x ∷ xs)) (start + 1) (depth_after depth x) xs ≤ characters mode (more_of kind' (x ∷ (xs ++ b ∷ ys))) (start + 1)
+          (depth_after depth x) (xs ++ b ∷ ys)
       at kind kind' (inl e) h = rw e h
       at kind kind' (inr e) h = let none = no_characters mode (more_of kind (x ∷ xs)) (start + 1) (depth_after depth x) xs e in omega arith
 

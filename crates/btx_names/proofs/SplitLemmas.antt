@@ -79,7 +79,12 @@ comma_later b bs breaks is = rw (is, break_keeps b breaks) refl
 zero_break : (b : ℕ) (bs : List ℕ) → is_break b ≡ true → eqb b 44 ≡ false → Outside bs → Inside 0 (b ∷ bs)
 zero_break b bs breaks is more =
     rw (comma_later b bs breaks is)
-    (λ less. rw (run_here b bs breaks, run_here b (take (run_len Comma 0 bs) bs) breaks, skip_break b bs breaks, skip_break b (take (run_len Comma 0 bs) bs) breaks) (more (omega arith)))
+    (λ less. rw (
+      run_here b bs breaks,
+      run_here b (take (run_len Comma 0 bs) bs) breaks,
+      skip_break b bs breaks,
+      skip_break b (take (run_len Comma 0 bs) bs) breaks,
+    ) (more (omega arith)))
 
 same_list : {one other : NameToken} {tokens others : List NameToken} → one ≡ other → tokens ≡ others → one ∷ tokens ≡ other ∷ others
 same_list head tail = rw (head, tail) refl
@@ -95,7 +100,10 @@ both (b ∷ bs) =
 
       outside : (t u : Bool) → is_break b ≡ t → eqb b 44 ≡ u → More → Outside (b ∷ bs)
       outside true true breaks is more = rw (breaks, is) (λ less. refl)
-      outside true false breaks is more = rw (breaks, is, break_keeps b breaks, breaks) (λ less. more.0 (omega arith) ∙ ap (λ n. tokens_from 0 (take (run_len Comma 0 bs) bs) ++ tokens_from 0 (drop (suc (run_len Comma n bs)) bs)) (sym (break_keeps b breaks)))
+      outside true false breaks is more =
+          rw (breaks, is, break_keeps b breaks, breaks)
+          (λ less. more.0 (omega arith) ∙ ap (λ n. tokens_from 0 (take (run_len Comma 0 bs) bs) ++ tokens_from 0 (drop (suc (run_len Comma n bs)) bs))
+          (sym (break_keeps b breaks)))
       outside false u breaks is more =
           let no_comma : eqb b 44 ≡ false = comma_breaks true b breaks in
           let depth = depth_after 0 b in

@@ -1,5 +1,6 @@
 -- Lemmas on ties and on the end of a piece.
-use Rattle.std.proofs.Common.{◌≡◌, ℕ, suc, ◌+◌, ◌-◌, ◌<◌, ◌≤◌, Bool, true, false, ltb, List, [], ◌∷◌, ◌++◌, length, take, drop, set, refl, sym, ◌∙◌, ap, arith, append_assoc}
+use Rattle.std.proofs.Common.{◌≡◌, ℕ, suc, ◌+◌, ◌-◌, ◌<◌, ◌≤◌, Bool, true, false, ltb, List, [], ◌∷◌, ◌++◌, length, take, drop, set, refl, sym, ◌∙◌, ap, arith}
+use Rattle.std.proofs.Common.{append_assoc}
 use Rattle.std.proofs.lemmas.Bool.{lt-ltb, le-ltb}
 use Rattle.std.proofs.lemmas.List.{take-append-drop, take-take, drop-take, length-drop, drop_all, set_split}
 use Rattle.btx_text.specs.declared.element_kind.TextMode.{TextMode}
@@ -14,13 +15,16 @@ front_cut text start lt =
     let size : start + (length (drop start text) - 1) ≡ length text - 1 = omega (arith, len) in
     let less : start ≤ start + (length (drop start text) - 1) = omega arith in
     let joined = take-append-drop start (take (start + (length (drop start text) - 1)) text) in
-    rw (sym size) (sym joined ∙ rw (take-take start (start + (length (drop start text) - 1)) text less, drop-take start (length (drop start text) - 1) text) refl)
+    rw (sym size) (sym joined ∙ rw (take-take start (start + (length (drop start text) - 1)) text less, drop-take start (length (drop start text) - 1) text)
+    refl)
 
-last_set : (text : List ℕ) (start : ℕ) → start < length text → set text (length text - 1) 32 ≡ take start text ++ (without_last_byte (drop start text) ++ 32 ∷ [])
+last_set : (text : List ℕ) (start : ℕ) → start < length text → set text (length text - 1) 32 ≡ take start text
+    ++ (without_last_byte (drop start text) ++ 32 ∷ [])
 last_set text start lt =
     let inside : length text - 1 < length text = omega arith in
     let nothing : drop (suc (length text - 1)) text ≡ [] = drop_all (suc (length text - 1)) text (omega arith) in
-    rw (set_split text (length text - 1) 32 inside, nothing, front_cut text start lt) (append_assoc (take start text) (without_last_byte (drop start text)) (32 ∷ []))
+    rw (set_split text (length text - 1) 32 inside, nothing, front_cut text start lt)
+    (append_assoc (take start text) (without_last_byte (drop start text)) (32 ∷ []))
 
 -- the part of the text from the start to its last byte
 pub slice_front : (text : List ℕ) (start : ℕ) → take (length text - 1 - start) (drop start text) ≡ without_last_byte (drop start text)
@@ -32,7 +36,8 @@ slice_front text start =
 behind_start : (text : List ℕ) (start : ℕ) → 0 < length (drop start text) → start < length text
 behind_start text start some = omega (arith, length-drop start text)
 
-pub finish_kept : (mode : TextMode) (text : List ℕ) (start : ℕ) → ends_in_tie (drop start text) ≡ false → text ≡ take start text ++ finished mode (drop start text)
+pub finish_kept : (mode : TextMode) (text : List ℕ) (start : ℕ) → ends_in_tie (drop start text) ≡ false
+    → text ≡ take start text ++ finished mode (drop start text)
 unfolding finished
 finish_kept mode text start none = rw none (sym (take-append-drop start text))
 

@@ -46,4 +46,5 @@ tokens_of-run (b ∷ bs) some = at (is_break b) refl where
       let size = run_len Break (depth_after 0 b) bs in
       let e : suc size - 1 ≡ size = omega arith in
       ap (λ (tokens : List NameToken). token_at (b ∷ bs) ∷ tokens)
-      (ap (λ n. tokens_from (n - 1) bs) (run_more b bs is) ∙ ap (λ n. tokens_from n bs) e ∙ tokens_from-skip size bs ∙ sym (ap (λ n. tokens_from 0 (drop n (b ∷ bs))) (run_more b bs is)))
+      (ap (λ n. tokens_from (n - 1) bs) (run_more b bs is) ∙ ap (λ n. tokens_from n bs) e ∙ tokens_from-skip size bs
+      ∙ sym (ap (λ n. tokens_from 0 (drop n (b ∷ bs))) (run_more b bs is)))

@@ -22,7 +22,8 @@ pub lettered_behind : (text : List ℕ) → drop (length text - length (lettered
 unfolding lettered_of
 lettered_behind [] = refl
 lettered_behind (b ∷ bs) = at (begins_initial (b ∷ bs)) (lettered_behind bs) where
-  at : (t : Bool) → drop (length bs - length (lettered_of bs)) bs ≡ lettered_of bs → drop (length (b ∷ bs) - length (cond t (b ∷ bs) (lettered_of bs))) (b ∷ bs) ≡ cond t (b ∷ bs) (lettered_of bs)
+  at : (t : Bool) → drop (length bs - length (lettered_of bs)) bs ≡ lettered_of bs → drop (length (b ∷ bs) - length (cond t (b ∷ bs) (lettered_of bs))) (b ∷ bs)
+      ≡ cond t (b ∷ bs) (lettered_of bs)
   at true h = let e : suc (length bs) - suc (length bs) ≡ 0 = omega arith in rw e refl
   at false h =
       let e : suc (length bs) - length (lettered_of bs) ≡ suc (length bs - length (lettered_of bs)) = omega (arith, lettered_le bs) in
@@ -60,5 +61,6 @@ token_held names text lettered from token is begins inside text_from text_len le
       ∙ ends
 
 -- one token more
-pub held_pushed : (names : List ℕ) (tokens : List NameToken) (token : NameToken) → All (Hold names) tokens → Hold names token → All (Hold names) (tokens ++ token ∷ [])
+pub held_pushed : (names : List ℕ) (tokens : List NameToken) (token : NameToken) → All (Hold names) tokens → Hold names token
+    → All (Hold names) (tokens ++ token ∷ [])
 held_pushed names tokens token held one = All-append (Hold names) tokens (token ∷ []) held (All-cons (Hold names) token [] one (All-nil (Hold names)))

@@ -1,5 +1,6 @@
 -- A special character is in lower case exactly where its glyphs are.
-use Rattle.std.proofs.Common.{◌≡◌, ℕ, zero, suc, ◌+◌, ◌-◌, Bool, true, false, not, cond, eqb, leb, ◌&&◌, List, [], ◌∷◌, ◌++◌, Some, length, take, drop, refl, sym, ◌∙◌, ap, arith}
+use Rattle.std.proofs.Common.{◌≡◌, ℕ, zero, suc, ◌+◌, ◌-◌, Bool, true, false, not, cond, eqb, leb, ◌&&◌, List, [], ◌∷◌, ◌++◌, Some, length, take, drop, refl}
+use Rattle.std.proofs.Common.{sym, ◌∙◌, ap, arith}
 use Rattle.std.proofs.lemmas.Bool.{true≢false, eqb-true, and_parts, or_parts, not_from_false}
 use Rattle.std.proofs.lemmas.List.{nil_from_length}
 use Rattle.std.proofs.lemmas.List.Sums.{take_while-cons}
@@ -65,7 +66,8 @@ name_says bs = at (eqb (length (take_while is_alpha bs)) 0) refl where
 pub lower_by_glyphs : (bs : List ℕ) → is_lower_special (123 ∷ 92 ∷ bs) ≡ are_lower (glyphs_of (123 ∷ 92 ∷ bs))
 unfolding is_lower_special are_lower glyphs_of glyphs_from
 lower_by_glyphs bs =
-    sym (ap (λ after. cond (is_foreign (control_name bs)) (is_ascii_lowercase (slice_index (control_name bs) 0)) (begins_lower after)) (behind_glyphs (length (control_name bs)) bs)
+    sym (ap (λ after. cond (is_foreign (control_name bs)) (is_ascii_lowercase (slice_index (control_name bs) 0)) (begins_lower after))
+    (behind_glyphs (length (control_name bs)) bs)
     ∙ name_says bs)
 
 -- ---- the special characters of a token

@@ -1,6 +1,8 @@
 -- Items that can be written, written one after another, are a legal format that reads back as these items.
-use Rattle.std.proofs.Common.{◌≡◌, ℕ, suc, ◌+◌, ◌<◌, ◌≤◌, Bool, true, false, not, cond, eqb, ltb, leb, ◌&&◌, ◌||◌, List, [], ◌∷◌, ◌++◌, Option, Some, None, length, take, drop, refl, sym, ◌∙◌, ap, arith, append_assoc, length-append}
-use Rattle.std.proofs.lemmas.Bool.{true≢false, eqb-true, eqb-false, eq-eqb, ne_eqb, ltb-true, ltb-false, le-leb, not-true, and_parts, or_parts, or_left, or_right}
+use Rattle.std.proofs.Common.{◌≡◌, ℕ, suc, ◌+◌, ◌<◌, ◌≤◌, Bool, true, false, not, cond, eqb, ltb, leb, ◌&&◌, ◌||◌, List, [], ◌∷◌, ◌++◌, Option, Some, None}
+use Rattle.std.proofs.Common.{length, take, drop, refl, sym, ◌∙◌, ap, arith, append_assoc, length-append}
+use Rattle.std.proofs.lemmas.Bool.{true≢false, eqb-true, eqb-false, eq-eqb, ne_eqb, ltb-true, ltb-false, le-leb, not-true, and_parts, or_parts, or_left}
+use Rattle.std.proofs.lemmas.Bool.{or_right}
 use Rattle.std.proofs.lemmas.List.{take_at, drop_at, take_all, drop_all}
 use Rattle.std.proofs.lemmas.List.Sums.{fold-append}
 use Rattle.std.specs.Prelude.{fold, slice_index}
@@ -13,7 +15,8 @@ use Rattle.btx_names.specs.declared.format_items.PartName.TheVariants.{First, Vo
 use Rattle.btx_names.specs.declared.runs.Stop.{Stop}
 use Rattle.btx_names.specs.declared.runs.Stop.TheVariants.{Letter, Closing, Brace}
 use Rattle.btx_names.specs.language.Runs.{stops, run_len}
-use Rattle.btx_names.specs.language.Formats.{FormatPiece, FormatItem, Literal, Plain, Name, Illegal, part_named, is_doubled, between_of, behind_between, piece_item, split_item, inside_item, items_of, is_illegal, is_legal}
+use Rattle.btx_names.specs.language.Formats.{FormatPiece, FormatItem, Literal, Plain, Name, Illegal, part_named, is_doubled, between_of, behind_between}
+use Rattle.btx_names.specs.language.Formats.{piece_item, split_item, inside_item, items_of, is_illegal, is_legal}
 use Rattle.btx_names.specs.laws.FormatTexts.{in_braces, is_brace, letter_of, letters_of_part, text_of_between, in_lower_case}
 use Rattle.btx_names.specs.laws.WrittenFormats.{is_balanced, is_outer, can_be_between, is_piece, is_item, begin_literal, are_items, IsTextOf, IsFormatOf}
 use Rattle.btx_names.proofs.FormatLemmas.{items_of-nil, items_of-literal, items_of-group}
@@ -88,8 +91,10 @@ further_in depth [] all = (refl, refl)
 further_in depth (b ∷ bs) all = at (eqb depth 0 && eqb b 125) refl all (further_in (depth_after depth b) bs) where
   at : (t : Bool) → (eqb depth 0 && eqb b 125) ≡ t → cond t 0 (suc (run_len Closing (depth_after depth b) bs)) ≡ suc (length bs) →
       (run_len Closing (depth_after depth b) bs ≡ length bs →
-      (run_len Closing (suc (depth_after depth b)) bs ≡ length bs) × (fold depth_after (suc (depth_after depth b)) bs ≡ suc (fold depth_after (depth_after depth b) bs))) →
-      (run_len Closing (suc depth) (b ∷ bs) ≡ suc (length bs)) × (fold depth_after (depth_after (suc depth) b) bs ≡ suc (fold depth_after (depth_after depth b) bs))
+      (run_len Closing (suc (depth_after depth b)) bs ≡ length bs)
+      × (fold depth_after (suc (depth_after depth b)) bs ≡ suc (fold depth_after (depth_after depth b) bs))) →
+      (run_len Closing (suc depth) (b ∷ bs) ≡ suc (length bs))
+      × (fold depth_after (depth_after (suc depth) b) bs ≡ suc (fold depth_after (depth_after depth b) bs))
   at true is h on = absurd (omega (arith, h))
   at false is h on =
       let more = on (omega (arith, h)) in
@@ -121,10 +126,14 @@ letter_test part b is = rw is (elim part as (λ part. eqb (letter_of part) (lett
 
 -- such a byte passes what its value in either case passes
 letter_no_brace : (part : PartName) (b : ℕ) → IsLetterOf part b → (eqb b 123 ≡ false) × (eqb b 125 ≡ false)
-letter_no_brace First b is = let t = letter_test First b is in (never (λ x. eqb (to_ascii_lowercase x) 102) b 123 t refl, never (λ x. eqb (to_ascii_lowercase x) 102) b 125 t refl)
-letter_no_brace Von b is = let t = letter_test Von b is in (never (λ x. eqb (to_ascii_lowercase x) 118) b 123 t refl, never (λ x. eqb (to_ascii_lowercase x) 118) b 125 t refl)
-letter_no_brace Last b is = let t = letter_test Last b is in (never (λ x. eqb (to_ascii_lowercase x) 108) b 123 t refl, never (λ x. eqb (to_ascii_lowercase x) 108) b 125 t refl)
-letter_no_brace Jr b is = let t = letter_test Jr b is in (never (λ x. eqb (to_ascii_lowercase x) 106) b 123 t refl, never (λ x. eqb (to_ascii_lowercase x) 106) b 125 t refl)
+letter_no_brace First b is = let t = letter_test First b is in
+    (never (λ x. eqb (to_ascii_lowercase x) 102) b 123 t refl, never (λ x. eqb (to_ascii_lowercase x) 102) b 125 t refl)
+letter_no_brace Von b is = let t = letter_test Von b is in
+    (never (λ x. eqb (to_ascii_lowercase x) 118) b 123 t refl, never (λ x. eqb (to_ascii_lowercase x) 118) b 125 t refl)
+letter_no_brace Last b is = let t = letter_test Last b is in
+    (never (λ x. eqb (to_ascii_lowercase x) 108) b 123 t refl, never (λ x. eqb (to_ascii_lowercase x) 108) b 125 t refl)
+letter_no_brace Jr b is = let t = letter_test Jr b is in
+    (never (λ x. eqb (to_ascii_lowercase x) 106) b 123 t refl, never (λ x. eqb (to_ascii_lowercase x) 106) b 125 t refl)
 
 -- a byte whose lower case is a lower-case letter is a letter
 letter_alpha : (part : PartName) (b : ℕ) → IsLetterOf part b → is_alpha b ≡ true
@@ -222,9 +231,12 @@ between_read None after is = let other : eqb (slice_index after 0) 123 ≡ false
 between_read (Some text) after is =
     let level = balanced text is in
     let joined = append_assoc text (125 ∷ []) after in
-    let size : run_len Closing 0 ((text ++ 125 ∷ []) ++ after) ≡ length text = ap (λ xs. run_len Closing 0 xs) joined ∙ run_up_to Closing text after 125 level.all level.low refl in
-    let front : take (length text) ((text ++ 125 ∷ []) ++ after) ≡ text = ap (λ xs. take (length text) xs) joined ∙ take_at text (125 ∷ after) (length text) refl in
-    let back : drop (length text + 1) ((text ++ 125 ∷ []) ++ after) ≡ after = drop_at (text ++ 125 ∷ []) after (length text + 1) (length-append text (125 ∷ [])) in
+    let size : run_len Closing 0 ((text ++ 125 ∷ []) ++ after) ≡ length text = ap (λ xs. run_len Closing 0 xs) joined
+    ∙ run_up_to Closing text after 125 level.all level.low refl in
+    let front : take (length text) ((text ++ 125 ∷ []) ++ after) ≡ text = ap (λ xs. take (length text) xs) joined
+    ∙ take_at text (125 ∷ after) (length text) refl in
+    let back : drop (length text + 1) ((text ++ 125 ∷ []) ++ after) ≡ after =
+    drop_at (text ++ 125 ∷ []) after (length text + 1) (length-append text (125 ∷ [])) in
     (rw (size, front) refl, rw size back)
 
 between_level : (between : Option (List ℕ)) (after : List ℕ) → can_be_between between after ≡ true → IsBalanced (text_of_between between)
@@ -264,9 +276,11 @@ piece_read piece letters is are =
     let back = outer piece.after more.1 in
     let between = text_of_between piece.between in
     let tail = between ++ piece.after in
-    let read = letters_read piece.part piece.is_full letters tail are (λ letter is_letter. not_doubled piece.part letter piece.between piece.after is_letter back.no_letter) in
+    let read = letters_read piece.part piece.is_full letters tail are
+    (λ letter is_letter. not_doubled piece.part letter piece.between piece.after is_letter back.no_letter) in
     let strings = between_read piece.between piece.after more.0 in
-    let parted : piece_text_of piece letters ≡ piece.before ++ (letters ++ tail) = append_assoc (piece.before ++ letters) between piece.after ∙ append_assoc piece.before letters tail in
+    let parted : piece_text_of piece letters ≡ piece.before ++ (letters ++ tail) = append_assoc (piece.before ++ letters) between piece.after
+    ∙ append_assoc piece.before letters tail in
     let whole : piece_text_of piece letters ≡ piece.before ++ read.letter ∷ read.rest = parted ∙ ap (λ xs. piece.before ++ xs) read.joined in
     let size = run_up_to Letter piece.before read.rest read.letter front.all front.level.low (letter_alpha piece.part read.letter read.is_letter) in
     let first = take_at piece.before (read.letter ∷ read.rest) (length piece.before) refl in
@@ -280,7 +294,8 @@ piece_read piece letters is are =
       item = ap inside_item whole ∙ item ∙ legal_read piece.before piece.part _ piece.is_full _ piece.between _ piece.after
           read.doubled (ap between_of read.behind ∙ strings.0) (ap behind_between read.behind ∙ strings.1) back.no_letter;
       level = balanced_append (piece.before ++ letters ++ between) piece.after
-          (balanced_append (piece.before ++ letters) between (balanced_append piece.before letters front.level read.level) (between_level piece.between piece.after more.0)) back.level;
+          (balanced_append (piece.before ++ letters) between (balanced_append piece.before letters front.level read.level)
+          (between_level piece.between piece.after more.0)) back.level;
     }
 
 -- ---- an item
@@ -289,7 +304,8 @@ group_read : (inside rest : List ℕ) → IsBalanced inside → items_of (in_bra
 group_read inside rest level =
     let joined = append_assoc inside (125 ∷ []) rest in
     let size = run_up_to Closing inside rest 125 level.all level.low refl in
-    let back : 125 ∷ rest ≡ drop (run_len Closing 0 (inside ++ 125 ∷ rest)) (inside ++ 125 ∷ rest) = rw size (sym (drop_at inside (125 ∷ rest) (length inside) refl)) in
+    let back : 125 ∷ rest ≡ drop (run_len Closing 0 (inside ++ 125 ∷ rest)) (inside ++ 125 ∷ rest) =
+    rw size (sym (drop_at inside (125 ∷ rest) (length inside) refl)) in
     let front : take (run_len Closing 0 (inside ++ 125 ∷ rest)) (inside ++ 125 ∷ rest) ≡ inside = rw size (take_at inside (125 ∷ rest) (length inside) refl) in
     ap (λ xs. items_of (123 ∷ xs)) joined
     ∙ items_of-group (123 ∷ inside ++ 125 ∷ rest) (inside ++ 125 ∷ rest) (125 ∷ rest) 123 refl refl back (omega arith)
@@ -326,7 +342,8 @@ literal_read (b ∷ bs) rest some none ends =
     ∙ ap (λ xs. Literal xs ∷ items_of (drop (length (b ∷ bs)) ((b ∷ bs) ++ rest))) (take_at (b ∷ bs) rest (length (b ∷ bs)) refl)
     ∙ ap (λ xs. Literal (b ∷ bs) ∷ items_of xs) (drop_at (b ∷ bs) rest (length (b ∷ bs)) refl)
 
-item_read : (item : FormatItem) (text rest : List ℕ) → is_item item ≡ true → IsTextOf item text → (begin_literal (item ∷ []) ≡ true → run_len Brace 0 rest ≡ 0) →
+item_read : (item : FormatItem) (text rest : List ℕ) → is_item item ≡ true → IsTextOf item text → (begin_literal (item ∷ []) ≡ true → run_len Brace 0 rest ≡ 0)
+    →
     items_of (text ++ rest) ≡ item ∷ items_of rest
 item_read (Literal literal) text rest is same ends =
     let parts = and_parts (ltb 0 (length literal)) (list_all (λ b. not (is_brace b)) literal) is in

@@ -16,23 +16,30 @@ same_some : (a b : Left) → Some a ≡ Some b → a ≡ b
 same_some a b is = cc
 
 -- what a breaker holds is left of the text
-holds_left : (line_length : ℕ) (state : Left) (old : Held) (text : List ℕ) → holding line_length state ≡ old → old.pending ≡ Some (left old.line_length text) → state ≡ left line_length text
+holds_left : (line_length : ℕ) (state : Left) (old : Held) (text : List ℕ) → holding line_length state ≡ old → old.pending ≡ Some (left old.line_length text)
+    → state ≡ left line_length text
 holds_left line_length state old text view held = same_some state (left line_length text) (rw (← view) at held)
 
 -- ---- more bytes
 
-pub puts_more : (line_length : ℕ) (state next : Left) (old : Held) (text bytes : List ℕ) (before after : Option (List ℕ)) → holding line_length state ≡ old → IsLineLength line_length →
+pub puts_more : (line_length : ℕ) (state next : Left) (old : Held) (text bytes : List ℕ) (before after : Option (List ℕ)) → holding line_length state ≡ old
+    → IsLineLength line_length →
     old.pending ≡ Some (left old.line_length text) → next ≡ left_after line_length state bytes → Appends before after (sure_after line_length state bytes) →
-    (holding line_length next ≡ holding old.line_length (left old.line_length (text ++ bytes))) × AppendsRest before after (sure old.line_length text) (sure old.line_length (text ++ bytes))
+    (holding line_length next ≡ holding old.line_length (left old.line_length (text ++ bytes))) × AppendsRest before after (sure old.line_length text)
+    (sure old.line_length (text ++ bytes))
 puts_more line_length state next old text bytes before after view range held is received =
     let state_is = holds_left line_length state old text view held in
     let wide : 3 ≤ line_length = omega arith in
     let more = go_on line_length bytes text wide in
     let is' = rw state_is at is in
     let received' = rw state_is at received in
-    rw (← view) (ap (holding line_length) (is' ∙ sym more.0), record { written = sure_after line_length (left line_length text) bytes; joined = sym more.1; received = received' })
+    rw (← view) (
+      ap (holding line_length) (is' ∙ sym more.0),
+      record { written = sure_after line_length (left line_length text) bytes; joined = sym more.1; received = received' },
+    )
 
-pub puts_part : (line_length : ℕ) (state : Left) (old : Held) (text bytes : List ℕ) (before after : Option (List ℕ)) → holding line_length state ≡ old → IsLineLength line_length →
+pub puts_part : (line_length : ℕ) (state : Left) (old : Held) (text bytes : List ℕ) (before after : Option (List ℕ)) → holding line_length state ≡ old
+    → IsLineLength line_length →
     old.pending ≡ Some (left old.line_length text) → AppendsPrefix before after (sure_after line_length state bytes) →
     AppendsPartOfRest before after (sure old.line_length text) (sure old.line_length (text ++ bytes))
 puts_part line_length state old text bytes before after view range held begins =
@@ -45,14 +52,16 @@ puts_part line_length state old text bytes before after view range held begins =
 -- ---- the end of the line
 
 pub ends_all : (line_length : ℕ) (state : Left) (old : Held) (text : List ℕ) (before after : Option (List ℕ)) → holding line_length state ≡ old →
-    old.pending ≡ Some (left old.line_length text) → Appends before after (end_written state) → AppendsRest before after (sure old.line_length text) (wrap old.line_length text)
+    old.pending ≡ Some (left old.line_length text) → Appends before after (end_written state)
+    → AppendsRest before after (sure old.line_length text) (wrap old.line_length text)
 ends_all line_length state old text before after view held received =
     let state_is = holds_left line_length state old text view held in
     let received' = rw state_is at received in
     rw (← view) (record { written = end_written (left line_length text); joined = sym (wrap_is line_length text); received = received' })
 
 pub ends_part : (line_length : ℕ) (state : Left) (old : Held) (text : List ℕ) (before after : Option (List ℕ)) → holding line_length state ≡ old →
-    old.pending ≡ Some (left old.line_length text) → AppendsPrefix before after (end_written state) → AppendsPartOfRest before after (sure old.line_length text) (wrap old.line_length text)
+    old.pending ≡ Some (left old.line_length text) → AppendsPrefix before after (end_written state)
+    → AppendsPartOfRest before after (sure old.line_length text) (wrap old.line_length text)
 ends_part line_length state old text before after view held begins =
     let state_is = holds_left line_length state old text view held in
     let begins' = rw state_is at begins in
@@ -107,7 +116,8 @@ fresh_is_empty line_length v (b ∷ bs) wide is fresh = absurd (none (left line_
 -- ---- the very end
 
 -- nothing is pending, and nothing is written
-pub finish_fresh : (old : Held) (text : List ℕ) (received : Option (List ℕ)) → IsLineLength old.line_length → old.pending ≡ Some (left old.line_length text) → is_fresh old.pending ≡ true →
+pub finish_fresh : (old : Held) (text : List ℕ) (received : Option (List ℕ)) → IsLineLength old.line_length → old.pending ≡ Some (left old.line_length text)
+    → is_fresh old.pending ≡ true →
     AppendsRest received received (sure old.line_length text) (written_at_end old.line_length text)
 unfolding cut_of cut_within
 finish_fresh old text received range held fresh =
@@ -126,15 +136,20 @@ fresh_is_new old fresh = at old.pending refl fresh where
   at None is fresh = cc
 
 -- something is pending
-some_pending : (line_length : ℕ) (v : Option Left) (text : List ℕ) → v ≡ Some (left line_length text) → is_fresh v ≡ false → written_at_end line_length text ≡ wrap line_length text
+some_pending : (line_length : ℕ) (v : Option Left) (text : List ℕ) → v ≡ Some (left line_length text) → is_fresh v ≡ false → written_at_end line_length text
+    ≡ wrap line_length text
 unfolding cut_of cut_within
 some_pending line_length v [] held fresh = let fresh' : is_fresh (Some (left line_length [])) ≡ false = rw held at fresh in cc
 some_pending line_length v (b ∷ bs) held fresh = refl
 
-pub finish_ends : (old : Held) (text : List ℕ) (before after : Option (List ℕ)) → is_fresh old.pending ≡ false → old.pending ≡ Some (left old.line_length text) →
-    AppendsRest before after (sure old.line_length text) (wrap old.line_length text) → AppendsRest before after (sure old.line_length text) (written_at_end old.line_length text)
+pub finish_ends : (old : Held) (text : List ℕ) (before after : Option (List ℕ)) → is_fresh old.pending ≡ false → old.pending ≡ Some (left old.line_length text)
+    →
+    AppendsRest before after (sure old.line_length text) (wrap old.line_length text)
+    → AppendsRest before after (sure old.line_length text) (written_at_end old.line_length text)
 finish_ends old text before after fresh held h = rw (some_pending old.line_length old.pending text held fresh) h
 
-pub finish_part : (old : Held) (text : List ℕ) (before after : Option (List ℕ)) → is_fresh old.pending ≡ false → old.pending ≡ Some (left old.line_length text) →
-    AppendsPartOfRest before after (sure old.line_length text) (wrap old.line_length text) → AppendsPartOfRest before after (sure old.line_length text) (written_at_end old.line_length text)
+pub finish_part : (old : Held) (text : List ℕ) (before after : Option (List ℕ)) → is_fresh old.pending ≡ false → old.pending ≡ Some (left old.line_length text)
+    →
+    AppendsPartOfRest before after (sure old.line_length text) (wrap old.line_length text)
+    → AppendsPartOfRest before after (sure old.line_length text) (written_at_end old.line_length text)
 finish_part old text before after fresh held h = rw (some_pending old.line_length old.pending text held fresh) h

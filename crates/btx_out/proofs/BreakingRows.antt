@@ -88,7 +88,8 @@ unfolding trimmed skip_white till_white from_white last_white break_of cut_withi
 white_at_head = refl
 
 -- a tab and a carriage return are whitespace; byte 11 isn't
-other_white : wrap 20 (replicate 10 97 ++ 13 ∷ replicate 4 97 ++ 9 ∷ replicate 5 97 ++ 11 ∷ replicate 4 97) ≡ replicate 10 97 ++ 13 ∷ replicate 4 97 ++ 10 ∷ codes "  aaaaa" ++ 11 ∷ codes "aaaa" ++ 10 ∷ []
+other_white : wrap 20 (replicate 10 97 ++ 13 ∷ replicate 4 97 ++ 9 ∷ replicate 5 97 ++ 11 ∷ replicate 4 97) ≡ replicate 10 97 ++ 13 ∷ replicate 4 97 ++ 10
+    ∷ codes "  aaaaa" ++ 11 ∷ codes "aaaa" ++ 10 ∷ []
 unfolding trimmed skip_white till_white from_white last_white break_of cut_within cut_of
 other_white = refl
 

@@ -1,7 +1,9 @@
 -- Lemmas on the bytes that a breaker keeps.
-use Rattle.std.proofs.Common.{◌≡◌, ℕ, zero, suc, ◌+◌, ◌-◌, ◌<◌, ◌≤◌, cond, not, if◌then◌else◌, List, [], ◌∷◌, ◌++◌, length, take, drop, set, get_or, ◌⊎◌, ⊎_elim, Some, None, refl, sym, subst, ◌∙◌, ap, arith, append_assoc, Bool, true, false}
+use Rattle.std.proofs.Common.{◌≡◌, ℕ, zero, suc, ◌+◌, ◌-◌, ◌<◌, ◌≤◌, cond, not, if◌then◌else◌, List, [], ◌∷◌, ◌++◌, length, take, drop, set, get_or, ◌⊎◌}
+use Rattle.std.proofs.Common.{⊎_elim, Some, None, refl, sym, subst, ◌∙◌, ap, arith, append_assoc, Bool, true, false}
 use Rattle.std.proofs.lemmas.Bool.{le-leb}
-use Rattle.std.proofs.lemmas.List.{append-nil, take_more, take_more_set, drop_all, drop-set-lt, drop-set, drop-set-add, take_all, take-take, length-take-le, length-set, length-drop}
+use Rattle.std.proofs.lemmas.List.{append-nil, take_more, take_more_set, drop_all, drop-set-lt, drop-set, drop-set-add, take_all, take-take, length-take-le}
+use Rattle.std.proofs.lemmas.List.{length-set, length-drop}
 use Rattle.std.proofs.lemmas.List.Sums.{take_while-cons}
 use Rattle.std.proofs.lemmas.List.Edits.{take-paste}
 use Rattle.std.proofs.Math.Seq.{drop-cons}
@@ -35,7 +37,8 @@ unfolding trimmed
 trimmed_front [] = (omega arith, refl)
 trimmed_front (b ∷ bs) = at (is_white b) (trimmed bs) (trimmed_front bs) where
   at : (t : Bool) (kept : List ℕ) → (length kept ≤ length bs) × (kept ≡ take (length kept) bs) →
-      (length (cond t (white_before b kept) (b ∷ kept)) ≤ suc (length bs)) × (cond t (white_before b kept) (b ∷ kept) ≡ take (length (cond t (white_before b kept) (b ∷ kept))) (b ∷ bs))
+      (length (cond t (white_before b kept) (b ∷ kept)) ≤ suc (length bs))
+      × (cond t (white_before b kept) (b ∷ kept) ≡ take (length (cond t (white_before b kept) (b ∷ kept))) (b ∷ bs))
   at true [] h = (omega arith, refl)
   at true (c ∷ cs) h = (omega (arith, h.0), ap (λ xs. b ∷ xs) h.1)
   at false kept h = (omega (arith, h.0), ap (λ xs. b ∷ xs) h.1)
@@ -83,7 +86,8 @@ kept_line text kept at inside is either =
     rw is (sym (line_kept (take at text) (λ none. some' (let le = front.0 in omega arith)) some'))) either)
 
 -- what stands behind the index stays
-pub kept_rest : (text kept : List ℕ) (at : ℕ) → at < length text → kept ≡ trimmed (take at text) → drop (at + 1) (set text (length kept) 10) ≡ drop (at + 1) text
+pub kept_rest : (text kept : List ℕ) (at : ℕ) → at < length text → kept ≡ trimmed (take at text) → drop (at + 1) (set text (length kept) 10)
+    ≡ drop (at + 1) text
 kept_rest text kept at inside is = let within = kept_within text kept at inside is in drop-set-lt (at + 1) text (length kept) 10 (omega arith)
 
 -- a line of whitespace alone is not written

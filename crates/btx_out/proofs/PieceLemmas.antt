@@ -1,5 +1,6 @@
 -- What several writes leave, one after another.
-use Rattle.std.proofs.Common.{ℕ, ◌+◌, ◌-◌, List, [], ◌++◌, Option, None, Some, Result, Ok, Err, OnErr, length, take, drop, refl, sym, subst, ap, ◌∙◌, append_assoc, append-nil, take-append-drop}
+use Rattle.std.proofs.Common.{ℕ, ◌+◌, ◌-◌, List, [], ◌++◌, Option, None, Some, Result, Ok, Err, OnErr, length, take, drop, refl, sym, subst, ap, ◌∙◌}
+use Rattle.std.proofs.Common.{append_assoc, append-nil, take-append-drop}
 use Rattle.std.proofs.Math.Seq.{take-add}
 use Rattle.std.proofs.lemmas.List.{take_rest}
 use Rattle.std.specs.Io.KnownBytes.{Appends, Keeps}
@@ -13,7 +14,8 @@ Appends-kept (Some x) (Some y) None bs p q = absurd q
 Appends-kept (Some x) (Some y) (Some z) bs p q = q ∙ p
 
 -- the first `at` bytes, and then n of the slice behind them, `&bs[at..]`
-pub Appends-take_more : (a b c : Option (List ℕ)) (at n : ℕ) (bs : List ℕ) → Appends a b (take at bs) → Appends b c (take n (take (length bs - at) (drop at bs))) → Appends a c (take (at + n) bs)
+pub Appends-take_more : (a b c : Option (List ℕ)) (at n : ℕ) (bs : List ℕ) → Appends a b (take at bs)
+    → Appends b c (take n (take (length bs - at) (drop at bs))) → Appends a c (take (at + n) bs)
 Appends-take_more a b c at n bs p q =
     let rest = subst (λ (l : List ℕ). Appends b c (take n l)) (take_rest bs at) q in
     subst (Appends a c) (sym (take-add at n bs)) (Appends-trans a b c _ _ p rest)
@@ -35,7 +37,13 @@ prefix-all a b bs p = record { front = bs; rest = []; whole = sym (append-nil bs
 
 -- a prefix stays one where more was to follow
 pub prefix-longer : (a b : Option (List ℕ)) (bs cs : List ℕ) → AppendsPrefix a b bs → AppendsPrefix a b (bs ++ cs)
-prefix-longer a b bs cs p = record { front = p.front; rest = p.rest ++ cs; whole = ap (λ l. l ++ cs) p.whole ∙ append_assoc p.front p.rest cs; received = p.received }
+prefix-longer a b bs cs p = record {
+  front = p.front;
+  rest = p.rest ++ cs;
+  whole = ap (λ l. l ++ cs) p.whole ∙ append_assoc p.front p.rest cs;
+  received =
+      p.received;
+}
 
 -- a whole piece, and then a prefix of the next
 pub prefix-after : (a b c : Option (List ℕ)) (bs cs : List ℕ) → Appends a b bs → AppendsPrefix b c cs → AppendsPrefix a c (bs ++ cs)

@@ -1,5 +1,6 @@
 -- Where a text is broken.
-use Rattle.std.proofs.Common.{◌≡◌, ℕ, zero, suc, ◌+◌, ◌-◌, ◌<◌, ◌≤◌, Bool, true, false, cond, leb, ◌&&◌, List, [], ◌∷◌, ◌++◌, length, take, drop, get_or, Option, Some, None, ⊎_elim, refl, sym, ◌∙◌, ap, arith, length-append, length-drop, append_assoc}
+use Rattle.std.proofs.Common.{◌≡◌, ℕ, zero, suc, ◌+◌, ◌-◌, ◌<◌, ◌≤◌, Bool, true, false, cond, leb, ◌&&◌, List, [], ◌∷◌, ◌++◌, length, take, drop, get_or}
+use Rattle.std.proofs.Common.{Option, Some, None, ⊎_elim, refl, sym, ◌∙◌, ap, arith, length-append, length-drop, append_assoc}
 use Rattle.std.proofs.lemmas.List.{get_or_append_left, get_or-drop, take-append-drop, length-take-le}
 use Rattle.std.proofs.lemmas.List.Elements.{All-nil, All-cons}
 use Rattle.std.proofs.Math.Seq.{drop-cons}
@@ -13,7 +14,8 @@ use Rattle.btx_out.proofs.GoingOnLemmas.{from_white-white, skip_white-ink, till_
 
 -- ---- the last whitespace byte
 
-white_step : (t : Bool) (n i : ℕ) (o : Option ℕ) (text : List ℕ) → (leb 3 n && is_white (get_or text n 0)) ≡ t → (o ≡ Some i → is_white (get_or text i 0) ≡ true) → cond t (Some n) o ≡ Some i → is_white (get_or text i 0) ≡ true
+white_step : (t : Bool) (n i : ℕ) (o : Option ℕ) (text : List ℕ) → (leb 3 n && is_white (get_or text n 0)) ≡ t
+    → (o ≡ Some i → is_white (get_or text i 0) ≡ true) → cond t (Some n) o ≡ Some i → is_white (get_or text i 0) ≡ true
 white_step true n i o text test rest is = let same : n ≡ i = cc in let white : is_white (get_or text n 0) ≡ true = (and_parts _ _ test).1 in rw same at white
 white_step false n i o text test rest is = rest is
 
@@ -22,7 +24,8 @@ unfolding last_white
 last_white-white zero i text is = cc
 last_white-white (suc n) i text is = white_step _ n i (last_white n text) text refl (last_white-white n i text) is
 
-after_step : (t : Bool) (n i k : ℕ) (o : Option ℕ) (text : List ℕ) → (leb 3 n && is_white (get_or text n 0)) ≡ t → 3 ≤ k → i < k → k < suc n → (o ≡ Some i → k < n → is_white (get_or text k 0) ≡ false) → cond t (Some n) o ≡ Some i → is_white (get_or text k 0) ≡ false
+after_step : (t : Bool) (n i k : ℕ) (o : Option ℕ) (text : List ℕ) → (leb 3 n && is_white (get_or text n 0)) ≡ t → 3 ≤ k → i < k → k < suc n
+    → (o ≡ Some i → k < n → is_white (get_or text k 0) ≡ false) → cond t (Some n) o ≡ Some i → is_white (get_or text k 0) ≡ false
 after_step true n i k o text test low after high rest is = absurd (let same : n ≡ i = cc in omega arith)
 after_step false n i k o text test low after high rest is = ⊎_elim (λ lt. rest is lt) (λ le. at le) (cases_lt k n) where
   at : n ≤ k → is_white (get_or text k 0) ≡ false
@@ -34,7 +37,8 @@ after_step false n i k o text test low after high rest is = ⊎_elim (λ lt. res
 last_white-after : (n i k : ℕ) (text : List ℕ) → last_white n text ≡ Some i → 3 ≤ k → i < k → k < n → is_white (get_or text k 0) ≡ false
 unfolding last_white
 last_white-after zero i k text is low after high = absurd (omega arith)
-last_white-after (suc n) i k text is low after high = after_step _ n i k (last_white n text) text refl low after high (λ h lt. last_white-after n i k text h low after lt) is
+last_white-after (suc n) i k text is low after high =
+    after_step _ n i k (last_white n text) text refl low after high (λ h lt. last_white-after n i k text h low after lt) is
 
 -- ---- the first whitespace byte
 
@@ -42,7 +46,8 @@ till_white-ink : (bytes : List ℕ) (k : ℕ) → k < length (till_white bytes) 
 unfolding till_white
 till_white-ink [] k lt = absurd (omega arith)
 till_white-ink (b ∷ bs) k lt = at (is_white b) k refl lt (λ j l. till_white-ink bs j l) where
-  at : (t : Bool) (k : ℕ) → is_white b ≡ t → k < length (cond t [] (b ∷ till_white bs)) → ((j : ℕ) → j < length (till_white bs) → is_white (get_or (till_white bs) j 0) ≡ false) → is_white (get_or (cond t [] (b ∷ till_white bs)) k 0) ≡ false
+  at : (t : Bool) (k : ℕ) → is_white b ≡ t → k < length (cond t [] (b ∷ till_white bs))
+      → ((j : ℕ) → j < length (till_white bs) → is_white (get_or (till_white bs) j 0) ≡ false) → is_white (get_or (cond t [] (b ∷ till_white bs)) k 0) ≡ false
   at true k test lt more = absurd (omega arith)
   at false zero test lt more = test
   at false (suc k) test lt more = more k (omega arith)
@@ -63,7 +68,8 @@ skip_white-run (b ∷ bs) = at (is_white b) refl (skip_white-run bs) where
 
 -- ---- a break inside the line
 
-break_inside : (line_length i : ℕ) (text : List ℕ) → line_length < length text → last_white (line_length + 1) text ≡ Some i → IsBreakInside line_length text (take i text) (drop (i + 1) text)
+break_inside : (line_length i : ℕ) (text : List ℕ) → line_length < length text → last_white (line_length + 1) text ≡ Some i
+    → IsBreakInside line_length text (take i text) (drop (i + 1) text)
 break_inside line_length i text long is =
     let place = last_white-some (line_length + 1) i text is in
     let low = place.0 in
@@ -80,7 +86,8 @@ break_inside line_length i text long is =
       none_after = λ k above below. last_white-after (line_length + 1) i k text is (omega arith) (omega arith) below;
     }
 
-pub place_inside : (line_length : ℕ) (text head rest : List ℕ) → line_length < length text → break_of line_length text ≡ Broken false head rest → IsBreakInside line_length text head rest
+pub place_inside : (line_length : ℕ) (text head rest : List ℕ) → line_length < length text → break_of line_length text ≡ Broken false head rest
+    → IsBreakInside line_length text head rest
 unfolding break_of
 place_inside line_length text head rest long is = at (last_white (line_length + 1) text) refl is where
   at : (o : Option ℕ) → last_white (line_length + 1) text ≡ o → break_at line_length text o ≡ Broken false head rest → IsBreakInside line_length text head rest
@@ -95,20 +102,23 @@ place_inside line_length text head rest long is = at (last_white (line_length + 
 
 -- ---- a break past the line
 
-no_white_before : (line_length : ℕ) (text : List ℕ) → line_length < length text → last_white (line_length + 1) text ≡ None → HasInk text 3 (length (take (line_length + 1) text ++ till_white (drop (line_length + 1) text)))
-no_white_before line_length text long none i low high = ⊎_elim (λ inside. last_white-none (line_length + 1) i text none low inside) (λ past. at past) (cases_lt i (line_length + 1)) where
-  at : line_length + 1 ≤ i → is_white (get_or text i 0) ≡ false
-  at past =
-      let tail = drop (line_length + 1) text in
-      let len : length (take (line_length + 1) text) ≡ line_length + 1 = length-take-le (line_length + 1) text (omega arith) in
-      let both = length-append (take (line_length + 1) text) (till_white tail) in
-      let k : line_length + 1 + (i - (line_length + 1)) ≡ i = omega arith in
-      let lt : i - (line_length + 1) < length (till_white tail) = omega arith in
-      let ink = till_white-ink tail (i - (line_length + 1)) lt in
-      let front = get_or_append_left (till_white tail) (from_white tail) 0 (i - (line_length + 1)) lt in
-      let there : get_or tail (i - (line_length + 1)) 0 ≡ get_or (till_white tail) (i - (line_length + 1)) 0 = ap (λ xs. get_or xs (i - (line_length + 1)) 0) (till_from tail) ∙ front in
-      let ink' : is_white (get_or tail (i - (line_length + 1)) 0) ≡ false = rw there ink in
-      rw (get_or-drop, k) at ink'
+no_white_before : (line_length : ℕ) (text : List ℕ) → line_length < length text → last_white (line_length + 1) text ≡ None
+    → HasInk text 3 (length (take (line_length + 1) text ++ till_white (drop (line_length + 1) text)))
+no_white_before line_length text long none i low high = ⊎_elim (λ inside. last_white-none (line_length + 1) i text none low inside) (λ past. at past)
+    (cases_lt i (line_length + 1)) where
+      at : line_length + 1 ≤ i → is_white (get_or text i 0) ≡ false
+      at past =
+          let tail = drop (line_length + 1) text in
+          let len : length (take (line_length + 1) text) ≡ line_length + 1 = length-take-le (line_length + 1) text (omega arith) in
+          let both = length-append (take (line_length + 1) text) (till_white tail) in
+          let k : line_length + 1 + (i - (line_length + 1)) ≡ i = omega arith in
+          let lt : i - (line_length + 1) < length (till_white tail) = omega arith in
+          let ink = till_white-ink tail (i - (line_length + 1)) lt in
+          let front = get_or_append_left (till_white tail) (from_white tail) 0 (i - (line_length + 1)) lt in
+          let there : get_or tail (i - (line_length + 1)) 0 ≡ get_or (till_white tail) (i - (line_length + 1)) 0 =
+          ap (λ xs. get_or xs (i - (line_length + 1)) 0) (till_from tail) ∙ front in
+          let ink' : is_white (get_or tail (i - (line_length + 1)) 0) ≡ false = rw there ink in
+          rw (get_or-drop, k) at ink'
 
 rest_ink : (bytes : List ℕ) → 0 < length (skip_white bytes) → is_white (get_or (skip_white bytes) 0 0) ≡ false
 rest_ink bytes some = at (skip_white bytes) refl some where
@@ -116,7 +126,8 @@ rest_ink bytes some = at (skip_white bytes) refl some where
   at [] is some = absurd (omega arith)
   at (c ∷ cs) is some = skip_white-ink bytes c cs is
 
-break_past_line : (line_length : ℕ) (text : List ℕ) (b : ℕ) (bs : List ℕ) → line_length < length text → last_white (line_length + 1) text ≡ None → from_white (drop (line_length + 1) text) ≡ b ∷ bs →
+break_past_line : (line_length : ℕ) (text : List ℕ) (b : ℕ) (bs : List ℕ) → line_length < length text → last_white (line_length + 1) text ≡ None
+    → from_white (drop (line_length + 1) text) ≡ b ∷ bs →
     IsBreakPast line_length text (take (line_length + 1) text ++ till_white (drop (line_length + 1) text)) (skip_white bs)
 break_past_line line_length text b bs long none is =
     let tail = drop (line_length + 1) text in
@@ -124,10 +135,12 @@ break_past_line line_length text b bs long none is =
     let len : length front ≡ line_length + 1 = length-take-le (line_length + 1) text (omega arith) in
     let both = length-append front (till_white tail) in
     let more = skip_white-run bs in
-    let cut : tail ≡ till_white tail ++ (b ∷ more.run ++ skip_white bs) = till_from tail ∙ ap (λ xs. till_white tail ++ xs) (is ∙ ap (λ xs. b ∷ xs) more.whole) in
+    let cut : tail ≡ till_white tail ++ (b ∷ more.run ++ skip_white bs) = till_from tail
+    ∙ ap (λ xs. till_white tail ++ xs) (is ∙ ap (λ xs. b ∷ xs) more.whole) in
     record {
       run = b ∷ more.run;
-      whole = sym (take-append-drop (line_length + 1) text) ∙ ap (λ xs. front ++ xs) cut ∙ sym (append_assoc front (till_white tail) (b ∷ more.run ++ skip_white bs));
+      whole = sym (take-append-drop (line_length + 1) text) ∙ ap (λ xs. front ++ xs) cut
+          ∙ sym (append_assoc front (till_white tail) (b ∷ more.run ++ skip_white bs));
       of_white = All-cons (λ b. is_white b ≡ true) b more.run (from_white-white tail b bs is) more.white;
       some = omega arith;
       past = omega arith;
@@ -135,10 +148,12 @@ break_past_line line_length text b bs long none is =
       ink = rest_ink bs;
     }
 
-pub place_past : (line_length : ℕ) (text head rest : List ℕ) → line_length < length text → break_of line_length text ≡ Broken true head rest → IsBreakPast line_length text head rest
+pub place_past : (line_length : ℕ) (text head rest : List ℕ) → line_length < length text → break_of line_length text ≡ Broken true head rest
+    → IsBreakPast line_length text head rest
 unfolding break_of
 place_past line_length text head rest long is = at (last_white (line_length + 1) text) refl is where
-  past : last_white (line_length + 1) text ≡ None → (r : List ℕ) → from_white (drop (line_length + 1) text) ≡ r → break_past (take (line_length + 1) text ++ till_white (drop (line_length + 1) text)) r ≡ Broken true head rest → IsBreakPast line_length text head rest
+  past : last_white (line_length + 1) text ≡ None → (r : List ℕ) → from_white (drop (line_length + 1) text) ≡ r
+      → break_past (take (line_length + 1) text ++ till_white (drop (line_length + 1) text)) r ≡ Broken true head rest → IsBreakPast line_length text head rest
   past none [] found is = cc
   past none (b ∷ bs) found is =
       let h : take (line_length + 1) text ++ till_white (drop (line_length + 1) text) ≡ head = cc in

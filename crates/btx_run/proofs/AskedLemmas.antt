@@ -1,5 +1,6 @@
 -- Which files a run asks for, and that none is asked for twice.
-use Rattle.std.proofs.Common.{◌≡◌, ℕ, ◌+◌, ◌<◌, inl, inr, Bool, true, false, List, [], ◌∷◌, ◌++◌, Option, None, Some, length, take, drop, get_or, refl, sym, ap, ◌∙◌, subst}
+use Rattle.std.proofs.Common.{◌≡◌, ℕ, ◌+◌, ◌<◌, inl, inr, Bool, true, false, List, [], ◌∷◌, ◌++◌, Option, None, Some, length, take, drop, get_or, refl, sym, ap}
+use Rattle.std.proofs.Common.{◌∙◌, subst}
 use Rattle.std.specs.Prelude.{codes}
 use Rattle.std.specs.List.{AllByRecursion, IsDistinct}
 use Rattle.std.specs.Str.{bytes_eq}
@@ -49,7 +50,8 @@ among-one name names is = subst (λ (names : Names). AreAmong names (name ∷ []
 pub among-first : (name : List ℕ) (all : Names) (xs ys : Names) → xs ≡ name ∷ [] → AreAmong ys all → AreAmong (xs ++ ys) (name ∷ all)
 among-first name all xs ys is among = among-both xs ys (name ∷ []) all (among-one name xs is) among
 
-pub among-named : (job : AuxJob) (name : List ℕ) → job.style ≡ Some name → (names : Names) → AreAmong names (name ∷ job.databases) → AreAmong names (names_in job)
+pub among-named : (job : AuxJob) (name : List ℕ) → job.style ≡ Some name → (names : Names) → AreAmong names (name ∷ job.databases)
+    → AreAmong names (names_in job)
 among-named job name is names among = subst (λ (style : Option (List ℕ)). AreAmong names (style_name style ++ job.databases)) (sym is) among
 
 -- the name of one database more
@@ -69,7 +71,8 @@ among-front (name ∷ names) (first ∷ all) more (inr there) = inr (among-front
 pub among-all : (names : List Bytes) (i : ℕ) (name : Bytes) (text : List ℕ) → i < length names → name ≡ get_or names i name → text ≡ name.items
     → (xs ys : Names) → AreAmong xs (texts_of (take i names)) → AreAmong ys (text ∷ []) → AreAmong (xs ++ ys) (texts_of names)
 among-all names i name text lt is same xs ys among one =
-    subst (AreAmong (xs ++ ys)) (sym (map-append (λ (name : Bytes). name.items) (take (i + 1) names) (drop (i + 1) names)) ∙ ap texts_of (take-append-drop (i + 1) names))
+    subst (AreAmong (xs ++ ys)) (sym (map-append (λ (name : Bytes). name.items) (take (i + 1) names) (drop (i + 1) names))
+    ∙ ap texts_of (take-append-drop (i + 1) names))
     (among-front (xs ++ ys) (texts_of (take (i + 1) names)) (texts_of (drop (i + 1) names)) (among-more names i name text lt is same xs ys among one))
 
 -- what holds of all holds of these
@@ -97,18 +100,21 @@ distinct-among (name ∷ names) (first ∷ all) (inr there) once = distinct-amon
 -- ---- a job's names
 
 -- a name with this ending has no other of that length
-other-ending : (ending other name : List ℕ) → length ending ≡ length other → bytes_eq ending other ≡ false → has_ending ending name ≡ true → has_ending other name ≡ false
+other-ending : (ending other name : List ℕ) → length ending ≡ length other → bytes_eq ending other ≡ false → has_ending ending name ≡ true
+    → has_ending other name ≡ false
 other-ending ending other name long apart ends = by (has_ending other name) refl where
   by : (b : Bool) → has_ending other name ≡ b → b ≡ false
   by true ends' = let same = (bytes_eq-Decides ending other).1 (one_ending ending other name long ends ends') in sym same ∙ apart
   by false ends' = refl
 
-others-end : (ending other : List ℕ) → length ending ≡ length other → bytes_eq ending other ≡ false → (names : Names) → AllByRecursion (λ name. has_ending ending name ≡ true) names
+others-end : (ending other : List ℕ) → length ending ≡ length other → bytes_eq ending other ≡ false → (names : Names)
+    → AllByRecursion (λ name. has_ending ending name ≡ true) names
     → AllByRecursion (λ name. has_ending other name ≡ false) names
 others-end ending other long apart [] ends = tt
 others-end ending other long apart (name ∷ names) ends = (other-ending ending other name long apart ends.0, others-end ending other long apart names ends.1)
 
-style-end : (style : Option (List ℕ)) → ((name : List ℕ) → style ≡ Some name → has_ending (codes ".bst") name ≡ true) → AllByRecursion (λ name. has_ending (codes ".bst") name ≡ true) (style_name style)
+style-end : (style : Option (List ℕ)) → ((name : List ℕ) → style ≡ Some name → has_ending (codes ".bst") name ≡ true)
+    → AllByRecursion (λ name. has_ending (codes ".bst") name ≡ true) (style_name style)
 style-end None ends = tt
 style-end (Some name) ends = (ends name refl, tt)
 
@@ -129,7 +135,8 @@ module _ (files : Files) (top : List ℕ) (job : AuxJob) (is : job ≡ job_of_fi
 
   names_once : IsDistinct bytes_eq (names_in job)
   names_once =
-      distinct-both (has_ending (codes ".bst")) (style_name job.style) job.databases style_ends (others-end (codes ".bib") (codes ".bst") refl refl job.databases databases_end)
+      distinct-both (has_ending (codes ".bst")) (style_name job.style) job.databases style_ends
+      (others-end (codes ".bib") (codes ".bst") refl refl job.databases databases_end)
       (style-once job.style) databases_once
 
   none_aux : AllByRecursion (λ name. has_ending (codes ".aux") name ≡ false) (names_in job)
@@ -143,15 +150,19 @@ top-ends : (name : List ℕ) → has_ending (codes ".aux") (top_name name) ≡ t
 top-ends name = with_ending-ends (codes ".aux") name
 
 -- the names that a job's `.aux` files are asked for by, and then those of its style and its databases
-asked-once : (files : Files) (name : List ℕ) (job : AuxJob) → job ≡ job_named files name → (xs ys : Names) → AsksTop (top_name name) xs → AreAmong ys (names_in job) → IsDistinct bytes_eq (xs ++ ys)
+asked-once : (files : Files) (name : List ℕ) (job : AuxJob) → job ≡ job_named files name → (xs ys : Names) → AsksTop (top_name name) xs
+    → AreAmong ys (names_in job) → IsDistinct bytes_eq (xs ++ ys)
 asked-once files name job is xs ys top among =
     distinct-both (has_ending (codes ".aux")) xs ys
     (subst (λ (names : Names). AllByRecursion (λ name. has_ending (codes ".aux") name ≡ true) names) (sym top.is) (top-ends name, top.endings))
-    (all-among _ ys (names_in job) among (none_aux files (top_name name) job is)) top.once (distinct-among ys (names_in job) among (names_once files (top_name name) job is))
+    (all-among _ ys (names_in job) among (none_aux files (top_name name) job is)) top.once
+    (distinct-among ys (names_in job) among (names_once files (top_name name) job is))
 
 -- what holds of all files that answer so, in the whole of a run; none is asked for twice
-pub of_run : {content later : Option Files} {given between after : List FinderAnswer} (name : List ℕ) (job : AuxJob) {Claim : Files → Type 0} {Whole : Files → Type 0} → later ≡ content
-    → ByAnswers content given between (AsksTop (top_name name)) (λ files. job ≡ job_named files name) → ByAnswers later between after (λ asked. AreAmong asked (names_in job)) Claim
+pub of_run : {content later : Option Files} {given between after : List FinderAnswer} (name : List ℕ) (job : AuxJob) {Claim : Files → Type 0}
+    {Whole : Files → Type 0} → later ≡ content
+    → ByAnswers content given between (AsksTop (top_name name)) (λ files. job ≡ job_named files name)
+    → ByAnswers later between after (λ asked. AreAmong asked (names_in job)) Claim
     → ((files : Files) → job ≡ job_named files name → Claim files → Whole files) → ByAnswers content given after (λ names. IsDistinct bytes_eq names) Whole
 of_run {content} name job {Claim} {Whole} same first second holds =
     let known = some_files (by_map first (λ names asks. asks.once) (λ files is. is)) in

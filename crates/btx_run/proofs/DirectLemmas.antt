@@ -35,12 +35,15 @@ module _ (job : AuxJob) (found : JobFiles) (options : Options) where
       let style = style_in found in
       let n = length style.bodies in
       kind_fits n (library_in job found options.min_crossrefs).entries entry number
-      (databases_fit n (asked style job options.min_crossrefs) (λ name. types_first n (type_of style name) (within.types name)) style.macros (map database_of found.databases)) e
+      (databases_fit n (asked style job options.min_crossrefs) (λ name. types_first n (type_of style name) (within.types name)) style.macros
+      (map database_of found.databases)) e
 
-  found_within : (counts : LogCounts) (budget : ℕ) → IsDirect (style_in found) → StaysWithin (length (style_in found).bodies) (product_of_files job (Found found) options counts budget).report
+  found_within : (counts : LogCounts) (budget : ℕ) → IsDirect (style_in found)
+      → StaysWithin (length (style_in found).bodies) (product_of_files job (Found found) options counts budget).report
   found_within counts budget direct = machine.holds (work_in job found options) counts options.line budget within kinds direct
 
-files_within : (job : AuxJob) (read : FilesRead) (options : Options) (counts : LogCounts) (budget : ℕ) → WhereDirect read (λ functions. StaysWithin functions (product_of_files job read options counts budget).report)
+files_within : (job : AuxJob) (read : FilesRead) (options : Options) (counts : LogCounts) (budget : ℕ)
+    → WhereDirect read (λ functions. StaysWithin functions (product_of_files job read options counts budget).report)
 files_within job (Ends end) options counts budget = tt
 files_within job (Found found) options counts budget = found_within job found options counts budget
 
@@ -48,5 +51,7 @@ pub holds : DirectLaw
 holds files name options budget = let read = reading_of files name in files_within (job_named files name) read.gives options (counts_of read.lines) budget
 
 -- so is the report of a run
-pub report_stays : (files : Files) (name : List ℕ) (options : Options) (report : Report) → report ≡ (product files name options).report → WhereDirect (reading_of files name).gives (λ functions. StaysWithin functions report)
-report_stays files name options report e = subst (λ (report : Report). WhereDirect (reading_of files name).gives (λ functions. StaysWithin functions report)) (sym e) (holds files name options options.budget)
+pub report_stays : (files : Files) (name : List ℕ) (options : Options) (report : Report) → report ≡ (product files name options).report
+    → WhereDirect (reading_of files name).gives (λ functions. StaysWithin functions report)
+report_stays files name options report e = subst (λ (report : Report). WhereDirect (reading_of files name).gives (λ functions. StaysWithin functions report))
+    (sym e) (holds files name options options.budget)

@@ -17,7 +17,8 @@ use Rattle.btx_run.specs.refinement.Files.Readings.{database_logged}
 
 numbered_step : (n : ℕ) (name : List ℕ) (bytes : Option (List ℕ)) (lines : List Line) (later : List NamedFile)
     → filter (λ line. is_plain_line line.kind) lines ≡ numbered (n + length (option_to_list (option_map (named_file name) bytes)) + 1) later
-    → filter (λ line. is_plain_line line.kind) (database_logged (n + 1) name (option_map (named_file name) bytes) ∷ lines) ≡ numbered (n + 1) (option_to_list (option_map (named_file name) bytes) ++ later)
+    → filter (λ line. is_plain_line line.kind) (database_logged (n + 1) name (option_map (named_file name) bytes) ∷ lines)
+    ≡ numbered (n + 1) (option_to_list (option_map (named_file name) bytes) ++ later)
 unfolding database_line no_database_line
 numbered_step n name None lines later is = is ∙ ap (λ k. numbered k later) (omega arith)
 numbered_step n name (Some bytes) lines later is = ap (λ l. database_line (n + 1) name ∷ l) (is ∙ ap (λ k. numbered (k + 1) later) (omega arith))
@@ -26,11 +27,13 @@ numbered_step n name (Some bytes) lines later is = ap (λ l. database_line (n + 
 found_with : (files : Files) (earlier : List (List ℕ)) (name : List ℕ)
     → length (files_found files (earlier ++ name ∷ [])) ≡ length (files_found files earlier) + length (option_to_list (file_at files name))
 found_with files earlier name =
-    ap length (flat_map-append (λ name. option_to_list (file_at files name)) earlier (name ∷ []) ∙ ap (λ l. files_found files earlier ++ l) (append-nil (option_to_list (file_at files name))))
+    ap length (flat_map-append (λ name. option_to_list (file_at files name)) earlier (name ∷ [])
+    ∙ ap (λ l. files_found files earlier ++ l) (append-nil (option_to_list (file_at files name))))
     ∙ length-append (files_found files earlier) (option_to_list (file_at files name))
 
 numbered_from : (files : Files) (earlier names : List (List ℕ))
-    → filter (λ line. is_plain_line line.kind) (databases_logged files earlier names) ≡ numbered (length (files_found files earlier) + 1) (files_found files names)
+    → filter (λ line. is_plain_line line.kind) (databases_logged files earlier names) ≡ numbered (length (files_found files earlier) + 1)
+    (files_found files names)
 numbered_from files earlier [] = refl
 numbered_from files earlier (name ∷ names) =
     numbered_step (length (files_found files earlier)) name (files name) (databases_logged files (earlier ++ name ∷ []) names) (files_found files names)
@@ -43,7 +46,8 @@ found_are_numbered = λ files names. numbered_from files [] names
 
 missing_step : (n : ℕ) (name : List ℕ) (bytes : Option (List ℕ)) (lines : List Line) (later : List (List ℕ))
     → filter (λ line. is_error line.kind) lines ≡ map no_database_line later
-    → filter (λ line. is_error line.kind) (database_logged n name (option_map (named_file name) bytes) ∷ lines) ≡ map no_database_line (cond (is_none bytes) (name ∷ later) later)
+    → filter (λ line. is_error line.kind) (database_logged n name (option_map (named_file name) bytes) ∷ lines)
+    ≡ map no_database_line (cond (is_none bytes) (name ∷ later) later)
 unfolding database_line no_database_line
 missing_step n name None lines later is = ap (λ l. no_database_line name ∷ l) is
 missing_step n name (Some bytes) lines later is = is
@@ -52,7 +56,8 @@ missing_from : (files : Files) (earlier names : List (List ℕ))
     → filter (λ line. is_error line.kind) (databases_logged files earlier names) ≡ map no_database_line (filter (λ name. is_none (files name)) names)
 missing_from files earlier [] = refl
 missing_from files earlier (name ∷ names) =
-    missing_step (length (files_found files earlier) + 1) name (files name) (databases_logged files (earlier ++ name ∷ []) names) (filter (λ name. is_none (files name)) names)
+    missing_step (length (files_found files earlier) + 1) name (files name) (databases_logged files (earlier ++ name ∷ []) names)
+    (filter (λ name. is_none (files name)) names)
     (missing_from files (earlier ++ name ∷ []) names)
 
 pub missing_are_errors : MissingAreErrors

@@ -31,19 +31,22 @@ with_databases names files =
 abbrev second_missing : Logged FilesRead
 second_missing = with_databases (codes "a,b,c") ((codes "s.bst", codes "READ") ∷ (codes "c.bib", codes "C") ∷ (codes "a.bib", codes "A") ∷ [])
 
-second_missing-logged : second_missing.lines ≡ aux_note_line (TopFile (codes "job.aux")) ∷ style_line (codes "s.bst") ∷ database_line 1 (codes "a.bib") ∷ no_database_line (codes "b.bib") ∷ database_line 2 (codes "c.bib") ∷ []
+second_missing-logged : second_missing.lines ≡ aux_note_line (TopFile (codes "job.aux")) ∷ style_line (codes "s.bst") ∷ database_line 1 (codes "a.bib")
+    ∷ no_database_line (codes "b.bib") ∷ database_line 2 (codes "c.bib") ∷ []
 unfolding line_pieces trimmed after_job style_named style_read after_style job_of_files job_events said pieces_of aux_command_named words_of
 second_missing-logged = refl
 
 second_missing-counts : counts_of second_missing.lines ≡ log_counts 0 1
-unfolding line_pieces trimmed aux_note_kind aux_note_text aux_complaint_text mark_of place_text style_line no_style_line database_line no_database_line after_job style_named style_read after_style job_of_files job_events said pieces_of aux_command_named words_of
+unfolding line_pieces trimmed aux_note_kind aux_note_text aux_complaint_text mark_of place_text style_line no_style_line database_line no_database_line
+    after_job style_named style_read after_style job_of_files job_events said pieces_of aux_command_named words_of
 second_missing-counts = refl
 
 second_missing-found : second_missing.gives ≡ Found (record {
   style = named_file (codes "s.bst") (codes "READ");
   databases = named_file (codes "a.bib") (codes "A") ∷ named_file (codes "c.bib") (codes "C") ∷ [];
 })
-unfolding line_pieces trimmed aux_note_kind aux_note_text aux_complaint_text mark_of place_text style_line no_style_line database_line no_database_line after_job style_named style_read after_style job_of_files job_events said pieces_of aux_command_named words_of
+unfolding line_pieces trimmed aux_note_kind aux_note_text aux_complaint_text mark_of place_text style_line no_style_line database_line no_database_line
+    after_job style_named style_read after_style job_of_files job_events said pieces_of aux_command_named words_of
 second_missing-found = refl
 
 -- without its style, no database is looked for
@@ -51,11 +54,13 @@ abbrev style_missing : Logged FilesRead
 style_missing = with_databases (codes "a,b") ((codes "a.bib", codes "A") ∷ [])
 
 style_missing-logged : texts style_missing ≡ codes "The top-level auxiliary file: job.aux" ∷ codes "Error--I couldn't open style file s.bst" ∷ []
-unfolding line_pieces trimmed aux_note_kind aux_note_text aux_complaint_text mark_of place_text style_line no_style_line database_line no_database_line after_job style_named style_read after_style job_of_files job_events said pieces_of aux_command_named words_of
+unfolding line_pieces trimmed aux_note_kind aux_note_text aux_complaint_text mark_of place_text style_line no_style_line database_line no_database_line
+    after_job style_named style_read after_style job_of_files job_events said pieces_of aux_command_named words_of
 style_missing-logged = refl
 
 style_missing-ends : style_missing.gives ≡ Ends ended.Finished
-unfolding line_pieces trimmed aux_note_kind aux_note_text aux_complaint_text mark_of place_text style_line no_style_line database_line no_database_line after_job style_named style_read after_style job_of_files job_events said pieces_of aux_command_named words_of
+unfolding line_pieces trimmed aux_note_kind aux_note_text aux_complaint_text mark_of place_text style_line no_style_line database_line no_database_line
+    after_job style_named style_read after_style job_of_files job_events said pieces_of aux_command_named words_of
 style_missing-ends = refl
 
 -- no file is there
@@ -63,9 +68,11 @@ abbrev nothing_there : Logged FilesRead
 nothing_there = reading_of (files_of_pairs []) (codes "job.aux")
 
 nothing_there-logged : texts nothing_there ≡ []
-unfolding line_pieces trimmed aux_note_kind aux_note_text aux_complaint_text mark_of place_text style_line no_style_line database_line no_database_line after_job style_named style_read after_style job_of_files job_events said pieces_of aux_command_named words_of
+unfolding line_pieces trimmed aux_note_kind aux_note_text aux_complaint_text mark_of place_text style_line no_style_line database_line no_database_line
+    after_job style_named style_read after_style job_of_files job_events said pieces_of aux_command_named words_of
 nothing_there-logged = refl
 
 nothing_there-ends : nothing_there.gives ≡ Ends ended.NoTopFile
-unfolding line_pieces trimmed aux_note_kind aux_note_text aux_complaint_text mark_of place_text style_line no_style_line database_line no_database_line after_job style_named style_read after_style job_of_files job_events said pieces_of aux_command_named words_of
+unfolding line_pieces trimmed aux_note_kind aux_note_text aux_complaint_text mark_of place_text style_line no_style_line database_line no_database_line
+    after_job style_named style_read after_style job_of_files job_events said pieces_of aux_command_named words_of
 nothing_there-ends = refl

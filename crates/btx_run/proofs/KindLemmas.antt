@@ -14,7 +14,8 @@ use Rattle.btx_bib.specs.language.Entries.{Given, body_of}
 use Rattle.btx_bib.specs.language.Known.{Known}
 use Rattle.btx_bib.specs.language.Library.{entry_type}
 use Rattle.btx_bib.specs.language.Listing.{slot_of, slots_of, list_keys}
-use Rattle.btx_bib.specs.language.Passes.{passed, slot_at, parent_at, inherited_from, inherited, is_parent, without_crossref, checked, entry_at, after_first, after_second, entries_of, inherited_values, without_parent, body_values}
+use Rattle.btx_bib.specs.language.Passes.{passed, slot_at, parent_at, inherited_from, inherited, is_parent, without_crossref, checked, entry_at, after_first}
+use Rattle.btx_bib.specs.language.Passes.{after_second, entries_of, inherited_values, without_parent, body_values}
 use Rattle.btx_bib.specs.language.Stored.{entry_with_key}
 use Rattle.btx_bib.specs.language.Messages.{Database}
 use Rattle.btx_bib.specs.language.Wanted.{Request}
@@ -45,10 +46,12 @@ module _ (n : ℕ) where
   slots_more [] ys h k = k
   slots_more (x ∷ xs) ys h k = (h.0, slots_more xs ys h.1 k)
 
-  pass_fits : (judge : List Slot → Slot → Slot) → ((slots : List Slot) (slot : Slot) → BodyFits slot.body → BodyFits (judge slots slot).body) → (done slots : List Slot) → SlotsFit done → SlotsFit slots → SlotsFit (passed judge done slots)
+  pass_fits : (judge : List Slot → Slot → Slot) → ((slots : List Slot) (slot : Slot) → BodyFits slot.body → BodyFits (judge slots slot).body)
+      → (done slots : List Slot) → SlotsFit done → SlotsFit slots → SlotsFit (passed judge done slots)
   pass_fits judge each done [] h k = h
   pass_fits judge each done (slot ∷ slots) h k =
-      pass_fits judge each (done ++ judge (done ++ slot ∷ slots) slot ∷ []) slots (slots_more done (judge (done ++ slot ∷ slots) slot ∷ []) h (each (done ++ slot ∷ slots) slot k.0, tt)) k.1
+      pass_fits judge each (done ++ judge (done ++ slot ∷ slots) slot ∷ []) slots
+      (slots_more done (judge (done ++ slot ∷ slots) slot ∷ []) h (each (done ++ slot ∷ slots) slot k.0, tt)) k.1
 
   values_fit : (body : Option Body) (values : List (Option (List ℕ))) → BodyFits body → BodyFits (with_field_values body values)
   values_fit None values h = h
@@ -91,7 +94,8 @@ module _ (n : ℕ) where
 
   entries_fit : (slots : List Slot) → SlotsFit slots → EntriesFit (entries_of slots)
   unfolding entries_of
-  entries_fit slots h = all_fit (after_second (after_first slots)) (pass_fits checked checked_fits [] (after_first slots) tt (pass_fits inherited inherited_fits [] slots tt h))
+  entries_fit slots h = all_fit (after_second (after_first slots))
+      (pass_fits checked checked_fits [] (after_first slots) tt (pass_fits inherited inherited_fits [] slots tt h))
 
   -- ---- the list
 

@@ -21,7 +21,11 @@ use Rattle.btx_run.specs.refinement.Product.{logged_before, work_in}
 behind_lines : (lines : List Line) (shorter longer : Product) → Foretells shorter longer → Foretells (logged_before lines shorter) (logged_before lines longer)
 behind_lines lines shorter longer law = record {
   bbl = law.bbl;
-  log = (law.log.0, append_assoc (bytes_of_lines lines) longer.log_so_far _ ∙ ap (λ bytes. bytes_of_lines lines ++ bytes) law.log.1 ∙ sym (append_assoc (bytes_of_lines lines) shorter.log_so_far law.log.0));
+  log = (
+    law.log.0,
+    append_assoc (bytes_of_lines lines) longer.log_so_far _ ∙ ap (λ bytes. bytes_of_lines lines ++ bytes) law.log.1
+        ∙ sym (append_assoc (bytes_of_lines lines) shorter.log_so_far law.log.0),
+  );
   same = λ ended. ap (logged_before lines) (law.same ended);
 }
 

@@ -1,5 +1,6 @@
 -- What a log received while lines were logged, one part after another.
-use Rattle.std.proofs.Common.{◌≡◌, ℕ, ◌+◌, ◌<◌, Bool, true, false, List, [], ◌∷◌, ◌++◌, Option, length, take, drop, get_or, sym, ap, ◌∙◌, subst, append_assoc, append-nil, arith}
+use Rattle.std.proofs.Common.{◌≡◌, ℕ, ◌+◌, ◌<◌, Bool, true, false, List, [], ◌∷◌, ◌++◌, Option, length, take, drop, get_or, sym, ap, ◌∙◌, subst, append_assoc}
+use Rattle.std.proofs.Common.{append-nil, arith}
 use Rattle.std.proofs.lemmas.Grind.{flat_map-append}
 use Rattle.std.proofs.lemmas.List.{take-append-drop, take_more}
 use Rattle.std.proofs.lemmas.List.Sums.{sum_by-append}
@@ -29,23 +30,27 @@ logs_nothing counts log = record {
 }
 
 -- lines, and then further ones
-pub logs_both : (a b c : LogCounts) (x y z : Option (List ℕ)) (first more : List Line) → Logs (a, b) (x, y) first → Logs (b, c) (y, z) more → Logs (a, c) (x, z) (first ++ more)
+pub logs_both : (a b c : LogCounts) (x y z : Option (List ℕ)) (first more : List Line) → Logs (a, b) (x, y) first → Logs (b, c) (y, z) more
+    → Logs (a, c) (x, z) (first ++ more)
 logs_both a b c x y z first more logs logs' = record {
   counts = λ before is. logs'.counts (before ++ first) (logs.counts before is) ∙ ap counts_of (append_assoc before first more);
   received = subst (Appends x z) (sym (bytes_of_both first more)) (Appends-trans x y z _ _ logs.received logs'.received);
 }
 
 -- all of the first lines is a prefix
-pub logged_begins : (x y : Option (List ℕ)) (a b : LogCounts) (first more : List Line) → Logs (a, b) (x, y) first → AppendsPrefix x y (bytes_of_lines (first ++ more))
+pub logged_begins : (x y : Option (List ℕ)) (a b : LogCounts) (first more : List Line) → Logs (a, b) (x, y) first
+    → AppendsPrefix x y (bytes_of_lines (first ++ more))
 logged_begins x y a b first more logs =
     subst (AppendsPrefix x y) (sym (bytes_of_both first more)) (prefix-longer x y _ _ (prefix-all x y _ logs.received))
 
 -- a prefix of the first lines is one of all
-pub part_begins : (x y : Option (List ℕ)) (first more : List Line) → AppendsPrefix x y (bytes_of_lines first) → AppendsPrefix x y (bytes_of_lines (first ++ more))
+pub part_begins : (x y : Option (List ℕ)) (first more : List Line) → AppendsPrefix x y (bytes_of_lines first)
+    → AppendsPrefix x y (bytes_of_lines (first ++ more))
 part_begins x y first more part = subst (AppendsPrefix x y) (sym (bytes_of_both first more)) (prefix-longer x y _ _ part)
 
 -- all of the first lines, and then a prefix of the further ones
-pub rest_begins : (x y z : Option (List ℕ)) (a b : LogCounts) (first more : List Line) → Logs (a, b) (x, y) first → AppendsPrefix y z (bytes_of_lines more) → AppendsPrefix x z (bytes_of_lines (first ++ more))
+pub rest_begins : (x y z : Option (List ℕ)) (a b : LogCounts) (first more : List Line) → Logs (a, b) (x, y) first → AppendsPrefix y z (bytes_of_lines more)
+    → AppendsPrefix x z (bytes_of_lines (first ++ more))
 rest_begins x y z a b first more logs part =
     subst (AppendsPrefix x z) (sym (bytes_of_both first more)) (prefix-after x y z _ _ logs.received part)
 
@@ -70,8 +75,10 @@ pub logs_line : (line : Line) (old new : Journal) → Appends old.sink.received 
     → Logs (counts_at old, counts_at new) (old.sink.received, new.sink.received) (line ∷ [])
 logs_line line old new appends warnings errors = record {
   counts = λ before is.
-      ap (λ n. log_counts n new.errors) (warnings ∙ ap (λ (counts : LogCounts). counted_if (is_warning line.kind) counts.warnings) is ∙ counted_more (λ line. is_warning line.kind) before line)
-      ∙ ap (log_counts (counts_of (before ++ line ∷ [])).warnings) (errors ∙ ap (λ (counts : LogCounts). counted_if (is_error line.kind) counts.errors) is ∙ counted_more (λ line. is_error line.kind) before line);
+      ap (λ n. log_counts n new.errors) (warnings ∙ ap (λ (counts : LogCounts). counted_if (is_warning line.kind) counts.warnings) is
+      ∙ counted_more (λ line. is_warning line.kind) before line)
+      ∙ ap (log_counts (counts_of (before ++ line ∷ [])).warnings) (errors ∙ ap (λ (counts : LogCounts). counted_if (is_error line.kind) counts.errors) is
+      ∙ counted_more (λ line. is_error line.kind) before line);
   received = subst (Appends old.sink.received new.sink.received) (bytes_of_one line) appends;
 }
 

@@ -1,5 +1,6 @@
 -- What a whole run writes and answers, by what its parts do.
-use Rattle.std.proofs.Common.{◌≡◌, ℕ, ◌+◌, ◌≤◌, inl, inr, List, [], Option, Result, Ok, Err, IfOk, OnErr, OnOk, length, refl, sym, ap, ◌∙◌, subst, append_assoc, map, arith}
+use Rattle.std.proofs.Common.{◌≡◌, ℕ, ◌+◌, ◌≤◌, inl, inr, List, [], Option, Result, Ok, Err, IfOk, OnErr, OnOk, length, refl, sym, ap, ◌∙◌, subst, append_assoc}
+use Rattle.std.proofs.Common.{map, arith}
 use Rattle.std.specs.Io.KnownBytes.{Appends}
 use Rattle.std.proofs.KnownBytes.{Appends-trans, Appends-nil}
 use Rattle.btx_text.specs.declared.fault.Fault.{Fault}
@@ -58,8 +59,10 @@ found_is job found options style library is_style is_library =
     ∙ ap (λ (style : Style). work_of style (library_of (asked style job options.min_crossrefs) style.macros (map database_of found.databases)) options) is_style
 
 pub completes_of : (a b : Received) (counts : LogCounts) (line_length budget : ℕ) (here there : Job) → here ≡ there → (r : Result Report Fault)
-    → IfOk r (λ report. Completes report a b (style_product here counts line_length budget)) → IfOk r (λ report. Completes report a b (style_product there counts line_length budget))
-completes_of a b counts line_length budget here there is r h = subst (λ work. IfOk r (λ report. Completes report a b (style_product work counts line_length budget))) is h
+    → IfOk r (λ report. Completes report a b (style_product here counts line_length budget))
+    → IfOk r (λ report. Completes report a b (style_product there counts line_length budget))
+completes_of a b counts line_length budget here there is r h =
+    subst (λ work. IfOk r (λ report. Completes report a b (style_product work counts line_length budget))) is h
 
 pub fails_of : (a b : Received) (counts : LogCounts) (line_length budget : ℕ) (here there : Job) → here ≡ there → (r : Result Report Fault)
     → OnErr r (AtFault a b (style_product here counts line_length) budget) → OnErr r (AtFault a b (style_product there counts line_length) budget)
@@ -88,7 +91,8 @@ had_top_file line_length budget (Limit kind s left) is = cc
 pub touched_with_top_file : {W : Type 0} (bbl after : W) (a b : Received) (work : Job) (counts : LogCounts) (line_length budget : ℕ) (r : Result Report Fault)
     → IfOk r (λ report. Completes report a b (style_product work counts line_length budget)) → IfOk r (λ report. report.end ≡ NoTopFile → after ≡ bbl)
 touched_with_top_file bbl after a b work counts line_length budget =
-    ok_map (λ report completes is. absurd (had_top_file line_length budget (executed work counts budget) (sym (ap (λ (report : Report). report.end) completes.report_is) ∙ is)))
+    ok_map (λ report completes is. absurd
+    (had_top_file line_length budget (executed work counts budget) (sym (ap (λ (report : Report). report.end) completes.report_is) ∙ is)))
 
 -- ---- a run that ends at once
 
@@ -122,7 +126,8 @@ module _ (lines : List Line) (b c l m n : Option (List ℕ)) (lines_logged : App
   begins_behind : (whole : Product) → BothBegin (b, m) (c, n) whole → BothBegin (b, l) (c, n) (logged_before lines whole)
   begins_behind whole begins = record {
     bbl_begins = begins.bbl_begins;
-    log_begins = subst (AppendsPrefix l n) (sym (append_assoc (bytes_of_lines lines) whole.log_so_far _)) (prefix-after l m n _ _ lines_logged begins.log_begins);
+    log_begins = subst (AppendsPrefix l n) (sym (append_assoc (bytes_of_lines lines) whole.log_so_far _))
+        (prefix-after l m n _ _ lines_logged begins.log_begins);
   }
 
   last_behind : (whole : Product) → LastLineBehindList (b, m) (c, n) whole → LastLineBehindList (b, l) (c, n) (logged_before lines whole)
@@ -134,11 +139,13 @@ module _ (lines : List Line) (b c l m n : Option (List ℕ)) (lines_logged : App
     bbl_extends = extends.bbl_extends;
     log_extends = record {
       more = extends.log_extends.more;
-      received = subst (Appends l n) (sym (append_assoc (bytes_of_lines lines) whole.log_so_far extends.log_extends.more)) (Appends-trans l m n _ _ lines_logged extends.log_extends.received);
+      received = subst (Appends l n) (sym (append_assoc (bytes_of_lines lines) whole.log_so_far extends.log_extends.more))
+          (Appends-trans l m n _ _ lines_logged extends.log_extends.received);
     };
   }
 
-  keeps_behind : (make : ℕ → Product) (budget : ℕ) → KeepsStep (b, m) (c, n) make budget → KeepsStep (b, l) (c, n) (λ steps. logged_before lines (make steps)) budget
+  keeps_behind : (make : ℕ → Product) (budget : ℕ) → KeepsStep (b, m) (c, n) make budget → KeepsStep (b, l) (c, n) (λ steps. logged_before lines (make steps))
+      budget
   keeps_behind make budget (inl begins) = inl (begins_behind (make 0) begins)
   keeps_behind make budget (inr within) = inr (record {
     steps = within.steps;
@@ -147,8 +154,14 @@ module _ (lines : List Line) (b c l m n : Option (List ℕ)) (lines_logged : App
     begins = begins_behind (make (within.steps + 1)) within.begins;
   })
 
-  pub fails_behind : (make : ℕ → Product) (budget : ℕ) → AtFault (b, m) (c, n) make budget → AtFault (b, l) (c, n) (λ steps. logged_before lines (make steps)) budget
-  fails_behind make budget fault = record { prefixes = begins_behind (make budget) fault.prefixes; last_line = last_behind (make budget) fault.last_line; step = keeps_behind make budget fault.step }
+  pub fails_behind : (make : ℕ → Product) (budget : ℕ) → AtFault (b, m) (c, n) make budget → AtFault (b, l) (c, n) (λ steps. logged_before lines (make steps))
+      budget
+  fails_behind make budget fault = record {
+    prefixes = begins_behind (make budget) fault.prefixes;
+    last_line = last_behind (make budget) fault.last_line;
+    step =
+        keeps_behind make budget fault.step;
+  }
 
 -- a fault while these lines were logged
 pub fails_in_lines : (lines : List Line) (b l m : Option (List ℕ)) (make : ℕ → Product) (budget : ℕ) → AppendsPrefix l m (bytes_of_lines lines)
@@ -168,22 +181,28 @@ counts_of_lines warnings errors first counts log lines is_warnings is_errors new
     ∙ ap (log_counts counts.warnings) is_errors
     ∙ ap (λ (counts : LogCounts). log_counts counts.warnings counts.errors) (logs.counts [] new)
 
-module _ (job : AuxJob) (options : Options) (read : FilesRead) (given : LogCounts) (first counts : LogCounts) (b c l m n : Option (List ℕ)) (is_given : given ≡ log_counts counts.warnings counts.errors) (new : first ≡ counts_of []) where
+module _ (job : AuxJob) (options : Options) (read : FilesRead) (given : LogCounts) (first counts : LogCounts) (b c l m n : Option (List ℕ))
+    (is_given : given ≡ log_counts counts.warnings counts.errors) (new : first ≡ counts_of []) where
   -- what follows is what follows the reading
-  follows : (part : Logged FilesRead) → IsRead read (first, counts) (l, m) part → product_of_files job read options given ≡ product_of_files job part.gives options (counts_of part.lines)
+  follows : (part : Logged FilesRead) → IsRead read (first, counts) (l, m) part → product_of_files job read options given
+      ≡ product_of_files job part.gives options (counts_of part.lines)
   follows part is_read =
       ap (λ read. product_of_files job read options given) is_read.gives
-      ∙ ap (product_of_files job part.gives options) (is_given ∙ counts_of_lines counts.warnings counts.errors first counts (l, m) part.lines refl refl new is_read.logs)
+      ∙ ap (product_of_files job part.gives options) (is_given ∙ counts_of_lines counts.warnings counts.errors first counts (l, m) part.lines refl refl new
+      is_read.logs)
 
   pub completes_reading : (report : Report) (budget : ℕ) (part : Logged FilesRead) → IsRead read (first, counts) (l, m) part
-      → Completes report (b, m) (c, n) (product_of_files job read options given budget) → Completes report (b, l) (c, n) (product_of_reading job part options budget)
+      → Completes report (b, m) (c, n) (product_of_files job read options given budget)
+      → Completes report (b, l) (c, n) (product_of_reading job part options budget)
   completes_reading report budget part is_read completes =
-      completes_behind part.lines b c l m n is_read.logs.received report _ (subst (λ (make : ℕ → Product). Completes report (b, m) (c, n) (make budget)) (follows part is_read) completes)
+      completes_behind part.lines b c l m n is_read.logs.received report _
+      (subst (λ (make : ℕ → Product). Completes report (b, m) (c, n) (make budget)) (follows part is_read) completes)
 
   pub fails_reading : (budget : ℕ) (part : Logged FilesRead) → IsRead read (first, counts) (l, m) part
       → AtFault (b, m) (c, n) (product_of_files job read options given) budget → AtFault (b, l) (c, n) (product_of_reading job part options) budget
   fails_reading budget part is_read fault =
-      fails_behind part.lines b c l m n is_read.logs.received _ budget (subst (λ (make : ℕ → Product). AtFault (b, m) (c, n) make budget) (follows part is_read) fault)
+      fails_behind part.lines b c l m n is_read.logs.received _ budget
+      (subst (λ (make : ℕ → Product). AtFault (b, m) (c, n) make budget) (follows part is_read) fault)
 
 -- what holds from one end of a log to another holds between equal ones
 pub behind_ends : {A : Type 0} (P : A → A → Type 0) (l l' n n' : A) → l ≡ l' → n ≡ n' → P l n → P l' n'
@@ -192,11 +211,14 @@ behind_ends P l l' n n' begins ends p = subst (P l') ends (subst (λ l. P l n) b
 -- ---- behind the `.aux` files
 
 module _ (name : List ℕ) (options : Options) (a z : Received) (job : AuxJob) where
-  pub completes_named : (report : Report) (files : Files) → job ≡ job_named files name → Completes report a z (product_of_reading job (files_read files job) options options.budget)
+  pub completes_named : (report : Report) (files : Files) → job ≡ job_named files name
+      → Completes report a z (product_of_reading job (files_read files job) options options.budget)
       → Completes report a z (product files name options)
-  completes_named report files is completes = subst (λ (job : AuxJob). Completes report a z (product_of_reading job (files_read files job) options options.budget)) is completes
+  completes_named report files is completes =
+      subst (λ (job : AuxJob). Completes report a z (product_of_reading job (files_read files job) options options.budget)) is completes
 
-  pub fails_named : (files : Files) → job ≡ job_named files name → AtFault a z (product_of_reading job (files_read files job) options) options.budget → AtFault a z (product_with files name options) options.budget
+  pub fails_named : (files : Files) → job ≡ job_named files name → AtFault a z (product_of_reading job (files_read files job) options) options.budget
+      → AtFault a z (product_with files name options) options.budget
   fails_named files is fails = subst (λ (job : AuxJob). AtFault a z (product_of_reading job (files_read files job) options) options.budget) is fails
 
 -- ---- counts of failures
@@ -204,7 +226,8 @@ module _ (name : List ℕ) (options : Options) (a z : Received) (job : AuxJob) w
 pub counts_of_memory : (r : Result Report Fault) (bbl log : Failures) → r ≡ Err Memory → CountsOfTwo r (bbl, bbl) (log, log)
 counts_of_memory r bbl log is = subst (λ (r : Result Report Fault). CountsOfTwo r (bbl, bbl) (log, log)) (sym is) (refl, refl)
 
-pub counts_of_style : (r : Result Report Fault) (fault : Fault) (name text : List ℕ) (bbl log : Failures) → r ≡ Err fault → Reads (Err fault) name text → length text ≤ greatest_file
+pub counts_of_style : (r : Result Report Fault) (fault : Fault) (name text : List ℕ) (bbl log : Failures) → r ≡ Err fault → Reads (Err fault) name text
+    → length text ≤ greatest_file
     → CountsOfTwo r (bbl, bbl) (log, log)
 counts_of_style r Memory name text bbl log is reads fits = counts_of_memory r bbl log is
 counts_of_style r FileLimit name text bbl log is reads fits = absurd (omega (arith, reads, fits))

@@ -27,7 +27,8 @@ use Rattle.btx_run.specs.refinement.Product.{work_in, logged_before}
 
 -- ---- what a run needs that isn't stopped
 
-behind_lines : (lines : List Line) (run : ℕ → Product) (whole : Product) → NeedsSteps run whole → NeedsSteps (λ budget. logged_before lines (run budget)) (logged_before lines whole)
+behind_lines : (lines : List Line) (run : ℕ → Product) (whole : Product) → NeedsSteps run whole
+    → NeedsSteps (λ budget. logged_before lines (run budget)) (logged_before lines whole)
 behind_lines lines run whole needs = record {
   fewer = λ budget lt. let stops = needs.fewer budget lt in record { stopped = stops.stopped; all_taken = stops.all_taken };
   enough = λ budget le. ap (logged_before lines) (needs.enough budget le);
@@ -65,7 +66,8 @@ one_of false x y f g = g
 found_goes_on : (files : Files) (job : AuxJob) (style : NamedFile) → GoesOn (after_style files job style).gives
 unfolding after_style
 found_goes_on files job style =
-    one_of (is_too_long style.bytes) (logged [] (Ends (ended.Limit kind.File))) (with_style style (databases_read files job.databases)) (other_end (ended.Limit kind.File) refl) tt
+    one_of (is_too_long style.bytes) (logged [] (Ends (ended.Limit kind.File))) (with_style style (databases_read files job.databases))
+    (other_end (ended.Limit kind.File) refl) tt
 
 read_goes_on : (files : Files) (job : AuxJob) (name : List ℕ) (style : Option NamedFile) → GoesOn (style_read files job name style).gives
 unfolding style_read after_style
@@ -84,7 +86,8 @@ job_goes_on files job aux.TooManyOpen = other_end (ended.Limit kind.Files) refl
 job_goes_on files job aux.TopMissing = other_end ended.NoTopFile refl
 job_goes_on files job aux.FileLimit = other_end (ended.Limit kind.File) refl
 
-after_stopped : (job : AuxJob) (read : FilesRead) (options : Options) (counts : LogCounts) → GoesOn read → StoppedSteps (product_of_files job read options counts)
+after_stopped : (job : AuxJob) (read : FilesRead) (options : Options) (counts : LogCounts) → GoesOn read
+    → StoppedSteps (product_of_files job read options counts)
 after_stopped job (Ends end) options counts goes budget e = absurd (goes e)
 after_stopped job (Found found) options counts goes budget e = machine.stopped (work_in job found options) counts options.line budget e
 

@@ -50,7 +50,15 @@ use Rattle.btx_bst.specs.language.MessageTexts.{complaint_text}
 
 -- opens each definition that the rows compute with
 computes : Unit {0}
-unfolding digits line_pieces trimmed mark_of place_text said job_events pieces_of aux_command_named words_of job_of_files aux_complaint_text aux_note_text aux_note_kind skip_white till_white from_white last_white break_of cut_within cut_of body_turn body_end built_ins built_in_of command_named entry_command function_command read_command run_command sort_command declare macro_command len_till list_turn list_end complaint_text named_lower behind_white ink_from skipped_from lines_size size item_turn style_from style_of turns_within digits_value signed integer_at word_front library_of body_of longest_run_len enclosed_len unmarked_len field_at after_comma more_in command_of head_of head_at behind_at expected_step events_within events_from lines_begun name_here open_in sign_in key_here squeezed part_in value_within value_at slot_of slip_text message_text inherited checked check_messages entries_of reference_messages form_of place_of note_text note_kind has_place note_line sorted_by built_in_run function_run step_of command_word visit do_item do_items meaning loop_of end_word last_line lines_logged said_on token_effect turn_of style_line no_style_line database_line no_database_line after_style style_read style_named after_job
+unfolding digits line_pieces trimmed mark_of place_text said job_events pieces_of aux_command_named words_of job_of_files aux_complaint_text aux_note_text
+    aux_note_kind skip_white till_white from_white last_white break_of cut_within cut_of body_turn body_end built_ins built_in_of command_named entry_command
+    function_command read_command run_command sort_command declare macro_command len_till list_turn list_end complaint_text named_lower behind_white ink_from
+    skipped_from lines_size size item_turn style_from style_of turns_within digits_value signed integer_at word_front library_of body_of longest_run_len
+    enclosed_len unmarked_len field_at after_comma more_in command_of head_of head_at behind_at expected_step events_within events_from lines_begun name_here
+    open_in sign_in key_here squeezed part_in value_within value_at slot_of slip_text message_text inherited checked check_messages entries_of
+    reference_messages form_of place_of note_text note_kind has_place note_line sorted_by built_in_run function_run step_of command_word visit do_item do_items
+    meaning loop_of end_word last_line lines_logged said_on token_effect turn_of style_line no_style_line database_line no_database_line after_style style_read
+    style_named after_job
 computes = tt
 
 a_citation : IsSo jobs.a_citation
@@ -138,4 +146,46 @@ unfolding computes
 too_many_open = refl
 
 pub holds : JobsAreSo jobs.worked_jobs
-holds = (a_citation, (cross_references, (fewer_references, (all_entries, (sorted_entries, (reversed_entries, (macros, (broken_lines, (no_top_file, (no_style, (missing_database, (undefined_key, (error_of_a_style, (error_of_a_database, (messages_in_order, (leftover, (warned, (stopped, (too_deep, (too_many_literals, (too_many_open, tt)))))))))))))))))))))
+holds = (
+  a_citation,
+  (
+    cross_references,
+    (
+      fewer_references,
+      (
+        all_entries,
+        (
+          sorted_entries,
+          (
+            reversed_entries,
+            (
+              macros,
+              (
+                broken_lines,
+                (
+                  no_top_file,
+                  (
+                    no_style,
+                    (
+                      missing_database,
+                      (
+                        undefined_key,
+                        (
+                          error_of_a_style,
+                          (
+                            error_of_a_database,
+                            (messages_in_order, (leftover, (warned, (stopped, (too_deep, (too_many_literals, (too_many_open, tt))))))),
+                          ),
+                        ),
+                      ),
+                    ),
+                  ),
+                ),
+              ),
+            ),
+          ),
+        ),
+      ),
+    ),
+  ),
+)

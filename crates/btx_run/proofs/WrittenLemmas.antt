@@ -29,7 +29,8 @@ of_budget : (options : Options) (steps : ℕ) (job : AuxJob) (read : FilesRead) 
 of_budget options steps job (Ends end) counts = refl
 of_budget options steps job (Found found) counts = refl
 
-with_budget : (files : Files) (name : List ℕ) (options : Options) (steps : ℕ) → product files name (record options { budget = steps }) ≡ product_with files name options steps
+with_budget : (files : Files) (name : List ℕ) (options : Options) (steps : ℕ) → product files name (record options { budget = steps })
+    ≡ product_with files name options steps
 with_budget files name options steps =
     let read = reading_of files name in
     ap (λ (rest : Product). record rest { log_so_far = flat_map (λ (line : Line). ended_line line.text) read.lines ++ rest.log_so_far })
@@ -37,12 +38,14 @@ with_budget files name options steps =
 
 pub wrote : (files : Files) (name : List ℕ) (options : Options) (before after : Received) (report : Report) → 3 ≤ options.line
     → Completes report before after (product files name options) → WroteTheProduct files name options before after report
-wrote files name options before after report wide completes = record { product = product files name options; is_one = is_one files name options wide; completes = completes }
+wrote files name options before after report wide completes =
+    record { product = product files name options; is_one = is_one files name options wide; completes = completes }
 
 pub began : (files : Files) (name : List ℕ) (options : Options) (before after : Received) → 3 ≤ options.line
     → AtFault before after (product_with files name options) options.budget → BeganTheProduct files name options before after
 began files name options before after wide fails = record {
   product = product_with files name options;
-  is_one = λ steps. subst (IsTheOne files name (record options { budget = steps })) (with_budget files name options steps) (is_one files name (record options { budget = steps }) wide);
+  is_one = λ steps. subst (IsTheOne files name (record options { budget = steps })) (with_budget files name options steps)
+      (is_one files name (record options { budget = steps }) wide);
   fails = fails;
 }

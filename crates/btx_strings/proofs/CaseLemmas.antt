@@ -20,7 +20,8 @@ place_of (part ∷ before) = place_after (place_of before) part
 is_after_colon-place_of : (before : List Element) → is_after_colon (place_of before) ≡ after_colon before
 is_after_colon-place_of [] = refl
 is_after_colon-place_of (part ∷ before) = at (is_white_text part.text) (is_colon part) (is_after_colon (place_of before)) (is_after_colon-place_of before) where
-  at : (white colon after : Bool) → after ≡ after_colon before → is_after_colon (cond white (cond after ColonAndWhite Inside) (cond colon Colon Inside)) ≡ cond white (after_colon before) colon
+  at : (white colon after : Bool) → after ≡ after_colon before → is_after_colon (cond white (cond after ColonAndWhite Inside) (cond colon Colon Inside))
+      ≡ cond white (after_colon before) colon
   at true colon true is = is
   at true colon false is = is
   at false true after is = refl
@@ -29,7 +30,8 @@ is_after_colon-place_of (part ∷ before) = at (is_white_text part.text) (is_col
 is_beginning-place_of : (before : List Element) → is_beginning (place_of before) ≡ begins_title before
 is_beginning-place_of [] = refl
 is_beginning-place_of (part ∷ before) = at (is_white_text part.text) (is_colon part) (is_after_colon (place_of before)) (is_after_colon-place_of before) where
-  at : (white colon after : Bool) → after ≡ after_colon before → is_beginning (cond white (cond after ColonAndWhite Inside) (cond colon Colon Inside)) ≡ (white && after_colon before)
+  at : (white colon after : Bool) → after ≡ after_colon before → is_beginning (cond white (cond after ColonAndWhite Inside) (cond colon Colon Inside))
+      ≡ (white && after_colon before)
   at true colon true is = is
   at true colon false is = is
   at false true after is = refl
@@ -40,7 +42,8 @@ abbrev pub cased_from : Conversion → Place → List Element → List ℕ
 cased_from conversion place [] = []
 cased_from conversion place (part ∷ parts) = cased_part conversion (is_beginning place) part ++ cased_from conversion (place_after place part) parts
 
-cased_parts-carried : (conversion : Conversion) (before parts : List Element) → cased_parts conversion before parts ≡ cased_from conversion (place_of before) parts
+cased_parts-carried : (conversion : Conversion) (before parts : List Element) → cased_parts conversion before parts ≡ cased_from conversion (place_of before)
+    parts
 unfolding cased_parts
 cased_parts-carried conversion before [] = refl
 cased_parts-carried conversion before (part ∷ parts) =
@@ -51,7 +54,9 @@ pub cased_from-first : (conversion : Conversion) (parts : List Element) → case
 cased_from-first conversion parts = cased_parts-carried conversion [] parts
 
 -- where no title is made, it does not matter what stands before
-pub cased_from-anywhere : (conversion : Conversion) (place other : Place) (parts : List Element) → is_title conversion ≡ false → cased_from conversion place parts ≡ cased_from conversion other parts
+pub cased_from-anywhere : (conversion : Conversion) (place other : Place) (parts : List Element) → is_title conversion ≡ false
+    → cased_from conversion place parts ≡ cased_from conversion other parts
 cased_from-anywhere conversion place other [] none = refl
 cased_from-anywhere conversion place other (part ∷ parts) none =
-    rw none (ap (λ xs. cased_as conversion part.kind part.depth part.text ++ xs) (cased_from-anywhere conversion (place_after place part) (place_after other part) parts none))
+    rw none (ap (λ xs. cased_as conversion part.kind part.depth part.text ++ xs)
+    (cased_from-anywhere conversion (place_after place part) (place_after other part) parts none))

@@ -1,7 +1,8 @@
 -- Lemmas on the glyphs of a special character.
 use Rattle.std.proofs.Common.{◌≡◌, ℕ, zero, suc, ◌≤◌, Bool, true, false, cond, eqb, ◌&&◌, ◌∙◌, List, [], ◌∷◌, length, take, drop, refl, arith, ap}
 use Rattle.btx_text.specs.language.Class.{is_alpha}
-use Rattle.btx_strings.specs.language.Controls.{Glyph, Control, Plain, control_name, glyphs_from, glyphs_of, lone, is_brace, follows, is_white_glyph, without_white}
+use Rattle.btx_strings.specs.language.Controls.{Glyph, Control, Plain, control_name, glyphs_from, glyphs_of, lone, is_brace, follows, is_white_glyph}
+use Rattle.btx_strings.specs.language.Controls.{without_white}
 use Rattle.btx_strings.specs.refinement.Glyphs.{gone_after}
 use Rattle.std.specs.Prelude.{take_while}
 use Rattle.std.proofs.lemmas.Bool.{ne_eqb}
@@ -38,7 +39,8 @@ lone_front (b ∷ bs) = elim (is_brace b) as (λ t. take (length (cond t [] (b �
 
 pub control_name_front : (s : List ℕ) → take (length (control_name s)) s ≡ control_name s
 unfolding control_name
-control_name_front s = elim (eqb (length (take_while is_alpha s)) 0) as (λ t. take (length (cond t (lone s) (take_while is_alpha s))) s ≡ cond t (lone s) (take_while is_alpha s)) [ true ↦ lone_front s | false ↦ take_while_front is_alpha s ]
+control_name_front s = elim (eqb (length (take_while is_alpha s)) 0) as (λ t. take (length (cond t (lone s) (take_while is_alpha s))) s
+    ≡ cond t (lone s) (take_while is_alpha s)) [ true ↦ lone_front s | false ↦ take_while_front is_alpha s ]
 
 pub length-control_name : (s : List ℕ) → length (control_name s) ≤ length s
 length-control_name s =

@@ -1,5 +1,6 @@
 -- Lemmas on lengths and beginnings.
-use Rattle.std.proofs.Common.{◌≡◌, ℕ, zero, suc, ◌+◌, ◌-◌, ◌<◌, cond, List, [], ◌∷◌, ◌++◌, length, take, drop, refl, sym, ◌∙◌, ap, arith, append_assoc, length-append}
+use Rattle.std.proofs.Common.{◌≡◌, ℕ, zero, suc, ◌+◌, ◌-◌, ◌<◌, cond, List, [], ◌∷◌, ◌++◌, length, take, drop, refl, sym, ◌∙◌, ap, arith, append_assoc}
+use Rattle.std.proofs.Common.{length-append}
 use Rattle.std.proofs.lemmas.List.{take_at, drop_at, drop-drop, append-nil, take_all}
 use Rattle.std.proofs.Math.Seq.{take-add}
 use Rattle.btx_text.specs.language.Elements.{Element, is_character}
@@ -7,7 +8,8 @@ use Rattle.btx_strings.specs.language.Lengths.{take_characters}
 use Rattle.btx_text.specs.laws.Elements.{text_of}
 
 -- one element more, where characters are wanted
-take_characters-cons : (n : ℕ) (part : Element) (parts : List Element) → 0 < n → take_characters n (part ∷ parts) ≡ part ∷ take_characters (cond (is_character part.kind) (n - 1) n) parts
+take_characters-cons : (n : ℕ) (part : Element) (parts : List Element) → 0 < n → take_characters n (part ∷ parts) ≡ part
+    ∷ take_characters (cond (is_character part.kind) (n - 1) n) parts
 unfolding take_characters
 take_characters-cons zero part parts h = absurd (omega arith)
 take_characters-cons (suc n) part parts h = let e : suc n - 1 ≡ n = omega arith in rw e refl
@@ -37,7 +39,8 @@ IsFront-more string end left left' parts parts' part whole h is some count =
     let taken : take_characters left parts ≡ part ∷ take_characters left' parts' = rw is (take_characters-cons left part parts' some' ∙ rw count refl) in
     let here : take (length text) (drop end string) ≡ text = ap (take (length text)) rest ∙ take_at text (text_of parts') (length text) refl in
     let front : take end string ++ (text ++ text_of (take_characters left' parts')) ≡ whole = ap (λ ps. take end string ++ text_of ps) (sym taken) ∙ h.front in
-    let len : length (text_of parts) ≡ length text + length (text_of parts') = ap (λ (ps : List Element). length (text_of ps)) is ∙ length-append text (text_of parts') in
+    let len : length (text_of parts) ≡ length text + length (text_of parts') = ap (λ (ps : List Element). length (text_of ps)) is
+    ∙ length-append text (text_of parts') in
     let bound = h.bound in
     record {
       front = rw (take-add end (length text) string, here, append_assoc) front;

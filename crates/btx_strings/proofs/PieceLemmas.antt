@@ -1,5 +1,6 @@
 -- The pieces of a string in another case.
-use Rattle.std.proofs.Common.{◌≡◌, ℕ, zero, suc, ◌+◌, ◌-◌, ◌<◌, ◌≤◌, Bool, true, false, cond, not, eqb, ◌&&◌, List, [], ◌∷◌, ◌++◌, length, take, drop, map, refl, ◌∙◌, ap, arith, append_assoc}
+use Rattle.std.proofs.Common.{◌≡◌, ℕ, zero, suc, ◌+◌, ◌-◌, ◌<◌, ◌≤◌, Bool, true, false, cond, not, eqb, ◌&&◌, List, [], ◌∷◌, ◌++◌, length, take, drop, map}
+use Rattle.std.proofs.Common.{refl, ◌∙◌, ap, arith, append_assoc}
 use Rattle.std.specs.Prelude.{nat_eq}
 use Rattle.std.specs.List.{prefix_len, starts_with}
 use Rattle.std.proofs.lemmas.List.{append-nil}
@@ -37,7 +38,8 @@ starts_apart c p skip start start' depth [] = refl
 starts_apart c p (suc skip) start start' depth (b ∷ bs) = starts_apart c p skip (start + 1) (start' + 1) (depth_after depth b) bs
 starts_apart c p zero start start' depth (b ∷ bs) =
     let part = element_at Bytes start depth (b ∷ bs) in
-    ap (λ xs. cased_part c (is_beginning p) part ++ xs) (starts_apart c (elements.place_after p part) (length part.text - 1) (start + 1) (start' + 1) (depth_after depth b) bs)
+    ap (λ xs. cased_part c (is_beginning p) part ++ xs)
+    (starts_apart c (elements.place_after p part) (length part.text - 1) (start + 1) (start' + 1) (depth_after depth b) bs)
 
 same : {X : Type 0} (t : Bool) (x : X) → cond t x x ≡ x
 same true x = refl
@@ -70,19 +72,23 @@ in_group : (c : Conversion) (start depth : ℕ) (s : List ℕ) →
     rest_at c Inside 0 start (suc depth) s ≡ take (group_len (suc depth) s) s ++ cased_rest c Inside (drop (group_len (suc depth) s) s)
 unfolding elements_from group_len cased_rest
 in_group c start depth [] = refl
-in_group c start depth (b ∷ bs) = rw (kind_inside depth b bs, deeper depth, less_deep depth) (at (λ d. in_group c (start + 1) d bs) (eqb b 123) (eqb b 125)) where
-  at : ((d : ℕ) → rest_at c Inside 0 (start + 1) (suc d) bs ≡ take (group_len (suc d) bs) bs ++ cased_rest c Inside (drop (group_len (suc d) bs) bs)) → (t u : Bool) →
-      let kind : Kind = cond t Open (cond u Close Byte) in
-      let part : Element = record { kind = kind; text = take (extent kind (b ∷ bs)) (b ∷ bs); start = start; depth = suc depth } in
-      let d = cond t (suc (depth + 1)) (cond u depth (suc depth)) in
-      let n = cond (eqb d 0) 1 (suc (group_len d bs)) in
-      cased_part c false part ++ rest_at c (elements.place_after Inside part) (length part.text - 1) (start + 1) d bs ≡ take n (b ∷ bs) ++ cased_rest c Inside (drop n (b ∷ bs))
-  at rest true u = rw (above_zero (depth + 1), above_zero depth, kept_inside c, same (is_white b) Inside) (ap (λ xs. b ∷ xs) (rest (depth + 1)))
-  at rest false true = rw (above_zero depth, kept_inside c, same (is_white b) Inside) (closed depth) where
-    closed : (d : ℕ) → let n = cond (eqb d 0) 1 (suc (group_len d bs)) in b ∷ rest_at c Inside 0 (start + 1) d bs ≡ take n (b ∷ bs) ++ cased_rest c Inside (drop n (b ∷ bs))
-    closed zero = ap (λ xs. b ∷ xs) (starts_apart c Inside 0 (start + 1) 0 0 bs)
-    closed (suc d) = rw (above_zero d) (ap (λ xs. b ∷ xs) (rest d))
-  at rest false false = rw (above_zero depth, kept_inside c, same (is_white b) Inside) (ap (λ xs. b ∷ xs) (rest depth))
+in_group c start depth (b ∷ bs) = rw (kind_inside depth b bs, deeper depth, less_deep depth)
+    (at (λ d. in_group c (start + 1) d bs) (eqb b 123) (eqb b 125)) where
+      at : ((d : ℕ) → rest_at c Inside 0 (start + 1) (suc d) bs ≡ take (group_len (suc d) bs) bs ++ cased_rest c Inside (drop (group_len (suc d) bs) bs))
+          → (t u : Bool) →
+          let kind : Kind = cond t Open (cond u Close Byte) in
+          let part : Element = record { kind = kind; text = take (extent kind (b ∷ bs)) (b ∷ bs); start = start; depth = suc depth } in
+          let d = cond t (suc (depth + 1)) (cond u depth (suc depth)) in
+          let n = cond (eqb d 0) 1 (suc (group_len d bs)) in
+          cased_part c false part ++ rest_at c (elements.place_after Inside part) (length part.text - 1) (start + 1) d bs ≡ take n (b ∷ bs)
+          ++ cased_rest c Inside (drop n (b ∷ bs))
+      at rest true u = rw (above_zero (depth + 1), above_zero depth, kept_inside c, same (is_white b) Inside) (ap (λ xs. b ∷ xs) (rest (depth + 1)))
+      at rest false true = rw (above_zero depth, kept_inside c, same (is_white b) Inside) (closed depth) where
+        closed : (d : ℕ) → let n = cond (eqb d 0) 1 (suc (group_len d bs)) in b ∷ rest_at c Inside 0 (start + 1) d bs ≡ take n (b ∷ bs)
+            ++ cased_rest c Inside (drop n (b ∷ bs))
+        closed zero = ap (λ xs. b ∷ xs) (starts_apart c Inside 0 (start + 1) 0 0 bs)
+        closed (suc d) = rw (above_zero d) (ap (λ xs. b ∷ xs) (rest d))
+      at rest false false = rw (above_zero depth, kept_inside c, same (is_white b) Inside) (ap (λ xs. b ∷ xs) (rest depth))
 
 -- a special character
 special : (c : Conversion) (p : Place) (s bs : List ℕ) → s ≡ 123 ∷ bs → starts_with nat_eq s (123 ∷ 92 ∷ []) ≡ true →
@@ -93,8 +99,10 @@ special c p s bs e h =
     let kind : kind_at Bytes 0 s ≡ Special = rw h refl in
     let text = take (group_len 0 s) s in
     let part : Element = record { kind = Special; text = text; start = 0; depth = 0 } in
-    let step : elements_from Bytes 0 0 0 s ≡ part ∷ elements_from Bytes 0 (0 + length text) 0 (drop (group_len 0 s) s) = rw kind at (elements_from-step Bytes 0 0 123 s bs e) in
-    ap (cased_from c p) step ∙ ap (λ xs. cased_part c (is_beginning p) part ++ xs) (starts_apart c (place_after p text) 0 (0 + length text) 0 0 (drop (group_len 0 s) s))
+    let step : elements_from Bytes 0 0 0 s ≡ part ∷ elements_from Bytes 0 (0 + length text) 0 (drop (group_len 0 s) s) =
+    rw kind at (elements_from-step Bytes 0 0 123 s bs e) in
+    ap (cased_from c p) step ∙ ap (λ xs. cased_part c (is_beginning p) part ++ xs)
+    (starts_apart c (place_after p text) 0 (0 + length text) 0 0 (drop (group_len 0 s) s))
 
 -- any other group
 other_group : (c : Conversion) (p : Place) (bs : List ℕ) → starts_with nat_eq bs (92 ∷ []) ≡ false →
@@ -121,7 +129,8 @@ group_piece c p (e ∷ es) = at (starts_with nat_eq (e ∷ es) (92 ∷ [])) refl
       let n = group_len 0 s in
       cased_rest c p s ≡ cased_piece c (is_beginning p) (take n s) ++ cased_rest c (place_after p (take n s)) (drop n s)
   at true h = let front = group_front e es in rw (front.1, h) (rw front.1 at (special c p (123 ∷ e ∷ es) (e ∷ es) refl h))
-  at false h = let front = group_front e es in rw (front.1, h, same {X = List ℕ} (is_title c && is_beginning p) (123 ∷ e ∷ take front.0 es)) (rw front.1 at (other_group c p (e ∷ es) h))
+  at false h = let front = group_front e es in rw (front.1, h, same {X = List ℕ} (is_title c && is_beginning p) (123 ∷ e ∷ take front.0 es))
+      (rw front.1 at (other_group c p (e ∷ es) h))
 
 -- ---- outside groups
 
@@ -137,10 +146,11 @@ one_byte c p b bs h = rw (h, no_brace b h) (at (eqb b 125) refl) where
       let part : Element = record { kind = kind; text = take (extent kind (b ∷ bs)) (b ∷ bs); start = 0; depth = 0 } in
       cased_part c (is_beginning p) part ++ rest_at c (elements.place_after p part) (length part.text - 1) 1 (cond t 0 0) bs
       ≡ cond (is_title c && is_beginning p) (b ∷ []) (case_of c b ∷ []) ++ rest_at c (place_after p (b ∷ [])) 0 0 0 bs
-  at true is = rw (eqb-true _ _ is) (rw (stays c) (ap (λ xs. cond (is_title c && is_beginning p) (125 ∷ []) (125 ∷ []) ++ xs) (starts_apart c (place_after p (125 ∷ [])) 0 1 0 0 bs))) where
-    stays : (c : Conversion) → case_of c 125 ≡ 125
-    stays Upper = refl
-    stays _ = refl
+  at true is = rw (eqb-true _ _ is) (rw (stays c)
+      (ap (λ xs. cond (is_title c && is_beginning p) (125 ∷ []) (125 ∷ []) ++ xs) (starts_apart c (place_after p (125 ∷ [])) 0 1 0 0 bs))) where
+        stays : (c : Conversion) → case_of c 125 ≡ 125
+        stays Upper = refl
+        stays _ = refl
   at false is = ap (λ xs. cond (is_title c && is_beginning p) (b ∷ []) (case_of c b ∷ []) ++ xs) (starts_apart c (place_after p (b ∷ [])) 0 1 0 0 bs)
 
 -- a byte of a run
@@ -159,7 +169,8 @@ run : (c : Conversion) (s : List ℕ) →
     cased_rest c Inside s ≡ map (case_of c) (take n s) ++ cased_rest c Inside (drop n s)
 run c [] = refl
 run c (b ∷ bs) = rw (one_more (prefix_len is_case_plain bs)) (at (is_case_plain b) refl (run c bs)) where
-  at : (t : Bool) → is_case_plain b ≡ t → cased_rest c Inside bs ≡ map (case_of c) (take (prefix_len is_case_plain bs) bs) ++ cased_rest c Inside (drop (prefix_len is_case_plain bs) bs) →
+  at : (t : Bool) → is_case_plain b ≡ t → cased_rest c Inside bs ≡ map (case_of c) (take (prefix_len is_case_plain bs) bs)
+      ++ cased_rest c Inside (drop (prefix_len is_case_plain bs) bs) →
       let n = cond t (suc (prefix_len is_case_plain bs)) 0 in
       cased_rest c Inside (b ∷ bs) ≡ map (case_of c) (take n (b ∷ bs)) ++ cased_rest c Inside (drop n (b ∷ bs))
   at true h rest = plain_byte c b bs h ∙ ap (λ xs. case_of c b ∷ xs) rest
@@ -188,7 +199,8 @@ run_piece c b bs h =
     let parts = plain_parts (eqb b 58) (eqb b 123) h in
     let m = prefix_len is_case_plain bs in
     let piece = run_as_piece c b (take m bs) parts.0 parts.1 in
-    let here : cased_rest c Inside (b ∷ bs) ≡ case_of c b ∷ map (case_of c) (take m bs) ++ cased_rest c Inside (drop m bs) = rw (run_len b bs h) at (run c (b ∷ bs)) in
+    let here : cased_rest c Inside (b ∷ bs) ≡ case_of c b ∷ map (case_of c) (take m bs) ++ cased_rest c Inside (drop m bs) =
+    rw (run_len b bs h) at (run c (b ∷ bs)) in
     rw (run_len b bs h, piece.0, piece.1) here
 
 outside_piece : (c : Conversion) (p : Place) (b : ℕ) (bs : List ℕ) (t : Bool) → eqb b 123 ≡ false → is_case_plain b ≡ t →

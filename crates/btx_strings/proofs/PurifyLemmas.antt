@@ -1,5 +1,6 @@
 -- What `purify$` leaves of a string, group by group.
-use Rattle.std.proofs.Common.{◌≡◌, ℕ, zero, suc, ◌+◌, ◌-◌, ◌<◌, Bool, true, false, cond, eqb, List, [], ◌∷◌, ◌++◌, length, take, drop, refl, ◌∙◌, ap, arith, append_assoc}
+use Rattle.std.proofs.Common.{◌≡◌, ℕ, zero, suc, ◌+◌, ◌-◌, ◌<◌, Bool, true, false, cond, eqb, List, [], ◌∷◌, ◌++◌, length, take, drop, refl, ◌∙◌, ap, arith}
+use Rattle.std.proofs.Common.{append_assoc}
 use Rattle.std.specs.Prelude.{nat_eq, ◌||◌}
 use Rattle.std.specs.List.{flat_map, prefix_len, starts_with}
 use Rattle.std.proofs.lemmas.List.{append-nil, length-drop}
@@ -55,20 +56,23 @@ in_group : (start depth : ℕ) (s : List ℕ) →
     left_at 0 start (suc depth) s ≡ flat_map purified_byte (take (group_len (suc depth) s) s) ++ left_at 0 0 0 (drop (group_len (suc depth) s) s)
 unfolding elements_from group_len
 in_group start depth [] = refl
-in_group start depth (b ∷ bs) = rw (kind_inside depth b bs, deeper depth, less_deep depth) (at (λ d. in_group (start + 1) d bs) (eqb b 123) (eqb b 125) refl refl) where
-  at : ((d : ℕ) → left_at 0 (start + 1) (suc d) bs ≡ flat_map purified_byte (take (group_len (suc d) bs) bs) ++ left_at 0 0 0 (drop (group_len (suc d) bs) bs)) →
-      (t u : Bool) → eqb b 123 ≡ t → eqb b 125 ≡ u →
-      let kind : Kind = cond t Open (cond u Close Byte) in
-      let part : Element = record { kind = kind; text = take (extent kind (b ∷ bs)) (b ∷ bs); start = start; depth = suc depth } in
-      let d = cond t (suc (depth + 1)) (cond u depth (suc depth)) in
-      let n = cond (eqb d 0) 1 (suc (group_len d bs)) in
-      left_of part ++ left_at (length part.text - 1) (start + 1) d bs ≡ flat_map purified_byte (take n (b ∷ bs)) ++ left_at 0 0 0 (drop n (b ∷ bs))
-  at rest true u is k = rw (eqb-true _ _ is, above_zero (depth + 1), brace_left) (rest (depth + 1))
-  at rest false true is k = rw (eqb-true _ _ k) (closed depth) where
-    closed : (d : ℕ) → let n = cond (eqb d 0) 1 (suc (group_len d bs)) in left_at 0 (start + 1) d bs ≡ flat_map purified_byte (take n (125 ∷ bs)) ++ left_at 0 0 0 (drop n (125 ∷ bs))
-    closed zero = rw close_left (starts_apart 0 (start + 1) 0 0 bs)
-    closed (suc d) = rw (above_zero d, close_left) (rest d)
-  at rest false false is k = rw (above_zero depth, append-nil, append_assoc) (ap (λ xs. purified_byte b ++ xs) (rest depth))
+in_group start depth (b ∷ bs) = rw (kind_inside depth b bs, deeper depth, less_deep depth)
+    (at (λ d. in_group (start + 1) d bs) (eqb b 123) (eqb b 125) refl refl) where
+      at : ((d : ℕ) → left_at 0 (start + 1) (suc d) bs ≡ flat_map purified_byte (take (group_len (suc d) bs) bs) ++ left_at 0 0 0 (drop (group_len (suc d) bs) bs))
+          →
+          (t u : Bool) → eqb b 123 ≡ t → eqb b 125 ≡ u →
+          let kind : Kind = cond t Open (cond u Close Byte) in
+          let part : Element = record { kind = kind; text = take (extent kind (b ∷ bs)) (b ∷ bs); start = start; depth = suc depth } in
+          let d = cond t (suc (depth + 1)) (cond u depth (suc depth)) in
+          let n = cond (eqb d 0) 1 (suc (group_len d bs)) in
+          left_of part ++ left_at (length part.text - 1) (start + 1) d bs ≡ flat_map purified_byte (take n (b ∷ bs)) ++ left_at 0 0 0 (drop n (b ∷ bs))
+      at rest true u is k = rw (eqb-true _ _ is, above_zero (depth + 1), brace_left) (rest (depth + 1))
+      at rest false true is k = rw (eqb-true _ _ k) (closed depth) where
+        closed : (d : ℕ) → let n = cond (eqb d 0) 1 (suc (group_len d bs)) in left_at 0 (start + 1) d bs ≡ flat_map purified_byte (take n (125 ∷ bs))
+            ++ left_at 0 0 0 (drop n (125 ∷ bs))
+        closed zero = rw close_left (starts_apart 0 (start + 1) 0 0 bs)
+        closed (suc d) = rw (above_zero d, close_left) (rest d)
+      at rest false false is k = rw (above_zero depth, append-nil, append_assoc) (ap (λ xs. purified_byte b ++ xs) (rest depth))
 
 -- a special character
 special : (s bs : List ℕ) → s ≡ 123 ∷ bs → starts_with nat_eq s (123 ∷ 92 ∷ []) ≡ true →
@@ -79,7 +83,8 @@ special s bs e h =
     let kind : kind_at Bytes 0 s ≡ Special = rw h refl in
     let text = take (group_len 0 s) s in
     let part : Element = record { kind = Special; text = text; start = 0; depth = 0 } in
-    let step : elements_from Bytes 0 0 0 s ≡ part ∷ elements_from Bytes 0 (0 + length text) 0 (drop (group_len 0 s) s) = rw kind at (elements_from-step Bytes 0 0 123 s bs e) in
+    let step : elements_from Bytes 0 0 0 s ≡ part ∷ elements_from Bytes 0 (0 + length text) 0 (drop (group_len 0 s) s) =
+    rw kind at (elements_from-step Bytes 0 0 123 s bs e) in
     ap (flat_map left_of) step ∙ ap (λ xs. left_of part ++ xs) (starts_apart 0 (0 + length text) 0 0 (drop (group_len 0 s) s))
 
 -- any other group

@@ -1,5 +1,6 @@
 -- Each special character is read as glyphs in one way.
-use Rattle.std.proofs.Common.{◌≡◌, ℕ, zero, suc, ◌≤◌, Bool, true, false, cond, not, ◌&&◌, eqb, List, [], ◌∷◌, ◌++◌, length, drop, refl, sym, ◌∙◌, ap, arith, length-drop}
+use Rattle.std.proofs.Common.{◌≡◌, ℕ, zero, suc, ◌≤◌, Bool, true, false, cond, not, ◌&&◌, eqb, List, [], ◌∷◌, ◌++◌, length, drop, refl, sym, ◌∙◌, ap, arith}
+use Rattle.std.proofs.Common.{length-drop}
 use Rattle.std.specs.Prelude.{take_while}
 use Rattle.std.specs.List.{list_all}
 use Rattle.std.proofs.lemmas.Bool.{and_parts, and_from, not-true, not_from_false, ne_eqb, eqb-true, eqb-false}
@@ -22,14 +23,17 @@ take_while-run [] [] h k = refl
 take_while-run [] (c ∷ cs) h k = take_while-cons is_alpha c cs ∙ ap (λ t. cond t (c ∷ take_while is_alpha cs) []) k
 take_while-run (b ∷ bs) after h k =
     let parts = and_parts _ _ h in
-    take_while-cons is_alpha b (bs ++ after) ∙ ap (λ t. cond t (b ∷ take_while is_alpha (bs ++ after)) []) parts.0 ∙ ap (λ xs. b ∷ xs) (take_while-run bs after parts.1 k)
+    take_while-cons is_alpha b (bs ++ after) ∙ ap (λ t. cond t (b ∷ take_while is_alpha (bs ++ after)) []) parts.0
+    ∙ ap (λ xs. b ∷ xs) (take_while-run bs after parts.1 k)
 
 -- the run of alpha bytes that a text begins with
 take_while-alpha : (s : List ℕ) → (list_all is_alpha (take_while is_alpha s) ≡ true) × (begins_with is_alpha (drop (length (take_while is_alpha s)) s) ≡ false)
 take_while-alpha [] = (refl, refl)
 take_while-alpha (b ∷ bs) = rw (take_while-cons is_alpha b bs) (at (is_alpha b) refl (take_while-alpha bs)) where
-  at : (t : Bool) → is_alpha b ≡ t → (list_all is_alpha (take_while is_alpha bs) ≡ true) × (begins_with is_alpha (drop (length (take_while is_alpha bs)) bs) ≡ false) →
-      (list_all is_alpha (cond t (b ∷ take_while is_alpha bs) []) ≡ true) × (begins_with is_alpha (drop (length (cond t (b ∷ take_while is_alpha bs) [])) (b ∷ bs)) ≡ false)
+  at : (t : Bool) → is_alpha b ≡ t → (list_all is_alpha (take_while is_alpha bs) ≡ true)
+      × (begins_with is_alpha (drop (length (take_while is_alpha bs)) bs) ≡ false) →
+      (list_all is_alpha (cond t (b ∷ take_while is_alpha bs) []) ≡ true)
+      × (begins_with is_alpha (drop (length (cond t (b ∷ take_while is_alpha bs) [])) (b ∷ bs)) ≡ false)
   at true is rest = (and_from _ _ is rest.0, rest.1)
   at false is rest = (refl, is)
 
@@ -63,7 +67,8 @@ control_name-is_name (b ∷ bs) after h = at (is_alpha b) refl h where
   one [] e = refl
   one (c ∷ cs) e = let more : eqb (suc (length cs)) 0 ≡ false = ne_eqb _ 0 (λ same. omega arith) in cc
 
-  at : (t : Bool) → is_alpha b ≡ t → cond t (list_all is_alpha bs && not (begins_with is_alpha after)) (eqb (length bs) 0 && not (is_brace b)) ≡ true → control_name (b ∷ (bs ++ after)) ≡ b ∷ bs
+  at : (t : Bool) → is_alpha b ≡ t → cond t (list_all is_alpha bs && not (begins_with is_alpha after)) (eqb (length bs) 0 && not (is_brace b)) ≡ true
+      → control_name (b ∷ (bs ++ after)) ≡ b ∷ bs
   at true is e =
       let parts = and_parts _ _ e in
       control_name-letters b (bs ++ after) is ∙ ap (λ xs. b ∷ xs) (take_while-run bs after parts.0 (not-true _ parts.1))
@@ -97,7 +102,8 @@ each_at : (left : List Glyph) (g : Glyph) (right : List Glyph) → Reads (left +
 each_at [] g right h = h.0
 each_at (l ∷ left) g right h = each_at left g right h.1
 
-from_each : (gs : List Glyph) → ((left : List Glyph) (g : Glyph) (right : List Glyph) → gs ≡ left ++ g ∷ right → is_glyph g (glyphs_text right) ≡ true) → Reads gs
+from_each : (gs : List Glyph) → ((left : List Glyph) (g : Glyph) (right : List Glyph) → gs ≡ left ++ g ∷ right → is_glyph g (glyphs_text right) ≡ true)
+    → Reads gs
 from_each [] h = tt
 from_each (g ∷ gs) h = (h [] g gs refl, from_each gs (λ left q right e. h (g ∷ left) q right (ap (λ xs. g ∷ xs) e)))
 
@@ -132,9 +138,11 @@ only (Plain b ∷ gs) h =
 only (Control name ∷ gs) h =
     let rest = glyphs_text gs in
     let same = control_name-is_name name rest h.0 in
-    let after : drop (length (control_name (name ++ rest))) (name ++ rest) ≡ rest = ap (λ xs. drop (length xs) (name ++ rest)) same ∙ drop_at name rest (length name) refl in
+    let after : drop (length (control_name (name ++ rest))) (name ++ rest) ≡ rest = ap (λ xs. drop (length xs) (name ++ rest)) same
+    ∙ drop_at name rest (length name) refl in
     let first : glyphs_of (92 ∷ (name ++ rest)) ≡ Control name ∷ glyphs_of rest =
-    glyphs_of-control 92 (name ++ rest) refl ∙ ap (λ xs. Control xs ∷ glyphs_of (drop (length (control_name (name ++ rest))) (name ++ rest))) same ∙ ap (λ xs. Control name ∷ glyphs_of xs) after in
+    glyphs_of-control 92 (name ++ rest) refl ∙ ap (λ xs. Control xs ∷ glyphs_of (drop (length (control_name (name ++ rest))) (name ++ rest))) same
+    ∙ ap (λ xs. Control name ∷ glyphs_of xs) after in
     ap (λ xs. Control name ∷ xs) (only gs h.1) ∙ sym first
 
 pub glyphs_of-reads : (text : List ℕ) → AreGlyphs text (glyphs_of text)

@@ -25,10 +25,18 @@ record EndInColon (before : List Element) : Type 0 where
 colon_from : (before : List Element) → after_colon before ≡ true → EndInColon before
 colon_from [] h = absurd (false≢true h)
 colon_from (part ∷ before) h = at (is_white_text part.text) refl h (colon_from before) where
-  at : (t : Bool) → is_white_text part.text ≡ t → cond t (after_colon before) (is_colon part) ≡ true → (after_colon before ≡ true → EndInColon before) → EndInColon (part ∷ before)
+  at : (t : Bool) → is_white_text part.text ≡ t → cond t (after_colon before) (is_colon part) ≡ true → (after_colon before ≡ true → EndInColon before)
+      → EndInColon (part ∷ before)
   at true is e rest =
       let r = rest e in
-      record { white = part ∷ r.white; colon = r.colon; others = r.others; parts = ap (λ ps. part ∷ ps) r.parts; all_white = and_from _ _ is r.all_white; colon_is = r.colon_is }
+      record {
+        white = part ∷ r.white;
+        colon = r.colon;
+        others = r.others;
+        parts = ap (λ ps. part ∷ ps) r.parts;
+        all_white = and_from _ _ is r.all_white;
+        colon_is = r.colon_is;
+      }
   at false is e rest = record { white = []; colon = part; others = before; parts = refl; all_white = refl; colon_is = e }
 
 -- a colon is no whitespace
@@ -39,7 +47,8 @@ colon_is_no_white part h = at part.text (and_parts _ _ h).1 where
   at (b ∷ []) e = grind (arith, nat_tests)
   at (b ∷ c ∷ bs) e = refl
 
-after_colon-white : (white : List Element) (colon : Element) (others : List Element) → list_all is_white_part white ≡ true → is_colon colon ≡ true → after_colon (white ++ colon ∷ others) ≡ true
+after_colon-white : (white : List Element) (colon : Element) (others : List Element) → list_all is_white_part white ≡ true → is_colon colon ≡ true
+    → after_colon (white ++ colon ∷ others) ≡ true
 after_colon-white [] colon others h k = rw (colon_is_no_white colon k) k
 after_colon-white (part ∷ white) colon others h k =
     let parts = and_parts (is_white_part part) (list_all is_white_part white) h in
@@ -51,11 +60,22 @@ title_from [] h = inl refl
 title_from (part ∷ before) h =
     let parts = and_parts _ _ h in
     let r = colon_from before parts.1 in
-    inr (record { white = part ∷ r.white; colon = r.colon; others = r.others; parts = ap (λ ps. part ∷ ps) r.parts; some = omega arith; all_white = and_from _ _ parts.0 r.all_white; is_colon = r.colon_is })
+    inr (record {
+      white = part ∷ r.white;
+      colon = r.colon;
+      others = r.others;
+      parts = ap (λ ps. part ∷ ps) r.parts;
+      some = omega arith;
+      all_white =
+          and_from _ _ parts.0 r.all_white;
+      is_colon = r.colon_is;
+    })
 
-title_white : (white : List Element) (colon : Element) (others : List Element) → 0 < length white → list_all is_white_part white ≡ true → is_colon colon ≡ true → begins_title (white ++ colon ∷ others) ≡ true
+title_white : (white : List Element) (colon : Element) (others : List Element) → 0 < length white → list_all is_white_part white ≡ true → is_colon colon ≡ true
+    → begins_title (white ++ colon ∷ others) ≡ true
 title_white [] colon others some h k = absurd (omega arith)
-title_white (part ∷ white) colon others some h k = let parts = and_parts (is_white_part part) (list_all is_white_part white) h in and_from _ _ parts.0 (after_colon-white white colon others parts.1 k)
+title_white (part ∷ white) colon others some h k = let parts = and_parts (is_white_part part) (list_all is_white_part white) h in
+    and_from _ _ parts.0 (after_colon-white white colon others parts.1 k)
 
 title_to : (before : List Element) → (before ≡ []) ⊎ EndInColonAndWhite before → begins_title before ≡ true
 title_to before (inl none) = rw none refl

@@ -1,5 +1,6 @@
 -- Lemmas on widths.
-use Rattle.std.proofs.Common.{◌≡◌, ℕ, zero, suc, ◌+◌, ◌*◌, ◌≤◌, Bool, true, false, cond, ◌&&◌, eqb, leb, List, [], ◌∷◌, length, get_or, sum_by, refl, arith, length-append}
+use Rattle.std.proofs.Common.{◌≡◌, ℕ, zero, suc, ◌+◌, ◌*◌, ◌≤◌, Bool, true, false, cond, ◌&&◌, eqb, leb, List, [], ◌∷◌, length, get_or, sum_by, refl, arith}
+use Rattle.std.proofs.Common.{length-append}
 use Rattle.std.specs.Prelude.{codes}
 use Rattle.std.specs.List.{list_all}
 use Rattle.std.specs.Str.{bytes_eq}
@@ -9,7 +10,8 @@ use Rattle.std.proofs.lemmas.List.Sums.{sum_by-cons}
 use Rattle.btx_text.specs.declared.element_kind.Kind.{Kind}
 use Rattle.btx_text.specs.declared.element_kind.Kind.TheVariants.{Special}
 use Rattle.btx_text.specs.language.Elements.{Element}
-use Rattle.btx_strings.specs.language.Controls.{Glyph, Control, Plain, control_name, glyphs_from, glyphs_of, is_brace, follows, is_white_glyph, without_white, letters_of}
+use Rattle.btx_strings.specs.language.Controls.{Glyph, Control, Plain, control_name, glyphs_from, glyphs_of, is_brace, follows, is_white_glyph, without_white}
+use Rattle.btx_strings.specs.language.Controls.{letters_of}
 use Rattle.btx_strings.specs.language.Width.{widths, byte_width, first_width, control_width, glyph_width, width_as}
 use Rattle.btx_strings.specs.refinement.Width.{special_width, part_width}
 use Rattle.btx_text.specs.laws.Elements.{text_of}
@@ -44,14 +46,15 @@ first_width-le (b ∷ bs) = byte_width-le b
 
 control_width-le : (name : List ℕ) → control_width name ≤ 1028
 unfolding control_width
-control_width-le name = at (bytes_eq name (codes "ss")) (bytes_eq name (codes "ae")) (bytes_eq name (codes "oe")) (bytes_eq name (codes "AE")) (bytes_eq name (codes "OE")) (first_width (letters_of name)) (first_width-le (letters_of name)) where
-  at : (s t u v w : Bool) (n : ℕ) → n ≤ 1028 → cond s 500 (cond t 722 (cond u 778 (cond v 903 (cond w 1014 n)))) ≤ 1028
-  at true t u v w n h = omega arith
-  at false true u v w n h = omega arith
-  at false false true v w n h = omega arith
-  at false false false true w n h = omega arith
-  at false false false false true n h = omega arith
-  at false false false false false n h = h
+control_width-le name = at (bytes_eq name (codes "ss")) (bytes_eq name (codes "ae")) (bytes_eq name (codes "oe")) (bytes_eq name (codes "AE"))
+    (bytes_eq name (codes "OE")) (first_width (letters_of name)) (first_width-le (letters_of name)) where
+      at : (s t u v w : Bool) (n : ℕ) → n ≤ 1028 → cond s 500 (cond t 722 (cond u 778 (cond v 903 (cond w 1014 n)))) ≤ 1028
+      at true t u v w n h = omega arith
+      at false true u v w n h = omega arith
+      at false false true v w n h = omega arith
+      at false false false true w n h = omega arith
+      at false false false false true n h = omega arith
+      at false false false false false n h = h
 
 glyph_width-le : (glyph : Glyph) → glyph_width glyph ≤ 1028
 glyph_width-le (Control name) = control_width-le name
@@ -65,17 +68,20 @@ length-glyphs_from : (skip : ℕ) (s : List ℕ) → length (glyphs_from skip s)
 unfolding glyphs_from
 length-glyphs_from skip [] = omega arith
 length-glyphs_from (suc skip) (b ∷ bs) = let h = length-glyphs_from skip bs in omega arith
-length-glyphs_from zero (b ∷ bs) = at (eqb b 92) (glyphs_from (length (control_name bs)) bs) (glyphs_from zero bs) (length-glyphs_from (length (control_name bs)) bs) (length-glyphs_from zero bs) where
-  at : (t : Bool) (xs ys : List Glyph) → length xs ≤ length bs → length ys ≤ length bs → length (cond t (Control (control_name bs) ∷ xs) (Plain b ∷ ys)) ≤ suc (length bs)
-  at true xs ys h k = omega arith
-  at false xs ys h k = omega arith
+length-glyphs_from zero (b ∷ bs) = at (eqb b 92) (glyphs_from (length (control_name bs)) bs) (glyphs_from zero bs)
+    (length-glyphs_from (length (control_name bs)) bs) (length-glyphs_from zero bs) where
+      at : (t : Bool) (xs ys : List Glyph) → length xs ≤ length bs → length ys ≤ length bs → length (cond t (Control (control_name bs) ∷ xs) (Plain b ∷ ys))
+          ≤ suc (length bs)
+      at true xs ys h k = omega arith
+      at false xs ys h k = omega arith
 
 kept_width-le : (test : List ℕ → Bool) (before glyphs : List Glyph) → sum_by glyph_width (without_white test before glyphs) ≤ 1028 * length glyphs
 unfolding without_white
 kept_width-le test before [] = omega arith
 kept_width-le test before (glyph ∷ glyphs) =
     at (follows test before && is_white_glyph glyph) (without_white test (glyph ∷ before) glyphs) (kept_width-le test (glyph ∷ before) glyphs) where
-      at : (t : Bool) (others : List Glyph) → sum_by glyph_width others ≤ 1028 * length glyphs → sum_by glyph_width (cond t others (glyph ∷ others)) ≤ 1028 * suc (length glyphs)
+      at : (t : Bool) (others : List Glyph) → sum_by glyph_width others ≤ 1028 * length glyphs → sum_by glyph_width (cond t others (glyph ∷ others))
+          ≤ 1028 * suc (length glyphs)
       at true others h = omega arith
       at false others h = let here = glyph_width-le glyph in omega (arith, sum_by-cons glyph_width glyph others)
 
@@ -95,5 +101,6 @@ part_width-le part = width_as-le part.kind part.text
 
 -- one element less to go over
 pub one_less : (parts rest : List Element) (part : Element) → parts ≡ part ∷ rest →
-    (sum_by part_width parts ≡ part_width part + sum_by part_width rest) × (length (text_of parts) ≡ length part.text + length (text_of rest)) × (part_width part ≤ 1028 * length part.text)
+    (sum_by part_width parts ≡ part_width part + sum_by part_width rest) × (length (text_of parts) ≡ length part.text + length (text_of rest))
+    × (part_width part ≤ 1028 * length part.text)
 one_less parts rest part is = rw is (sum_by-cons part_width part rest, length-append part.text (text_of rest), part_width-le part)

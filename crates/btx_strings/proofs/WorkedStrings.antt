@@ -158,7 +158,8 @@ unfolding elements_of elements_from kind_at group_len control_name glyphs_from g
 foreign_width = refl
 
 -- five foreign control sequences have widths of their own, and each other one has that of its first letter
-pub foreign_widths : width_of (codes "{\\i\\j\\o\\oe\\ae\\aa\\l\\ss\\O\\OE\\AE\\AA\\L}") ≡ 278 + 306 + 500 + 778 + 722 + 500 + 278 + 500 + 778 + 1014 + 903 + 750 + 625
+pub foreign_widths : width_of (codes "{\\i\\j\\o\\oe\\ae\\aa\\l\\ss\\O\\OE\\AE\\AA\\L}") ≡ 278 + 306 + 500 + 778 + 722 + 500 + 278 + 500 + 778 + 1014 + 903 +
+    750 + 625
 unfolding elements_of elements_from kind_at group_len control_name glyphs_from glyphs_of letters_of without_white control_width
 foreign_widths = refl
 

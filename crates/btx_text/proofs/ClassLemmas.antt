@@ -43,10 +43,12 @@ passes white alpha digit sep Sep = sep
 passes white alpha digit sep Other = not (white || alpha || digit || sep)
 
 -- a test that only one class passes
-only_one : (right : Class) (p : Class → Bool) → p right ≡ true → ((class : Class) → p class ≡ true → class ≡ right) → (class : Class) → IsTrue (p class) ↔ (class ≡ right)
+only_one : (right : Class) (p : Class → Bool) → p right ≡ true → ((class : Class) → p class ≡ true → class ≡ right) → (class : Class)
+    → IsTrue (p class) ↔ (class ≡ right)
 only_one right p is one class = (λ h. one class h, λ e. rw e is)
 
-one_by : (white alpha digit sep : Bool) → Disjoint white alpha → Disjoint white digit → Disjoint white sep → Disjoint alpha digit → Disjoint alpha sep → Disjoint digit sep →
+one_by : (white alpha digit sep : Bool) → Disjoint white alpha → Disjoint white digit → Disjoint white sep → Disjoint alpha digit → Disjoint alpha sep
+    → Disjoint digit sep →
     (class : Class) → IsTrue (passes white alpha digit sep class) ↔ (class ≡ class_by white alpha digit sep)
 one_by true true digit sep wa wd ws ad as' ds = absurd (false≢true (sym (wa refl)))
 one_by true false true sep wa wd ws ad as' ds = absurd (false≢true (sym (wd refl)))
@@ -99,4 +101,5 @@ passes-of_class b Other = refl
 
 pub one_class : (b : ℕ) (class : Class) → IsTrue (is_of_class class b) ↔ (class ≡ class_of b)
 unfolding class_of
-one_class b class = rw (← passes-of_class b class) (one_by (is_white b) (is_alpha b) (is_ascii_digit b) (is_sep b) (white_alpha b) (white_digit b) (white_sep b) (alpha_digit b) (alpha_sep b) (digit_sep b) class)
+one_class b class = rw (← passes-of_class b class) (one_by (is_white b) (is_alpha b) (is_ascii_digit b) (is_sep b) (white_alpha b) (white_digit b) (white_sep b)
+    (alpha_digit b) (alpha_sep b) (digit_sep b) class)

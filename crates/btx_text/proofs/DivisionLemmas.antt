@@ -1,5 +1,6 @@
 -- Each string has one division into elements.
-use Rattle.std.proofs.Common.{◌≡◌, ℕ, zero, suc, ◌+◌, ◌<◌, ◌≤◌, Bool, true, false, cond, eqb, List, [], ◌∷◌, ◌++◌, length, take, drop, get_or, fold, ◌⊎◌, inl, inr, ⊎_elim, refl, sym, ◌∙◌, ap, arith, length-append, length-drop, append_assoc}
+use Rattle.std.proofs.Common.{◌≡◌, ℕ, zero, suc, ◌+◌, ◌<◌, ◌≤◌, Bool, true, false, cond, eqb, List, [], ◌∷◌, ◌++◌, length, take, drop, get_or, fold, ◌⊎◌, inl}
+use Rattle.std.proofs.Common.{inr, ⊎_elim, refl, sym, ◌∙◌, ap, arith, length-append, length-drop, append_assoc}
 use Rattle.std.proofs.lemmas.List.{get_or_append_left, append-nil, append_cancel_left, take-append-drop, length-take-le, take-take, take_at, take-append-le}
 use Rattle.std.proofs.lemmas.List.Sums.{fold-append}
 use Rattle.std.proofs.lemmas.Bool.{eqb-false, cases_lt}
@@ -18,11 +19,14 @@ abbrev Divides : TextMode → List ℕ → List Element → Type 0
 Divides mode before [] = Unit {0}
 Divides mode before (p ∷ ps) = IsElement mode before p (text_of ps) × Divides mode (before ++ p.text) ps
 
-each_at : (mode : TextMode) (left : List Element) (before : List ℕ) (p : Element) (right : List Element) → Divides mode before (left ++ p ∷ right) → IsElement mode (before ++ text_of left) p (text_of right)
+each_at : (mode : TextMode) (left : List Element) (before : List ℕ) (p : Element) (right : List Element) → Divides mode before (left ++ p ∷ right)
+    → IsElement mode (before ++ text_of left) p (text_of right)
 each_at mode [] before p right h = rw append-nil h.0
 each_at mode (l ∷ left) before p right h = rw (← append_assoc) (each_at mode left (before ++ l.text) p right h.1)
 
-from_each : (mode : TextMode) (ps : List Element) (before : List ℕ) → ((left : List Element) (p : Element) (right : List Element) → ps ≡ left ++ p ∷ right → IsElement mode (before ++ text_of left) p (text_of right)) → Divides mode before ps
+from_each : (mode : TextMode) (ps : List Element) (before : List ℕ)
+    → ((left : List Element) (p : Element) (right : List Element) → ps ≡ left ++ p ∷ right → IsElement mode (before ++ text_of left) p (text_of right))
+    → Divides mode before ps
 from_each mode [] before h = tt
 from_each mode (p ∷ ps) before h = (
   let here = h [] p ps refl in rw append-nil at here,
@@ -37,12 +41,14 @@ group_inside depth [] n some h = absurd (omega arith)
 group_inside depth (b ∷ bs) zero some h = absurd (omega arith)
 group_inside depth (b ∷ bs) (suc n) some h = step (eqb (depth_after depth b) 0) n refl h (group_inside (depth_after depth b) bs n) where
   step : (t : Bool) (n : ℕ) → eqb (depth_after depth b) 0 ≡ t → suc n < cond t 1 (suc (group_len (depth_after depth b) bs)) →
-      (0 < n → n < group_len (depth_after depth b) bs → 0 < fold depth_after (depth_after depth b) (take n bs)) → 0 < fold depth_after (depth_after depth b) (take n bs)
+      (0 < n → n < group_len (depth_after depth b) bs → 0 < fold depth_after (depth_after depth b) (take n bs))
+      → 0 < fold depth_after (depth_after depth b) (take n bs)
   step true n e h rest = absurd (omega arith)
   step false zero e h rest = let ne : depth_after depth b ≡ 0 → ⊥ = eqb-false _ _ e in omega arith
   step false (suc n) e h rest = rest (omega arith) (omega arith)
 
-reaches : (kind : Kind) (depth b : ℕ) (bs : List ℕ) → Stands kind depth (b ∷ bs) → let n = extent kind (b ∷ bs) in Reaches kind (take n (b ∷ bs)) (drop n (b ∷ bs))
+reaches : (kind : Kind) (depth b : ℕ) (bs : List ℕ) → Stands kind depth (b ∷ bs) → let n = extent kind (b ∷ bs) in
+    Reaches kind (take n (b ∷ bs)) (drop n (b ∷ bs))
 reaches Special depth b bs h =
     let n = group_len 0 (b ∷ bs) in
     let parts = length_take_extent Special depth b bs h in
@@ -128,7 +134,8 @@ one_part p q k t s d =
     let same : part p.kind p.text p.start p.depth ≡ part q.kind q.text q.start q.depth = rw (k, t, s, d) refl in
     same
 
-one_element : (mode : TextMode) (before : List ℕ) (p q : Element) (a b : List ℕ) → IsElement mode before p a → IsElement mode before q b → p.text ++ a ≡ q.text ++ b → (p ≡ q) × (a ≡ b)
+one_element : (mode : TextMode) (before : List ℕ) (p q : Element) (a b : List ℕ) → IsElement mode before p a → IsElement mode before q b
+    → p.text ++ a ≡ q.text ++ b → (p ≡ q) × (a ≡ b)
 one_element mode before p q a b hp hq e =
     let depth : p.depth ≡ q.depth = hp.depth ∙ sym hq.depth in
     let kind : p.kind ≡ q.kind = hp.kind ∙ rw (depth, e) (sym hq.kind) in
@@ -168,4 +175,5 @@ elements_of-divides mode string =
 pub elements_of-only : (mode : TextMode) (string : List ℕ) (parts : List Element) → IsDivision mode string parts → parts ≡ elements_of mode string
 elements_of-only mode string parts h =
     let all = elements_of-divides mode string in
-    one_division mode parts (elements_of mode string) [] (from_each mode parts [] h.each) (from_each mode (elements_of mode string) [] all.each) (h.joined ∙ sym all.joined)
+    one_division mode parts (elements_of mode string) [] (from_each mode parts [] h.each) (from_each mode (elements_of mode string) [] all.each)
+    (h.joined ∙ sym all.joined)

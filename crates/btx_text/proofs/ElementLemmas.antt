@@ -1,5 +1,6 @@
 -- Lemmas on the elements of a string.
-use Rattle.std.proofs.Common.{◌≡◌, ℕ, zero, suc, ◌+◌, ◌-◌, ◌<◌, ◌≤◌, Bool, true, false, cond, eqb, ◌&&◌, List, [], ◌∷◌, length, take, drop, get_or, fold, ◌⊎◌, inl, inr, refl, ◌∙◌, ap, arith, add-zero}
+use Rattle.std.proofs.Common.{◌≡◌, ℕ, zero, suc, ◌+◌, ◌-◌, ◌<◌, ◌≤◌, Bool, true, false, cond, eqb, ◌&&◌, List, [], ◌∷◌, length, take, drop, get_or, fold, ◌⊎◌}
+use Rattle.std.proofs.Common.{inl, inr, refl, ◌∙◌, ap, arith, add-zero}
 use Rattle.std.proofs.lemmas.List.{drop_all, drop_more, length-take-le}
 use Rattle.std.proofs.lemmas.Bool.{eqb-true, and_parts}
 use Rattle.btx_text.specs.declared.element_kind.Kind.{Kind}
@@ -16,7 +17,8 @@ use Rattle.std.specs.List.{All, list_any}
 -- ---- `group_len`
 
 -- one step, at a place of a list
-pub group_len_at : (depth : ℕ) (s : List ℕ) (i : ℕ) → i < length s → group_len depth (drop i s) ≡ cond (eqb (depth_after depth (get_or s i 0)) 0) 1 (suc (group_len (depth_after depth (get_or s i 0)) (drop (i + 1) s)))
+pub group_len_at : (depth : ℕ) (s : List ℕ) (i : ℕ) → i < length s → group_len depth (drop i s) ≡ cond (eqb (depth_after depth (get_or s i 0)) 0) 1
+    (suc (group_len (depth_after depth (get_or s i 0)) (drop (i + 1) s)))
 unfolding group_len
 group_len_at depth s i h = rw (drop_more s i 0) refl
 
@@ -38,7 +40,8 @@ pub ruleset group_steps = (group_len_at, group_len_all)
 abbrev pub Closes : ℕ → List ℕ → ℕ → Type 0
 Closes depth s n = (fold depth_after depth (take n s) ≡ 0) ⊎ (drop n s ≡ [])
 
-closes_step : (depth b : ℕ) (bs : List ℕ) (t : Bool) (n : ℕ) → eqb (depth_after depth b) 0 ≡ t → Closes (depth_after depth b) bs n → Closes depth (b ∷ bs) (cond t 1 (suc n))
+closes_step : (depth b : ℕ) (bs : List ℕ) (t : Bool) (n : ℕ) → eqb (depth_after depth b) 0 ≡ t → Closes (depth_after depth b) bs n
+    → Closes depth (b ∷ bs) (cond t 1 (suc n))
 closes_step depth b bs true n e h = inl (eqb-true _ _ e)
 closes_step depth b bs false n e h = h
 
@@ -59,7 +62,8 @@ stands_byte true u depth s = tt
 stands_byte false true depth s = tt
 stands_byte false false depth s = tt
 
-stands_cond : (special wide : Bool) (depth b : ℕ) (s : List ℕ) → (special ≡ true → depth ≡ 0) → (wide ≡ true → begins_sequence s ≡ true) → Stands (cond special Special (cond wide Wide (kind_of b))) depth s
+stands_cond : (special wide : Bool) (depth b : ℕ) (s : List ℕ) → (special ≡ true → depth ≡ 0) → (wide ≡ true → begins_sequence s ≡ true)
+    → Stands (cond special Special (cond wide Wide (kind_of b))) depth s
 stands_cond true wide depth b s h k = h refl
 stands_cond false true depth b s h k = k refl
 stands_cond false false depth b s h k = stands_byte (eqb b 123) (eqb b 125) depth s
@@ -76,7 +80,8 @@ take_front : (n m b : ℕ) (bs : List ℕ) → n ≡ suc m → take n (b ∷ bs)
 take_front n m b bs e = rw e refl
 
 -- it has at least a byte, and no more than there are
-pub length_take_extent : (kind : Kind) (depth b : ℕ) (bs : List ℕ) → Stands kind depth (b ∷ bs) → (m : ℕ) × (take (extent kind (b ∷ bs)) (b ∷ bs) ≡ b ∷ take m bs) × (m ≤ length bs) × (extent kind (b ∷ bs) ≡ suc m)
+pub length_take_extent : (kind : Kind) (depth b : ℕ) (bs : List ℕ) → Stands kind depth (b ∷ bs)
+    → (m : ℕ) × (take (extent kind (b ∷ bs)) (b ∷ bs) ≡ b ∷ take m bs) × (m ≤ length bs) × (extent kind (b ∷ bs) ≡ suc m)
 unfolding group_len
 length_take_extent Special depth b bs h = take_cond (eqb (depth_after 0 b) 0) (group_len (depth_after 0 b) bs) (group_len-le (depth_after 0 b) bs) where
   take_cond : (t : Bool) (n : ℕ) → n ≤ length bs → (m : ℕ) × (take (cond t 1 (suc n)) (b ∷ bs) ≡ b ∷ take m bs) × (m ≤ length bs) × (cond t 1 (suc n) ≡ suc m)
@@ -95,26 +100,31 @@ extent-le mode depth (b ∷ bs) h = let parts = length_take_extent (kind_at mode
 
 pub extent-some : (mode : TextMode) (depth : ℕ) (s : List ℕ) → 0 < length s → 0 < length (take (extent (kind_at mode depth s) s) s)
 extent-some mode depth [] h = absurd (omega arith)
-extent-some mode depth (b ∷ bs) h = let parts = length_take_extent (kind_at mode depth (b ∷ bs)) depth b bs (stands_at mode depth (b ∷ bs)) in rw parts.1 (omega arith)
+extent-some mode depth (b ∷ bs) h = let parts = length_take_extent (kind_at mode depth (b ∷ bs)) depth b bs (stands_at mode depth (b ∷ bs)) in
+    rw parts.1 (omega arith)
 
 -- ---- `elements_from`
 
-pub elements_from-skip : (mode : TextMode) (skip start depth : ℕ) (s : List ℕ) → elements_from mode skip start depth s ≡ elements_from mode 0 (start + skip) (fold depth_after depth (take skip s)) (drop skip s)
+pub elements_from-skip : (mode : TextMode) (skip start depth : ℕ) (s : List ℕ) → elements_from mode skip start depth s
+    ≡ elements_from mode 0 (start + skip) (fold depth_after depth (take skip s)) (drop skip s)
 unfolding elements_from
 elements_from-skip mode zero start depth s = rw add-zero refl
 elements_from-skip mode (suc skip) start depth [] = refl
 elements_from-skip mode (suc skip) start depth (b ∷ bs) =
     let moved : start + 1 + skip ≡ start + suc skip = omega arith in
-    elements_from-skip mode skip (start + 1) (depth_after depth b) bs ∙ ap (λ n. elements_from mode 0 n (fold depth_after depth (take (suc skip) (b ∷ bs))) (drop skip bs)) moved
+    elements_from-skip mode skip (start + 1) (depth_after depth b) bs
+    ∙ ap (λ n. elements_from mode 0 n (fold depth_after depth (take (suc skip) (b ∷ bs))) (drop skip bs)) moved
 
 -- a first element and the others, in a string that isn't empty
-others : (mode : TextMode) (m start depth b : ℕ) (bs : List ℕ) → elements_from mode (suc m - 1) (start + 1) (depth_after depth b) bs ≡ elements_from mode 0 (start + suc m) (fold depth_after depth (b ∷ take m bs)) (drop m bs)
+others : (mode : TextMode) (m start depth b : ℕ) (bs : List ℕ) → elements_from mode (suc m - 1) (start + 1) (depth_after depth b) bs
+    ≡ elements_from mode 0 (start + suc m) (fold depth_after depth (b ∷ take m bs)) (drop m bs)
 unfolding elements_from
 others mode m start depth b bs = let e : suc m - 1 ≡ m = omega arith in rw e (elements_from-skip mode (suc m) start depth (b ∷ bs))
 
 pub elements_from-cons : (mode : TextMode) (start depth b : ℕ) (bs : List ℕ) →
     let part = element_at mode start depth (b ∷ bs) in
-    elements_from mode 0 start depth (b ∷ bs) ≡ part ∷ elements_from mode 0 (start + length part.text) (fold depth_after depth part.text) (drop (length part.text) (b ∷ bs))
+    elements_from mode 0 start depth (b ∷ bs) ≡ part ∷ elements_from mode 0 (start + length part.text) (fold depth_after depth part.text)
+    (drop (length part.text) (b ∷ bs))
 unfolding elements_from
 elements_from-cons mode start depth b bs =
     let parts = length_take_extent (kind_at mode depth (b ∷ bs)) depth b bs (stands_at mode depth (b ∷ bs)) in
@@ -127,7 +137,8 @@ others_past : (mode : TextMode) (kind : Kind) (start depth b : ℕ) (bs : List �
     ≡ elements_from mode 0 start (depth_past kind depth b) (drop (extent kind (b ∷ bs)) (b ∷ bs))
 unfolding elements_from
 others_past mode Special start depth b bs h = past (group_closes 0 (b ∷ bs)) where
-  past : Closes 0 (b ∷ bs) (group_len 0 (b ∷ bs)) → elements_from mode 0 start (fold depth_after depth (take (group_len 0 (b ∷ bs)) (b ∷ bs))) (drop (group_len 0 (b ∷ bs)) (b ∷ bs)) ≡ elements_from mode 0 start 0 (drop (group_len 0 (b ∷ bs)) (b ∷ bs))
+  past : Closes 0 (b ∷ bs) (group_len 0 (b ∷ bs)) → elements_from mode 0 start (fold depth_after depth (take (group_len 0 (b ∷ bs)) (b ∷ bs)))
+      (drop (group_len 0 (b ∷ bs)) (b ∷ bs)) ≡ elements_from mode 0 start 0 (drop (group_len 0 (b ∷ bs)) (b ∷ bs))
   past (inl e) = rw (h, e) refl
   past (inr e) = rw e refl
 others_past mode Wide start depth b bs h = rw (fold-sequence _ depth (begins_sequence-front (b ∷ bs) h)) refl
@@ -140,7 +151,8 @@ pub elements_from-step : (mode : TextMode) (start depth b : ℕ) (s bs : List �
 elements_from-step mode start depth b s bs e = rw e (step (kind_at mode depth (b ∷ bs)) refl) where
   step : (kind : Kind) → kind ≡ kind_at mode depth (b ∷ bs) →
       let text = take (extent kind (b ∷ bs)) (b ∷ bs) in
-      elements_from mode 0 start depth (b ∷ bs) ≡ record { kind = kind; text = text; start = start; depth = depth } ∷ elements_from mode 0 (start + length text) (depth_past kind depth b) (drop (extent kind (b ∷ bs)) (b ∷ bs))
+      elements_from mode 0 start depth (b ∷ bs) ≡ record { kind = kind; text = text; start = start; depth = depth } ∷ elements_from mode 0 (start + length text)
+      (depth_past kind depth b) (drop (extent kind (b ∷ bs)) (b ∷ bs))
   step kind is =
       let n = extent kind (b ∷ bs) in
       let text = take n (b ∷ bs) in
@@ -148,9 +160,13 @@ elements_from-step mode start depth b s bs e = rw e (step (kind_at mode depth (b
       let parts = length_take_extent kind depth b bs stands in
       let fits : n ≤ length (b ∷ bs) = omega arith in
       let len : length text ≡ n = length-take-le n (b ∷ bs) fits in
-      let first : elements_from mode 0 start depth (b ∷ bs) ≡ record { kind = kind; text = text; start = start; depth = depth } ∷ elements_from mode 0 (start + length text) (fold depth_after depth text) (drop (length text) (b ∷ bs)) = rw is (elements_from-cons mode start depth b bs) in
-      let tail : elements_from mode 0 (start + length text) (fold depth_after depth text) (drop (length text) (b ∷ bs)) ≡ elements_from mode 0 (start + length text) (depth_past kind depth b) (drop n (b ∷ bs)) =
-      ap (λ k. elements_from mode 0 (start + length text) (fold depth_after depth text) (drop k (b ∷ bs))) len ∙ others_past mode kind (start + length text) depth b bs stands in
+      let first : elements_from mode 0 start depth (b ∷ bs) ≡ record { kind = kind; text = text; start = start; depth = depth }
+      ∷ elements_from mode 0 (start + length text) (fold depth_after depth text) (drop (length text) (b ∷ bs)) =
+      rw is (elements_from-cons mode start depth b bs) in
+      let tail : elements_from mode 0 (start + length text) (fold depth_after depth text) (drop (length text) (b ∷ bs))
+      ≡ elements_from mode 0 (start + length text) (depth_past kind depth b) (drop n (b ∷ bs)) =
+      ap (λ k. elements_from mode 0 (start + length text) (fold depth_after depth text) (drop k (b ∷ bs))) len
+      ∙ others_past mode kind (start + length text) depth b bs stands in
       first ∙ ap (λ (ps : List Element). record { kind = kind; text = text; start = start; depth = depth } ∷ ps) tail
 
 pub elements_from-nil : (mode : TextMode) (skip start depth : ℕ) (s : List ℕ) → length s ≡ 0 → elements_from mode skip start depth s ≡ []
@@ -188,7 +204,8 @@ elements_from-low (suc skip) start depth (b ∷ bs) h = elements_from-low skip (
 elements_from-low zero start depth (b ∷ bs) h =
     let here : b < 128 = h 0 0 (omega arith) in
     let part = element_at Bytes start depth (b ∷ bs) in
-    rw (kind_at-low depth b bs here) (ap (λ (ps : List Element). part ∷ ps) (elements_from-low (length part.text - 1) (start + 1) (depth_after depth b) bs (low_tail b bs h)))
+    rw (kind_at-low depth b bs here) (ap (λ (ps : List Element). part ∷ ps)
+    (elements_from-low (length part.text - 1) (start + 1) (depth_after depth b) bs (low_tail b bs h)))
 
 pub elements_of-low : (string : List ℕ) → All (λ b. b < 128) string → elements_of Utf8 string ≡ elements_of Bytes string
 unfolding elements_of

@@ -72,7 +72,8 @@ three_is a b c h k s low high =
 four_is : (a b c d : ℕ) → 240 ≤ a → a ≤ 244 → Second a b → 128 ≤ c → c ≤ 191 → 128 ≤ d → d ≤ 191 → is_sequence (a ∷ b ∷ c ∷ d ∷ []) ≡ true
 unfolding is_sequence
 four_is a b c d h k s low high low' high' =
-    and_from _ _ (and_from _ _ (eq-eqb 4 _ (sym (size_four a h k))) (second_from a b s)) (and_from _ _ (further_from c low high) (and_from _ _ (further_from d low' high') refl))
+    and_from _ _ (and_from _ _ (eq-eqb 4 _ (sym (size_four a h k))) (second_from a b s))
+    (and_from _ _ (further_from c low high) (and_from _ _ (further_from d low' high') refl))
 
 encode_two : (c : ℕ) → 128 ≤ c → c < 2048 → encode c ≡ (192 + c / 64) ∷ (128 + c % 64) ∷ []
 unfolding encode
@@ -166,9 +167,15 @@ encoded_three a b d h k s low_d high_d =
     let few : c < 65536 = omega arith in
     let outside : IsScalar c = ⊎_elim
     (λ lt. scalar_below c (omega arith))
-    (λ ge. ⊎_elim (λ at. let b_high : b ≤ 159 = surrogate at in scalar_below c (omega arith)) (λ other. scalar_above c (omega arith) (omega arith)) (cases_eq a 237))
-    (cases_lt a 237) in
-    (c, outside, omega arith, encode_three c some few ∙ triple (224 + c / 4096) (128 + c / 64 % 64) (128 + c % 64) a b d (omega arith) (omega arith) (omega arith))
+    (λ ge. ⊎_elim (λ at. let b_high : b ≤ 159 = surrogate at in scalar_below c (omega arith)) (λ other. scalar_above c (omega arith) (omega arith))
+    (cases_eq a 237))
+    (cases_lt a 237) in (
+      c,
+      outside,
+      omega arith,
+      encode_three c some few ∙ triple (224 + c / 4096) (128 + c / 64 % 64) (128 + c % 64) a b d (omega arith) (omega arith)
+          (omega arith),
+    )
 
 encoded_four : (a b d e : ℕ) → 240 ≤ a → a ≤ 244 → Second a b → 128 ≤ d → d ≤ 191 → 128 ≤ e → e ≤ 191 → IsEncoded (a ∷ b ∷ d ∷ e ∷ [])
 encoded_four a b d e h k s low_d high_d low_e high_e =
@@ -178,29 +185,38 @@ encoded_four a b d e h k s low_d high_d low_e high_e =
     let last = s.last in
     let c = (a - 240) * 262144 + (b - 128) * 4096 + (d - 128) * 64 + (e - 128) in
     let some : 65536 ≤ c = ⊎_elim (λ first. let b_low : 144 ≤ b = overlong first in omega arith) (λ other. omega arith) (cases_eq a 240) in
-    let few : c < 1114112 = ⊎_elim (λ at. let b_high : b ≤ 143 = last at in omega arith) (λ other. omega arith) (cases_eq a 244) in
-    (c, scalar_above c (omega arith) few, omega arith, encode_four c some ∙ four_of (240 + c / 262144) (128 + c / 4096 % 64) (128 + c / 64 % 64) (128 + c % 64) a b d e (omega arith) (omega arith) (omega arith) (omega arith))
+    let few : c < 1114112 = ⊎_elim (λ at. let b_high : b ≤ 143 = last at in omega arith) (λ other. omega arith) (cases_eq a 244) in (
+      c,
+      scalar_above c (omega arith) few,
+      omega arith,
+      encode_four c some ∙ four_of (240 + c / 262144) (128 + c / 4096 % 64) (128 + c / 64 % 64) (128 + c % 64)
+          a b d e (omega arith) (omega arith) (omega arith) (omega arith),
+    )
 
 by_size : (a b : ℕ) (others : List ℕ) → length (a ∷ b ∷ others) ≡ sequence_size a → Second a b → list_all is_further others ≡ true → IsEncoded (a ∷ b ∷ others)
 by_size a b [] len s f =
     ⊎_elim (λ two. encoded_two a b two.1 two.2 s)
-    (λ more. ⊎_elim (λ three. absurd (omega (arith, three.0))) (λ most. ⊎_elim (λ four. absurd (omega (arith, four.0))) (λ none. absurd (omega arith)) most) more)
+    (λ more. ⊎_elim (λ three. absurd (omega (arith, three.0))) (λ most. ⊎_elim (λ four. absurd (omega (arith, four.0))) (λ none. absurd (omega arith)) most)
+    more)
     (size_cases a)
 by_size a b (d ∷ []) len s f =
     let fits = further_shows d (and_parts _ _ f).0 in
     ⊎_elim (λ two. absurd (omega (arith, two.0)))
-    (λ more. ⊎_elim (λ three. encoded_three a b d three.1 three.2 s fits.0 fits.1) (λ most. ⊎_elim (λ four. absurd (omega (arith, four.0))) (λ none. absurd (omega arith)) most) more)
+    (λ more. ⊎_elim (λ three. encoded_three a b d three.1 three.2 s fits.0 fits.1)
+    (λ most. ⊎_elim (λ four. absurd (omega (arith, four.0))) (λ none. absurd (omega arith)) most) more)
     (size_cases a)
 by_size a b (d ∷ e ∷ []) len s f =
     let parts = and_parts _ _ f in
     let fits = further_shows d parts.0 in
     let fits_more = further_shows e (and_parts _ _ parts.1).0 in
     ⊎_elim (λ two. absurd (omega (arith, two.0)))
-    (λ more. ⊎_elim (λ three. absurd (omega (arith, three.0))) (λ most. ⊎_elim (λ four. encoded_four a b d e four.1 four.2 s fits.0 fits.1 fits_more.0 fits_more.1) (λ none. absurd (omega arith)) most) more)
+    (λ more. ⊎_elim (λ three. absurd (omega (arith, three.0)))
+    (λ most. ⊎_elim (λ four. encoded_four a b d e four.1 four.2 s fits.0 fits.1 fits_more.0 fits_more.1) (λ none. absurd (omega arith)) most) more)
     (size_cases a)
 by_size a b (d ∷ e ∷ f' ∷ others) len s f =
     ⊎_elim (λ two. absurd (omega (arith, two.0)))
-    (λ more. ⊎_elim (λ three. absurd (omega (arith, three.0))) (λ most. ⊎_elim (λ four. absurd (omega (arith, four.0))) (λ none. absurd (omega arith)) most) more)
+    (λ more. ⊎_elim (λ three. absurd (omega (arith, three.0))) (λ most. ⊎_elim (λ four. absurd (omega (arith, four.0))) (λ none. absurd (omega arith)) most)
+    more)
     (size_cases a)
 
 pub is_sequence-encoded : (t : List ℕ) → is_sequence t ≡ true → (c : ℕ) × IsScalar c × (128 ≤ c) × (encode c ≡ t)

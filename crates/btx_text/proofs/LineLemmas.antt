@@ -1,5 +1,6 @@
 -- Lemmas on the lines of a text.
-use Rattle.std.proofs.Common.{◌≡◌, ℕ, zero, suc, ◌+◌, ◌-◌, ◌<◌, ◌≤◌, Bool, true, false, cond, eqb, List, [], ◌∷◌, ◌++◌, length, take, drop, get_or, map, refl, sym, ap, arith, Some, None}
+use Rattle.std.proofs.Common.{◌≡◌, ℕ, zero, suc, ◌+◌, ◌-◌, ◌<◌, ◌≤◌, Bool, true, false, cond, eqb, List, [], ◌∷◌, ◌++◌, length, take, drop, get_or, map, refl}
+use Rattle.std.proofs.Common.{sym, ap, arith, Some, None}
 use Rattle.std.proofs.lemmas.List.{take_more, take_rest}
 use Rattle.std.proofs.lemmas.Bool.{false_from_ne_true}
 use Rattle.memchr.specs.Find.{IsFirstByte, is_byte}
@@ -9,10 +10,12 @@ use Rattle.std.specs.List.{onto_first}
 
 -- ---- the first piece
 
-first_step : (b : ℕ) (bs : List ℕ) (k : ℕ) (t : Bool) → t ≡ false → line_pieces bs ≡ take k bs ∷ line_pieces (drop (suc k) bs) → cond t ([] ∷ line_pieces bs) (onto_first b (line_pieces bs)) ≡ (b ∷ take k bs) ∷ line_pieces (drop (suc k) bs)
+first_step : (b : ℕ) (bs : List ℕ) (k : ℕ) (t : Bool) → t ≡ false → line_pieces bs ≡ take k bs ∷ line_pieces (drop (suc k) bs)
+    → cond t ([] ∷ line_pieces bs) (onto_first b (line_pieces bs)) ≡ (b ∷ take k bs) ∷ line_pieces (drop (suc k) bs)
 first_step b bs k t is h = rw (is, h) refl
 
-pieces_of-first : (s : List ℕ) (k : ℕ) → k < length s → ((j : ℕ) → j < k → eqb (get_or s j 0) 10 ≡ true → ⊥) → eqb (get_or s k 0) 10 ≡ true → line_pieces s ≡ take k s ∷ line_pieces (drop (suc k) s)
+pieces_of-first : (s : List ℕ) (k : ℕ) → k < length s → ((j : ℕ) → j < k → eqb (get_or s j 0) 10 ≡ true → ⊥) → eqb (get_or s k 0) 10 ≡ true
+    → line_pieces s ≡ take k s ∷ line_pieces (drop (suc k) s)
 unfolding line_pieces
 pieces_of-first [] k lt before here = absurd (omega arith)
 pieces_of-first (b ∷ bs) zero lt before here = rw here refl
@@ -61,7 +64,8 @@ trimmed-ink (c ∷ cs) b h = rw (trimmed-ink cs b h) (at cs (is_white c)) where
   at (d ∷ ds) true = refl
   at cs false = refl
 
-pub trimmed-take_white : (s : List ℕ) (end : ℕ) → 0 < end → end ≤ length s → is_white (get_or s (end - 1) 0) ≡ true → trimmed (take (end - 1) s) ≡ trimmed (take end s)
+pub trimmed-take_white : (s : List ℕ) (end : ℕ) → 0 < end → end ≤ length s → is_white (get_or s (end - 1) 0) ≡ true → trimmed (take (end - 1) s)
+    ≡ trimmed (take end s)
 trimmed-take_white s end some le h =
     let e : end - 1 + 1 ≡ end = omega arith in
     let lt : end - 1 < length s = omega arith in

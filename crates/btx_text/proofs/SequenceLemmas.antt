@@ -86,7 +86,8 @@ begins_sequence-low b bs h = rw (sequence_size-low b h) refl
 pub take_whole : (n : ℕ) (s : List ℕ) → take (min n (length s)) s ≡ take n s
 take_whole n s = ⊎_elim
     (λ lt. let e : min n (length s) ≡ n = omega arith in ap (λ k. take k s) e)
-    (λ le. let e : min n (length s) ≡ length s = omega arith in let fits : length s ≤ length s = omega arith in ap (λ k. take k s) e ∙ take_all (length s) s fits ∙ sym (take_all n s le))
+    (λ le. let e : min n (length s) ≡ length s = omega arith in let fits : length s ≤ length s = omega arith in ap (λ k. take k s) e
+    ∙ take_all (length s) s fits ∙ sym (take_all n s le))
     (cases_lt n (length s))
 
 pub ruleset sequence_steps = (take_whole)

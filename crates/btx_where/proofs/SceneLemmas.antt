@@ -30,7 +30,8 @@ module _ (job : Job) (code : Coded) (at : Position) (opens : List Open) (old new
   abbrev counts : LogCounts
   counts = log_counts old.outputs.log.warnings old.outputs.log.errors
 
-  is_scene : (scene : Scene) → IsLineLength old.outputs.breaker.line_length → old.store ≡ first_store job → old.outputs.breaker ≡ holding old.outputs.breaker.line_length (Collecting []) → taken ≡ budget
+  is_scene : (scene : Scene) → IsLineLength old.outputs.breaker.line_length → old.store ≡ first_store job
+      → old.outputs.breaker ≡ holding old.outputs.breaker.line_length (Collecting []) → taken ≡ budget
       → Comes old new (StandsInStyle job code at opens (do_items job job.style.items []) taken)
       → scene.next ≡ next_token code at → frames_shown job.style scene.levels.items ≡ frames_of code at.place opens
       → scene.entry ≡ store'.current → scene.depth ≡ length store'.literals → scene.literals.items ≡ take 8 store'.literals
@@ -58,10 +59,13 @@ module _ (job : Job) (code : Coded) (at : Position) (opens : List Open) (old new
       }
 
   -- what is shown, if anything is
-  pub shows : (found : Option Scene) → IsLineLength old.outputs.breaker.line_length → old.store ≡ first_store job → old.outputs.breaker ≡ holding old.outputs.breaker.line_length (Collecting []) → taken ≡ budget
+  pub shows : (found : Option Scene) → IsLineLength old.outputs.breaker.line_length → old.store ≡ first_store job
+      → old.outputs.breaker ≡ holding old.outputs.breaker.line_length (Collecting []) → taken ≡ budget
       → Comes old new (StandsInStyle job code at opens (do_items job job.style.items []) taken)
-      → IfSome found (λ scene. scene.next ≡ next_token code at) → IfSome found (λ scene. frames_shown job.style scene.levels.items ≡ frames_of code at.place opens)
-      → IfSome found (λ scene. scene.entry ≡ store'.current) → IfSome found (λ scene. scene.depth ≡ length store'.literals) → IfSome found (λ scene. scene.literals.items ≡ take 8 store'.literals)
+      → IfSome found (λ scene. scene.next ≡ next_token code at)
+      → IfSome found (λ scene. frames_shown job.style scene.levels.items ≡ frames_of code at.place opens)
+      → IfSome found (λ scene. scene.entry ≡ store'.current) → IfSome found (λ scene. scene.depth ≡ length store'.literals)
+      → IfSome found (λ scene. scene.literals.items ≡ take 8 store'.literals)
       → IfSome found (λ scene. IsScene job counts budget scene)
   shows None range store fresh e stands next levels entry depth literals = tt
   shows (Some scene) range store fresh e stands next levels entry depth literals = is_scene scene range store fresh e stands next levels entry depth literals

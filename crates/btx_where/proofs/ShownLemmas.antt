@@ -22,7 +22,8 @@ module _ {A : Type 0} (x : A) (rest : List A) where
   drop_more (suc n) [] e = absurd (no_more e)
   drop_more (suc n) (y ∷ xs) e = drop_more n xs e
 
-pub walked : (code : Coded) (start at : ℕ) (t : Token) → start ≤ at → drop (at - start) (tokens_left code start) ≡ tokens_left code at → tokens_left code at ≡ t ∷ tokens_left code (at + 1)
+pub walked : (code : Coded) (start at : ℕ) (t : Token) → start ≤ at → drop (at - start) (tokens_left code start) ≡ tokens_left code at
+    → tokens_left code at ≡ t ∷ tokens_left code (at + 1)
     → drop (at + 1 - start) (tokens_left code start) ≡ tokens_left code (at + 1)
 walked code start at t le before next =
     let z : at + 1 - start ≡ suc (at - start) = omega (arith, le) in

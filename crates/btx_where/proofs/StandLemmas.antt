@@ -33,33 +33,42 @@ begins job code at opens work k z =
     store_becomes work work (Keeps job code at opens at opens k) refl (λ out n. let f : n ≡ n + k = omega (arith, z) in
     ap (λ b. execute_at job code at opens b (state work.store out)) f)
 
-pub goes : (job : Job) (code : Coded) (at : Position) (opens : List Open) (mid_at : Position) (mid_opens : List Open) (to : Position) (opens' : List Open) (l : Lead) (old mid new : Work) (k k' : ℕ)
+pub goes : (job : Job) (code : Coded) (at : Position) (opens : List Open) (mid_at : Position) (mid_opens : List Open) (to : Position) (opens' : List Open)
+    (l : Lead) (old mid new : Work) (k k' : ℕ)
     → l ≡ lead.Goes → k' ≡ k + 1 → Comes old mid (Keeps job code at opens mid_at mid_opens k)
     → Comes mid new (λ s t. (left : ℕ) → lead_as job code l to opens' left t ≡ execute_at job code mid_at mid_opens (left + 1) s)
     → Comes old new (Keeps job code at opens to opens' k')
 goes job code at opens mid_at mid_opens to opens' l old mid new k k' is e first second =
-    comes_then old mid new (Keeps job code at opens mid_at mid_opens k) (λ s t. (left : ℕ) → lead_as job code l to opens' left t ≡ execute_at job code mid_at mid_opens (left + 1) s)
+    comes_then old mid new (Keeps job code at opens mid_at mid_opens k)
+    (λ s t. (left : ℕ) → lead_as job code l to opens' left t ≡ execute_at job code mid_at mid_opens (left + 1) s)
     (Keeps job code at opens to opens' k')
-    (λ s t u i j n. let f : n + 1 + k ≡ n + k' = omega (arith, e) in ap (λ l. lead_as job code l to opens' n u) (sym is) ∙ j n ∙ i (n + 1) ∙ ap (λ b. execute_at job code at opens b s) f) first second
+    (λ s t u i j n. let f : n + 1 + k ≡ n + k' = omega (arith, e) in ap (λ l. lead_as job code l to opens' n u) (sym is) ∙ j n ∙ i (n + 1)
+    ∙ ap (λ b. execute_at job code at opens b s) f) first second
 
-module _ (job : Job) (code : Coded) (at : Position) (opens : List Open) (mid_at : Position) (mid_opens : List Open) (to : Position) (opens' : List Open) (l : Lead) (old mid new : Work) (k k' : ℕ) where
+module _ (job : Job) (code : Coded) (at : Position) (opens : List Open) (mid_at : Position) (mid_opens : List Open) (to : Position) (opens' : List Open)
+    (l : Lead) (old mid new : Work) (k k' : ℕ) where
   -- the step after which nothing is left
   pub over : l ≡ lead.Over ends.Finished → k' ≡ k + 1 → Comes old mid (Keeps job code at opens mid_at mid_opens k)
       → Comes mid new (λ s t. (left : ℕ) → lead_as job code l to opens' left t ≡ execute_at job code mid_at mid_opens (left + 1) s)
       → Comes old new (Runs (execute_at job code at opens) k' ends.Finished)
   over is e first second =
-      comes_then old mid new (Keeps job code at opens mid_at mid_opens k) (λ s t. (left : ℕ) → lead_as job code l to opens' left t ≡ execute_at job code mid_at mid_opens (left + 1) s)
+      comes_then old mid new (Keeps job code at opens mid_at mid_opens k)
+      (λ s t. (left : ℕ) → lead_as job code l to opens' left t ≡ execute_at job code mid_at mid_opens (left + 1) s)
       (Runs (execute_at job code at opens) k' ends.Finished)
-      (λ s t u i j n h. let f : n + 1 + k ≡ n + k' = omega (arith, e) in ap (λ l. lead_as job code l to opens' n u) (sym is) ∙ j n ∙ i (n + 1) ∙ ap (λ b. execute_at job code at opens b s) f) first second
+      (λ s t u i j n h. let f : n + 1 + k ≡ n + k' = omega (arith, e) in ap (λ l. lead_as job code l to opens' n u) (sym is) ∙ j n ∙ i (n + 1)
+      ∙ ap (λ b. execute_at job code at opens b s) f) first second
 
 -- a command's function, executed from its beginning with nothing open
-module _ (job : Job) (command : Command) (f : Callee) (entry : Option ℕ) (old mid : Work) (same : mid.outputs ≡ old.outputs) (is : mid.store ≡ with_current entry old.store)
-    (code : Coded) (first : Position) (none : List Open) (means : (n : ℕ) (s : State) → execute_at job code first [] n s ≡ meaning job (Run f) 0 0 n s) (z : none ≡ []) where
+module _ (job : Job) (command : Command) (f : Callee) (entry : Option ℕ) (old mid : Work) (same : mid.outputs ≡ old.outputs)
+    (is : mid.store ≡ with_current entry old.store)
+    (code : Coded) (first : Position) (none : List Open) (means : (n : ℕ) (s : State) → execute_at job code first [] n s ≡ meaning job (Run f) 0 0 n s)
+    (z : none ≡ []) where
   begun : (n : ℕ) (s : State) → execute_at job code first none n s ≡ meaning job (Run f) 0 0 n s
   begun n s = ap (λ opens. execute_at job code first opens n s) z ∙ means n s
 
   -- it is stopped: what is open goes on, and then the stack is emptied
-  pub visit_stands : (new : Work) (at : Position) (opens : List Open) (k : ℕ) → Comes mid new (λ s t. (n : ℕ) → execute_at job code at opens n t ≡ execute_at job code first none (n + k) s)
+  pub visit_stands : (new : Work) (at : Position) (opens : List Open) (k : ℕ)
+      → Comes mid new (λ s t. (n : ℕ) → execute_at job code at opens n t ≡ execute_at job code first none (n + k) s)
       → Comes old new (StandsInFunction job command code at opens (visit job command f entry) k)
   unfolding visit
   visit_stands new at opens k stands =
@@ -70,8 +79,10 @@ module _ (job : Job) (command : Command) (f : Callee) (entry : Option ℕ) (old 
       (store_becomes old mid (λ s t. t ≡ at_entry entry s) same (λ out. rw is refl)) stands
 
   -- it is done, and the stack is emptied
-  pub visit_finishes : (new new' : Work) (k : ℕ) → Comes mid new (Runs (execute_at job code first none) k ends.Finished) → Comes new new' (λ s t. t ≡ cleared job command s)
+  pub visit_finishes : (new new' : Work) (k : ℕ) → Comes mid new (Runs (execute_at job code first none) k ends.Finished)
+      → Comes new new' (λ s t. t ≡ cleared job command s)
       → Comes old new' (Runs (visit job command f entry) k ends.Finished)
   visit_finishes new new' k runs clears =
       visit_clears job command f entry old mid same is new new' k
-      (comes_as mid new (Runs (execute_at job code first none) k ends.Finished) (Runs (meaning job (Run f) 0 0) k ends.Finished) (λ s t r n h. r n h ∙ begun (n + k) s) runs) clears
+      (comes_as mid new (Runs (execute_at job code first none) k ends.Finished) (Runs (meaning job (Run f) 0 0) k ends.Finished)
+      (λ s t r n h. r n h ∙ begun (n + k) s) runs) clears

@@ -8,12 +8,14 @@ use Rattle.btx_aux.proofs.citations.read_aux.Goals as goal
 pub returns-clause-job : goal.returns-clause-job
 returns-clause-job g c =
     let top = c.args.top.now in
-    IfOk-weaker c.close.result _ _ (λ job closes. shown_by (by_map c.in_ok-read_top.ensures.draft (λ names asks. asks) (λ files r. closes ∙ ap closed r ∙ closed-topped files top))) c.close.ensures.job
+    IfOk-weaker c.close.result _ _ (λ job closes. shown_by
+    (by_map c.in_ok-read_top.ensures.draft (λ names asks. asks) (λ files r. closes ∙ ap closed r ∙ closed-topped files top))) c.close.ensures.job
 
 pub returns-clause-answered : goal.returns-clause-answered
 returns-clause-answered g c =
     let top = c.args.top.now in
-    IfOk-weaker c.close.result _ _ (λ job closes. by_map c.in_ok-read_top.ensures.draft (λ names asks. asks) (λ files r. closes ∙ ap closed r ∙ closed-topped files top)) c.close.ensures.job
+    IfOk-weaker c.close.result _ _ (λ job closes. by_map c.in_ok-read_top.ensures.draft (λ names asks. asks)
+    (λ files r. closes ∙ ap closed r ∙ closed-topped files top)) c.close.ensures.job
 
 pub returns-clause-asked : goal.returns-clause-asked
 returns-clause-asked g c = on_err c.close.result (by_map c.in_ok-read_top.ensures.draft (λ names asks. inr asks) (λ files is. tt))

@@ -25,8 +25,10 @@ invariant-read_lines-loop-line g l =
     record {
       whole : is_whole l.draft.ending ≡ true;
       count : l.number + length l.line-iterator ≤ length l.text;
-      reads : ByAnswers (finder.content l.initial.finder) (finder.answers l.initial.finder) (finder.answers l.finder) (AddsNames l.initial.draft.files l.draft.files)
-          (λ files. run files (opened_by files l.room) l.draft (said_from l.name (l.number + 1) l.line-iterator) ≡ run files (opened_by files l.room) l.initial.draft (said l.name l.text));
+      reads : ByAnswers (finder.content l.initial.finder) (finder.answers l.initial.finder) (finder.answers l.finder)
+          (AddsNames l.initial.draft.files l.draft.files)
+          (λ files. run files (opened_by files l.room) l.draft (said_from l.name (l.number + 1) l.line-iterator)
+          ≡ run files (opened_by files l.room) l.initial.draft (said l.name l.text));
       failures : (finder.failures l.finder).count ≡ (finder.failures l.initial.finder).count;
       content : finder.content l.finder ≡ finder.content l.initial.finder;
     }

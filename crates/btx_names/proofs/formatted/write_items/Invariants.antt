@@ -9,4 +9,5 @@ use Rattle.btx_names.specs.refinement.FormattedNames.{formatted}
 abbrev pub invariant-loop-item : goal.invariant-loop-item
 invariant-loop-item l =
     (l.writer.mode ≡ l.initial.writer.mode)
-    × (l.writer.text.items ++ flat_map (item_text l.initial.writer.mode (kept_parts l.name)) (items_in (drop l.item-index l.item-items)) ≡ formatted l.initial.writer.mode (kept_parts l.name) l.format.text.items)
+    × (l.writer.text.items ++ flat_map (item_text l.initial.writer.mode (kept_parts l.name)) (items_in (drop l.item-index l.item-items))
+    ≡ formatted l.initial.writer.mode (kept_parts l.name) l.format.text.items)

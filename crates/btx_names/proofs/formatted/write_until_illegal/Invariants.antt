@@ -9,5 +9,6 @@ use Rattle.btx_names.specs.refinement.FormattedNames.{formatted}
 abbrev pub invariant-loop-item : goal.invariant-loop-item
 invariant-loop-item l =
     (l.writer.mode ≡ l.initial.writer.mode)
-    × (l.writer.text.items ++ flat_map (item_text l.initial.writer.mode (kept_parts l.name)) l.item-iterator ≡ formatted l.initial.writer.mode (kept_parts l.name) l.format)
+    × (l.writer.text.items ++ flat_map (item_text l.initial.writer.mode (kept_parts l.name)) l.item-iterator
+    ≡ formatted l.initial.writer.mode (kept_parts l.name) l.format)
     × (list_any is_illegal l.item-iterator ≡ list_any is_illegal (items_of l.format))

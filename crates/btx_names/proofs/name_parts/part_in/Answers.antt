@@ -21,14 +21,18 @@ pub split_at-requires-4 : goal.split_at-requires-4
 split_at-requires-4 c =
     let within = ranges_within c.args.names.now c.args.list.now c.args.ranges c.requires.ranges in
     let surname : part_tokens c.split_at.result.0 ≡ surname_in c.args.names.now c.args.list.now = rw c.deref.ensures.value at c.split_at.ensures.front in
-    rw (c.split_at-3.ensures.back, surname) (omega (arith, within.0, within.1, length-drop c.args.ranges.von_start (surname_in c.args.names.now c.args.list.now)))
+    rw (c.split_at-3.ensures.back, surname)
+    (omega (arith, within.0, within.1, length-drop c.args.ranges.von_start (surname_in c.args.names.now c.args.list.now)))
 
 pub returns-in-First : goal.returns-in-First
 returns-in-First c = λ sections is.
     let all : tokens_in c.args.names.now c.deref.result.now ≡ tokens_in c.args.names.now c.args.list.now.tokens.items = rw c.deref.ensures.value refl in
-    let cut = parts_cut c.args.names.now c.args.list.now c.args.ranges sections (tokens_in c.args.names.now c.deref.result.now) (part_tokens c.split_at.result.0) (part_tokens c.split_at.result.1) (part_tokens c.split_at-2.result.0) (part_tokens c.split_at-2.result.1)
-    (part_tokens c.split_at-3.result.0) (part_tokens c.split_at-3.result.1) (part_tokens c.split_at-4.result.0) (part_tokens c.split_at-4.result.1) is c.requires.ranges all c.split_at.ensures.front c.split_at.ensures.back
-    c.split_at-2.ensures.front c.split_at-2.ensures.back c.split_at-3.ensures.front c.split_at-3.ensures.back c.split_at-4.ensures.front c.split_at-4.ensures.back in
+    let cut = parts_cut c.args.names.now c.args.list.now c.args.ranges sections (tokens_in c.args.names.now c.deref.result.now)
+    (part_tokens c.split_at.result.0) (part_tokens c.split_at.result.1) (part_tokens c.split_at-2.result.0) (part_tokens c.split_at-2.result.1)
+    (part_tokens c.split_at-3.result.0) (part_tokens c.split_at-3.result.1) (part_tokens c.split_at-4.result.0) (part_tokens c.split_at-4.result.1) is
+    c.requires.ranges all c.split_at.ensures.front c.split_at.ensures.back
+    c.split_at-2.ensures.front c.split_at-2.ensures.back c.split_at-3.ensures.front c.split_at-3.ensures.back c.split_at-4.ensures.front
+    c.split_at-4.ensures.back in
     let first : part_tokens c.if-list.first ≡ cond c.args.list.now.has_commas (part_tokens c.split_at-2.result.1) (part_tokens c.split_at-3.result.0) =
     elim c.if-list.branch [
       | then-list w ↦ rw (w.if-list.true, w.first-is) refl
@@ -39,23 +43,32 @@ returns-in-First c = λ sections is.
 pub returns-in-Von : goal.returns-in-Von
 returns-in-Von c = λ sections is.
     let all : tokens_in c.args.names.now c.deref.result.now ≡ tokens_in c.args.names.now c.args.list.now.tokens.items = rw c.deref.ensures.value refl in
-    let cut = parts_cut c.args.names.now c.args.list.now c.args.ranges sections (tokens_in c.args.names.now c.deref.result.now) (part_tokens c.split_at.result.0) (part_tokens c.split_at.result.1) (part_tokens c.split_at-2.result.0) (part_tokens c.split_at-2.result.1)
-    (part_tokens c.split_at-3.result.0) (part_tokens c.split_at-3.result.1) (part_tokens c.split_at-4.result.0) (part_tokens c.split_at-4.result.1) is c.requires.ranges all c.split_at.ensures.front c.split_at.ensures.back
-    c.split_at-2.ensures.front c.split_at-2.ensures.back c.split_at-3.ensures.front c.split_at-3.ensures.back c.split_at-4.ensures.front c.split_at-4.ensures.back in
+    let cut = parts_cut c.args.names.now c.args.list.now c.args.ranges sections (tokens_in c.args.names.now c.deref.result.now)
+    (part_tokens c.split_at.result.0) (part_tokens c.split_at.result.1) (part_tokens c.split_at-2.result.0) (part_tokens c.split_at-2.result.1)
+    (part_tokens c.split_at-3.result.0) (part_tokens c.split_at-3.result.1) (part_tokens c.split_at-4.result.0) (part_tokens c.split_at-4.result.1) is
+    c.requires.ranges all c.split_at.ensures.front c.split_at.ensures.back
+    c.split_at-2.ensures.front c.split_at-2.ensures.back c.split_at-3.ensures.front c.split_at-3.ensures.back c.split_at-4.ensures.front
+    c.split_at-4.ensures.back in
     rw c.in-Von.is cut.1
 
 pub returns-in-Last : goal.returns-in-Last
 returns-in-Last c = λ sections is.
     let all : tokens_in c.args.names.now c.deref.result.now ≡ tokens_in c.args.names.now c.args.list.now.tokens.items = rw c.deref.ensures.value refl in
-    let cut = parts_cut c.args.names.now c.args.list.now c.args.ranges sections (tokens_in c.args.names.now c.deref.result.now) (part_tokens c.split_at.result.0) (part_tokens c.split_at.result.1) (part_tokens c.split_at-2.result.0) (part_tokens c.split_at-2.result.1)
-    (part_tokens c.split_at-3.result.0) (part_tokens c.split_at-3.result.1) (part_tokens c.split_at-4.result.0) (part_tokens c.split_at-4.result.1) is c.requires.ranges all c.split_at.ensures.front c.split_at.ensures.back
-    c.split_at-2.ensures.front c.split_at-2.ensures.back c.split_at-3.ensures.front c.split_at-3.ensures.back c.split_at-4.ensures.front c.split_at-4.ensures.back in
+    let cut = parts_cut c.args.names.now c.args.list.now c.args.ranges sections (tokens_in c.args.names.now c.deref.result.now)
+    (part_tokens c.split_at.result.0) (part_tokens c.split_at.result.1) (part_tokens c.split_at-2.result.0) (part_tokens c.split_at-2.result.1)
+    (part_tokens c.split_at-3.result.0) (part_tokens c.split_at-3.result.1) (part_tokens c.split_at-4.result.0) (part_tokens c.split_at-4.result.1) is
+    c.requires.ranges all c.split_at.ensures.front c.split_at.ensures.back
+    c.split_at-2.ensures.front c.split_at-2.ensures.back c.split_at-3.ensures.front c.split_at-3.ensures.back c.split_at-4.ensures.front
+    c.split_at-4.ensures.back in
     rw c.in-Last.is cut.2
 
 pub returns-in-Jr : goal.returns-in-Jr
 returns-in-Jr c = λ sections is.
     let all : tokens_in c.args.names.now c.deref.result.now ≡ tokens_in c.args.names.now c.args.list.now.tokens.items = rw c.deref.ensures.value refl in
-    let cut = parts_cut c.args.names.now c.args.list.now c.args.ranges sections (tokens_in c.args.names.now c.deref.result.now) (part_tokens c.split_at.result.0) (part_tokens c.split_at.result.1) (part_tokens c.split_at-2.result.0) (part_tokens c.split_at-2.result.1)
-    (part_tokens c.split_at-3.result.0) (part_tokens c.split_at-3.result.1) (part_tokens c.split_at-4.result.0) (part_tokens c.split_at-4.result.1) is c.requires.ranges all c.split_at.ensures.front c.split_at.ensures.back
-    c.split_at-2.ensures.front c.split_at-2.ensures.back c.split_at-3.ensures.front c.split_at-3.ensures.back c.split_at-4.ensures.front c.split_at-4.ensures.back in
+    let cut = parts_cut c.args.names.now c.args.list.now c.args.ranges sections (tokens_in c.args.names.now c.deref.result.now)
+    (part_tokens c.split_at.result.0) (part_tokens c.split_at.result.1) (part_tokens c.split_at-2.result.0) (part_tokens c.split_at-2.result.1)
+    (part_tokens c.split_at-3.result.0) (part_tokens c.split_at-3.result.1) (part_tokens c.split_at-4.result.0) (part_tokens c.split_at-4.result.1) is
+    c.requires.ranges all c.split_at.ensures.front c.split_at.ensures.back
+    c.split_at-2.ensures.front c.split_at-2.ensures.back c.split_at-3.ensures.front c.split_at-3.ensures.back c.split_at-4.ensures.front
+    c.split_at-4.ensures.back in
     rw c.in-Jr.is cut.3

@@ -29,5 +29,6 @@ loop-place-preserved c =
       inside = omega (arith, passed);
       start = c.in_ok-push.ensures.start ∙ kept.start;
       mode = c.in_ok-push.ensures.mode ∙ kept.mode;
-      text = ap (λ (t : List ℕ). t ++ rest) added ∙ append_assoc old (initial_of mode (bytes_at bytes token.text)) rest ∙ ap (λ (t : List ℕ). old ++ t) (sym turn) ∙ kept.text;
+      text = ap (λ (t : List ℕ). t ++ rest) added ∙ append_assoc old (initial_of mode (bytes_at bytes token.text)) rest
+          ∙ ap (λ (t : List ℕ). old ++ t) (sym turn) ∙ kept.text;
     }

@@ -9,7 +9,8 @@ invariant-loop-place l = record {
   inside : l.place ≤ length l.fn.part.tokens.now;
   start : l.writer.start ≡ l.initial.writer.start;
   mode : l.writer.mode ≡ l.initial.writer.mode;
-  text : l.writer.text.items ++ flat_map (λ token. initial_of l.initial.writer.mode token.text) (tokens_in l.fn.part.bytes.now (drop l.place l.fn.part.tokens.now))
+  text : l.writer.text.items ++ flat_map (λ token. initial_of l.initial.writer.mode token.text)
+      (tokens_in l.fn.part.bytes.now (drop l.place l.fn.part.tokens.now))
       ≡ l.initial.writer.text.items ++ flat_map (λ token. initial_of l.initial.writer.mode token.text) (tokens_in l.fn.part.bytes.now l.fn.part.tokens.now);
 }
 

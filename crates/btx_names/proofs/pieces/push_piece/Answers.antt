@@ -34,7 +34,8 @@ returns-in_err-push_tokens-clause-text c =
     let p = err_from_is_err_and c.from_residual-in_err-push_tokens.result c.from_residual-in_err-push_tokens.ensures.1 in
     rw (p.1, p.2)
     (fails_too 1000001 1000000 c.in_err-push_tokens.field-0.0 _ _ _ _
-    (λ long. filled_too_long c.args.writer.now.mode piece tokens c.begin_piece.new.self.start 1000000 text c.push.new.self.text.items some start opened (rw (c.in_ok-push.ensures.start, c.in_ok-push.ensures.mode, c.begin_piece.ensures.mode) at long))
+    (λ long. filled_too_long c.args.writer.now.mode piece tokens c.begin_piece.new.self.start 1000000 text c.push.new.self.text.items some start opened
+    (rw (c.in_ok-push.ensures.start, c.in_ok-push.ensures.mode, c.begin_piece.ensures.mode) at long))
     c.in_err-push_tokens.ensures.text)
 
 pub returns-in_err-push-2-clause-text : goal.returns-in_err-push-2-clause-text
@@ -49,7 +50,8 @@ returns-in_err-push-2-clause-text c =
     let p = err_from_is_err_and c.from_residual-in_err-push-2.result c.from_residual-in_err-push-2.ensures.1 in
     rw (p.1, p.2)
     (fails_too 1000001 1000000 c.in_err-push-2.field-0.0 _ _ _ _
-    (λ long. closed_too_long c.args.writer.now.mode piece tokens c.begin_piece.new.self.start 1000000 text c.push.new.self.text.items c.push_tokens.new.writer.text.items some start opened filled long)
+    (λ long. closed_too_long c.args.writer.now.mode piece tokens c.begin_piece.new.self.start 1000000 text c.push.new.self.text.items
+    c.push_tokens.new.writer.text.items some start opened filled long)
     c.in_err-push-2.ensures.text)
 
 pub returns-clause-text : goal.returns-clause-text
@@ -62,5 +64,14 @@ returns-clause-text c =
     let opened : c.push.new.self.text.items ≡ text ++ piece.before = rw c.begin_piece.ensures.text at c.in_ok-push.ensures.text in
     let filled = rw (c.in_ok-push.ensures.start, c.in_ok-push.ensures.mode, c.begin_piece.ensures.mode) at c.in_ok-push_tokens.ensures.text in
     let closed = c.in_ok-push-2.ensures in
-    let finished = rw (closed.start, c.in_ok-push_tokens.ensures.start, c.in_ok-push.ensures.start, closed.mode, c.in_ok-push_tokens.ensures.mode, c.in_ok-push.ensures.mode, c.begin_piece.ensures.mode) at c.finish_piece.ensures.text in
-    piece_made c.args.writer.now.mode piece tokens c.begin_piece.new.self.start text c.push.new.self.text.items c.push_tokens.new.writer.text.items c.push-2.new.self.text.items c.finish_piece.new.self.text.items some start opened filled closed.text finished
+    let finished = rw (
+      closed.start,
+      c.in_ok-push_tokens.ensures.start,
+      c.in_ok-push.ensures.start,
+      closed.mode,
+      c.in_ok-push_tokens.ensures.mode,
+      c.in_ok-push.ensures.mode,
+      c.begin_piece.ensures.mode,
+    ) at c.finish_piece.ensures.text in
+    piece_made c.args.writer.now.mode piece tokens c.begin_piece.new.self.start text c.push.new.self.text.items c.push_tokens.new.writer.text.items
+    c.push-2.new.self.text.items c.finish_piece.new.self.text.items some start opened filled closed.text finished

@@ -13,7 +13,8 @@ pub returns-then-has_nothing_between-clause-text : goal.returns-then-has_nothing
 returns-then-has_nothing_between-clause-text c =
     let piece = piece_view c.args.piece in
     let is = nothing_between piece (sym c.has_nothing_between.ensures ∙ c.if-has_nothing_between.true) in
-    rw (initials_joined c.args.writer.now.mode piece c.args.writer.now.start c.args.writer.now.text.items (part_tokens c.args.part) is.0 is.1) c.push_initials.ensures.text
+    rw (initials_joined c.args.writer.now.mode piece c.args.writer.now.start c.args.writer.now.text.items (part_tokens c.args.part) is.0 is.1)
+    c.push_initials.ensures.text
 
 pub push_shown-requires : goal.push_shown-requires
 push_shown-requires c = held_at c.args.part.bytes.now c.args.part.tokens.now c.loop-token.token-index no_token (omega arith) c.args.part.held
@@ -37,7 +38,8 @@ returns-in_err-push_shown-clause-text c =
     let p = err_from_is_err_and c.from_residual.result c.from_residual.ensures.1 in
     rw (p.1, p.2)
     (fails_too 1000001 1000001 c.in_err-push_shown.field-0.0 _ _ _ _
-    (λ long. shown_too_long mode piece start 1000001 old before (with_tokens mode piece (drop start c.args.writer.now.text.items) (part_tokens c.args.part)) token tokens all inside kept.before split kept.rest (rw kept.mode at long))
+    (λ long. shown_too_long mode piece start 1000001 old before (with_tokens mode piece (drop start c.args.writer.now.text.items) (part_tokens c.args.part))
+    token tokens all inside kept.before split kept.rest (rw kept.mode at long))
     c.in_err-push_shown.ensures.text)
 
 pub returns-in_err-push_between-clause-text : goal.returns-in_err-push_between-clause-text
@@ -62,7 +64,9 @@ returns-in_err-push_between-clause-text c =
     let p = err_from_is_err_and c.from_residual-in_err-push_between.result c.from_residual-in_err-push_between.ensures.1 in
     rw (p.1, p.2)
     (fails_too 1000001 1000001 c.in_err-push_between.field-0.0 _ _ _ _
-    (λ long. between_too_long mode piece start 1000001 old mid before (with_tokens mode piece (drop start c.args.writer.now.text.items) (part_tokens c.args.part)) token tokens all inside kept.before split kept.rest first (rw (c.in_ok-push_shown.ensures.mode, kept.mode, c.in_ok-push_shown.ensures.start, kept.start, count) at long))
+    (λ long. between_too_long mode piece start 1000001 old mid before
+    (with_tokens mode piece (drop start c.args.writer.now.text.items) (part_tokens c.args.part)) token tokens all inside kept.before split kept.rest first
+    (rw (c.in_ok-push_shown.ensures.mode, kept.mode, c.in_ok-push_shown.ensures.start, kept.start, count) at long))
     c.in_err-push_between.ensures.text)
 
 pub loop-token-preserved : goal.loop-token-preserved
@@ -101,4 +105,7 @@ returns-clause-text c =
     let bytes = c.args.part.bytes.now in
     let items = c.args.part.tokens.now in
     let kept = c.loop-token.invariant in
-    tokens_done c.args.writer.now.mode (piece_view c.args.piece) c.args.writer.now.start c.loop-token.writer.text.items (take c.args.writer.now.start c.args.writer.now.text.items) (with_tokens c.args.writer.now.mode (piece_view c.args.piece) (drop c.args.writer.now.start c.args.writer.now.text.items) (part_tokens c.args.part)) (tokens_in bytes (drop c.loop-token.token-index items)) kept.before (no_tokens_left bytes items c.loop-token.token-index (omega arith)) kept.rest
+    tokens_done c.args.writer.now.mode (piece_view c.args.piece) c.args.writer.now.start c.loop-token.writer.text.items
+    (take c.args.writer.now.start c.args.writer.now.text.items)
+    (with_tokens c.args.writer.now.mode (piece_view c.args.piece) (drop c.args.writer.now.start c.args.writer.now.text.items) (part_tokens c.args.part))
+    (tokens_in bytes (drop c.loop-token.token-index items)) kept.before (no_tokens_left bytes items c.loop-token.token-index (omega arith)) kept.rest

@@ -10,6 +10,8 @@ invariant-loop-token l = record {
   start : l.writer.start ≡ l.initial.writer.start;
   mode : l.writer.mode ≡ l.initial.writer.mode;
   before : take l.initial.writer.start l.writer.text.items ≡ take l.initial.writer.start l.initial.writer.text.items;
-  rest : with_tokens l.initial.writer.mode (piece_view l.piece) (drop l.initial.writer.start l.writer.text.items) (tokens_in l.fn.part.bytes.now (drop l.token-index l.fn.part.tokens.now))
-      ≡ with_tokens l.initial.writer.mode (piece_view l.piece) (drop l.initial.writer.start l.initial.writer.text.items) (tokens_in l.fn.part.bytes.now l.fn.part.tokens.now);
+  rest : with_tokens l.initial.writer.mode (piece_view l.piece) (drop l.initial.writer.start l.writer.text.items)
+      (tokens_in l.fn.part.bytes.now (drop l.token-index l.fn.part.tokens.now))
+      ≡ with_tokens l.initial.writer.mode (piece_view l.piece) (drop l.initial.writer.start l.initial.writer.text.items)
+      (tokens_in l.fn.part.bytes.now l.fn.part.tokens.now);
 }

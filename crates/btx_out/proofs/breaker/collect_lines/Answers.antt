@@ -11,8 +11,10 @@ returns-then-bytes-line_length-clause-goes_on g c =
 
 pub returns-in_err-write_whole-clause-err : goal.returns-in_err-write_whole-clause-err
 returns-in_err-write_whole-clause-err g c =
-    let h = together_failed c.args.line_length _ _ c.args.bytes.now _ _ _ _ _ c.new-gathered.ensures c.gather-next.ensures.goes_on (rw c.as_slice.ensures.value at c.in_err-write_whole.ensures.err) in search rules
+    let h = together_failed c.args.line_length _ _ c.args.bytes.now _ _ _ _ _ c.new-gathered.ensures c.gather-next.ensures.goes_on
+    (rw c.as_slice.ensures.value at c.in_err-write_whole.ensures.err) in search rules
 
 pub returns-clause-goes_on : goal.returns-clause-goes_on
 returns-clause-goes_on g c =
-    together_written c.args.line_length _ _ c.args.bytes.now _ _ _ _ _ c.new-gathered.ensures c.gather-next.ensures.goes_on (rw c.as_slice.ensures.value at c.in_ok-write_whole.ensures.ok)
+    together_written c.args.line_length _ _ c.args.bytes.now _ _ _ _ _ c.new-gathered.ensures c.gather-next.ensures.goes_on
+    (rw c.as_slice.ensures.value at c.in_ok-write_whole.ensures.ok)

@@ -9,7 +9,8 @@ abbrev pub invariant-loop-line : goal.invariant-loop-line
 invariant-loop-line l = record {
   fits : array_vec_len l.line ≤ l.line_length;
   fewer : length l.next.rest.now < length l.bytes;
-  goes_on : Advances l.line_length (Collecting l.fn.line.items) l.bytes (left_of l.next.state l.line.items) l.next.rest.now (Some l.fn.gathered.items) (Some l.gathered.items);
+  goes_on : Advances l.line_length (Collecting l.fn.line.items) l.bytes (left_of l.next.state l.line.items) l.next.rest.now (Some l.fn.gathered.items)
+      (Some l.gathered.items);
 }
 
 abbrev pub decreases-loop-line : goal.decreases-loop-line

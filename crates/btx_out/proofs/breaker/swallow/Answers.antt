@@ -11,7 +11,8 @@ returns-in_default-clause-goes_on c line_length received =
 
 pub returns-clause-goes_on : goal.returns-clause-goes_on
 returns-clause-goes_on c line_length received =
-    goes_begun line_length c.args.bytes.now _ _ _ received (sym c.after_white.ensures ∙ c.in-Some.ensures.cases.0) (rw (c.push-3.ensures.items, c.push-2.ensures.items, c.push.ensures.items, c.clear.ensures) refl)
+    goes_begun line_length c.args.bytes.now _ _ _ received (sym c.after_white.ensures ∙ c.in-Some.ensures.cases.0)
+    (rw (c.push-3.ensures.items, c.push-2.ensures.items, c.push.ensures.items, c.clear.ensures) refl)
 
 pub returns-clause-fewer : goal.returns-clause-fewer
 returns-clause-fewer c = omega (arith, length-skip_white c.args.bytes.now, ap length c.after_white.ensures, c.in-Some.ensures.cases.1)

@@ -9,7 +9,8 @@ invariant-loop-rest g l =
     let sink = g.W.Sink in
     record {
       fits : array_vec_len l.line ≤ l.line_length;
-      goes_on : Advances l.line_length (left_of l.initial.state l.initial.line.items) l.bytes (left_of l.state l.line.items) l.rest (sink.received l.initial.sink) (sink.received l.sink);
+      goes_on : Advances l.line_length (left_of l.initial.state l.initial.line.items) l.bytes (left_of l.state l.line.items) l.rest
+          (sink.received l.initial.sink) (sink.received l.sink);
       counts : (sink.failures l.sink).count ≡ (sink.failures l.initial.sink).count;
     }
 

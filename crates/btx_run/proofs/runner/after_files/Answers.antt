@@ -6,12 +6,14 @@ use Rattle.btx_run.specs.refinement.Product.{work_in}
 
 pub returns-in-Ends-clause-ok : goal.returns-in-Ends-clause-ok
 returns-in-Ends-clause-ok g c =
-    rw c.in-Ends.is (completes_early (g.W.Sink.received c.args.bbl.now) (g.L.Sink.received c.args.log.now) (g.L.Sink.received c.log_end.new.log) c.report_of.result _
+    rw c.in-Ends.is (completes_early (g.W.Sink.received c.args.bbl.now) (g.L.Sink.received c.args.log.now) (g.L.Sink.received c.log_end.new.log)
+    c.report_of.result _
     c.report_of.ensures c.log_end.result c.log_end.ensures.report c.log_end.ensures.ok)
 
 pub returns-in-Ends-clause-err : goal.returns-in-Ends-clause-err
 returns-in-Ends-clause-err g c =
-    rw c.in-Ends.is (err_map (fails_early (g.W.Sink.received c.args.bbl.now) (g.L.Sink.received c.args.log.now) (g.L.Sink.received c.log_end.new.log) c.report_of.result _ c.args.options.now.budget
+    rw c.in-Ends.is (err_map (fails_early (g.W.Sink.received c.args.bbl.now) (g.L.Sink.received c.args.log.now) (g.L.Sink.received c.log_end.new.log)
+    c.report_of.result _ c.args.options.now.budget
     c.report_of.ensures) c.log_end.result c.log_end.ensures.err)
 
 pub returns-in-Ends-clause-counts : goal.returns-in-Ends-clause-counts
@@ -19,7 +21,8 @@ returns-in-Ends-clause-counts g c = counts_of_end c.log_end.result _ _ c.log_end
 
 pub returns-in-Found-clause-deep : goal.returns-in-Found-clause-deep
 returns-in-Found-clause-deep g c =
-    never_deeper _ _ (work_in c.args.job.now c.in-Found.found c.args.options.now) c.args.counts c.args.options.now.line c.args.options.now.budget c.execute_found.result c.execute_found.ensures.ok
+    never_deeper _ _ (work_in c.args.job.now c.in-Found.found c.args.options.now) c.args.counts c.args.options.now.line c.args.options.now.budget
+    c.execute_found.result c.execute_found.ensures.ok
 
 pub returns-in-Found-clause-err : goal.returns-in-Found-clause-err
 returns-in-Found-clause-err g c = rw c.in-Found.is c.execute_found.ensures.err
@@ -29,4 +32,5 @@ returns-in-Ends-clause-untouched g c = ok_map (λ report same is. refl) c.log_en
 
 pub returns-in-Found-clause-untouched : goal.returns-in-Found-clause-untouched
 returns-in-Found-clause-untouched g c =
-    touched_with_top_file _ _ _ _ (work_in c.args.job.now c.in-Found.found c.args.options.now) c.args.counts c.args.options.now.line c.args.options.now.budget c.execute_found.result c.execute_found.ensures.ok
+    touched_with_top_file _ _ _ _ (work_in c.args.job.now c.in-Found.found c.args.options.now) c.args.counts c.args.options.now.line c.args.options.now.budget
+    c.execute_found.result c.execute_found.ensures.ok

@@ -15,7 +15,8 @@ returns-in_err-style-clause-err g c =
 
 pub returns-in_err-style-clause-counts : goal.returns-in_err-style-clause-counts
 returns-in_err-style-clause-counts g c =
-    counts_of_style c.from_residual.result c.in_err-style.field-0.0 c.name.result.now c.bytes.result.now _ _ (search rules) c.in_err-style.ensures (rw c.bytes.ensures c.requires)
+    counts_of_style c.from_residual.result c.in_err-style.field-0.0 c.name.result.now c.bytes.result.now _ _ (search rules) c.in_err-style.ensures
+    (rw c.bytes.ensures c.requires)
 
 pub returns-in_err-library-clause-err : goal.returns-in_err-library-clause-err
 returns-in_err-library-clause-err g c =

@@ -14,7 +14,8 @@ returns-in-Ok-clause-log g c = of_logged (g.F.Finder.content c.args.finder.now) 
 
 pub returns-in-Ok-clause-direct : goal.returns-in-Ok-clause-direct
 returns-in-Ok-clause-direct g c =
-    of_logged (g.F.Finder.content c.args.finder.now) _ _ c.in-Ok.ensures.ok (λ files completes. report_stays files c.args.name.now c.args.options.now _ completes.report_is)
+    of_logged (g.F.Finder.content c.args.finder.now) _ _ c.in-Ok.ensures.ok
+    (λ files completes. report_stays files c.args.name.now c.args.options.now _ completes.report_is)
 
 pub returns-in-Ok-clause-written : goal.returns-in-Ok-clause-written
 returns-in-Ok-clause-written g c =
@@ -25,9 +26,11 @@ returns-in-Ok-clause-written g c =
 pub returns-in-Err-Memory-clause-broken_off : goal.returns-in-Err-Memory-clause-broken_off
 returns-in-Err-Memory-clause-broken_off g c =
     of_logged (g.F.Finder.content c.args.finder.now) _ _ c.in-Err-Memory.ensures.err (λ files fails. began files c.args.name.now c.args.options.now
-    (g.W.Sink.received c.args.bbl.now, g.L.Sink.received c.args.log.now) (g.W.Sink.received c.run_named.new.bbl, g.L.Sink.received c.run_named.new.log) c.has_room.ensures fails)
+    (g.W.Sink.received c.args.bbl.now, g.L.Sink.received c.args.log.now) (g.W.Sink.received c.run_named.new.bbl, g.L.Sink.received c.run_named.new.log)
+    c.has_room.ensures fails)
 
 pub returns-in-Err-Device-clause-broken_off : goal.returns-in-Err-Device-clause-broken_off
 returns-in-Err-Device-clause-broken_off g c =
     of_logged (g.F.Finder.content c.args.finder.now) _ _ c.in-Err-Device.ensures.err (λ files fails. began files c.args.name.now c.args.options.now
-    (g.W.Sink.received c.args.bbl.now, g.L.Sink.received c.args.log.now) (g.W.Sink.received c.run_named.new.bbl, g.L.Sink.received c.run_named.new.log) c.has_room.ensures fails)
+    (g.W.Sink.received c.args.bbl.now, g.L.Sink.received c.args.log.now) (g.W.Sink.received c.run_named.new.bbl, g.L.Sink.received c.run_named.new.log)
+    c.has_room.ensures fails)

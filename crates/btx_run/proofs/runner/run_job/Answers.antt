@@ -18,10 +18,13 @@ returns-in_err-read-clause-err g c =
     let at_end = ends_as log.received _ c.into_sink-log.result _ c.read_files-read.new.journal.sink.received
     (c.into_sink-log.ensures.name ∙ c.read_files-read.ensures.counts.0 ∙ c.new-journal.ensures.name) c.into_sink-log.ensures.received (search rules) in
     on_err c.from_residual.result (by_map c.in_err-read.ensures.answered (λ names among. among)
-    (λ files part. behind_ends (λ l m. AtFault (bbl.received c.args.bbl.now, l) (bbl.received c.args.bbl.now, m) (product_of_reading c.args.job.now (files_read files c.args.job.now) c.args.options.now) c.args.options.now.budget)
+    (λ files part. behind_ends (λ l m. AtFault (bbl.received c.args.bbl.now, l) (bbl.received c.args.bbl.now, m)
+    (product_of_reading c.args.job.now (files_read files c.args.job.now) c.args.options.now) c.args.options.now.budget)
     _ _ _ _ c.new-journal.ensures.received at_end
-    (fails_in_lines (files_read files c.args.job.now).lines (bbl.received c.args.bbl.now) c.new-journal.result.sink.received c.read_files-read.new.journal.sink.received
-    (λ steps. product_of_files c.args.job.now (files_read files c.args.job.now).gives c.args.options.now (counts_of (files_read files c.args.job.now).lines) steps) c.args.options.now.budget part)))
+    (fails_in_lines (files_read files c.args.job.now).lines (bbl.received c.args.bbl.now) c.new-journal.result.sink.received
+    c.read_files-read.new.journal.sink.received
+    (λ steps. product_of_files c.args.job.now (files_read files c.args.job.now).gives c.args.options.now (counts_of (files_read files c.args.job.now).lines)
+    steps) c.args.options.now.budget part)))
 
 pub returns-clause-ok : goal.returns-clause-ok
 returns-clause-ok g c =
@@ -30,13 +33,17 @@ returns-clause-ok g c =
     let is_given = counts_are c.counts-counts.result _ _ c.counts-counts.ensures.warnings c.counts-counts.ensures.errors in
     let new = counts_of_none c.new-journal.result c.new-journal.ensures.warnings c.new-journal.ensures.errors in
     ok_map (λ report completes. by_map c.in_ok-read.ensures.answered (λ names among. among)
-    (λ files read. behind_ends (λ l n. Completes report (bbl.received c.args.bbl.now, l) (bbl.received c.after_files.new.bbl, n) (product_of_reading c.args.job.now (files_read files c.args.job.now) c.args.options.now c.args.options.now.budget))
+    (λ files read. behind_ends (λ l n. Completes report (bbl.received c.args.bbl.now, l) (bbl.received c.after_files.new.bbl, n)
+    (product_of_reading c.args.job.now (files_read files c.args.job.now) c.args.options.now c.args.options.now.budget))
     _ _ _ _ c.new-journal.ensures.received (search rules)
-    (completes_reading c.args.job.now c.args.options.now c.in_ok-read.field-0 c.counts-counts.result (counts_at c.new-journal.result) (counts_at c.read_files-read.new.journal)
-    (bbl.received c.args.bbl.now) (bbl.received c.after_files.new.bbl) c.new-journal.result.sink.received c.read_files-read.new.journal.sink.received (log.received c.after_files.new.log)
+    (completes_reading c.args.job.now c.args.options.now c.in_ok-read.field-0 c.counts-counts.result (counts_at c.new-journal.result)
+    (counts_at c.read_files-read.new.journal)
+    (bbl.received c.args.bbl.now) (bbl.received c.after_files.new.bbl) c.new-journal.result.sink.received c.read_files-read.new.journal.sink.received
+    (log.received c.after_files.new.log)
     is_given new report c.args.options.now.budget (files_read files c.args.job.now) read
     (subst (λ m. Completes report (bbl.received c.args.bbl.now, m) (bbl.received c.after_files.new.bbl, log.received c.after_files.new.log)
-    (product_of_files c.args.job.now c.in_ok-read.field-0 c.args.options.now c.counts-counts.result c.args.options.now.budget)) c.into_sink-log.ensures.received completes))))
+    (product_of_files c.args.job.now c.in_ok-read.field-0 c.args.options.now c.counts-counts.result c.args.options.now.budget)) c.into_sink-log.ensures.received
+    completes))))
     c.after_files.result c.after_files.ensures.ok
 
 pub returns-clause-err : goal.returns-clause-err
@@ -46,11 +53,15 @@ returns-clause-err g c =
     let is_given = counts_are c.counts-counts.result _ _ c.counts-counts.ensures.warnings c.counts-counts.ensures.errors in
     let new = counts_of_none c.new-journal.result c.new-journal.ensures.warnings c.new-journal.ensures.errors in
     err_map (λ fault. by_map c.in_ok-read.ensures.answered (λ names among. among)
-    (λ files read. behind_ends (λ l n. AtFault (bbl.received c.args.bbl.now, l) (bbl.received c.after_files.new.bbl, n) (product_of_reading c.args.job.now (files_read files c.args.job.now) c.args.options.now) c.args.options.now.budget)
+    (λ files read. behind_ends (λ l n. AtFault (bbl.received c.args.bbl.now, l) (bbl.received c.after_files.new.bbl, n)
+    (product_of_reading c.args.job.now (files_read files c.args.job.now) c.args.options.now) c.args.options.now.budget)
     _ _ _ _ c.new-journal.ensures.received (search rules)
-    (fails_reading c.args.job.now c.args.options.now c.in_ok-read.field-0 c.counts-counts.result (counts_at c.new-journal.result) (counts_at c.read_files-read.new.journal)
-    (bbl.received c.args.bbl.now) (bbl.received c.after_files.new.bbl) c.new-journal.result.sink.received c.read_files-read.new.journal.sink.received (log.received c.after_files.new.log)
+    (fails_reading c.args.job.now c.args.options.now c.in_ok-read.field-0 c.counts-counts.result (counts_at c.new-journal.result)
+    (counts_at c.read_files-read.new.journal)
+    (bbl.received c.args.bbl.now) (bbl.received c.after_files.new.bbl) c.new-journal.result.sink.received c.read_files-read.new.journal.sink.received
+    (log.received c.after_files.new.log)
     is_given new c.args.options.now.budget (files_read files c.args.job.now) read
     (subst (λ m. AtFault (bbl.received c.args.bbl.now, m) (bbl.received c.after_files.new.bbl, log.received c.after_files.new.log)
-    (product_of_files c.args.job.now c.in_ok-read.field-0 c.args.options.now c.counts-counts.result) c.args.options.now.budget) c.into_sink-log.ensures.received fault))))
+    (product_of_files c.args.job.now c.in_ok-read.field-0 c.args.options.now c.counts-counts.result) c.args.options.now.budget) c.into_sink-log.ensures.received
+    fault))))
     c.after_files.result c.after_files.ensures.err

@@ -12,16 +12,19 @@ use Rattle.btx_run.proofs.runner.run_named.Goals as goal
 pub returns-in_err-job-clause-err : goal.returns-in_err-job-clause-err
 returns-in_err-job-clause-err g c =
     on_err c.from_residual.result (of_any (g.F.Finder.content c.args.finder.now) _
-    (λ files. nothing_written (g.W.Sink.received c.args.bbl.now, g.L.Sink.received c.args.log.now) (product_with files c.args.name.now c.args.options.now) c.args.options.now.budget))
+    (λ files. nothing_written (g.W.Sink.received c.args.bbl.now, g.L.Sink.received c.args.log.now) (product_with files c.args.name.now c.args.options.now)
+    c.args.options.now.budget))
 
 pub returns-clause-ok : goal.returns-clause-ok
 returns-clause-ok g c =
-    ok_map (λ report by. of_both (g.F.Finder.content c.args.finder.now) (g.F.Finder.content c.read_job.new.finder) _ _ _ c.read_job.ensures.stays c.in_ok-job.ensures.job (shown_by by)
+    ok_map (λ report by. of_both (g.F.Finder.content c.args.finder.now) (g.F.Finder.content c.read_job.new.finder) _ _ _ c.read_job.ensures.stays
+    c.in_ok-job.ensures.job (shown_by by)
     (completes_named c.args.name.now c.args.options.now _ _ c.in_ok-job.job report)) c.run_job.result c.run_job.ensures.ok
 
 pub returns-clause-err : goal.returns-clause-err
 returns-clause-err g c =
-    err_map (λ by. of_both (g.F.Finder.content c.args.finder.now) (g.F.Finder.content c.read_job.new.finder) _ _ _ c.read_job.ensures.stays c.in_ok-job.ensures.job (shown_by by)
+    err_map (λ by. of_both (g.F.Finder.content c.args.finder.now) (g.F.Finder.content c.read_job.new.finder) _ _ _ c.read_job.ensures.stays
+    c.in_ok-job.ensures.job (shown_by by)
     (fails_named c.args.name.now c.args.options.now _ _ c.in_ok-job.job)) c.run_job.result c.run_job.ensures.err
 
 pub returns-in_err-job-clause-begun : goal.returns-in_err-job-clause-begun
@@ -31,17 +34,20 @@ returns-in_err-job-clause-begun g c =
       answers = asked.answers;
       are_given = asked.given;
       once = begun_once (top_name c.args.name.now) (names_asked asked.answers) asked.asks;
-      fails = λ files agree. nothing_written (g.W.Sink.received c.args.bbl.now, g.L.Sink.received c.args.log.now) (product_with files c.args.name.now c.args.options.now) c.args.options.now.budget;
+      fails = λ files agree. nothing_written (g.W.Sink.received c.args.bbl.now, g.L.Sink.received c.args.log.now)
+          (product_with files c.args.name.now c.args.options.now) c.args.options.now.budget;
     })
 
 pub returns-clause-answered : goal.returns-clause-answered
 returns-clause-answered g c =
     ok_map (λ report by.
-    let whole = of_run c.args.name.now c.in_ok-job.job c.read_job.ensures.stays c.in_ok-job.ensures.answered by (completes_named c.args.name.now c.args.options.now _ _ c.in_ok-job.job report) in
+    let whole = of_run c.args.name.now c.in_ok-job.job c.read_job.ensures.stays c.in_ok-job.ensures.answered by
+    (completes_named c.args.name.now c.args.options.now _ _ c.in_ok-job.job report) in
     record { answers = whole.answers; are_given = whole.given; once = whole.asks; completes = whole.holds }) c.run_job.result c.run_job.ensures.ok
 
 pub returns-clause-begun : goal.returns-clause-begun
 returns-clause-begun g c =
     err_map (λ by.
-    let whole = of_run c.args.name.now c.in_ok-job.job c.read_job.ensures.stays c.in_ok-job.ensures.answered by (fails_named c.args.name.now c.args.options.now _ _ c.in_ok-job.job) in
+    let whole = of_run c.args.name.now c.in_ok-job.job c.read_job.ensures.stays c.in_ok-job.ensures.answered by
+    (fails_named c.args.name.now c.args.options.now _ _ c.in_ok-job.job) in
     record { answers = whole.answers; are_given = whole.given; once = whole.asks; fails = whole.holds }) c.run_job.result c.run_job.ensures.err

@@ -6,7 +6,8 @@ pub loop-rest-preserved : goal.loop-rest-preserved
 loop-rest-preserved c =
     let some : 0 < length c.loop-rest.rest.now = search rules in
     next_piece c.args.conversion c.loop-rest.place c.loop-rest.rest.now c.loop-rest.text.items
-    c.loop-rest.invariant some c.piece_len.ensures c.split_at.ensures.front c.split_at.ensures.back c.begins.ensures c.place_after-place.ensures c.in_ok-push_piece.ensures
+    c.loop-rest.invariant some c.piece_len.ensures c.split_at.ensures.front c.split_at.ensures.back c.begins.ensures c.place_after-place.ensures
+    c.in_ok-push_piece.ensures
 
 pub returns : goal.returns
 returns c =

@@ -9,11 +9,13 @@ returns-then-left-eq0 c =
 
 pub loop-element-preserved-then-is_character : goal.loop-element-preserved-then-is_character
 loop-element-preserved-then-is_character c =
-    IsFront-more _ _ _ _ _ _ _ _ c.loop-element.invariant c.in-Some.ensures.steps c.if-left-eq0.false (rw (sym c.is_character.ensures ∙ c.if-is_character.true) refl)
+    IsFront-more _ _ _ _ _ _ _ _ c.loop-element.invariant c.in-Some.ensures.steps c.if-left-eq0.false
+    (rw (sym c.is_character.ensures ∙ c.if-is_character.true) refl)
 
 pub loop-element-preserved : goal.loop-element-preserved
 loop-element-preserved c =
-    IsFront-more _ _ _ _ _ _ _ _ c.loop-element.invariant c.in-Some.ensures.steps c.if-left-eq0.false (rw (sym c.is_character.ensures ∙ c.if-is_character.false) refl)
+    IsFront-more _ _ _ _ _ _ _ _ c.loop-element.invariant c.in-Some.ensures.steps c.if-left-eq0.false
+    (rw (sym c.is_character.ensures ∙ c.if-is_character.false) refl)
 
 pub returns : goal.returns
 returns c =

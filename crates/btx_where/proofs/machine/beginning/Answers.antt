@@ -10,4 +10,5 @@ pub returns-clause-means : goal.returns-clause-means
 returns-clause-means c = λ job n s.
     let f = c.function_of-first.result in
     let before = quoted_before c.args.code.now c.end.result in
-    ap (λ x. with_frames job x [] n s) (run_token f.op before f.number c.function_of-first.ensures.runs ∙ ap Run c.function_of-first.ensures.is) ∙ alone job (Run c.args.function) n s
+    ap (λ x. with_frames job x [] n s) (run_token f.op before f.number c.function_of-first.ensures.runs ∙ ap Run c.function_of-first.ensures.is)
+    ∙ alone job (Run c.args.function) n s

@@ -11,7 +11,11 @@ pub returns-in-Here : goal.returns-in-Here
 returns-in-Here g c =
     let job = c.args.job.now in
     let taken = c.args.budget - c.do_items.new.left in
-    shows job c.in_ok-code.code c.do_items.new.at c.do_items.new.marks c.args.work.now c.do_items.new.work c.args.budget taken c.work-2.inside.store (sym (ap (λ (w : Work). w.store) c.work-2.view_is))
+    shows job c.in_ok-code.code c.do_items.new.at c.do_items.new.marks c.args.work.now c.do_items.new.work c.args.budget taken c.work-2.inside.store
+    (sym (ap (λ (w : Work). w.store) c.work-2.view_is))
     c.in_ok-scene-in-Here.scene c.requires.range c.requires.store c.requires.fresh (omega (arith, c.in_ok-end.ensures.spent c.in-Here.is))
-    (subst (λ items. Comes c.args.work.now c.do_items.new.work (StandsInStyle job c.in_ok-code.code c.do_items.new.at c.do_items.new.marks (do_items job items []) taken)) (c.items-items.ensures ∙ ap (λ (style : Style). style.items) c.style-2.ensures) (c.in_ok-end.ensures.stands c.in-Here.is))
-    c.in_ok-scene-in-Here.ensures.next c.in_ok-scene-in-Here.ensures.levels c.in_ok-scene-in-Here.ensures.entry c.in_ok-scene-in-Here.ensures.depth c.in_ok-scene-in-Here.ensures.literals
+    (subst (λ items. Comes c.args.work.now c.do_items.new.work
+    (StandsInStyle job c.in_ok-code.code c.do_items.new.at c.do_items.new.marks (do_items job items []) taken))
+    (c.items-items.ensures ∙ ap (λ (style : Style). style.items) c.style-2.ensures) (c.in_ok-end.ensures.stands c.in-Here.is))
+    c.in_ok-scene-in-Here.ensures.next c.in_ok-scene-in-Here.ensures.levels c.in_ok-scene-in-Here.ensures.entry c.in_ok-scene-in-Here.ensures.depth
+    c.in_ok-scene-in-Here.ensures.literals

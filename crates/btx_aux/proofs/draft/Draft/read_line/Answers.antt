@@ -8,13 +8,17 @@ use Rattle.btx_aux.proofs.ReadLemmas.{cites_whole, bibdata_whole, bibstyle_whole
 use Rattle.btx_aux.proofs.draft.Draft.read_line.Goals as goal
 
 pub returns-in_ok-cite_each-in-Citation-clause-ending : goal.returns-in_ok-cite_each-in-Citation-clause-ending
-returns-in_ok-cite_each-in-Citation-clause-ending c = ap (λ (d : Draft). d.ending) c.in_ok-cite_each-in-Citation.ensures ∙ cites_whole c.args.place.file.now c.args.place.line c.args.self.now (pieces_of true c.in-Some.argument.now)
+returns-in_ok-cite_each-in-Citation-clause-ending c = ap (λ (d : Draft). d.ending) c.in_ok-cite_each-in-Citation.ensures
+    ∙ cites_whole c.args.place.file.now c.args.place.line c.args.self.now (pieces_of true c.in-Some.argument.now)
 
 pub returns-in_ok-take_bibdata-in-Bibdata-clause-ending : goal.returns-in_ok-take_bibdata-in-Bibdata-clause-ending
-returns-in_ok-take_bibdata-in-Bibdata-clause-ending c = ap (λ (d : Draft). d.ending) c.in_ok-take_bibdata-in-Bibdata.ensures ∙ bibdata_whole c.args.place.file.now c.args.place.line c.args.self.now (pieces_of true c.in-Some.argument.now)
+returns-in_ok-take_bibdata-in-Bibdata-clause-ending c = ap (λ (d : Draft). d.ending) c.in_ok-take_bibdata-in-Bibdata.ensures
+    ∙ bibdata_whole c.args.place.file.now c.args.place.line c.args.self.now (pieces_of true c.in-Some.argument.now)
 
 pub returns-in_ok-take_bibstyle-in-Bibstyle-clause-ending : goal.returns-in_ok-take_bibstyle-in-Bibstyle-clause-ending
-returns-in_ok-take_bibstyle-in-Bibstyle-clause-ending c = ap (λ (d : Draft). d.ending) c.in_ok-take_bibstyle-in-Bibstyle.ensures ∙ bibstyle_whole c.args.place.file.now c.args.place.line c.args.self.now (piece_from c.first_piece.result.0)
+returns-in_ok-take_bibstyle-in-Bibstyle-clause-ending c = ap (λ (d : Draft). d.ending) c.in_ok-take_bibstyle-in-Bibstyle.ensures
+    ∙ bibstyle_whole c.args.place.file.now c.args.place.line c.args.self.now (piece_from c.first_piece.result.0)
 
 pub returns-in-Input-clause-ending : goal.returns-in-Input-clause-ending
-returns-in-Input-clause-ending c = on_ok_weaker c.include.result (λ e. ap (λ (d : Draft). d.ending) e ∙ include_whole c.args.place.file.now c.args.place.line c.args.self.now (piece_from c.first_piece-in-Input.result.0)) c.include.ensures.draft
+returns-in-Input-clause-ending c = on_ok_weaker c.include.result (λ e. ap (λ (d : Draft). d.ending) e
+    ∙ include_whole c.args.place.file.now c.args.place.line c.args.self.now (piece_from c.first_piece-in-Input.result.0)) c.include.ensures.draft

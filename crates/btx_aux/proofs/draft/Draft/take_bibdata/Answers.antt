@@ -7,5 +7,6 @@ use Rattle.btx_aux.proofs.draft.Draft.take_bibdata.Goals as goal
 pub returns : goal.returns
 returns c =
     let first : c.args.self.now.has_bibdata ≡ false = search rules in
-    let learns = learned-bibdata c.args.place.file.now c.args.place.line c.args.self.now (pieces_of true c.args.argument.now) c.new.result c.new.ensures first in
+    let learns = learned-bibdata c.args.place.file.now c.args.place.line c.args.self.now (pieces_of true c.args.argument.now) c.new.result c.new.ensures
+    first in
     on_ok_weaker c.take_databases.result (λ e. e ∙ learns) c.take_databases.ensures

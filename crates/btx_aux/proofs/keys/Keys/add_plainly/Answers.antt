@@ -15,7 +15,8 @@ none : (c : goal.In_ok-insert) → c.self.inside.spelled ≡ None
 none c = unspelled c.self.inside.spelled (search rules)
 
 table : (c : goal.In_ok-insert) → IsTableOf c.self.inside.lowered.keys c.self.inside.lowered.keys
-table c = subst (λ (spelled : Option (Vec Bytes Global)). IsTableOf c.self.inside.lowered.keys (spelled_in spelled c.self.inside.lowered.keys)) (none c) c.self.invariant
+table c = subst (λ (spelled : Option (Vec Bytes Global)). IsTableOf c.self.inside.lowered.keys (spelled_in spelled c.self.inside.lowered.keys)) (none c)
+    c.self.invariant
 
 view : (c : goal.In_ok-insert) → texts_of c.self.inside.lowered.keys ≡ c.args.self.now
 view c = subst (λ (spelled : Option (Vec Bytes Global)). texts_of (spelled_in spelled c.self.inside.lowered.keys) ≡ c.args.self.now) (none c) c.self.view_is

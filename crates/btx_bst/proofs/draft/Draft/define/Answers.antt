@@ -20,7 +20,8 @@ returns-in-Some c =
     let n = c.len-texts.result in
     let same : length (texts_view d.texts.items) ≡ length d.texts.items = texts-length d.texts.items in
     let count : n ≡ length (texts_view d.texts.items) = omega (arith, c.len-texts.ensures, d.texts.ok.0, same) in
-    defined-broken (draft_view d) c.args.lowered c.args.cursor.now _ _ _ c.len-count.result n c.cut.new.self (texts_view c.truncate.new.self.items) c.new-current.ensures e c.len-count.ensures c.cut.ensures count
+    defined-broken (draft_view d) c.args.lowered c.args.cursor.now _ _ _ c.len-count.result n c.cut.new.self (texts_view c.truncate.new.self.items)
+    c.new-current.ensures e c.len-count.ensures c.cut.ensures count
     (ap texts_view c.truncate.ensures.items ∙ map-take (λ (b : Bor (List ℕ)). b.now) n c.body.new.texts.items)
 
 pub overflow_cast-number : goal.overflow_cast-number

@@ -12,7 +12,8 @@ returns c =
     let es = c.self.inside.table.entries in
     let key = c.in_ok-key.key in
     let e = c.in_ok-key.ensures.items ∙ c.as_bytes.ensures in
-    let absent = unmapped _ (lookup-macros es key.items ∙ ap (λ (macros : Macros). macro_lower macros key.items) c.self.view_is ∙ ap (macro_lower c.args.self.now) e ∙ c.requires) in
+    let absent = unmapped _ (lookup-macros es key.items ∙ ap (λ (macros : Macros). macro_lower macros key.items) c.self.view_is
+    ∙ ap (macro_lower c.args.self.now) e ∙ c.requires) in
     let entries = c.in_ok-insert.ensures.entries ∙ insert_entry-new same_name c.self.inside.table key c.args.text absent in
     ap macros_view entries ∙ map-append _ es ((key, c.args.text) ∷ []) ∙ ap (λ (macros : Macros). macros ++ (key.items, c.args.text.now) ∷ []) c.self.view_is
     ∙ ap (λ (name : List ℕ). c.args.self.now ++ (name, c.args.text.now) ∷ []) e

@@ -20,5 +20,6 @@ returns-in-None c =
     let names = kept.names.items in
     let none = rw c.deref.ensures.value at c.in-None.ensures in
     let nothing = none_left (names_of names) (names_from names kept.place.from) kept.before c.args.before kept.onwards none c.if-before-self.false in
-    let same : names ≡ c.args.names.now = sym c.as_slice.ensures.value ∙ (bytes_eq-Decides c.as_slice.result.now c.args.names.now).0 (not-false _ (sym c.if-ne.ensures)) in
+    let same : names ≡ c.args.names.now = sym c.as_slice.ensures.value
+    ∙ (bytes_eq-Decides c.as_slice.result.now c.args.names.now).0 (not-false _ (sym c.if-ne.ensures)) in
     sym (ap (λ list. slice_get (names_of list) c.args.before) same) ∙ nothing

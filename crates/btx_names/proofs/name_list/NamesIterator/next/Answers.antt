@@ -11,7 +11,8 @@ returns-in-len3-up-clause-steps c =
     let s = c.self.inside.rest.now in
     let after = c.split_at.result.1.now in
     let back = rw c.name_len.ensures at c.split_at.ensures.back in
-    sym c.self.view_is ∙ rw (c.if-self.false, c.split_at.ensures.front, c.name_len.ensures, take_rest after 3) (pieces_more s after back c.in-len3-up.len_at_least)
+    sym c.self.view_is ∙ rw (c.if-self.false, c.split_at.ensures.front, c.name_len.ensures, take_rest after 3)
+    (pieces_more s after back c.in-len3-up.len_at_least)
 
 pub returns-in-len3-up-clause-goes : goal.returns-in-len3-up-clause-goes
 returns-in-len3-up-clause-goes c =

@@ -16,9 +16,16 @@ returns-clause-held c =
     let from = c.args.from in
     let text = c.split_at.result.0.now in
     let lettered = c.lettered_of-lettered.result.now in
-    let token : NameToken = record { text = record { from = from; len = length text }; joint = c.joint_of.result; lettered = record { from = from + length text - length lettered; len = length lettered }; bare_behind = 0 } in
+    let token : NameToken = record {
+      text = record { from = from; len = length text };
+      joint = c.joint_of.result;
+      lettered =
+          record { from = from + length text - length lettered; len = length lettered };
+      bare_behind = 0;
+    } in
     let front : text ≡ take c.run_len.result (drop from names) = rw (take_rest names from) at c.split_at.ensures.front in
     let bound : c.run_len.result ≤ length (drop from names) = rw (take_rest names from) at c.run_len.ensures.bound in
     let is : text ≡ take (length text) (drop from names) = front ∙ ap (λ n. take n (drop from names)) (sym c.split_at.ensures.front_len) in
     let inside : from + length text ≤ length names = omega (arith, c.requires.inside, bound, c.split_at.ensures.front_len, length-drop from names) in
-    rw c.in_ok-push.ensures.items (held_pushed names c.args.self.now.tokens.items token c.requires.held (token_held names text lettered from token is c.lettered_of-lettered.ensures inside refl refl refl refl))
+    rw c.in_ok-push.ensures.items (held_pushed names c.args.self.now.tokens.items token c.requires.held
+    (token_held names text lettered from token is c.lettered_of-lettered.ensures inside refl refl refl refl))

@@ -7,7 +7,8 @@ use Rattle.btx_names.specs.language.NameLists.{is_separator}
 use Rattle.btx_names.specs.language.Runs.{is_break, run_len}
 use Rattle.btx_names.specs.refinement.NameTokens.{Hold, tokens_in}
 use Rattle.btx_names.proofs.PartLemmas.{tokens_counted}
-use Rattle.btx_names.proofs.ReadingLemmas.{read_ordered, reads_nothing, reads_break, reads_comma, reads_token, reads_separator, reads_all, token_is_some, token_is_inside, name_is_read}
+use Rattle.btx_names.proofs.ReadingLemmas.{read_ordered, reads_nothing, reads_break, reads_comma, reads_token, reads_separator, reads_all, token_is_some}
+use Rattle.btx_names.proofs.ReadingLemmas.{token_is_inside, name_is_read}
 use Rattle.btx_names.proofs.name_reading.ReadName.at.Goals as goal
 use Rattle.btx_names.proofs.name_reading.ReadName.at.Goals.{then-names-place-eq44, else-names-place-eq44}
 
@@ -15,7 +16,8 @@ pub loop-place-init : goal.loop-place-init
 loop-place-init c =
     let draft = c.new-draft.result in
     record {
-      reads = rw (c.new-draft.ensures.tokens, c.new-draft.ensures.commas, c.new-draft.ensures.followed) (reads_nothing c.args.names.now c.args.from draft.before_first draft.before_second c.requires);
+      reads = rw (c.new-draft.ensures.tokens, c.new-draft.ensures.commas, c.new-draft.ensures.followed)
+          (reads_nothing c.args.names.now c.args.from draft.before_first draft.before_second c.requires);
       held = rw c.new-draft.ensures.tokens (All-nil (Hold c.args.names.now));
     }
 
@@ -43,7 +45,8 @@ loop-place-preserved-then-not-is_break c =
     let place = c.loop-place.place in
     let draft = c.loop-place.draft in
     let none : is_break (get_or names place 0) ≡ false = sym c.is_break.ensures ∙ c.if-not-is_break.true in
-    let more = reads_token names c.args.from place c.in_ok-place.field-0 (tokens_in names draft.tokens.items) draft.commas draft.followed draft.before_first draft.before_second
+    let more = reads_token names c.args.from place c.in_ok-place.field-0 (tokens_in names draft.tokens.items) draft.commas draft.followed draft.before_first
+    draft.before_second
     c.loop-place-test.true none c.in_ok-place.ensures.len c.loop-place.invariant.reads in
     record {
       reads = rw (c.in_ok-place.ensures.tokens, c.in_ok-place.ensures.followed) more;
@@ -78,12 +81,14 @@ loop-place-preserved c =
     let none : is_separator (drop place names) ≡ false = sym (rw (take_rest names place) at c.separates.ensures) ∙ c.if-separates.false in
     elim c.if-names-place-eq44.branch [
       | then-names-place-eq44 w ↦ record {
-        reads = rw (w.draft-is, w.comma.ensures) (reads_comma names c.args.from place (tokens_in names draft.tokens.items) (length draft.tokens.items) draft.commas draft.followed draft.before_first draft.before_second
+        reads = rw (w.draft-is, w.comma.ensures) (reads_comma names c.args.from place (tokens_in names draft.tokens.items) (length draft.tokens.items)
+            draft.commas draft.followed draft.before_first draft.before_second
             c.loop-place-test.true none w.if-names-place-eq44.true (tokens_counted names draft.tokens.items) reads);
         held = rw (w.draft-is, w.comma.ensures) c.loop-place.invariant.held;
       }
       | else-names-place-eq44 w ↦ record {
-        reads = rw w.draft-is (reads_break names c.args.from place (tokens_in names draft.tokens.items) draft.commas draft.followed draft.before_first draft.before_second
+        reads = rw w.draft-is (reads_break names c.args.from place (tokens_in names draft.tokens.items) draft.commas draft.followed draft.before_first
+            draft.before_second
             c.loop-place-test.true breaks none (ne_eqb _ _ w.if-names-place-eq44.false) reads);
         held = rw w.draft-is c.loop-place.invariant.held;
       }

@@ -30,7 +30,8 @@ returns-then-not-is_short-clause-text c =
     let again = rw (c.deref-2.ensures.value, len, slice_front text start) at c.ends_in_tie-2.ensures.value in
     let short = rw (c.deref-3.ensures.value, len, slice_front text start) at c.is_short.ensures in
     rw len
-    (finish_spaced c.args.self.now.mode text start some (sym test ∙ c.if-not-ends_in_tie.false) (sym again ∙ c.if-ends_in_tie.false) (sym short ∙ c.if-not-is_short.true))
+    (finish_spaced c.args.self.now.mode text start some (sym test ∙ c.if-not-ends_in_tie.false) (sym again ∙ c.if-ends_in_tie.false)
+    (sym short ∙ c.if-not-is_short.true))
 
 pub returns-else-not-is_short-clause-text : goal.returns-else-not-is_short-clause-text
 returns-else-not-is_short-clause-text c =
@@ -40,4 +41,5 @@ returns-else-not-is_short-clause-text c =
     let test = rw (c.deref.ensures.value, take_rest text start) at c.ends_in_tie.ensures.value in
     let again = rw (c.deref-2.ensures.value, len, slice_front text start) at c.ends_in_tie-2.ensures.value in
     let short = rw (c.deref-3.ensures.value, len, slice_front text start) at c.is_short.ensures in
-    finish_tied c.args.self.now.mode text start (sym test ∙ c.if-not-ends_in_tie.false) (sym again ∙ c.if-ends_in_tie.false) (sym short ∙ c.if-not-is_short.false)
+    finish_tied c.args.self.now.mode text start (sym test ∙ c.if-not-ends_in_tie.false) (sym again ∙ c.if-ends_in_tie.false)
+    (sym short ∙ c.if-not-is_short.false)

@@ -10,5 +10,6 @@ invariant_of-self c =
       kept = new.kept;
       begun = new.begun;
       long = λ is more. rw (c.in_ok-push.ensures.start, c.in_ok-push.ensures.mode)
-          (long_behind_space old.mode old.start old.text.items new.text.items more c.args.joint c.args.is_last c.tie_of-tie.result old.begun c.tie_of-tie.ensures (omega arith) c.in_ok-push.ensures.text);
+          (long_behind_space old.mode old.start old.text.items new.text.items more c.args.joint c.args.is_last c.tie_of-tie.result old.begun
+          c.tie_of-tie.ensures (omega arith) c.in_ok-push.ensures.text);
     }

@@ -16,7 +16,8 @@ returns-in_err-line-clause-reads g c =
 pub returns-in_err-log_one-clause-reads : goal.returns-in_err-log_one-clause-reads
 returns-in_err-log_one-clause-reads g c =
     by_map c.in_ok-found.ensures.answered (among-one c.args.name.now)
-    (λ files is. database_is_begun files c.args.number c.args.name.now c.in_ok-found.found c.in_ok-line.line c.from_residual-in_err-log_one.result _ _ _ _ (search rules) is c.in_ok-line.ensures (line_begun c.in_ok-line.line _ _ c.in_err-log_one.ensures.err))
+    (λ files is. database_is_begun files c.args.number c.args.name.now c.in_ok-found.found c.in_ok-line.line c.from_residual-in_err-log_one.result _ _ _ _
+    (search rules) is c.in_ok-line.ensures (line_begun c.in_ok-line.line _ _ c.in_err-log_one.ensures.err))
 
 pub returns-clause-reads : goal.returns-clause-reads
 returns-clause-reads g c =

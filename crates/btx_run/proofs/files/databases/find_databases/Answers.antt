@@ -15,13 +15,16 @@ returns-in_err-add_database-clause-reads g c =
     by_both c.loop-name.invariant.stays c.loop-name.invariant.read c.in_err-add_database.ensures.adds
     (among-all c.args.names.now c.loop-name.name-index c.name-item.result c.as_slice.result.now c.loop-name-test.true c.name-item.is c.as_slice.ensures.value)
     (λ files read part. reads_failing c.from_residual.result _ _ _ _ _ (search rules)
-    (databases_begin files c.args.names.now c.loop-name.name-index c.name-item.result c.as_slice.result.now _ _ _ _ _ _ c.loop-name-test.true c.name-item.is c.as_slice.ensures.value read part))
+    (databases_begin files c.args.names.now c.loop-name.name-index c.name-item.result c.as_slice.result.now _ _ _ _ _ _ c.loop-name-test.true c.name-item.is
+    c.as_slice.ensures.value read part))
 
 pub returns-clause-reads : goal.returns-clause-reads
 returns-clause-reads g c =
     let finder = g.F.Finder in
-    subst (λ (names : List Bytes). ByAnswers (finder.content c.args.finder.now) (finder.answers c.args.finder.now) (finder.answers c.loop-name.finder) (λ asked. AreAmong asked (texts_of names)) (λ files.
-    IsRead c.loop-name.found (counts_at c.args.journal.now, counts_at c.loop-name.journal) (c.args.journal.now.sink.received, c.loop-name.journal.sink.received) (databases_read files (texts_of names))))
+    subst (λ (names : List Bytes). ByAnswers (finder.content c.args.finder.now) (finder.answers c.args.finder.now) (finder.answers c.loop-name.finder)
+    (λ asked. AreAmong asked (texts_of names)) (λ files.
+    IsRead c.loop-name.found (counts_at c.args.journal.now, counts_at c.loop-name.journal) (c.args.journal.now.sink.received, c.loop-name.journal.sink.received)
+    (databases_read files (texts_of names))))
     (take_all c.loop-name.name-index c.args.names.now c.loop-name-test.false) c.loop-name.invariant.read
 
 pub loop-name-init : goal.loop-name-init
@@ -37,8 +40,10 @@ pub loop-name-preserved : goal.loop-name-preserved
 loop-name-preserved g c = record {
   read =
       by_both c.loop-name.invariant.stays c.loop-name.invariant.read c.in_ok-add_database.ensures.adds
-      (among-more c.args.names.now c.loop-name.name-index c.name-item.result c.as_slice.result.now c.loop-name-test.true c.name-item.is c.as_slice.ensures.value)
-      (λ files read added. databases_more files c.args.names.now c.loop-name.name-index c.name-item.result c.as_slice.result.now _ _ _ _ _ _ _ _ c.loop-name-test.true c.name-item.is c.as_slice.ensures.value read added);
+      (among-more c.args.names.now c.loop-name.name-index c.name-item.result c.as_slice.result.now c.loop-name-test.true c.name-item.is
+      c.as_slice.ensures.value)
+      (λ files read added. databases_more files c.args.names.now c.loop-name.name-index c.name-item.result c.as_slice.result.now _ _ _ _ _ _ _ _
+      c.loop-name-test.true c.name-item.is c.as_slice.ensures.value read added);
   stays = c.add_database.ensures.stays ∙ c.loop-name.invariant.stays;
   fetches = search rules;
   sink = c.add_database.ensures.counts.0 ∙ c.loop-name.invariant.sink;

@@ -11,8 +11,10 @@ abbrev pub invariant-loop-name : goal.invariant-loop-name
 invariant-loop-name g l =
     let finder = g.F.Finder in
     record {
-      read : ByAnswers (finder.content l.initial.finder) (finder.answers l.initial.finder) (finder.answers l.finder) (λ asked. AreAmong asked (texts_of (take l.name-index l.names))) (λ files.
-          IsRead l.found (counts_at l.initial.journal, counts_at l.journal) (l.initial.journal.sink.received, l.journal.sink.received) (databases_read files (texts_of (take l.name-index l.names))));
+      read : ByAnswers (finder.content l.initial.finder) (finder.answers l.initial.finder) (finder.answers l.finder)
+          (λ asked. AreAmong asked (texts_of (take l.name-index l.names))) (λ files.
+          IsRead l.found (counts_at l.initial.journal, counts_at l.journal) (l.initial.journal.sink.received, l.journal.sink.received)
+          (databases_read files (texts_of (take l.name-index l.names))));
       stays : finder.content l.finder ≡ finder.content l.initial.finder;
       fetches : (finder.failures l.finder).count ≡ (finder.failures l.initial.finder).count;
       sink : l.journal.sink.name ≡ l.initial.journal.sink.name;

@@ -6,7 +6,8 @@ use Rattle.btx_run.proofs.files.logging.log_all.Goals as goal
 pub returns-in_err-log_one-clause-err : goal.returns-in_err-log_one-clause-err
 returns-in_err-log_one-clause-err g c =
     on_err c.from_residual.result _
-    (line_begins c.args.lines.now c.loop-line.line-index c.line-item.result _ _ _ _ _ c.loop-line-test.true c.line-item.is c.loop-line.invariant.logs (line_begun c.line-item.result _ _ c.in_err-log_one.ensures.err))
+    (line_begins c.args.lines.now c.loop-line.line-index c.line-item.result _ _ _ _ _ c.loop-line-test.true c.line-item.is c.loop-line.invariant.logs
+    (line_begun c.line-item.result _ _ c.in_err-log_one.ensures.err))
 
 pub loop-line-preserved : goal.loop-line-preserved
 loop-line-preserved g c = record {

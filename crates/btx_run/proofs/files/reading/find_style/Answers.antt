@@ -5,7 +5,8 @@ use Rattle.btx_run.proofs.ReadingLemmas.{reads_nothing, style_is_found, style_is
 use Rattle.btx_run.proofs.files.reading.find_style.Goals as goal
 
 pub returns-in_err-style-clause-reads : goal.returns-in_err-style-clause-reads
-returns-in_err-style-clause-reads g c = by_none c.in_err-style.ensures.refused (among-none (c.args.name.now ∷ c.args.job.now.databases)) (λ files. reads_nothing c.from_residual.result _ _ _ _ (search rules))
+returns-in_err-style-clause-reads g c = by_none c.in_err-style.ensures.refused (among-none (c.args.name.now ∷ c.args.job.now.databases))
+    (λ files. reads_nothing c.from_residual.result _ _ _ _ (search rules))
 
 pub returns-in-Some-clause-reads : goal.returns-in-Some-clause-reads
 returns-in-Some-clause-reads g c =
@@ -15,4 +16,5 @@ returns-in-Some-clause-reads g c =
 pub returns-in-None-clause-reads : goal.returns-in-None-clause-reads
 returns-in-None-clause-reads g c =
     by_map c.in_ok-style.ensures.answered (λ names is. among-front names (c.args.name.now ∷ []) c.args.job.now.databases (among-one c.args.name.now names is))
-    (λ files is. style_is_missing c.without_style.result files c.args.job.now c.args.name.now c.in_ok-style.field-0 _ _ c.in-None.is is (c.without_style.ensures.reads files c.args.job.now))
+    (λ files is. style_is_missing c.without_style.result files c.args.job.now c.args.name.now c.in_ok-style.field-0 _ _ c.in-None.is is
+    (c.without_style.ensures.reads files c.args.job.now))

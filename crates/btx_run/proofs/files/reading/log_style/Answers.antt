@@ -16,7 +16,8 @@ pub returns-in_err-log_one-clause-reads : goal.returns-in_err-log_one-clause-rea
 returns-in_err-log_one-clause-reads g c =
     let line : c.in_ok-line.line ≡ style_line c.args.style.name = c.in_ok-line.ensures ∙ ap style_line c.name.ensures in
     let part : AppendsPrefix c.args.journal.now.sink.received c.log_one.new.self.sink.received (bytes_of_lines (style_line c.args.style.name ∷ [])) =
-    subst (λ line. AppendsPrefix c.args.journal.now.sink.received c.log_one.new.self.sink.received (bytes_of_lines (line ∷ []))) line (line_begun c.in_ok-line.line _ _ c.in_err-log_one.ensures.err) in
+    subst (λ line. AppendsPrefix c.args.journal.now.sink.received c.log_one.new.self.sink.received (bytes_of_lines (line ∷ []))) line
+    (line_begun c.in_ok-line.line _ _ c.in_err-log_one.ensures.err) in
     by_none refl (among-none c.args.job.now.databases)
     (λ files. reads_is c.from_residual-in_err-log_one.result _ _ _ _ (style_is_read files c.args.job.now c.args.style.name c.args.style)
     (reads_part c.from_residual-in_err-log_one.result _ _ _ _ (style_line c.args.style.name ∷ []) _ (search rules) part))
@@ -24,11 +25,17 @@ returns-in_err-log_one-clause-reads g c =
 pub returns-clause-reads : goal.returns-clause-reads
 returns-clause-reads g c =
     let line : c.in_ok-line.line ≡ style_line c.args.style.name = c.in_ok-line.ensures ∙ ap style_line c.name.ensures in
-    let logs : Logs (counts_at c.args.journal.now, counts_at c.log_one.new.self) (c.args.journal.now.sink.received, c.log_one.new.self.sink.received) (style_line c.args.style.name ∷ []) =
-    subst (λ line. Logs (counts_at c.args.journal.now, counts_at c.log_one.new.self) (c.args.journal.now.sink.received, c.log_one.new.self.sink.received) (line ∷ [])) line
+    let logs : Logs (counts_at c.args.journal.now, counts_at c.log_one.new.self) (c.args.journal.now.sink.received, c.log_one.new.self.sink.received)
+    (style_line c.args.style.name ∷ []) =
+    subst (λ line. Logs (counts_at c.args.journal.now, counts_at c.log_one.new.self) (c.args.journal.now.sink.received, c.log_one.new.self.sink.received)
+    (line ∷ [])) line
     (logs_line c.in_ok-line.line c.args.journal.now c.log_one.new.self c.in_ok-log_one.ensures.ok c.log_one.ensures.warnings c.log_one.ensures.errors) in
     by_map c.with_style.ensures.reads (λ names among. among)
-    (λ files read. reads_is c.with_style.result (counts_at c.args.journal.now, counts_at c.with_style.new.journal) (c.args.journal.now.sink.received, c.with_style.new.journal.sink.received) _ _
+    (λ files read. reads_is c.with_style.result (counts_at c.args.journal.now, counts_at c.with_style.new.journal) (
+      c.args.journal.now.sink.received,
+      c.with_style.new.journal.sink.received,
+    ) _ _
     (style_is_read files c.args.job.now c.args.style.name c.args.style)
-    (reads_behind c.with_style.result (counts_at c.args.journal.now) (counts_at c.log_one.new.self) (counts_at c.with_style.new.journal) c.args.journal.now.sink.received c.log_one.new.self.sink.received c.with_style.new.journal.sink.received
+    (reads_behind c.with_style.result (counts_at c.args.journal.now) (counts_at c.log_one.new.self) (counts_at c.with_style.new.journal)
+    c.args.journal.now.sink.received c.log_one.new.self.sink.received c.with_style.new.journal.sink.received
     (style_line c.args.style.name ∷ []) _ logs read))

@@ -11,7 +11,8 @@ use Rattle.btx_run.proofs.files.reading.read_files.Goals as goal
 pub returns-in_err-log_all-clause-answered : goal.returns-in_err-log_all-clause-answered
 returns-in_err-log_all-clause-answered g c =
     let part : AppendsPrefix c.args.journal.now.sink.received c.log_all.new.journal.sink.received (bytes_of_lines c.args.job.now.log) =
-    subst (λ lines. AppendsPrefix c.args.journal.now.sink.received c.log_all.new.journal.sink.received (bytes_of_lines lines)) c.log.ensures c.in_err-log_all.ensures.err in
+    subst (λ lines. AppendsPrefix c.args.journal.now.sink.received c.log_all.new.journal.sink.received (bytes_of_lines lines)) c.log.ensures
+    c.in_err-log_all.ensures.err in
     by_none refl (among-none (names_in c.args.job.now)) (λ files. reads_part c.from_residual.result _ _ _ _ c.args.job.now.log _ (search rules) part)
 
 pub returns-in_err-log_all-clause-reads : goal.returns-in_err-log_all-clause-reads
@@ -19,10 +20,13 @@ returns-in_err-log_all-clause-reads g c = shown_by (returns-in_err-log_all-claus
 
 pub returns-clause-answered : goal.returns-clause-answered
 returns-clause-answered g c =
-    let logs : Logs (counts_at c.args.journal.now, counts_at c.log_all.new.journal) (c.args.journal.now.sink.received, c.log_all.new.journal.sink.received) c.args.job.now.log =
-    subst (λ lines. Logs (counts_at c.args.journal.now, counts_at c.log_all.new.journal) (c.args.journal.now.sink.received, c.log_all.new.journal.sink.received) lines) c.log.ensures c.in_ok-log_all.ensures.ok in
+    let logs : Logs (counts_at c.args.journal.now, counts_at c.log_all.new.journal) (c.args.journal.now.sink.received, c.log_all.new.journal.sink.received)
+    c.args.job.now.log =
+    subst (λ lines. Logs (counts_at c.args.journal.now, counts_at c.log_all.new.journal) (c.args.journal.now.sink.received, c.log_all.new.journal.sink.received)
+    lines) c.log.ensures c.in_ok-log_all.ensures.ok in
     by_map c.after_job.ensures.reads (λ names among. among)
-    (λ files read. reads_behind c.after_job.result (counts_at c.args.journal.now) (counts_at c.log_all.new.journal) (counts_at c.after_job.new.journal) c.args.journal.now.sink.received c.log_all.new.journal.sink.received c.after_job.new.journal.sink.received
+    (λ files read. reads_behind c.after_job.result (counts_at c.args.journal.now) (counts_at c.log_all.new.journal) (counts_at c.after_job.new.journal)
+    c.args.journal.now.sink.received c.log_all.new.journal.sink.received c.after_job.new.journal.sink.received
     c.args.job.now.log _ logs read)
 
 pub returns-clause-reads : goal.returns-clause-reads

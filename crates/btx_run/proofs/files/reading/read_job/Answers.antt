@@ -6,12 +6,14 @@ use Rattle.btx_run.proofs.files.reading.read_job.Goals as goal
 
 pub returns-clause-answered : goal.returns-clause-answered
 returns-clause-answered g c =
-    subst (λ top. IfOk c.read_aux.result (λ (job : AuxJob). ByAnswers (g.F.Finder.content c.args.finder.now) (g.F.Finder.answers c.args.finder.now) (g.F.Finder.answers c.read_aux.new.finder) (AsksTop top) (λ files. job ≡ job_of_files files top)))
+    subst (λ top. IfOk c.read_aux.result (λ (job : AuxJob). ByAnswers (g.F.Finder.content c.args.finder.now) (g.F.Finder.answers c.args.finder.now)
+    (g.F.Finder.answers c.read_aux.new.finder) (AsksTop top) (λ files. job ≡ job_of_files files top)))
     (c.as_slice.ensures.value ∙ c.in_ok-top.ensures) c.read_aux.ensures.answered
 
 pub returns-clause-asked : goal.returns-clause-asked
 returns-clause-asked g c =
-    subst (λ top. OnErr c.read_aux.result (Answered (g.F.Finder.content c.args.finder.now) (g.F.Finder.answers c.args.finder.now) (g.F.Finder.answers c.read_aux.new.finder) (AsksTopAtMost top)))
+    subst (λ top. OnErr c.read_aux.result
+    (Answered (g.F.Finder.content c.args.finder.now) (g.F.Finder.answers c.args.finder.now) (g.F.Finder.answers c.read_aux.new.finder) (AsksTopAtMost top)))
     (c.as_slice.ensures.value ∙ c.in_ok-top.ensures) c.read_aux.ensures.asked
 
 pub returns-in_err-top-clause-asked : goal.returns-in_err-top-clause-asked

@@ -9,7 +9,8 @@ use Rattle.btx_run.specs.refinement.Files.Logging.{bytes_of_lines}
 pub returns-in_err-log_one-clause-reads : goal.returns-in_err-log_one-clause-reads
 returns-in_err-log_one-clause-reads g c = λ files job.
     let part : AppendsPrefix c.args.journal.now.sink.received c.log_one.new.self.sink.received (bytes_of_lines (no_style_line c.args.name.now ∷ [])) =
-    subst (λ line. AppendsPrefix c.args.journal.now.sink.received c.log_one.new.self.sink.received (bytes_of_lines (line ∷ []))) c.in_ok-line.ensures (line_begun c.in_ok-line.line _ _ c.in_err-log_one.ensures.err) in
+    subst (λ line. AppendsPrefix c.args.journal.now.sink.received c.log_one.new.self.sink.received (bytes_of_lines (line ∷ []))) c.in_ok-line.ensures
+    (line_begun c.in_ok-line.line _ _ c.in_err-log_one.ensures.err) in
     reads_is c.from_residual-in_err-log_one.result _ _ _ _ (style_is_missed files job c.args.name.now)
     (reads_part c.from_residual-in_err-log_one.result _ _ _ _ (no_style_line c.args.name.now ∷ []) _ (search rules) part)
 
