@@ -1,8 +1,9 @@
-/* A library to be preloaded. A file whose path ends with the name FAIL_OPEN can't be opened, for the reason FAIL_REASON, which is an
+/* A library to be preloaded. A file or a folder whose path ends with the name FAIL_OPEN can't be opened, for the reason FAIL_REASON, which is an
  * error number or the name of one; where FAIL_ACCESS is set too, only for that access, `read` or `write`. Where FAIL_EMPTY is set, no file can be emptied,
  * for that reason; where FAIL_READ is set, none be read, and where FAIL_WRITE is set, none be written: `each` time, or the `first` time alone.
  * Where FAIL_SHORT is set, each reading and each writing takes one byte. */
 #define _GNU_SOURCE
+#include <dirent.h>
 #include <dlfcn.h>
 #include <errno.h>
 #include <fcntl.h>
@@ -71,6 +72,18 @@ static int is_lost(const char *path, int flags)
 
 OPENS(open)
 OPENS(open64)
+
+DIR *opendir(const char *path)
+{
+    static DIR *(*next)(const char *);
+    if (!next)
+        next = (DIR *(*)(const char *))dlsym(RTLD_NEXT, "opendir");
+    if (is_lost(path, O_RDONLY)) {
+        errno = reason();
+        return NULL;
+    }
+    return next(path);
+}
 
 int ftruncate(int file, off_t length)
 {

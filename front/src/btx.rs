@@ -131,6 +131,7 @@ impl Report {
 
 // What the calls answer.
 const DONE: u32 = 0;
+const REFUSED: u32 = 1;
 const ASKS: u32 = 3;
 const FULL: u32 = 4;
 const ENDS: u32 = 5;
@@ -329,12 +330,12 @@ pub enum Verdict {
 /// The room for the names of types and for the notes that is tried first.
 const ROOM_FOR_CHECK: usize = 1 << 16;
 
-/// Checks a style in at most `steps` steps of the check. None where memory was refused, or the text is longer than a style may be.
-pub fn check(name: &[u8], style: &[u8], steps: u64) -> Option<Verdict> {
+/// Checks a style in at most `steps` steps of the check. None where the text is longer than a style may be.
+pub fn check(name: &[u8], style: &[u8], steps: u64) -> Result<Option<Verdict>, MemoryRefused> {
     check_in(name, style, steps, ROOM_FOR_CHECK)
 }
 
-fn check_in(name: &[u8], style: &[u8], steps: u64, room: usize) -> Option<Verdict> {
+fn check_in(name: &[u8], style: &[u8], steps: u64, room: usize) -> Result<Option<Verdict>, MemoryRefused> {
     let (mut types, mut notes, mut verdict) = (vec![0; room], vec![0; room], CVerdict::default());
     // SAFETY: each pointer is that of a slice or a reference that outlives the call, with its length; what is written is borrowed alone.
     let answer = unsafe {
@@ -355,16 +356,17 @@ fn check_in(name: &[u8], style: &[u8], steps: u64, room: usize) -> Option<Verdic
     match answer {
         DONE => {}
         FULL if needed > room => return check_in(name, style, steps, needed),
-        _ => return None,
+        REFUSED => return Ok(None),
+        _ => return Err(MemoryRefused),
     }
     types.truncate(verdict.types_len);
     notes.truncate(verdict.notes_len);
     let types = types.split_inclusive(|byte| *byte == b'\n').map(|name| name[..name.len() - 1].to_vec()).collect();
-    Some(match verdict.verdict {
+    Ok(Some(match verdict.verdict {
         0 => Verdict::Clean { literals: verdict.literals, bodies: verdict.bodies, types },
         1 => Verdict::Warnings(notes),
         _ => Verdict::Incomplete(notes),
-    })
+    }))
 }
 
 #[cfg(test)]
@@ -428,14 +430,14 @@ mod tests {
     #[test]
     fn styles_are_checked() {
         let verdict = check_in(b"s.bst", STYLE.as_bytes(), 1000, 1).unwrap();
-        let Verdict::Warnings(notes) = verdict else { panic!("{verdict:?}") };
+        let Some(Verdict::Warnings(notes)) = verdict else { panic!("{verdict:?}") };
         let wanted = "warning kind first\nnext write$\ndepth 1\noperand 0 text mewf\nwants text\nname field title\nmissing title\n\
             item ITERATE 4 call.type$\nat in 2 0 1 misc\ntype misc\n";
         assert_eq!(String::from_utf8(notes).unwrap(), wanted);
         let clean = STYLE.replace("title write$", "title empty$ 'skip$ { title write$ } if$");
         let types = vec![b"misc".to_vec()];
-        assert_eq!(check(b"s.bst", clean.as_bytes(), 1000), Some(Verdict::Clean { literals: 3, bodies: 2, types }));
-        assert!(matches!(check(b"s.bst", clean.as_bytes(), 1), Some(Verdict::Incomplete(_))));
+        assert_eq!(check(b"s.bst", clean.as_bytes(), 1000), Ok(Some(Verdict::Clean { literals: 3, bodies: 2, types })));
+        assert!(matches!(check(b"s.bst", clean.as_bytes(), 1), Ok(Some(Verdict::Incomplete(_)))));
     }
 
     #[test]

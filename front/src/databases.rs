@@ -1,11 +1,10 @@
 //! TeX's file databases (`ls-R`): text files that list the folders of a tree and the files in them.
 
-use crate::job::why_missing;
+use crate::job::{Unread, unread_at};
 use crate::search::{path_of, stands_as_file, without_slashes};
 use crate::system::position;
 use std::cell::OnceCell;
 use std::fs;
-use std::io::ErrorKind;
 
 /// For how many names the text of a database is looked through; for more of them its lines are sorted.
 const MOST_LOOKED_THROUGH: usize = 16;
@@ -23,8 +22,8 @@ pub struct Databases {
     all: Vec<Database>,
     /// Whether a file beside one may give files other names, or a database has another name. Only TeX's library knows these.
     pub have_aliases: bool,
-    /// One that the machine couldn't read, and the number of its fault.
-    pub unread: Option<(Vec<u8>, i32)>,
+    /// The first that the machine couldn't read.
+    pub unread: Option<Unread>,
 }
 
 impl Databases {
@@ -36,12 +35,11 @@ impl Databases {
             let beside = |name: &[u8]| [&root, name].concat();
             databases.have_aliases |= [&b"aliases"[..], b"ls-r"].iter().any(|name| path_of(&beside(name)).exists());
             let database = beside(b"ls-R");
-            match path_of(&database).is_file().then(|| fs::read(path_of(&database))) {
-                Some(Ok(text)) => databases.all.push(Database { root, text, sorted: OnceCell::new() }),
-                Some(Err(fault)) if fault.kind() != ErrorKind::PermissionDenied && why_missing(&fault).is_none() => {
-                    databases.unread = fault.raw_os_error().map(|number| (database, number));
-                }
-                _ => {}
+            let data = fs::metadata(path_of(&database));
+            match data.and_then(|data| if data.is_file() { fs::read(path_of(&database)).map(Some) } else { Ok(None) }) {
+                Ok(Some(text)) => databases.all.push(Database { root, text, sorted: OnceCell::new() }),
+                Ok(None) => {}
+                Err(fault) => databases.unread = databases.unread.or_else(|| unread_at(&database, &fault)),
             }
         }
         databases

@@ -1,5 +1,6 @@
 //! How the programs end: the exit statuses, which are those of the proved program, and what kept the machine from its work.
 
+use crate::btx::MemoryRefused;
 use crate::job::Note;
 use crate::terminal::plain;
 use std::ffi::OsString;
@@ -103,8 +104,9 @@ pub fn words_of(fault: &io::Error) -> String {
 }
 
 impl Failure {
-    /// The file at a path can't be read.
+    /// The file at a path can't be read. TeX's library begins the path with `./` where the file is in the present folder.
     pub fn unread(path: &[u8], fault: io::Error) -> Failure {
+        let path = path.strip_prefix(b"./").unwrap_or(path);
         match fault.kind() {
             io::ErrorKind::OutOfMemory => Failure::Memory,
             _ => Failure::Device(path.to_vec(), "can't be read", words_of(&fault)),
@@ -135,6 +137,12 @@ impl Failure {
     }
 }
 
+impl From<MemoryRefused> for Failure {
+    fn from(MemoryRefused: MemoryRefused) -> Failure {
+        Failure::Memory
+    }
+}
+
 impl fmt::Display for Failure {
     fn fmt(&self, out: &mut fmt::Formatter<'_>) -> fmt::Result {
         match self {
@@ -156,7 +164,7 @@ mod tests {
     #[test]
     fn a_failure_says_what_and_where() {
         let fault = io::Error::from_raw_os_error(13);
-        assert_eq!(Failure::unread(b"a/b.bib", fault).to_string(), "a/b.bib can't be read: Permission denied");
+        assert_eq!(Failure::unread(b"./a/b.bib", fault).to_string(), "a/b.bib can't be read: Permission denied");
         assert_eq!(Failure::NoTop(b"a.aux".into(), "it is a folder".into()).status(), Status::Limit);
         let memory = io::Error::from(io::ErrorKind::OutOfMemory);
         assert_eq!(Failure::unread(b"a", memory).status(), Status::Memory);

@@ -1,6 +1,6 @@
 //! The files of a job, found and read.
 
-use crate::btx::{self, MemoryRefused};
+use crate::btx;
 use crate::exit::Failure;
 use crate::kpathsea::Format;
 use crate::search::{Search, path_of};
@@ -101,6 +101,15 @@ pub fn why_missing(fault: &io::Error) -> Option<&'static str> {
     }
 }
 
+/// A file or a folder that the machine couldn't read, and the number of its fault.
+pub type Unread = (Vec<u8>, i32);
+
+/// What the machine couldn't read at this path; None where the fault says that nothing is there, or that the user may not read it.
+pub fn unread_at(path: &[u8], fault: &io::Error) -> Option<Unread> {
+    let is_of_machine = fault.kind() != ErrorKind::PermissionDenied && why_missing(fault).is_none();
+    fault.raw_os_error().filter(|_| is_of_machine).map(|number| (path.to_vec(), number))
+}
+
 /// Reads a file. Only ordinary files count: of a folder, a pipe or a device nothing is read.
 fn read(path: &[u8]) -> io::Result<Place> {
     read_ordinary(path).or_else(|fault| why_missing(&fault).map(Place::Empty).ok_or(fault))
@@ -127,12 +136,12 @@ fn read_ordinary(path: &[u8]) -> io::Result<Place> {
     Ok(Place::File(bytes, number))
 }
 
-/// What stands in the ordinary file at this path, where it can be read.
-pub fn read_file(path: &[u8]) -> Option<Vec<u8>> {
-    match read(path) {
-        Ok(Place::File(bytes, _)) => Some(bytes),
-        _ => None,
-    }
+/// A style that a user names, found and read; where there is none, what stands in its place, if anything does. A failure is the machine's.
+pub fn find_style(search: &Search, name: &[u8]) -> Result<Result<File, Option<&'static str>>, Failure> {
+    let mut finder = Finder::new(search, b"");
+    let file = finder.look_for(name.to_vec())?;
+    let reason = finder.notes.pop().map(|note| note.reason);
+    Ok(if file.bytes.is_some() { Ok(file) } else { Err(reason) })
 }
 
 /// Finds the files of a job.
@@ -172,7 +181,7 @@ impl<'a> Finder<'a> {
     /// Finds all other files. A failure is what kept the machine from it; a file that isn't there is none.
     pub fn find_all(&mut self) -> Result<Files, Failure> {
         loop {
-            let names = btx::needs(&self.files.top, &self.files.all).map_err(|MemoryRefused| Failure::Memory)?;
+            let names = btx::needs(&self.files.top, &self.files.all)?;
             // The style and the databases are named last, once all `.aux` files are known.
             let are_last = !names.iter().any(|name| name.ends_with(b".aux"));
             let mut asked = HashSet::new();
@@ -188,12 +197,17 @@ impl<'a> Finder<'a> {
         }
     }
 
-    /// Finds a file and reads it.
+    /// Finds a file and reads it, where TeX's set-up allows that.
     fn find(&mut self, name: Vec<u8>) -> Result<File, Failure> {
         if !self.search.may_read(&name) {
             self.note(&name, NOT_ALLOWED);
             return Ok(File { name, bytes: None, path: Vec::new() });
         }
+        self.look_for(name)
+    }
+
+    /// Finds a file and reads it.
+    fn look_for(&mut self, name: Vec<u8>) -> Result<File, Failure> {
         for path in self.places(&name) {
             match read(&path).map_err(|fault| Failure::unread(&path, fault))? {
                 Place::File(bytes, number) => {
@@ -205,8 +219,8 @@ impl<'a> Finder<'a> {
             }
         }
         let is_searched = name.ends_with(b".bst") || name.ends_with(b".bib");
-        if let Some((path, fault)) = self.search.unread_database().filter(|_| is_searched) {
-            return Err(Failure::unread(path, fault));
+        if let Some((path, number)) = self.search.unread().filter(|_| is_searched) {
+            return Err(Failure::unread(&path, io::Error::from_raw_os_error(number)));
         }
         Ok(File { name, bytes: None, path: Vec::new() })
     }

@@ -72,7 +72,7 @@ pub fn advice_at(code: &Code<'_>, scene: &Scene, message: &[u8], function: &[u8]
         let command = scene.callers.last().filter(|call| call.function.starts_with(b"EXECUTE "))?;
         return Some(without_entry(&plain(&command.function), command.line));
     }
-    let place = code.place_in(scene.at.line, function, None)?;
+    let place = code.place_in(scene.at.line, function, scene.token.map(|(_, number)| number))?;
     let said = match function {
         b":=" if message.ends_with(b" is not a function") => {
             let (Left::Number(name) | Left::Text(name)) = place.variable_itself()? else { return None };

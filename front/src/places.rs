@@ -259,9 +259,9 @@ fn stack_of(note: &Note) -> Vec<Held> {
 
 /// The scene of a note, with what the stack held.
 fn scene(note: &Note, stack: Vec<Held>) -> Option<Scene> {
-    let mut calls = opened(note).into_iter().chain(&note.command).map(|spot| spot.call.clone());
-    let at = calls.next()?;
-    Some(Scene { at, callers: calls.collect(), stack })
+    let mut spots = opened(note).into_iter().chain(&note.command);
+    let Spot { token, call } = spots.next()?;
+    Some(Scene { at: call.clone(), token: *token, callers: spots.map(|spot| spot.call.clone()).collect(), stack })
 }
 
 /// The literals that a command left, which the log lists, the uppermost first; none where the list isn't clear, as a literal may have several lines.

@@ -2,6 +2,7 @@
 
 use crate::advice::{self, Section};
 use crate::log::{Message, Place, Severity};
+use crate::notes::Token;
 use crate::scene::{Call, Scene};
 use crate::terminal::plain;
 use std::collections::HashMap;
@@ -22,8 +23,8 @@ struct Repeated<'a> {
     following: u64,
 }
 
-/// The kind of an error: its row of the advice, the function that met it, and the place.
-type Sort<'a> = (usize, &'a [u8], Option<&'a Call>);
+/// The kind of an error: its row of the advice, the function that met it, and the place with its token, since a line may have several.
+type Sort<'a> = (usize, &'a [u8], Option<(&'a Call, Option<Token>)>);
 
 /// The errors of an execution so far.
 #[derive(Debug, Clone, Default)]
@@ -51,7 +52,8 @@ impl<'a> Repeats<'a> {
             return true;
         }
         let (next, place) = (self.all.len(), message.scene.map(|scene| &scene.at));
-        let sort = (advice.number, function, place.filter(|_| !has_mistakes));
+        let placed = message.scene.filter(|_| !has_mistakes).map(|scene| (&scene.at, scene.token));
+        let sort = (advice.number, function, placed);
         let at = *self.by_sort.entry(sort).or_insert(next);
         if let Some(known) = self.all.get_mut(at) {
             known.add(entry, place);

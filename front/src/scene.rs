@@ -3,6 +3,7 @@
 //! A log says which built-in function met an error, and for which entry, but not where in the style that was. Who finds that out hands it in
 //! as [`Scenes`], by the numbers of the messages; without it the line of the last command that executes functions is named.
 
+use crate::notes::Token;
 use std::collections::BTreeMap;
 
 /// A place in a function of a style.
@@ -30,6 +31,8 @@ pub struct Held {
 pub struct Scene {
     /// What was executed.
     pub at: Call,
+    /// Its token in the style, where that is known: a line may have several.
+    pub token: Option<Token>,
     /// From where it was called, the innermost call first.
     pub callers: Vec<Call>,
     /// What the stack held, the uppermost literal first.

@@ -5,7 +5,7 @@
 //! the library in full. Where the library isn't installed, TeX's set-up is read by [`crate::texmf`], and the same search does the rest.
 
 use crate::databases::{Databases, first_in};
-use crate::job::why_missing;
+use crate::job::{Unread, why_missing};
 use crate::kpathsea::{Format, Kpathsea};
 use crate::system::{PathLibrary, position, set_variable};
 use crate::terminal::plain;
@@ -15,7 +15,7 @@ use std::cell::{Cell, OnceCell};
 use std::env;
 use std::ffi::{CStr, OsStr, OsString};
 use std::fs;
-use std::io::{self, ErrorKind};
+use std::io::ErrorKind;
 use std::os::unix::ffi::OsStrExt;
 use std::path::Path;
 
@@ -114,10 +114,14 @@ impl Search {
         self.databases().map_or_else(Vec::new, |(databases, looked_for)| databases.files_named(last, looked_for))
     }
 
-    /// A database that the machine couldn't read, and its fault: who knows then what isn't there?
-    pub fn unread_database(&self) -> Option<(&[u8], io::Error)> {
-        let (path, number) = self.databases()?.0.unread.as_ref()?;
-        Some((path, io::Error::from_raw_os_error(*number)))
+    /// What the machine couldn't read of TeX's set-up, its databases and its folders: who knows then what isn't there?
+    pub fn unread(&self) -> Option<Unread> {
+        let of_set_up = || match self {
+            Search::ByLibrary(search) => search.unread_set_up.get_or_init(|| Home::of_user()?.unread_set_up()).clone(),
+            Search::BySetUp(search) => search.texmf.unread(),
+            Search::Folders => None,
+        };
+        self.databases().and_then(|(databases, _)| databases.unread.clone()).or_else(of_set_up)
     }
 
     /// TeX's set-up, where TeX is installed.
@@ -322,6 +326,8 @@ pub struct LibrarySearch {
     databases: OnceCell<Databases>,
     /// How many names were looked for in the databases.
     looked_for: Cell<usize>,
+    /// A file of the set-up that the machine can't read, where it was asked.
+    unread_set_up: OnceCell<Option<Unread>>,
 }
 
 impl LibrarySearch {
@@ -336,8 +342,8 @@ impl LibrarySearch {
         // Its set-up is read at the first question.
         set_up.path(Format::Style);
         set_variable(DATABASES, given.as_deref());
-        let (full, databases) = (OnceCell::new(), OnceCell::new());
-        LibrarySearch { library, given, set_up, full, databases, looked_for: Cell::new(0) }
+        let (full, databases, unread_set_up) = (OnceCell::new(), OnceCell::new(), OnceCell::new());
+        LibrarySearch { library, given, set_up, full, databases, looked_for: Cell::new(0), unread_set_up }
     }
 
     fn find(&self, name: &[u8], format: Format) -> Option<Vec<u8>> {

@@ -55,9 +55,10 @@ pub fn main() -> ExitCode {
     keep_long_texts_apart();
     survive_long_files();
     end_aborts_as_memory();
-    panic::set_hook(Box::new(end_by_panic));
     let mut words = env::args_os();
     let name = Name::of(words.next());
+    let called = name.clone();
+    panic::set_hook(Box::new(move |place| end_by_panic(&called, place)));
     if name.is("bibtex-lint") {
         return lint_program::main(&name, words, |job| {
             let words = words::read([b"-terse".to_vec(), b"--".to_vec(), job].into_iter(), Explain::Only, false);
@@ -92,8 +93,8 @@ pub fn main() -> ExitCode {
 }
 
 /// Ends the program at a mistake of its own. No output is touched then: they are written without a step that could panic.
-fn end_by_panic(place: &PanicHookInfo<'_>) {
-    let _ = writeln!(io::stderr(), "bibtex-search: a mistake of this program: {place}");
+fn end_by_panic(name: &Name, place: &PanicHookInfo<'_>) {
+    name.say(format_args!("a mistake of this program: {place}"));
     process::exit(Status::Device as i32)
 }
 

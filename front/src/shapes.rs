@@ -348,7 +348,8 @@ mod tests {
             The literal stack isn't empty (ITERATE) for entry k\nwhile executing---line 2 of file s.bst\n";
         assert_eq!(shapes(log, &[("s.bst", style)]), lines);
         let at = Call { function: b"f".to_vec(), file: b"s.bst".to_vec(), line: 77 };
-        let scenes = Scenes { errors: [(0, Scene { at, callers: vec![], stack: vec![] })].into(), ..Scenes::default() };
+        let scene = Scene { at, token: None, callers: vec![], stack: vec![] };
+        let scenes = Scenes { errors: [(0, scene)].into(), ..Scenes::default() };
         let files = Files { top: vec![], all: vec![file("s.bst", style)] };
         let placed = written(&Log::new(log.as_bytes()).with_scenes(&scenes), &files, Part::Whole);
         assert!(placed.starts_with("Integer overflow (+) for entry k\nwhile executing---line 77 of file s.bst\n"));

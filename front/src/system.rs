@@ -61,6 +61,7 @@ unsafe extern "C" {
     fn write(file: c_int, bytes: *const c_void, len: usize) -> isize;
     fn atexit(handler: extern "C" fn()) -> c_int;
     fn _exit(status: c_int) -> !;
+    static program_invocation_short_name: *const c_char;
     fn kill(process: c_int, signal: c_int) -> c_int;
     fn prctl(option: c_int, first: c_ulong, ...) -> c_int;
     fn getppid() -> c_int;
@@ -498,9 +499,18 @@ pub fn lock(file: &impl AsRawFd) -> bool {
 
 const STANDARD_ERROR: c_int = 2;
 
-/// The memory of a program: the system's, with the sentence that is said where it refuses some. The program ends then with the status of refused memory, but where
-/// that was asked for by [`trying`].
-pub struct Memory(pub &'static str);
+/// What is said behind the program's name where memory is refused, and the longest name under which that is said.
+const OUT_OF_MEMORY: &[u8] = b": out of memory\n";
+const LONGEST_NAME: usize = 255;
+
+/// The memory of a program: the system's. Where it refuses some, one sentence says so under the program's name, and the program ends with the status of refused
+/// memory; but where that was asked for by [`trying`].
+pub struct Memory {
+    /// The program's own name.
+    pub name: &'static str,
+    /// Whether it is called by other names too, and says what it says under those.
+    pub has_names: bool,
+}
 
 thread_local! {
     static IS_TRYING: Cell<bool> = const { Cell::new(false) };
@@ -514,15 +524,38 @@ pub fn trying<T>(ask: impl FnOnce() -> T) -> T {
     answer
 }
 
+/// The name under which this program was called, where any terminal prints its bytes as they are. It takes no memory, and is known before the program's first line.
+fn called_name() -> Option<&'static [u8]> {
+    // SAFETY: C sets the name once, before the program begins; it is null or a text that ends with a byte 0, and stays.
+    let name = unsafe {
+        let name = program_invocation_short_name;
+        (!name.is_null()).then(|| CStr::from_ptr(name).to_bytes())
+    };
+    let is_short = |name: &&[u8]| (1..=LONGEST_NAME).contains(&name.len());
+    name.filter(is_short).filter(|name| name.iter().all(u8::is_ascii_graphic))
+}
+
 impl Memory {
+    /// Says that memory was refused, by one write, from memory that is there.
+    fn say_refused(&self) {
+        let called = if self.has_names { called_name() } else { None };
+        let name = called.unwrap_or(self.name.as_bytes());
+        let mut line = [0; LONGEST_NAME + OUT_OF_MEMORY.len()];
+        let mut len = 0;
+        for (place, byte) in line.iter_mut().zip(name.iter().chain(OUT_OF_MEMORY)) {
+            *place = *byte;
+            len += 1;
+        }
+        // SAFETY: the bytes are those of the line; the call asks for no memory.
+        unsafe { write(STANDARD_ERROR, line.as_ptr().cast(), len) };
+    }
+
     /// The place of memory that was asked for; null only where that was tried.
     fn given(&self, place: *mut u8) -> *mut u8 {
         if place.is_null() && !IS_TRYING.get() {
-            // SAFETY: the bytes are those of a text; neither call asks for memory.
-            unsafe {
-                write(STANDARD_ERROR, self.0.as_ptr().cast(), self.0.len());
-                _exit(Status::Memory as c_int)
-            }
+            self.say_refused();
+            // SAFETY: the call asks for no memory.
+            unsafe { _exit(Status::Memory as c_int) }
         }
         place
     }

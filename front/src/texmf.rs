@@ -17,6 +17,7 @@ pub mod paths;
 pub mod settings;
 pub mod variables;
 
+use crate::job::{Unread, unread_at};
 use crate::kpathsea::Format;
 use crate::search::{SetUp, path_of, stands_as_file, within};
 use home::Home;
@@ -37,25 +38,40 @@ pub struct Texmf {
     variables: Variables,
     /// The folders of the elements that were looked through, so that each is read once.
     folders: RefCell<HashMap<Vec<u8>, Folders>>,
+    /// What the machine couldn't read first: a file of the set-up, or a folder.
+    unread: RefCell<Option<Unread>>,
 }
 
 /// The path of files of any kind, where TeX's set-up says nothing of them.
 const PRESENT_FOLDER: &[u8] = b".";
 
 impl Texmf {
-    /// The set-up of the TeX on the user's search path; None where it has no `texmf.cnf`.
+    /// The set-up of the TeX on the user's search path; None where it has no `texmf.cnf`. Where the machine can't read one, it has no settings.
     pub fn find() -> Option<Texmf> {
         let home = Home::of_user()?;
-        let files = home.set_up_files();
-        let texts: Vec<Vec<u8>> = files.iter().filter_map(|file| fs::read(path_of(file)).ok()).collect();
-        let settings = Settings::read(texts.iter().map(Vec::as_slice));
-        (!texts.is_empty()).then(|| Texmf { variables: Variables::new(&home, settings), folders: RefCell::default() })
+        let (mut texts, mut unread) = (Vec::new(), None);
+        for file in home.set_up_files() {
+            match fs::read(path_of(&file)) {
+                Ok(text) => texts.push(text),
+                Err(fault) => unread = unread.or_else(|| unread_at(&file, &fault)),
+            }
+        }
+        if texts.is_empty() && unread.is_none() {
+            return None;
+        }
+        let variables = Variables::new(&home, Settings::read(texts.iter().map(Vec::as_slice)));
+        Some(Texmf { variables, folders: RefCell::default(), unread: RefCell::new(unread) })
+    }
+
+    /// What the machine couldn't read so far.
+    pub fn unread(&self) -> Option<Unread> {
+        self.unread.borrow().clone()
     }
 
     /// The folders that an element of a path stands for.
     fn folders_of(&self, element: &[u8]) -> Folders {
-        let mut known = self.folders.borrow_mut();
-        known.entry(element.to_vec()).or_insert_with(|| folders::folders_of(element).into()).clone()
+        let (mut known, mut unread) = (self.folders.borrow_mut(), self.unread.borrow_mut());
+        known.entry(element.to_vec()).or_insert_with(|| folders::folders_of(element, &mut unread).into()).clone()
     }
 
     /// A name with its variables, and a `~` at its beginning, written out.

@@ -389,8 +389,8 @@ FLOODS = {
     "database": ("Error--I was expecting an =--line %d of file d.bib", "@misc{k%d, title A}"),
     "entries": ('Warning--entry type for "k%d" isn\'t style-file defined--line %d of file d.bib', "@odd{k%d, title = {A}}"),
 }
-# How many processor seconds a job may take; some 0.2 to 0.8 were measured.
-MOST_SECONDS = 4
+# How many processor seconds a job may take; some 0.2 to 0.8 were measured, and three times that on a machine with much other work.
+MOST_SECONDS = 12
 
 
 def speed(reader):

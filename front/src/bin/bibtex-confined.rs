@@ -4,7 +4,7 @@ use bibtex_front::system::Memory;
 use std::process::ExitCode;
 
 #[global_allocator]
-static MEMORY: Memory = Memory("bibtex-confined: out of memory\n");
+static MEMORY: Memory = Memory { name: "bibtex-confined", has_names: false };
 
 fn main() -> ExitCode {
     bibtex_front::confined_program::main()

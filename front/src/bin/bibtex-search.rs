@@ -4,7 +4,7 @@ use bibtex_front::system::Memory;
 use std::process::ExitCode;
 
 #[global_allocator]
-static MEMORY: Memory = Memory("bibtex-search: out of memory\n");
+static MEMORY: Memory = Memory { name: "bibtex-search", has_names: true };
 
 fn main() -> ExitCode {
     bibtex_front::search_program::main()

@@ -8,6 +8,7 @@ use super::watch::Watch;
 use super::words::Request;
 use crate::exit::Status;
 use crate::exit::words_of;
+use crate::job::why_missing;
 use crate::system;
 use std::collections::HashSet;
 use std::fs::{self, File, Metadata};
@@ -18,12 +19,22 @@ pub fn is_absent(error: &io::Error) -> bool {
     matches!(error.kind(), ErrorKind::NotFound | ErrorKind::InvalidFilename | ErrorKind::InvalidInput)
 }
 
+/// Why a file can't be looked at or opened that may be there: something else stands in its place now, or the machine fails.
+fn unopened(name: &FileName, what: &str, error: &io::Error) -> Stop {
+    let reason = format!("{} can't be {what}: {}", name.shown(), words_of(error));
+    match error.kind() {
+        ErrorKind::OutOfMemory => Stop::new(Status::Memory as u8, reason),
+        _ if why_missing(error).is_some() => Stop::refused(reason),
+        _ => Stop::device(reason),
+    }
+}
+
 /// What is known of the file of this name, which is an ordinary one; none if it isn't there.
 pub fn look_at(name: &FileName) -> Result<Option<Metadata>, Stop> {
     let known = match fs::symlink_metadata(name.path()) {
         Ok(known) => known,
         Err(error) if is_absent(&error) => return Ok(None),
-        Err(error) => return Err(Stop::refused(format!("{} can't be looked at: {}", name.shown(), words_of(&error)))),
+        Err(error) => return Err(unopened(name, "looked at", &error)),
     };
     if known.is_symlink() {
         return Err(Stop::refused(format!("{} is a link", name.shown())));
@@ -48,7 +59,7 @@ fn read_aux(name: &FileName, limits: &Limits) -> Result<Option<Vec<u8>>, Stop> {
     let file = match system::no_links(options.read(true)).open(name.path()) {
         Ok(file) => file,
         Err(error) if is_absent(&error) || error.kind() == ErrorKind::PermissionDenied => return Ok(None),
-        Err(error) => return Err(Stop::refused(format!("{} can't be opened: {}", name.shown(), words_of(&error)))),
+        Err(error) => return Err(unopened(name, "opened", &error)),
     };
     let mut text = Vec::new();
     if let Err(error) = file.take(bytes(limits.aux)).read_to_end(&mut text) {

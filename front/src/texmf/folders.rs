@@ -1,34 +1,35 @@
 //! The folders that an element of a search path stands for. A `//` in an element stands for any folders between.
 
-use crate::job::FileNumber;
+use crate::job::{FileNumber, Unread, unread_at};
 use crate::search::{path_of, within, without_slashes};
 use crate::system::position;
 use std::collections::HashSet;
 use std::fs;
+use std::io;
 use std::os::unix::ffi::OsStringExt;
 use std::os::unix::fs::MetadataExt;
 
-/// The folders that an element stands for, in the order in which they are looked through.
-pub fn folders_of(element: &[u8]) -> Vec<Vec<u8>> {
+/// The folders that an element stands for, in the order in which they are looked through. `unread` is the first that the machine couldn't read.
+pub fn folders_of(element: &[u8], unread: &mut Option<Unread>) -> Vec<Vec<u8>> {
     let element = &element[element.iter().take_while(|byte| **byte == b'/').count().saturating_sub(1)..];
     match element.get(1..).and_then(|rest| position(rest, b"//")) {
-        Some(at) => folders_below(&element[..at + 1], without_slashes(&element[at + 1..])),
+        Some(at) => folders_below(&element[..at + 1], without_slashes(&element[at + 1..]), unread),
         None => vec![element.to_vec()],
     }
 }
 
 /// The folders that stand, behind `below`, in a folder and in those below it. Hidden folders don't count.
-fn folders_below(top: &[u8], below: &[u8]) -> Vec<Vec<u8>> {
+fn folders_below(top: &[u8], below: &[u8], unread: &mut Option<Unread>) -> Vec<Vec<u8>> {
     let (mut found, mut left, mut seen) = (Vec::new(), vec![top.to_vec()], HashSet::new());
     while let Some(folder) = left.pop() {
         if !is_new_folder(&folder, &mut seen) {
             continue;
         }
-        left.extend(folders_in(&folder).into_iter().rev());
+        left.extend(folders_in(&folder, unread).into_iter().rev());
         if below.is_empty() {
             found.push(folder);
         } else {
-            let inside = folders_of(&within(&folder, below)).into_iter();
+            let inside = folders_of(&within(&folder, below), unread).into_iter();
             found.extend(inside.filter(|folder| path_of(folder).is_dir()));
         }
     }
@@ -41,10 +42,12 @@ fn is_new_folder(path: &[u8], seen: &mut HashSet<FileNumber>) -> bool {
 }
 
 /// What stands in a folder and may be a folder itself.
-fn folders_in(folder: &[u8]) -> Vec<Vec<u8>> {
-    let Ok(entries) = fs::read_dir(path_of(folder)) else { return Vec::new() };
+fn folders_in(folder: &[u8], unread: &mut Option<Unread>) -> Vec<Vec<u8>> {
     let may_be_folder = |entry: &fs::DirEntry| entry.file_type().is_ok_and(|kind| kind.is_dir() || kind.is_symlink());
-    let names = entries.flatten().filter(may_be_folder).map(|entry| entry.file_name().into_vec());
+    let mut note = |fault: io::Error| *unread = unread.take().or_else(|| unread_at(folder, &fault));
+    let Ok(entries) = fs::read_dir(path_of(folder)).map_err(&mut note) else { return Vec::new() };
+    let entries = entries.filter_map(|entry| entry.map_err(&mut note).ok());
+    let names = entries.filter(may_be_folder).map(|entry| entry.file_name().into_vec());
     names.filter(|name| !name.starts_with(b".")).map(|name| within(folder, &name)).collect()
 }
 
@@ -69,7 +72,7 @@ mod tests {
         /// Where the file is found, from the room on.
         fn find(&self, element: &str, name: &str) -> Option<String> {
             let room = format!("{}/", self.0.display());
-            let folders = folders_of(format!("{room}{element}").as_bytes());
+            let folders = folders_of(format!("{room}{element}").as_bytes(), &mut None);
             let found =
                 folders.iter().map(|folder| within(folder, name.as_bytes())).find(|path| path_of(path).is_file())?;
             Some(String::from_utf8(found).unwrap().strip_prefix(&room).unwrap().to_string())

@@ -3,6 +3,7 @@
 use super::paths;
 use super::settings::Settings;
 use super::variables::Variables;
+use crate::job::{Unread, unread_at};
 use crate::search::path_of;
 use crate::system::program_named;
 use std::env;
@@ -81,9 +82,19 @@ impl Home {
         self.files_in(&self.usual_folders())
     }
 
+    /// The files of a set-up that TeX's library may read.
+    fn files_for_library(&self) -> Vec<Vec<u8>> {
+        self.files_in(&[&self.usual_folders(), &b":"[..], OF_SYSTEM].concat())
+    }
+
     /// Whether TeX's library finds a set-up: without one it looks for files nowhere.
     pub fn has_set_up_for_library(&self) -> bool {
-        !self.files_in(&[&self.usual_folders(), &b":"[..], OF_SYSTEM].concat()).is_empty()
+        !self.files_for_library().is_empty()
+    }
+
+    /// A file of these that the machine can't read: the library passes it over.
+    pub fn unread_set_up(&self) -> Option<Unread> {
+        self.files_for_library().iter().find_map(|file| unread_at(file, &fs::File::open(path_of(file)).err()?))
     }
 
     /// The files `texmf.cnf` in the folders that `TEXMFCNF` lists, or else in these.

@@ -251,6 +251,19 @@ wants_error_with 'bibtex-confined: the program ./broken can'"'"'t be started: No
 wants_old
 end
 
+gcc -O2 -Wall -Werror -shared -fPIC -o "$room/fail_confined_open.so" "$sources/tests/fail_open.c" -ldl
+for reason in 'EMFILE 6 Too many open files' 'EIO 6 Input/output error' 'ENOMEM 5 Cannot allocate memory' '40 1 Too many levels of symbolic links' \
+    'EACCES 3 I couldn'"'"'t open file name `job.aux'"'"; do
+    read -r number wanted words <<<"$reason"
+    begin "confined_file_that_cannot_be_opened_$number"
+    leave_old
+    FAIL_OPEN=job.aux FAIL_REASON=$number LD_PRELOAD=$room/fail_confined_open.so run_confined job
+    wants_status "$wanted"
+    wants_error_with "$words"
+    wants_old
+    end
+done
+
 begin confined_program_that_is_not_there
 leave_old
 for name in ./nosuch nosuch s.bst ./s.bst .; do

@@ -98,7 +98,7 @@ LD_LIBRARY_PATH=$libraries python3 "$here/measured.py" --processor "$folder/stdo
 read -r status took memory <measured
 echo "        $took s"
 wants_status 2
-[ "$took" -le 6 ] || complaints+=("it took $took processor seconds")
+[ "$took" -le 20 ] || complaints+=("it took $took processor seconds")
 wants_text job.bbl $'a line of the list\n'
 wants_words job.blg 'line 203 of file s.bst'
 end
@@ -204,7 +204,7 @@ begin flood_of_errors
 write_flood
 flooded job
 wants_status 3
-wants_bounded 2 300000
+wants_bounded 6 300000
 messages job.blg | head -n 1 | grep -qx "Error--INTEGER isn't a command--line 4 of file s.bst" || complaints+=("the first message is $(messages job.blg | head -n 1)")
 messages "$folder/stdout" | head -n 1 | grep -qx "Error--INTEGER isn't a command--line 4 of file s.bst" || complaints+=("the first message printed is $(messages "$folder/stdout" | head -n 1)")
 wants_words job.blg -log-room
@@ -217,7 +217,7 @@ begin flood_of_errors_explained
 write_flood
 flooded -explain job
 wants_status 3
-wants_bounded 3 400000
+wants_bounded 9 400000
 wants_words "$folder/stdout" "INTEGER isn't a command"
 [ "$(stat -c %s "$folder/stdout")" -le 20000000 ] || complaints+=("$(stat -c %s "$folder/stdout") bytes were printed")
 end
@@ -226,7 +226,7 @@ begin log_room
 use_style 'FUNCTION {f} {{#1} {"a warning of the style" warning$} while$} EXECUTE {f}'
 flooded -log-room=1M job
 wants_status 3
-wants_bounded 2 300000
+wants_bounded 6 300000
 [ "$(stat -c %s job.blg)" -le 2200000 ] || complaints+=("the log has $(stat -c %s job.blg) bytes")
 wants_words job.blg -log-room
 wants_words "$folder/stdout" -log-room
@@ -241,7 +241,7 @@ printf '\\citation{k}\n\\bibdata{d}\n\\bibstyle{%s}\n' "$name" >job.aux
 echo '@misc{k}' >d.bib
 flooded -log-room=1M job
 wants_status 3
-wants_bounded 2 300000
+wants_bounded 6 300000
 [ "$(stat -c %s job.blg)" -le 2200000 ] || complaints+=("the log has $(stat -c %s job.blg) bytes")
 wants_words job.blg "of file $name.bst"
 wants_words job.blg -log-room
@@ -251,7 +251,7 @@ begin list_room
 use_style 'FUNCTION {f} {{#1} {"a line of the list" write$ newline$} while$} EXECUTE {f}'
 flooded -list-room=1M job
 wants_status 3
-wants_bounded 2 300000
+wants_bounded 6 300000
 [ -s job.bbl ] && [ "$(stat -c %s job.bbl)" -le 1100000 ] || complaints+=("the list has $(stat -c %s job.bbl) bytes")
 wants_beginning job.bbl "$(yes 'a line of the list' | head -n 100000)"
 wants_words job.blg -list-room

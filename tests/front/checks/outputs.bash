@@ -349,13 +349,17 @@ for kilobytes in 3000 5000 8000 12000 20000 40000 80000; do
 done
 end
 
-# However little memory there is, one sentence says so; but before the program begins, where the system can't load it, or the standard library has no memory for its alternative stack.
+# However little memory there is, one sentence says so, under the name of the program; but before the program begins, where the system can't load it, or the standard library has no memory for its alternative stack.
 begin least_memory
 echo '@misc{k}' >d.bib
-for called in bibtex-search bibtex-lint bibtex-confined; do
-    ln -sf "$search" "$room/bibtex-lint"
+for called in bibtex-search bibtex-explain bibtex-lint bibtex-confined; do
+    said=0
+    case $called in
+    bibtex-lint | bibtex-explain) ln -sf "$search" "$room/$called" ;;
+    esac
     case $called in
     bibtex-lint) words=("$room/bibtex-lint" s) ;;
+    bibtex-explain) words=("$room/bibtex-explain" job) ;;
     *) words=("$programs/$called" job) ;;
     esac
     for kilobytes in $(seq 2400 150 6000); do
@@ -367,7 +371,13 @@ for called in bibtex-search bibtex-lint bibtex-confined; do
         grep -q 'alternative stack' "$folder/stderr" && continue
         [ "$status" -ne 134 ] && [ "$status" -ne 139 ] || complaints+=("$called with $kilobytes KB: the exit status is $status")
         grep -qE 'memory allocation|panicked|backtrace|failed to spawn' "$folder/stderr" && complaints+=("$called with $kilobytes KB: $(head -n 3 "$folder/stderr")")
+        grep '^bibtex-' "$folder/stderr" | grep -qv "^$called: " && complaints+=("$called with $kilobytes KB says under another name: $(head -n 3 "$folder/stderr")")
+        grep -qE "^$called: (s: )?out of memory$" "$folder/stderr" && said=$((said + 1))
+        case $called-$status in
+        bibtex-lint-[1234]) complaints+=("with $kilobytes KB the style is blamed: status $status, $(cat "$folder/stdout" "$folder/stderr")") ;;
+        esac
     done
+    [ "$said" -gt 0 ] || complaints+=("$called never says that memory was refused")
 done
 end
 

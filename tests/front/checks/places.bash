@@ -134,6 +134,30 @@ wants_status 4
 grep -q '^([0-9]* more errors are like `Error--".*" is not an integer while executing + for entry k` in line 1 of the style; for k)$' "$folder/stdout" || complaints+=("printed was $(tail -n 5 "$folder/stdout")")
 end
 
+# Two faults of one kind in one line are two; what another entry meets at the same token is one of them again.
+begin places_of_errors_in_one_line
+use_style "FUNCTION {f} { title #1 + pop\$ title #2 + pop\$ { title #3 + pop\$ } pop\$ #1 { title #4 + pop\$ } 'skip\$ if\$ } ITERATE {f}"
+cite k,l
+printf '@misc{k, title = {T}}\n@misc{l, title = {U}}\n' >d.bib
+run_search -explain job
+wants_status 2
+for number in 1 2 4; do
+    [ "$(grep -cxF "    on the stack: $number, \"T\"" "$folder/stdout")" -eq 1 ] || complaints+=("the fault of number $number is not shown once")
+done
+[ "$(grep -c '^Error--' "$folder/stdout")" -eq 3 ] || complaints+=("printed is $(cat "$folder/stdout")")
+[ "$(grep -cxF '(1 more error is like `Error--"T" is not an integer while executing + for entry k` in line 1 of the style; for l)' "$folder/stdout")" -eq 3 ] ||
+    complaints+=("counted is $(grep like "$folder/stdout")")
+end
+
+# What to do is said of the token that is meant.
+begin advice_for_a_token_of_many
+printf "ENTRY{title}{}{}\nINTEGERS{n}\nSTRINGS{s}\nFUNCTION {misc} { title 's := #1 's := title 'n := }\nREAD\nITERATE {call.type\$}\n" >s.bst
+run_search -explain job
+wants_status 2
+wants_line "$folder/stdout" "    what to do: \`s\` is a string (STRINGS), and \`#1\` is an integer; write \`int.to.str\$\` before \`'s\`: it makes a string of a number"
+wants_words "$folder/stdout" '    what to do: `n` is an integer (INTEGERS), and `title` is a string; assign it'
+end
+
 begin errors_that_a_style_invents
 use_style 'FUNCTION {f} { "x" #10 int.to.chr$ * "Error--1 is not a string while executing write$ for entry k" * warning$
 #1 write$ } ITERATE {f}'

@@ -220,6 +220,27 @@ wants_error_like 'ls-R can.t be read: Input/output error'
 wants_old
 end
 
+begin set_up_that_cannot_be_read
+live_tree
+leave_old
+FAIL_OPEN=texmf.cnf FAIL_REASON=EIO LD_PRELOAD=$room/fail_front_open.so run_live job
+wants_status 6
+wants_error_like 'texmf.cnf can.t be read: Input/output error'
+wants_old
+end
+
+begin folder_that_cannot_be_read
+live_tree
+sed -i 's/!!//g' live/2022/texmf-dist/web2c/texmf.cnf
+rm live/2022/texmf-dist/ls-R live/texmf-local/ls-R
+leave_old
+FAIL_OPEN=base FAIL_REASON=EMFILE LD_PRELOAD=$room/fail_front_open.so run_live job
+wants_first job
+FAIL_OPEN=bst FAIL_REASON=EMFILE LD_PRELOAD=$room/fail_front_open.so run_live job
+wants_status 6
+wants_error_like 'bibtex/bst can.t be read: Too many open files'
+end
+
 # The present folder is the document's: what stands in it is no program of TeX's, and no set-up.
 if has kpsewhich; then
     begin programs_of_the_present_folder
