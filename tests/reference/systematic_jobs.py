@@ -182,6 +182,96 @@ def widths():
         yield style(f"lines of {line}", body, b"EXECUTE", options={"line": line})
 
 
+def marks_before_files():
+    """What some editors put before a file."""
+    for mark, place in itertools.product((b"\xef\xbb\xbf", b"\xff\xfe", b"\xfe\xff\0"), range(5)):
+        fronts = [mark if number == place else b"" for number in range(5)]
+        aux = fronts[0] + b"\\citation{k}\n\\citation{j}\n\\@input{x.aux}\n\\bibdata{d}\n\\bibstyle{s}\n"
+        yield Job(f"{mark!r} before file {place}", SHOW + fronts[4], aux=aux, others={b"x.aux": fronts[1] + b"\\citation{i}\n\\citation{h}\n"}, declared=fronts[2] + DECLARED,
+                  database=fronts[3] + lines(b"@misc{%s,title={T}}" % key for key in (b"k", b"j", b"i", b"h")))
+
+
+def names_of_lists():
+    """A name in two of the lists of ENTRY, in one of them twice, or in a list of global variables."""
+    for number, (first, second) in enumerate(itertools.product((b"a", b"A", b"title"), repeat=2)):
+        used = SHOW + b" FUNCTION {g} {a top$ title top$} ITERATE {g}"
+        for one, other in itertools.combinations_with_replacement(range(5), 2):
+            lists = [b""] * 5
+            lists[other] = second
+            lists[one] = first + b" " + second if one == other else first
+            declared = b"ENTRY {%s}{%s}{%s}\n\nINTEGERS {%s}\n\nSTRINGS {%s}\n\n" % tuple(lists) + b"ENTRY {title}{}{}\n\nFUNCTION {misc} {}\n\nREAD\n\n"
+            yield Job(f"names of lists {number}, {one}, {other}", used, declared=declared, database=b"@misc{k,title={T},a={A}}")
+
+
+def capitals():
+    """All words of a database and of a style with capitals, some of them or none."""
+    database = (b'@comment{x}\n@preamble{"p" # s}\n@string{s={q}}\n@preamble{s # m}\n@misc{k,title={a} # s,crossref={p}}\n@book(p,title=m # none,title={b})\n'
+                b'@misc{i,crossref={p}}\n@string{m = m # "x"}\n@misc{j,crossref={i},title=m}\n@misc{k}\n')
+    declared = b'ENTRY {title}{n}{t} MACRO {m} {"mm"} MACRO {m} {"x"}\n\nINTEGERS {i} STRINGS {s} FUNCTION {misc} {cite$ write$} FUNCTION {default.type} {type$ write$} READ '
+    text = (b'FUNCTION {f} {title missing$ {"-"} {title "u" change.case$} if$ \'s := s write$ call.type$ #1 \'i := i \'n := {n #0 >} {n #1 - \'n :=} while$ '
+            b'"Ann von Bo and Cy" #1 "{f.}{vv}{ll}" format.name$ \'t := t write$ none newline$} FUNCTION {g} {preamble$ top$} EXECUTE {g} SORT ITERATE {f} REVERSE {f} bogus')
+    forms = [bytes, bytes.upper, bytes.title, lambda of: b"".join(of[place:place + 1].upper() if place % 2 else of[place:place + 1] for place in range(len(of)))]
+    for number, (of_database, of_declared, of_text) in enumerate(itertools.product(forms, repeat=3)):
+        yield Job(f"capitals {number}", of_text(text), declared=of_declared(declared), aux=citing(b"k,J,*,p"), database=of_database(database))
+
+
+def white_at_ends():
+    """All short white texts at the ends of lines, in lines that are otherwise empty and between the parts of a command."""
+    whites = list(texts_of([b" ", b"\t", b"\r"], 3))
+    numbered = list(enumerate(whites))
+    aux = lines(b"\\citation{k%d}%s" % item for item in numbered) + lines(b"\\citation{j}x%s" % white for white in whites) + lines(whites) + AUX
+    yield Job("white at ends of lines of an .aux file", SHOW, aux=aux, database=b"@misc{k0,title={T}}")
+    text = b"".join(b"bogus%d.%s\n%s\nEXECUTE {f}%s\nFUNCTION {f%d}%s{%s\n%s#1 top$}%s\n" % (number, white, white, white, number, white, white, white, white) for number, white in numbered)
+    yield Job("white at ends of lines of a style", b'FUNCTION {f} {"F" top$}\n\n' + text)
+    yield Job("white in a database", SHOW, aux=citing(b"*"), database=b"".join(b"@misc%s{%sk%d%s,%s\ntitle%s=%s\n{%s\nT%s}%s\n}%s\n" % (white, white, number, *(white,) * 8) for number, white in numbered))
+
+
+def databases_in_turn():
+    """All lists of up to four of some databases, which share their keys, strings and preambles, one of them without an end and one in capitals."""
+    others = {b"x.bib": b'@string{s="x"}@preamble{s # m}@misc{a,title=s # t}@misc{b,crossref={c}}@bogus{e}\n',
+              b"y.bib": b'@string{s=s # "y"}\n@string{T={ t}}\n@string{m=m # "-"}@preamble{"y"}\n@misc{c,title=s,title={}}@misc{A,title={again}}@bogus{E}',
+              b"Z.bib": b'@preamble{s # t}\n@misc{B,title=T # u}@misc{D,title=s # u,crossref={A}}@bogus{f,crossref={d}}\n@string{u="u"}@string{s={z}\n'}
+    show = b'FUNCTION {f} {cite$ write$ "=" write$ type$ write$ title missing$ {"-"} {title} if$ write$ crossref missing$ {"-"} {crossref} if$ write$ newline$} ITERATE {f} '
+    for number in range(1, 5):
+        for place, names in enumerate(itertools.product((b"x", b"y", b"Z", b"none"), repeat=number)):
+            if number < 4 or len(set(names)) < 4 and b"none" not in names:
+                aux = b"\\citation{%s}\n\\bibdata{%s}\n\\bibstyle{s}\n" % ((b"*", b"d,b", b"B,C,e", b"c,*,f")[place % 4], b",".join(names))
+                yield Job(f"databases in turn: {names}", show + b"FUNCTION {g} {preamble$ top$} EXECUTE {g}", aux=aux, others=others, declared=b'MACRO {m} {"M"} ' + DECLARED,
+                          options={"min_crossrefs": 1 + place % 3})
+
+
+def commands_in_turn():
+    """All orders of up to three commands behind one that gives values: what variables, the list and the pending text are from one command to the next."""
+    declared = b"ENTRY {title}{n}{es} INTEGERS {i} STRINGS {s} FUNCTION {misc} {i #1 + 'i := s cite$ * 's := n i + 'n := es title * 'es := es write$ \" \" write$} READ "
+    text = (b'FUNCTION {show} {i int.to.str$ s * write$ "/" write$} FUNCTION {each} {n int.to.str$ es * sort.key$ * write$ "/" write$ cite$ write$ newline$} FUNCTION {key} '
+            b'{title sort.key$ * \'sort.key$ :=} FUNCTION {first} {i #7 + \'i := "g" \'s := s "w" * write$ es top$} EXECUTE {first} ')
+    commands = [b"EXECUTE {show}", b"ITERATE {misc}", b"REVERSE {misc}", b"ITERATE {each}", b"ITERATE {key}", b"SORT", b"EXECUTE {first}", b"REVERSE {title}"]
+    database = lines(b"@misc{%s,title={%s}}" % pair for pair in ((b"k", b"b"), (b"J", b"B"), (b"h", b"b"), (b"i", b"a")))
+    for number in range(1, 4):
+        for chosen in itertools.product(commands, repeat=number):
+            if number < 3 or chosen[2] in commands[2:4]:
+                yield Job(f"commands in turn: {chosen}", text + b" ".join(chosen), aux=citing(b"*"), database=database, declared=declared)
+
+
+def files_in_turn():
+    """All orders of the commands of an .aux file, two of which read further ones that have the same commands."""
+    others = {b"x.aux": b"\\citation{b}\n\\citation{*}\n\\bibdata{e}\n", b"y.aux": b"\\bibstyle{t}\n\\@input{x.aux}\n\\bibdata{d,e}\n\\citation{A}\n", b"e.bib": b"@misc{b,title={E}}",
+              b"t.bst": DECLARED + SHOW}
+    commands = [b"\\@input{x.aux}", b"\\@input{y.aux}", b"\\bibdata{d}", b"\\bibstyle{s}", b"\\citation{a,*}"]
+    for chosen in itertools.permutations(commands):
+        yield Job(f"files in turn: {chosen}", SHOW, aux=lines(chosen), others=others, database=b"@misc{a,title={D}}")
+
+
+def names_that_are_shown():
+    """A name of each kind as it is spelled or not, where it is shown, assigned to, executed or of a wrong kind; and names of macros, which no function has."""
+    declared = b'ENTRY {Ab}{Num}{Txt} INTEGERS {Int} STRINGS {Str} FUNCTION {Fun} {#1 \'Num := "t"} FUNCTION {misc} {} MACRO {Mac} {"M"} READ '
+    for name in (b"Ab", b"Num", b"Txt", b"Int", b"Str", b"Fun", b"Mac", b"Skip$", b"Sort.Key$"):
+        for spelled, command in itertools.product((name, name.lower()), (b"EXECUTE", b"ITERATE")):
+            body = b" stack$\n".join(text.replace(b"%s", spelled) for text in (b"'%s", b"#1 '%s :=", b"\"a\" '%s :=", b"'%s #1 +", b"%s", b"#1 '%s {} if$", b"'%s \"b\" *", b"{#0} '%s while$"))
+            yield Job(f"{spelled.decode()}, {command.decode()}", b"FUNCTION {f} {" + body + b" stack$}\n\n" + command + b" {f} " + command + b" {" + spelled + b"}", declared=declared,
+                      database=b"@misc{k,ab={A}}")
+
+
 # ---- each size ----
 
 SIZES = [0, 1, 2, 3, 4, 9, 19, 20, 21, 99, 255, 256, 257, 1000]
@@ -266,12 +356,34 @@ def short_aux_files():
         yield Job(f"names of files, {text.decode()}", aux=aux, others=others, text=SHOW)
 
 
+def cited_in_turn():
+    """All lists of up to four keys and stars, in one line or in a line each."""
+    for number in range(1, 5):
+        for place, keys in enumerate(itertools.product((b"a", b"B", b"*"), repeat=number)):
+            between = (b",", b"}\n\\citation{")[place % 2]
+            yield Job(f"cited in turn: {keys}", SHOW, aux=citing(between.join(keys)), database=lines([b"@misc{b,title={1}}", b"@misc{c,title={2}}", b"@misc{a,crossref={B}}"]))
+
+
 def short_databases():
     pieces = [b"@", b"misc", b"string", b"preamble", b"{", b"}", b"(", b")", b"k", b",", b"title", b"=", b'"a"', b"{b }", b"s", b"S", b"#", b"1", b" ", b'"']
     for front in (b"", b"@misc{k", b"@misc(k", b"@misc{k,title", b"@misc{k,title=", b"@misc{k,title={b}", b"@string{s=", b'@string{s="x"}@misc{k,title=s',
                   b"@string{s={x}}@string{s=", b"@string{s=s#", b"@misc{k,title=s#", b"@comment", b"@preamble{", b"@misc{k,title={a}}@misc{", b"@misc{k,title={a},"):
         for group in in_groups(texts_of(pieces, 2 if front else 3)):
             yield each_a_database("short databases behind " + front.decode(), (front + text for text in group))
+    for (front, back), group in itertools.product(((b'@misc{k,title="', b'"}'), (b"@misc{k,title={", b"}}")), in_groups(texts_of([b"\\", b'"', b"{", b"}", b"%", b"a", b"\n"], 3))):
+        yield each_a_database("short values behind " + front.decode(), (front + text + back for text in group))
+
+
+def spaces_in_values():
+    """All values of up to three parts with spaces at their ends, as a field, as a string, and as preambles one behind another. Shown in the log, with their ends."""
+    parts = [b"{a}", b"{ b}", b"{c }", b"{ }", b"s", b"t", b'"  "']
+    values = [b" # ".join(chosen) for number in (1, 2, 3) for chosen in itertools.product(parts, repeat=number)]
+    known, numbered = b"@string{s={ y }}\n@string{t={ }}\n", list(enumerate(values))
+    show = b"FUNCTION {f} {title top$} ITERATE {f} FUNCTION {g} {preamble$ top$} EXECUTE {g}"
+    yield Job("spaces in fields", show, aux=citing(b"*"), database=known + lines(b"@misc{k%d,title=%s}" % item for item in numbered))
+    yield Job("spaces in strings", show, aux=citing(b"*"), database=known + lines(b"@string{u=%s}\n@misc{k%d,title={[} # u # {]}}\n@misc{j%d,title=u}" % (value, place, place) for place, value in numbered))
+    for number in (1, 2, 3):
+        yield Job("spaces in preambles", show, database=known + lines(b"@preamble{%s}" % value for value in values if value.count(b"#") < number))
 
 
 def short_styles():
@@ -283,6 +395,8 @@ def short_styles():
             yield Job("short styles behind " + front.decode(), b"\n\n" + text)
             if front:
                 yield Job("short styles before READ behind " + front.decode(), declared=b'MACRO {m} {"N"} FUNCTION {f} {}\n\n' + text + DECLARED)
+    for group in in_groups(enumerate(texts_of([b"'", b'"', b"#", b"{", b"}", b"%", b"f", b"skip$", b"1", b" "], 3))):
+        yield Job("short bodies as they are written", b"FUNCTION {f} {}\n\n" + apart(b"FUNCTION {f%d} {#1 %s" % item for item in group))
     for front in (b"ENTRY {a", b"ENTRY {a}{b", b"ENTRY {a}{b}{c"):
         yield Job("short styles behind " + front.decode(), declared=apart(front + b"%d" % place + text for place, text in enumerate(texts_of(pieces, 2))) + DECLARED)
     for text in texts_of(pieces, 2):
@@ -335,7 +449,9 @@ def short_lines():
 
 def all_short():
     yield from short_aux_files()
+    yield from cited_in_turn()
     yield from short_databases()
+    yield from spaces_in_values()
     yield from short_styles()
     yield from short_bodies()
     yield from short_strings()
@@ -364,6 +480,14 @@ def all_jobs():
     yield from operands("without an entry", KINDS[:3], b"EXECUTE")
     yield from commands_early()
     yield from names_twice()
+    yield from names_of_lists()
+    yield from capitals()
+    yield from marks_before_files()
+    yield from white_at_ends()
+    yield from databases_in_turn()
+    yield from commands_in_turn()
+    yield from files_in_turn()
+    yield from names_that_are_shown()
     yield from widths()
 
 

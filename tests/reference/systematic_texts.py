@@ -84,15 +84,56 @@ def conversions():
 
 def special_characters():
     """Insides of a special character by each function, alone, in braces and as a name's token."""
-    pieces = [b"\\", b"o", b"oe", b"i", b"AA", b"x", b"'", b" ", b"{", b"}", b"1", b"-", b"E"]
+    pieces = [b"\\", b"o", b"oe", b"i", b"AA", b"x", b"'", b" ", b"{", b"}", b"1", b"-", b"E", b"\xc3\xa9"]
     functions = [b"purify$", b'"t" change.case$', b'"u" change.case$', b'"l" change.case$', b"width$ int.to.str$", b"text.length$ int.to.str$", b"#1 text.prefix$", b"add.period$"]
     for function in functions:
         name = f"special characters, {function.decode()}"
         yield from calls(name, b'"{\\%s}" ' + function, texts_of(pieces, 3))
         yield from calls(name, b'"{{\\%s}}" ' + function, texts_of(pieces, 2))
         yield from calls(name, b'"a: {\\%s" ' + function, texts_of(pieces, 2))
+    words = [b"i", b"j", b"o", b"oe", b"ae", b"aa", b"l", b"ss", b"O", b"OE", b"AE", b"AA", b"L", b"I", b"SS", b"Oe", b"oE", b"sS", b"th", b"uppercase"]
+    for function in functions:
+        yield from calls(f"words of control sequences, {function.decode()}", b'"{\\%s" ' + function, (word + behind for word in words for behind in (b"}", b" B}", b" b", b"  {b} C}", b"\\ss\t1}x")))
+    yield from calls("words of control sequences as tokens", b'"A {\\%s B" #1 "{vv|}{f.|}" format.name$', (word + behind for word in words for behind in (b"}", b" B}", b" b}", b"\\L}x", b"{b}}")))
     yield from calls("special characters as tokens", b'"A {\\%s}b B" #1 "{vv|}{f.|}" format.name$', texts_of(pieces, 3))
     yield from calls("special characters as tokens", b'"{\\%s}-{{\\%s}} B" #1 "{f.|}" format.name$', texts_of(pieces, 2))
+
+
+def parts_of_sequences():
+    """Bytes that may make a character of UTF-8, in each order, and each first byte with each second that is a boundary for one."""
+    counted = b'"%s" text.length$ int.to.str$ write$ "/" write$ "%s" #2 text.prefix$'
+    pieces = [b"\xc3", b"\xe2", b"\xf0", b"\x82", b"\x9f", b"\xac", b"A"]
+    seconds = [b"\x7f", b"\x80", b"\x8f", b"\x90", b"\x9f", b"\xa0", b"\xbf", b"\xc0"]
+    firsts = [bytes([first]) for first in range(0xC0, 0x100)]
+    for utf8 in (False, True):
+        yield from calls("parts of sequences", counted, texts_of(pieces, 4 if utf8 else 2), options={"utf8": utf8})
+        yield from calls("codes of parts of sequences", b'"%s" chr.to.int$ int.to.str$', texts_of(pieces, 3), options={"utf8": utf8})
+        yield from calls("seconds of sequences", counted, (first + second + b"\x80\x81A" for first in firsts for second in seconds), options={"utf8": utf8})
+
+
+def strings_that_are_cut():
+    """Texts around what a variable keeps, cut within a character, a special character or a brace."""
+    text = b"\xc3\xa9{\xe2\x82\xac}{\\'e}\xc3"
+    shown = b'"%s" \'s := s top$ "%s" \'es := es top$ "%s" \'s := s s * top$'
+    for most in range(1, len(text) + 1):
+        body = b"\n".join(shown.replace(b"%s", text[:end]) for end in range(len(text) + 1))
+        yield Job(f"strings that are cut to {most}", b"STRINGS {s} FUNCTION {f} {" + body + b"} ITERATE {f}", declared=DECLARED.replace(b"{} F", b"{es} F"),
+                  options={"utf8": most % 2 == 0, "entry_max": most, "global_max": len(text) + 1 - most})
+    for most in (-1, 0, 1, 3, 9):
+        body = b"#%d 'entry.max$ := #%d 'global.max$ := \"abcdef\" 's := s top$ \"abcdef\" 'es := es top$ entry.max$ top$ global.max$ top$" % (most, most)
+        yield Job(f"what a variable keeps where a style says {most}", b"STRINGS {s} FUNCTION {f} {" + body + b"} ITERATE {f}", declared=DECLARED.replace(b"{} F", b"{es} F"),
+                  options={"entry_max": 4, "global_max": 5})
+
+
+def lines_of_characters():
+    """Lines of characters of more than one byte, which are broken by their bytes."""
+    yield from calls("lines of characters", b'"%s"', texts_of([b"\xc3\xa9" * 4, b"\xe2\x82\xac", b" ", b"a" * 6, b"\xf0\x9f\x82\xac" * 5], 5), options={"line": 20, "utf8": True})
+
+
+def texts_that_are_pending():
+    """Texts that no `newline$` ends, when the run does."""
+    for text in texts_of([b"a" * 9, b"bb", b" ", b"\t", b"c" * 21], 3):
+        yield style(f"a pending text: {text!r}", b'"' + text + b'" write$', b"EXECUTE", options={"line": 20})
 
 
 # ---- names ----
@@ -114,6 +155,28 @@ def short_tokens():
             yield from calls("short tokens", shape, texts_of(pieces, 3), options={"utf8": utf8})
 
 
+def names_in_sections():
+    """Names with two commas and with one, no token, one or more in each section, each part in full and abbreviated."""
+    sections = [(b"Bo", b"Bo Cy", b"de Bo", b"de La von Bo-Cy", b"de la"), (b"", b"Jr", b"Jr de Mi", b"jr-X~Y"), (b"", b"Ann", b"Ann di Eve", b"{\\'e}-B")]
+    names = [b", ".join(chosen) for chosen in itertools.product(*sections)] + [b",".join(chosen) for chosen in itertools.product(sections[0], sections[2])]
+    names += [name + end for name in names[::3] for end in (b",", b",,", b", ~", b", X, Y", b", X, Y, Z,,")]
+    for format_text in (b"{ff|}{vv|}{ll|}{jj|}", b"{f.|}{v.|}{l.|}{j.|}", b"{f~}{v~}{l~}{j~}", b"{j}{f{x}}{v{}}{l{-}}{j{,}}", b"{, jj~~~}{vv~~~}a"):
+        yield from calls("names in sections", b'"%s" #1 "' + format_text + b'" format.name$', names)
+
+
+def gaps_between_tokens():
+    """All that may stand between two tokens, where more tokens stand before or behind it."""
+    for shape in (b'"Abc%sDef Ghi Jkl"', b'"Abc Def%sGhi Jkl"', b'"Abc Def Ghi%sJkl"', b'"Abc def%sghi jkl Mno"'):
+        for format_text in (b"{ff|}{vv|}{ll|}{jj|}", b"{.. f.|}{vv|}{l.|}"):
+            yield from calls("gaps between tokens", shape + b' #1 "%s" format.name$' % format_text, texts_of([b" ", b"~", b"-", b",", b"\t"], 3))
+
+
+def pieces_side_by_side():
+    """Ties at the end of a piece and before it: what stands before a piece is none of its own."""
+    pieces = [b"~", b"a~", b"{~}", b"{~~}", b"{ff~}", b"{l~~}", b"{f{~}}", b"{...}"]
+    yield from calls("pieces side by side", b'"Ann Bo" #1 "%s" format.name$', texts_of(pieces, 3))
+
+
 def insides_of_formats():
     pieces = [b"f", b"F", b"l", b"x", b"{", b"}", b".", b"~", b"-", b" "]
     for front, back in ((b"{f", b"}"), (b"{F", b"}"), (b"{f{", b"}}"), (b"{ff{", b"}}"), (b"{{", b"}}"), (b"{ff{x}", b"}"), (b"a{", b"}b")):
@@ -130,6 +193,7 @@ def greatest_values(size):
     for item, values in ((b"@misc{k,title=%s}", fields), (b"@string{l=%s}", others), (b"@preamble{{a} # %s}", others), (b"@preamble{{}}@preamble{%s}", others)):
         for value in values:
             yield (item % value).decode(), b"@string{s={ab}}" + item % (value % long) + b"@misc{j}"
+    yield "two preambles", b"@preamble{{ab}}@preamble{{%s}}@misc{j}" % long
 
 
 def greatest_sizes():
@@ -137,6 +201,9 @@ def greatest_sizes():
     for size in (FULL - 1, FULL, FULL + 1):
         for name, database in greatest_values(size):
             yield Job(f"{size} bytes, {name}", b"FUNCTION {f} {title empty$ top$ preamble$ empty$ top$} ITERATE {f}", database=database, aux=citing(b"k,j"))
+        word = b"x" * size
+        yield Job(f"{size} bytes in a key", b"FUNCTION {f} {cite$ empty$ top$} ITERATE {f}", aux=citing(b"k," + word), database=b"@misc{k}@misc{%s}" % word)
+        yield Job(f"{size} bytes in a type", b"FUNCTION {f} {type$ empty$ top$} ITERATE {f}", declared=b"FUNCTION {%s} {} " % word + DECLARED, database=b"@%s{k}" % word)
         yield Job(f"{size} bytes in a macro", b"ITERATE {skip$}", declared=b'MACRO {m} {"%s"} ' % (b"x" * size) + DECLARED)
     for size in (FULL - 1, FULL):
         long = b"1" * (size - 2)
@@ -155,7 +222,14 @@ def all_texts():
     yield from titles()
     yield from conversions()
     yield from special_characters()
+    yield from parts_of_sequences()
+    yield from strings_that_are_cut()
+    yield from lines_of_characters()
+    yield from texts_that_are_pending()
     yield from lists_of_names()
     yield from short_tokens()
+    yield from names_in_sections()
+    yield from gaps_between_tokens()
+    yield from pieces_side_by_side()
     yield from insides_of_formats()
     yield from greatest_sizes()
