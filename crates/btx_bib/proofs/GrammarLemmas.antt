@@ -6,6 +6,7 @@ pub mod LengthLemmas
 pub mod PlainLemmas
 pub mod PlainByteLemmas
 pub mod PassedLemmas
+pub mod WindowLemmas
 pub mod SpellingLemmas
 pub mod SqueezeLemmas
 pub mod TrimLemmas

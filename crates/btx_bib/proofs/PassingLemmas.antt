@@ -6,10 +6,9 @@ use Rattle.btx_bib.specs.declared.gathering.Pending.{Pending}
 use Rattle.btx_bib.specs.declared.grammar.commands.Wanted.{Wanted as Next}
 use Rattle.btx_bib.specs.declared.grammar.commands.Wanted.TheVariants.{Item}
 use Rattle.btx_bib.specs.declared.grammar.item_readers.EntryHead.{EntryHead}
-use Rattle.btx_bib.specs.declared.grammar.plain_fields.PlainField.{PlainField}
 use Rattle.btx_bib.specs.declared.grammar.slip.Slip.TheVariants.{Repeated}
 use Rattle.btx_bib.specs.declared.message.Message.{Message}
-use Rattle.btx_bib.specs.language.Grammar.Items.{Event, End, Wrong, Step, expected_step, next_step}
+use Rattle.btx_bib.specs.language.Grammar.Items.{Event, End, FieldOf, Wrong, Step, expected_step, next_step}
 use Rattle.btx_bib.specs.language.Known.{goes_on}
 use Rattle.btx_bib.specs.language.Messages.{Database}
 use Rattle.btx_bib.specs.language.Wanted.{Request}
@@ -17,11 +16,11 @@ use Rattle.btx_bib.specs.refinement.Drafts.{has_entry, place_in, standing_at}
 use Rattle.btx_bib.specs.refinement.Gatherings.{GoesOn, all_messages, begun_by, closed, closed_by, fielded_by, is_kept, is_pending, kept_after, messages_of}
 use Rattle.btx_bib.specs.refinement.Gatherings.{messages_of_current, messages_of_standing}
 use Rattle.btx_bib.specs.refinement.Grammar.Items.{known_step}
-use Rattle.btx_bib.specs.refinement.Grammar.PlainFields.{IsLeft, entry_step, plain_field_view, plain_step}
+use Rattle.btx_bib.specs.refinement.Grammar.PassedFields.{IsFieldNext}
+use Rattle.btx_bib.specs.refinement.Grammar.PlainFields.{IsLeft, entry_step}
 use Rattle.btx_bib.specs.refinement.Grammar.Reads.{left}
 use Rattle.btx_bib.proofs.GatheringLemmas.{turn-along, turn-logged}
 use Rattle.btx_bib.proofs.GrammarLemmas.LengthLemmas.{events-less}
-use Rattle.btx_bib.proofs.GrammarLemmas.PlainLemmas.{plain-next}
 
 -- an entry that isn't wanted isn't stored
 unwanted-unstored : (wanted : Request) (kept : Gathering) (place : Option ℕ) → standing_at wanted kept.draft place ≡ standing.Unwanted
@@ -31,6 +30,14 @@ unwanted-unstored wanted kept (Some place) h = at (has_entry kept.draft (Some pl
   at : (t : Bool) → (if t then standing.Repeated else standing.Wanted) ≡ standing.Unwanted → t ≡ false
   at true h = cc
   at false h = refl
+
+-- what the reader reads where a field stands
+abbrev field_step : (place : Next × List ℕ) (rest : List ℕ) → IsFieldNext place rest → Step
+field_step place rest next = record { event = FieldOf next.field; wanted = place.0; rest = rest }
+
+pub field-less : (is_stored : List ℕ → Bool) (place : Next × List ℕ) (rest : List ℕ) → IsFieldNext place rest
+    → left place.0 (length rest) < left place.0 (length place.1)
+field-less is_stored place rest next = events-less is_stored place.0 place.1 (field_step place rest next) (ap (known_step is_stored) next.stands)
 
 module _ (wanted : Request) (kept : Gathering) where
   pub goes-none : (place : Next × List ℕ) → GoesOn wanted kept place place
@@ -63,12 +70,11 @@ module _ (wanted : Request) (kept : Gathering) where
       none-closed = ap (closed_by wanted kept) none ∙ sym none-current
 
       -- a field
-      pub goes-field : (place : Next × List ℕ) (field : PlainField) → expected_step place.0 place.1 ≡ Some (plain_step place.0 field)
-          → GoesOn wanted kept place (place.0, field.value.rest.now)
-      goes-field place field stands =
-          goes-turn place (plain_step place.0 field) (plain-next (is_kept kept) place.0 place.1 field stands)
-          (none-current ∙ sym (ap (fielded_by wanted kept (plain_field_view field)) none))
-          (λ database. ap (messages_of_current wanted database kept.strings (plain_field_view field) field.value.rest.now) none)
+      pub goes-field : (place : Next × List ℕ) (rest : List ℕ) → IsFieldNext place rest → GoesOn wanted kept place (place.0, rest)
+      goes-field place rest next =
+          goes-turn place (field_step place rest next) (ap (known_step (is_kept kept)) next.stands)
+          (none-current ∙ sym (ap (fielded_by wanted kept next.field) none))
+          (λ database. ap (messages_of_current wanted database kept.strings next.field rest) none)
 
       -- the end of an entry, or nothing
       pub goes-end : (left : Bool) (from to : Next × List ℕ) → IsLeft left from to → GoesOn wanted kept from to

@@ -398,8 +398,8 @@ impl<'a> Gathering<'a> {
         requires none { self.now.current ≡ None }
         ensures { GoesOn (wanted request.now) self.now reader.old reader.new }
     {
-        while let Some(field) = reader.passed_field() {
-            reader.pass(field.value.rest);
+        while let Some(rest) = reader.behind_field() {
+            reader.pass(rest);
         }
         reader.leave();
     }

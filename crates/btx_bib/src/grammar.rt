@@ -10,6 +10,7 @@ pub mod laws;
 pub mod line_counter;
 pub mod parts;
 mod passed;
+mod passed_fields;
 mod plain;
 pub mod plain_fields;
 pub mod reader;

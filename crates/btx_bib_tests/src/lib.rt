@@ -10,6 +10,8 @@ mod libraries;
 #[cfg(test)]
 mod limits;
 #[cfg(test)]
+mod passed_rows;
+#[cfg(test)]
 mod rows;
 #[cfg(test)]
 mod showing;

@@ -1,4 +1,5 @@
 //! Libraries of some databases, worked by hand.
+use crate::passed_rows::PASSED;
 use crate::rows::{ENDS, FAULTS, REFERENCES, Row, STYLE, VALUES};
 use crate::showing::{Asked, seen_of, shown_of};
 use btx_bib::Source;
@@ -67,12 +68,17 @@ fn wrong_reference(alloc: Global) -> Result<Option<usize>, Fault> {
     first_wrong(alloc, &REFERENCES)
 }
 
+fn wrong_passed(alloc: Global) -> Result<Option<usize>, Fault> {
+    first_wrong(alloc, &PASSED)
+}
+
 #[test]
 fn each_row_gives_what_it_says(rt: HostRuntime) {
     assert!(rt; wrong_value(rt.alloc()) == Ok(None));
     assert!(rt; wrong_fault(rt.alloc()) == Ok(None));
     assert!(rt; wrong_end(rt.alloc()) == Ok(None));
     assert!(rt; wrong_reference(rt.alloc()) == Ok(None));
+    assert!(rt; wrong_passed(rt.alloc()) == Ok(None));
 }
 
 // How many fields the style, keys the job and entries the library has, once the databases are read.

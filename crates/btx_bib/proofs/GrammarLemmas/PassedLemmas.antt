@@ -15,7 +15,7 @@ use Rattle.btx_bib.specs.declared.grammar.byte_sets.ByteSet.TheVariants.{NameByt
 use Rattle.btx_bib.specs.language.Grammar.ByteSets.{enclosed_len, is_in, longest_run_len}
 use Rattle.btx_bib.specs.refinement.Grammar.ByteSets.{AreUnmarked, is_mark}
 use Rattle.btx_bib.specs.refinement.Grammar.Squeezing.{lanes_before}
-use Rattle.btx_bib.proofs.GrammarLemmas.MarkLemmas.{and-false, enclosed-on, no-mark, or_parts}
+use Rattle.btx_bib.proofs.GrammarLemmas.MarkLemmas.{and-false, enclosed-on, no-mark}
 
 -- ---- a block
 
@@ -29,10 +29,27 @@ lane b = bit_or (bit_or (same b 123) (same b 125)) (same b 34)
 abbrev lanes : List ℕ → List ℕ
 lanes block = zip2 bit_or (zip2 bit_or (zip2 same block (replicate 16 123)) (zip2 same block (replicate 16 125))) (zip2 same block (replicate 16 34))
 
+abbrev brace_lane : ℕ → ℕ
+brace_lane b = bit_or (same b 123) (same b 125)
+
+abbrev brace_lanes : List ℕ → List ℕ
+brace_lanes block = zip2 bit_or (zip2 same block (replicate 16 123)) (zip2 same block (replicate 16 125))
+
 block-lanes : (block : List ℕ) → length block ≡ 16 → lanes block ≡ map lane block
 block-lanes block long =
     let braces = zip2_of_maps bit_or (λ b. same b 123) (λ b. same b 125) block (zip2_splat same block 16 123 long) (zip2_splat same block 16 125 long) in
     zip2_of_maps bit_or (λ b. bit_or (same b 123) (same b 125)) (λ b. same b 34) block braces (zip2_splat same block 16 34 long)
+
+brace-lanes : (block : List ℕ) → length block ≡ 16 → brace_lanes block ≡ map brace_lane block
+brace-lanes block long = zip2_of_maps bit_or (λ b. same b 123) (λ b. same b 125) block (zip2_splat same block 16 123 long) (zip2_splat same block 16 125 long)
+
+lane-braceless : (b : ℕ) → b < 256 → top 7 (brace_lane b) ≡ false → is_mark Group b ≡ false
+lane-braceless b fits none = at (top 7 (brace_lane b)) (is_mark Group b) none
+    (agree_below_at (λ b. top 7 (brace_lane b) || not (is_mark Group b)) (λ _. true) 256 b refl fits) where
+      at : (t m : Bool) → t ≡ false → (t || not m) ≡ true → m ≡ false
+      at false false none h = refl
+      at false true none h = sym h
+      at true m none h = cc
 
 lane-unmarked : (b : ℕ) → b < 256 → top 7 (lane b) ≡ false → is_mark Quotes b ≡ false
 lane-unmarked b fits none = at (top 7 (lane b)) (is_mark Quotes b) none
@@ -75,10 +92,17 @@ block-clear s i r z f Clear room fits found is test = (clear, bound) where
 
 pub unmarked-in-block : (s : List ℕ) (i r : ℕ) → i + 16 ≤ length s → ((k : ℕ) → Fits w8 (get_or s k 0))
     → r ≡ lanes_before (mask_l (map (top 7) (lanes (chunk i 16 s))) % 2 ^ 64) →
-    AreUnmarked s i (i + r) × (r ≤ 16)
+    AreUnmarked Quotes s i (i + r) × (r ≤ 16)
 unmarked-in-block s i r room fits found =
     block-clear s i r (lanes (chunk i 16 s)) lane (λ b. is_mark Quotes b ≡ false) room fits found (block-lanes (chunk i 16 s) (length-chunk i 16 s room))
     lane-unmarked
+
+pub braceless-in-block : (s : List ℕ) (i r : ℕ) → i + 16 ≤ length s → ((k : ℕ) → Fits w8 (get_or s k 0))
+    → r ≡ lanes_before (mask_l (map (top 7) (brace_lanes (chunk i 16 s))) % 2 ^ 64) →
+    AreUnmarked Group s i (i + r) × (r ≤ 16)
+braceless-in-block s i r room fits found =
+    block-clear s i r (brace_lanes (chunk i 16 s)) brace_lane (λ b. is_mark Group b ≡ false) room fits found
+    (brace-lanes (chunk i 16 s) (length-chunk i 16 s room)) lane-braceless
 
 -- ---- the letters with which a name begins
 
@@ -88,7 +112,7 @@ above a b = cond (ltb a b) 255 0
 abbrev letter_lane : (ℕ → ℕ → ℕ) → ℕ → ℕ
 letter_lane less b = above 25 (less b 97)
 
-run-on : (set : ByteSet) (n : ℕ) (s : List ℕ) → n ≤ length s → ((k : ℕ) → 0 ≤ k → k < n → is_in set (get_or s k 0) ≡ true)
+pub run-on : (set : ByteSet) (n : ℕ) (s : List ℕ) → n ≤ length s → ((k : ℕ) → 0 ≤ k → k < n → is_in set (get_or s k 0) ≡ true)
     → longest_run_len set s ≡ n + longest_run_len set (drop n s)
 unfolding longest_run_len
 run-on set zero s room all = omega arith
@@ -118,16 +142,12 @@ letters-in-block s r less room fits found all =
 
 -- ---- byte by byte
 
-unmarked-byte : (e : Enclosure) (b : ℕ) → is_mark Quotes b ≡ false → is_mark e b ≡ false
-unmarked-byte Group b h = (or_parts (eqb b 123 || eqb b 125) (eqb b 34) h).0
-unmarked-byte Quotes b h = h
-
-pub unmarked-on : (e : Enclosure) (s : List ℕ) (n i d total : ℕ) → i + n ≤ length s → AreUnmarked s i (i + n) → i + enclosed_len e d (drop i s) ≡ total →
+pub unmarked-on : (e : Enclosure) (s : List ℕ) (n i d total : ℕ) → i + n ≤ length s → AreUnmarked e s i (i + n) → i + enclosed_len e d (drop i s) ≡ total →
     i + n + enclosed_len e d (drop (i + n) s) ≡ total
 unmarked-on e s zero i d total room unmarked so = let none : i + 0 ≡ i = omega arith in rw none so
 unmarked-on e s (suc n) i d total room unmarked so =
     let b = get_or s i 0 in
-    let stays = no-mark e d b (unmarked-byte e b (unmarked i (omega arith) (omega arith))) in
+    let stays = no-mark e d b (unmarked i (omega arith) (omega arith)) in
     let next = enclosed-on e d d s i total (omega arith) (rw stays.0 (and-false (eqb d 0))) (sym stays.1) so in
     let sum : i + suc n ≡ i + 1 + n = omega arith in
     rw sum (unmarked-on e s n (i + 1) d total (omega arith) (λ k from to. unmarked k (omega arith) (omega arith)) next)

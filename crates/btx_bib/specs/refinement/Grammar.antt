@@ -7,6 +7,7 @@ pub mod EventViews
 pub mod ValueTexts
 pub mod Squeezing
 pub mod PlainFields
+pub mod PassedFields
 pub mod Reads
 pub mod PlaceLines
 pub mod Items

@@ -11,11 +11,23 @@ use crate::grammar::plain::{BLOCK, lanes_before};
 use btx_text::depths::depth_after;
 use std::simd::prelude::*;
 
+// How many bytes of the block at a place come before the first brace.
+#[inline(always)]
+fn braceless_in_block(text: &[u8], place: usize) -> usize
+    requires { place + 16 ≤ length text.now }
+    ensures unmarked { AreUnmarked enclosed_by.Group text.now place (place + result) }
+    ensures bound { result ≤ 16 }
+{
+    let block = u8x16::from_slice(&text[place..]);
+    let braces = block.simd_eq(u8x16::splat(b'{')) | block.simd_eq(u8x16::splat(b'}'));
+    lanes_before(braces.to_bitmask())
+}
+
 // How many bytes of the block at a place come before the first brace or `"`.
 #[inline(always)]
 fn unmarked_in_block(text: &[u8], place: usize) -> usize
     requires { place + 16 ≤ length text.now }
-    ensures unmarked { AreUnmarked text.now place (place + result) }
+    ensures unmarked { AreUnmarked enclosed_by.Quotes text.now place (place + result) }
     ensures bound { result ≤ 16 }
 {
     let block = u8x16::from_slice(&text[place..]);
@@ -23,17 +35,20 @@ fn unmarked_in_block(text: &[u8], place: usize) -> usize
     lanes_before((brace | block.simd_eq(u8x16::splat(b'"'))).to_bitmask())
 }
 
-// How many bytes before a brace or `"` stand at a place, as far as one block shows: where less than a block is left, none.
+// How many bytes before a brace, in quotes also before a `"`, stand at a place, as far as one block shows: where less than a block is left, none.
 #[inline(always)]
-fn unmarked_len(text: &[u8], place: usize) -> usize
+fn unmarked_len(enclosure: Enclosure, text: &[u8], place: usize) -> usize
     requires { place ≤ length text.now }
-    ensures unmarked { AreUnmarked text.now place (place + result) }
+    ensures unmarked { AreUnmarked enclosure text.now place (place + result) }
     ensures bound { place + result ≤ length text.now }
 {
     if text.len() - place < BLOCK {
         return 0;
     }
-    unmarked_in_block(text, place)
+    match enclosure {
+        Enclosure::Group => braceless_in_block(text, place),
+        Enclosure::Quotes => unmarked_in_block(text, place),
+    }
 }
 
 // How many bytes stand before the first that ends what is enclosed, if there is one.
@@ -43,14 +58,14 @@ fn passed_len(enclosure: Enclosure, text: &[u8]) -> Option<usize>
     ensures bound { IfSome result (λ len. len ≤ length text.now) }
 {
     let mut depth = 0;
-    let mut place = 0;
+    let mut place = unmarked_len(enclosure, text, 0);
     while let Some(&byte) = text.get(place) {
         if ends_enclosed(enclosure, depth, byte) {
             return Some(place);
         }
         depth = depth_after(depth, byte);
         place += 1;
-        place += unmarked_len(text, place);
+        place += unmarked_len(enclosure, text, place);
     }
     None
 }

@@ -65,10 +65,10 @@ fn enclosed_for(purpose: Purpose, enclosure: Enclosure, text: &[u8]) -> Option<(
     }
 }
 
-// A part of a value that is plain enough, if one stands here.
+/// A part of a value that is plain enough, if one stands here.
 #[inline(always)]
 #[tactic(auto, unfolding(crate::specs::language::Grammar::Values::part_in))]
-fn plain_part(purpose: Purpose, rest: &[u8]) -> Option<PlainValue<'_>>
+pub fn plain_part(purpose: Purpose, rest: &[u8]) -> Option<PlainValue<'_>>
     ensures value { IfSome result (λ got. spec.part_in rest.now ≡ Ok (part_in_view got, got.rest.now)) }
     ensures plain { IfSome result (λ got. Fits purpose (part_in_view got)) }
 {

@@ -4,6 +4,7 @@ ghost use Rattle.std.specs.Option.{option_map};
 ghost use Rattle.btx_bib.specs.refinement.Grammar.EventViews.{event_view, head_view, step_view};
 ghost use Rattle.btx_bib.specs.language.Grammar.Items as spec;
 ghost use Rattle.btx_bib.specs.refinement.Grammar.PlainFields.{IsLeft, IsPlainPart, entry_step, part_in_view, plain_step};
+ghost use Rattle.btx_bib.specs.refinement.Grammar.PassedFields.{IsFieldNext};
 ghost use Rattle.btx_bib.specs.refinement.Grammar.Reads.{IsRead};
 
 use crate::grammar::commands::Wanted;
@@ -11,6 +12,7 @@ use crate::grammar::events::{Event, Placed};
 use crate::grammar::item_readers::{
     EntryHead, behind_at, entry_end, entry_head, read_end, read_field_or_end, read_head,
 };
+use crate::grammar::passed_fields::behind_field;
 use crate::grammar::plain_fields::{PlainField, Purpose, plain_field};
 use crate::grammar::slip::Slip;
 use std::alloc::{AllocError, Global};
@@ -86,14 +88,13 @@ impl<'a> Reader<'a> {
         }
     }
 
-    /// The field that stands at the next place, if it has one part. The reader stays where it is.
+    /// The text behind the field that stands at the next place, if it has one part. The reader stays where it is.
     #[inline(always)]
-    #[tactic(auto, unfolding(crate::specs::language::Grammar::Items::expected_step))]
-    pub(crate) fn passed_field(&self) -> Option<PlainField<'a>>
-        ensures { IfSome result (λ field. spec.expected_step self.now.0 self.now.1 ≡ Some (plain_step self.now.0 field)) }
+    pub(crate) fn behind_field(&self) -> Option<&'a [u8]>
+        ensures { IfSome result (λ rest. IsFieldNext self.now rest.now) }
     {
         match self.wanted {
-            Wanted::Fields(_) => plain_field(Purpose::Passing, self.rest),
+            Wanted::Fields(_) => behind_field(self.rest),
             Wanted::Item | Wanted::Closing(_) => None,
         }
     }

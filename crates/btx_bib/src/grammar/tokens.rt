@@ -5,6 +5,7 @@ ghost use Rattle.btx_bib.specs.language.Grammar.Tokens as spec;
 ghost use Rattle.btx_bib.specs.refinement.Grammar.Tokens as refined;
 
 use crate::grammar::byte_sets::{ByteSet, Delimiter, begins_name, run_len};
+use crate::grammar::plain::name_len;
 use crate::grammar::slip::Slip;
 
 /// What was read and the text after it, or what is wrong and the text from its place on.
@@ -37,10 +38,7 @@ pub fn name(text: &[u8]) -> Read<'_, &[u8]>
 {
     let rest = past(ByteSet::Gap, text);
     match rest.split_first() {
-        Some((&byte, _)) if begins_name(byte) => Ok(rest.split_at(run_len(
-            ByteSet::NameByte,
-            rest,
-        ))),
+        Some((&byte, _)) if begins_name(byte) => Ok(rest.split_at(name_len(rest))),
         _ => Err((slip_at(Slip::NoName, rest), rest)),
     }
 }

@@ -19,6 +19,6 @@ unfoldable pub unmarked_len : (ℕ → Bool) → List ℕ → ℕ
 unmarked_len test [] = 0
 unmarked_len test (b ∷ bs) = if test b then 0 else suc (unmarked_len test bs)
 
--- none of the bytes from a place up to another one is a brace or a `"`
-abbrev pub AreUnmarked : List ℕ → ℕ → ℕ → Type 0
-AreUnmarked text from to = (place : ℕ) → from ≤ place → place < to → is_mark Quotes (slice_index text place) ≡ false
+-- none of the bytes from a place up to another one is such
+abbrev pub AreUnmarked : Enclosure → List ℕ → ℕ → ℕ → Type 0
+AreUnmarked enclosure text from to = (place : ℕ) → from ≤ place → place < to → is_mark enclosure (slice_index text place) ≡ false

@@ -1,30 +1,28 @@
 use Rattle.btx_bib.specs.refinement.Gatherings.{is_kept}
 use Rattle.btx_bib.specs.refinement.Requests.{wanted}
-use Rattle.btx_bib.proofs.GrammarLemmas.PlainLemmas.{plain-shorter}
-use Rattle.btx_bib.proofs.PassingLemmas.{goes-end, goes-field, goes-further, goes-none}
+use Rattle.btx_bib.proofs.PassingLemmas.{field-less, goes-end, goes-field, goes-further, goes-none}
 use Rattle.btx_bib.proofs.gathering.Gathering.pass_fields.Goals as goal
 
-pub loop-field-init : goal.loop-field-init
-loop-field-init c = goes-none (wanted c.args.request.now) c.args.self.now c.args.reader.now
+pub loop-rest-init : goal.loop-rest-init
+loop-rest-init c = goes-none (wanted c.args.request.now) c.args.self.now c.args.reader.now
 
-pub loop-field-preserved : goal.loop-field-preserved
-loop-field-preserved c =
+pub loop-rest-preserved : goal.loop-rest-preserved
+loop-rest-preserved c =
     let asked = wanted c.args.request.now in
     let kept = c.args.self.now in
-    let place = c.loop-field.reader in
-    let field = c.in-Some.field in
-    let stands = rw c.in-Some.is at c.passed_field.ensures in
-    let goes = goes-field asked kept c.requires.whole c.requires.none place field stands in
-    goes-further asked kept _ place _ c.loop-field.invariant (rw c.pass.ensures goes)
+    let place = c.loop-rest.reader in
+    let next = rw c.in-Some.is at c.behind_field.ensures in
+    let goes = goes-field asked kept c.requires.whole c.requires.none place c.in-Some.rest.now next in
+    goes-further asked kept _ place _ c.loop-rest.invariant (rw c.pass.ensures goes)
 
-pub loop-field-smaller : goal.loop-field-smaller
-loop-field-smaller c =
-    let stands = rw c.in-Some.is at c.passed_field.ensures in
-    rw c.pass.ensures (plain-shorter (is_kept c.args.self.now) c.loop-field.reader.0 c.loop-field.reader.1 c.in-Some.field stands)
+pub loop-rest-smaller : goal.loop-rest-smaller
+loop-rest-smaller c =
+    let next = rw c.in-Some.is at c.behind_field.ensures in
+    rw c.pass.ensures (field-less (is_kept c.args.self.now) c.loop-rest.reader c.in-Some.rest.now next)
 
 pub returns : goal.returns
 returns c =
     let asked = wanted c.args.request.now in
     let kept = c.args.self.now in
-    goes-further asked kept _ c.loop-field.reader _ c.loop-field.invariant
-    (goes-end asked kept c.requires.whole c.requires.none c.leave.result c.loop-field.reader _ c.leave.ensures)
+    goes-further asked kept _ c.loop-rest.reader _ c.loop-rest.invariant
+    (goes-end asked kept c.requires.whole c.requires.none c.leave.result c.loop-rest.reader _ c.leave.ensures)
