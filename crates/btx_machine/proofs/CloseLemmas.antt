@@ -40,11 +40,6 @@ finished_part old new finishes start out h =
       begins-finish start.line_length out.lines out.pending old.breaker start.bbl before after h.line h.bbl finishes,
     )
 
-pub unfinished : (old : Outputs) (end : Ending) → (end ≡ ends.Finished → ⊥) → FinishedAt old end old
-unfinished old ends.Finished not start out h = absurd (not refl)
-unfinished old ends.Stopped not start out h = h.bbl
-unfinished old (ends.Limit kind) not start out h = h.bbl
-
 -- ---- a part of both ends
 
 module _ (start : Start) (old new : Outputs) (end : Ending) (out : Out) (last : List ℕ) (h : StandsFor start old out) where

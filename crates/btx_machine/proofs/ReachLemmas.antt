@@ -9,7 +9,7 @@ use Rattle.btx_machine.specs.refinement.States.{outcome_of}
 use Rattle.btx_machine.specs.language.Meaning.{then_do}
 use Rattle.btx_machine.specs.laws.Goings.{Starts}
 use Rattle.btx_machine.specs.refinement.Written.{Comes, Runs}
-use Rattle.btx_machine.proofs.Goings.{starts_self, starts_trans}
+use Rattle.btx_machine.proofs.Goings.{starts_trans}
 use Rattle.btx_machine.proofs.Tracks.{Tracks}
 use Rattle.btx_machine.proofs.OrderLemmas.{Lasts, Grows}
 use Rattle.btx_machine.proofs.WithinLemmas.{ends_stay}
@@ -87,17 +87,6 @@ module _ (whole rest next : Doing) (go : ℕ → State → Outcome) (s t : State
   }
 
 -- ---- as the code does them
-
-pub reached_start : (whole rest : Doing) (work : Work) (k : ℕ) → k ≡ 0 → ((n : ℕ) (s : State) → rest n s ≡ whole n s) → Comes work work (Reached whole rest k)
-reached_start whole rest work k z same start out h = record {
-  out = out;
-  stands = h;
-  is = record {
-    goes_on = λ n. let f : n ≡ n + k = omega (arith, z) in same n (state work.store out) ∙ ap (λ b. whole b (state work.store out)) f;
-    before = λ n is. absurd (omega (arith, z, is));
-    adds = starts_self out;
-  };
-}
 
 module _ (whole rest next : Doing) (go : ℕ → State → Outcome) (old mid new : Work) (k taken k' : ℕ) (e : k' ≡ k + taken)
     (split : (n : ℕ) (out : Out) → rest n (state mid.store out) ≡ then_do (next n (state mid.store out)) go) (lasts : Lasts 1 next) (grows : Grows next)

@@ -28,289 +28,88 @@ use Rattle.btx_step.specs.laws.WorkedAssignments as assigned
 use Rattle.btx_step.specs.laws.WorkedAssignments.{AreAssigned, AreTested}
 use Rattle.btx_step.specs.laws.WorkedStores.{job, job_without_default, outside_entries, in_knuth, in_lamport, one_below}
 
+infixr 5 ◌⨾◌
+-- a row is so, and so are the rows behind it
+◌⨾◌ : {A B : Type 0} → A → B → A × B
+here ⨾ behind = (here, behind)
+
 pub comparisons-worked : AreSo (job Bytes) outside_entries one_below row.comparisons
 unfolding named_lower built_in_of built_ins function_run built_in_run form_of place_of note_text note_kind has_place note_line mark_of digits
-comparisons-worked = (refl, (refl, (refl, (refl, (refl, (refl, (refl, (refl, (refl, (refl, (refl, (refl, tt))))))))))))
+comparisons-worked = refl ⨾ refl ⨾ refl ⨾ refl ⨾ refl ⨾ refl ⨾ refl ⨾ refl ⨾ refl ⨾ refl ⨾ refl ⨾ refl ⨾ tt
 
 pub integers-worked : AreSo (job Bytes) outside_entries one_below row.integers
 unfolding named_lower built_in_of built_ins function_run built_in_run form_of place_of note_text note_kind has_place note_line mark_of digits
-integers-worked = (
-  refl,
-  (
-    refl,
-    (
-      refl,
-      (
-        refl,
-        (
-          refl,
-          (
-            refl,
-            (
-              refl,
-              (
-                refl,
-                (refl, (refl, (refl, (refl, (refl, (refl, (refl, (refl, (refl, (refl, (refl, (refl, (refl, (refl, (refl, tt))))))))))))))),
-              ),
-            ),
-          ),
-        ),
-      ),
-    ),
-  ),
-)
+integers-worked = refl ⨾ refl ⨾ refl ⨾ refl ⨾ refl ⨾ refl ⨾ refl ⨾ refl ⨾ refl ⨾ refl ⨾ refl ⨾ refl ⨾ refl ⨾ refl ⨾ refl ⨾ refl ⨾ refl ⨾ refl ⨾ refl ⨾ refl ⨾
+    refl ⨾ refl ⨾ refl ⨾ tt
 
 pub strings-worked : AreSo (job Bytes) outside_entries one_below row.strings
 unfolding named_lower built_in_of built_ins function_run built_in_run form_of place_of note_text note_kind has_place note_line mark_of digits elements_of
     elements_from kind_at group_len class_of control_name glyphs_from glyphs_of letters_of without_white cased_parts cased_control take_characters control_width
-strings-worked = (
-  refl,
-  (
-    refl,
-    (
-      refl,
-      (
-        refl,
-        (
-          refl,
-          (
-            refl,
-            (
-              refl,
-              (
-                refl,
-                (
-                  refl,
-                  (
-                    refl,
-                    (
-                      refl,
-                      (
-                        refl,
-                        (
-                          refl,
-                          (
-                            refl,
-                            (
-                              refl,
-                              (
-                                refl,
-                                (
-                                  refl,
-                                  (
-                                    refl,
-                                    (refl, (refl, (refl, (refl, (refl, (refl, (refl, (refl, (refl, (refl, (refl, (refl, (refl, (refl, (refl, (refl, tt)))))))))))))))),
-                                  ),
-                                ),
-                              ),
-                            ),
-                          ),
-                        ),
-                      ),
-                    ),
-                  ),
-                ),
-              ),
-            ),
-          ),
-        ),
-      ),
-    ),
-  ),
-)
+strings-worked = refl ⨾ refl ⨾ refl ⨾ refl ⨾ refl ⨾ refl ⨾ refl ⨾ refl ⨾ refl ⨾ refl ⨾ refl ⨾ refl ⨾ refl ⨾ refl ⨾ refl ⨾ refl ⨾ refl ⨾ refl ⨾ refl ⨾ refl ⨾
+    refl ⨾ refl ⨾ refl ⨾ refl ⨾ refl ⨾ refl ⨾ refl ⨾ refl ⨾ refl ⨾ refl ⨾ refl ⨾ refl ⨾ refl ⨾ refl ⨾ tt
 
 pub names-worked : AreSo (job Bytes) outside_entries one_below row.names
 unfolding named_lower built_in_of built_ins function_run built_in_run form_of place_of note_text note_kind has_place note_line mark_of digits elements_of
     elements_from kind_at group_len is_separator pieces_from names_of run_len tokens_from tokens_of letters_of is_lower_special first_is_lower is_von
     split_at_comma sections_of ends_in_comma before_final up_to_last before_first part_named piece_item inside_item group_item items_from items_of initial_of
     between_text with_tokens finished piece_text names_before nth_name one_name_text one_name_complaints
-names-worked = (refl, (refl, (refl, (refl, (refl, (refl, (refl, (refl, (refl, (refl, (refl, tt)))))))))))
+names-worked = refl ⨾ refl ⨾ refl ⨾ refl ⨾ refl ⨾ refl ⨾ refl ⨾ refl ⨾ refl ⨾ refl ⨾ refl ⨾ tt
 
 pub stack-worked : AreSo (job Bytes) outside_entries one_below row.stack
 unfolding named_lower built_in_of built_ins function_run built_in_run form_of place_of note_text note_kind has_place note_line mark_of digits
-stack-worked = (refl, (refl, (refl, (refl, (refl, (refl, (refl, (refl, (refl, (refl, (refl, (refl, (refl, (refl, tt))))))))))))))
+stack-worked = refl ⨾ refl ⨾ refl ⨾ refl ⨾ refl ⨾ refl ⨾ refl ⨾ refl ⨾ refl ⨾ refl ⨾ refl ⨾ refl ⨾ refl ⨾ refl ⨾ tt
 
 pub choices-worked : AreSo (job Bytes) outside_entries one_below row.choices
 unfolding named_lower built_in_of built_ins function_run built_in_run form_of place_of note_text note_kind has_place note_line mark_of digits
-choices-worked = (refl, (refl, (refl, (refl, tt))))
+choices-worked = refl ⨾ refl ⨾ refl ⨾ refl ⨾ tt
 
 pub wrong_operands-worked : AreSo (job Bytes) outside_entries one_below row.wrong_operands
 unfolding named_lower built_in_of built_ins function_run built_in_run form_of place_of note_text note_kind has_place note_line mark_of digits
-wrong_operands-worked = (
-  refl,
-  (
-    refl,
-    (
-      refl,
-      (
-        refl,
-        (
-          refl,
-          (
-            refl,
-            (
-              refl,
-              (
-                refl,
-                (
-                  refl,
-                  (
-                    refl,
-                    (
-                      refl,
-                      (
-                        refl,
-                        (
-                          refl,
-                          (
-                            refl,
-                            (
-                              refl,
-                              (
-                                refl,
-                                (
-                                  refl,
-                                  (
-                                    refl,
-                                    (
-                                      refl,
-                                      (
-                                        refl,
-                                        (
-                                          refl,
-                                          (
-                                            refl,
-                                            (refl, (refl, (refl, (refl, (refl, (refl, (refl, (refl, (refl, (refl, (refl, (refl, (refl, (refl, (refl, tt))))))))))))))),
-                                          ),
-                                        ),
-                                      ),
-                                    ),
-                                  ),
-                                ),
-                              ),
-                            ),
-                          ),
-                        ),
-                      ),
-                    ),
-                  ),
-                ),
-              ),
-            ),
-          ),
-        ),
-      ),
-    ),
-  ),
-)
+wrong_operands-worked = refl ⨾ refl ⨾ refl ⨾ refl ⨾ refl ⨾ refl ⨾ refl ⨾ refl ⨾ refl ⨾ refl ⨾ refl ⨾ refl ⨾ refl ⨾ refl ⨾ refl ⨾ refl ⨾ refl ⨾ refl ⨾ refl ⨾
+    refl ⨾ refl ⨾ refl ⨾ refl ⨾ refl ⨾ refl ⨾ refl ⨾ refl ⨾ refl ⨾ refl ⨾ refl ⨾ refl ⨾ refl ⨾ refl ⨾ refl ⨾ refl ⨾ refl ⨾ refl ⨾ tt
 
 pub whole_stacks-worked : AreSo (job Bytes) outside_entries [] row.whole_stacks
 unfolding named_lower built_in_of built_ins function_run built_in_run form_of place_of note_text note_kind has_place note_line mark_of digits
-whole_stacks-worked = (
-  refl,
-  (
-    refl,
-    (
-      refl,
-      (
-        refl,
-        (
-          refl,
-          (
-            refl,
-            (
-              refl,
-              (
-                refl,
-                (
-                  refl,
-                  (
-                    refl,
-                    (
-                      refl,
-                      (
-                        refl,
-                        (
-                          refl,
-                          (
-                            refl,
-                            (
-                              refl,
-                              (
-                                refl,
-                                (
-                                  refl,
-                                  (
-                                    refl,
-                                    (
-                                      refl,
-                                      (
-                                        refl,
-                                        (
-                                          refl,
-                                          (
-                                            refl,
-                                            (refl, (refl, (refl, (refl, (refl, (refl, (refl, (refl, (refl, (refl, (refl, (refl, (refl, (refl, tt)))))))))))))),
-                                          ),
-                                        ),
-                                      ),
-                                    ),
-                                  ),
-                                ),
-                              ),
-                            ),
-                          ),
-                        ),
-                      ),
-                    ),
-                  ),
-                ),
-              ),
-            ),
-          ),
-        ),
-      ),
-    ),
-  ),
-)
+whole_stacks-worked = refl ⨾ refl ⨾ refl ⨾ refl ⨾ refl ⨾ refl ⨾ refl ⨾ refl ⨾ refl ⨾ refl ⨾ refl ⨾ refl ⨾ refl ⨾ refl ⨾ refl ⨾ refl ⨾ refl ⨾ refl ⨾ refl ⨾
+    refl ⨾ refl ⨾ refl ⨾ refl ⨾ refl ⨾ refl ⨾ refl ⨾ refl ⨾ refl ⨾ refl ⨾ refl ⨾ refl ⨾ refl ⨾ refl ⨾ refl ⨾ refl ⨾ refl ⨾ tt
 
 pub bytes_characters-worked : AreSo (job Bytes) outside_entries one_below row.bytes_characters
 unfolding named_lower built_in_of built_ins function_run built_in_run form_of place_of note_text note_kind has_place note_line mark_of digits elements_of
     elements_from kind_at group_len take_characters
-bytes_characters-worked = (refl, (refl, tt))
+bytes_characters-worked = refl ⨾ refl ⨾ tt
 
 pub utf8_characters-worked : AreSo (job Utf8) outside_entries one_below row.utf8_characters
 unfolding named_lower built_in_of built_ins function_run built_in_run form_of place_of note_text note_kind has_place note_line mark_of digits elements_of
     elements_from kind_at group_len take_characters sequence_size second_fits is_sequence begins_sequence
-utf8_characters-worked = (refl, (refl, tt))
+utf8_characters-worked = refl ⨾ refl ⨾ tt
 
 pub no_entry-worked : AreSo (job Bytes) outside_entries one_below row.no_entry
 unfolding named_lower built_in_of built_ins function_run built_in_run form_of place_of note_text note_kind has_place note_line mark_of digits
-no_entry-worked = (refl, (refl, (refl, (refl, (refl, (refl, (refl, (refl, (refl, (refl, tt))))))))))
+no_entry-worked = refl ⨾ refl ⨾ refl ⨾ refl ⨾ refl ⨾ refl ⨾ refl ⨾ refl ⨾ refl ⨾ refl ⨾ tt
 
 pub of_knuth-worked : AreSo (job Bytes) in_knuth one_below row.of_knuth
 unfolding named_lower built_in_of built_ins function_run built_in_run form_of place_of note_text note_kind has_place note_line mark_of digits
-of_knuth-worked = (refl, (refl, (refl, (refl, (refl, (refl, (refl, (refl, (refl, (refl, (refl, tt)))))))))))
+of_knuth-worked = refl ⨾ refl ⨾ refl ⨾ refl ⨾ refl ⨾ refl ⨾ refl ⨾ refl ⨾ refl ⨾ refl ⨾ refl ⨾ tt
 
 pub of_lamport-worked : AreSo (job Bytes) in_lamport one_below row.of_lamport
 unfolding named_lower built_in_of built_ins function_run built_in_run form_of place_of note_text note_kind has_place note_line mark_of digits
-of_lamport-worked = (refl, (refl, (refl, tt)))
+of_lamport-worked = refl ⨾ refl ⨾ refl ⨾ tt
 
 pub of_lamport_without_default-worked : AreSo job_without_default in_lamport one_below row.of_lamport_without_default
 unfolding named_lower built_in_of built_ins function_run built_in_run form_of place_of note_text note_kind has_place note_line mark_of digits
-of_lamport_without_default-worked = (refl, tt)
+of_lamport_without_default-worked = refl ⨾ tt
 
 pub assignments-worked : AreAssigned outside_entries assigned.assignments
 unfolding named_lower built_in_of built_ins function_run built_in_run form_of place_of note_text note_kind has_place note_line mark_of digits
-assignments-worked = (refl, (refl, (refl, (refl, (refl, (refl, (refl, (refl, (refl, (refl, tt))))))))))
+assignments-worked = refl ⨾ refl ⨾ refl ⨾ refl ⨾ refl ⨾ refl ⨾ refl ⨾ refl ⨾ refl ⨾ refl ⨾ tt
 
 pub assignments_of_knuth-worked : AreAssigned in_knuth assigned.assignments_of_knuth
 unfolding named_lower built_in_of built_ins function_run built_in_run form_of place_of note_text note_kind has_place note_line mark_of digits
-assignments_of_knuth-worked = (refl, (refl, (refl, (refl, (refl, tt)))))
+assignments_of_knuth-worked = refl ⨾ refl ⨾ refl ⨾ refl ⨾ refl ⨾ tt
 
 pub assignments_of_lamport-worked : AreAssigned in_lamport assigned.assignments_of_lamport
 unfolding named_lower built_in_of built_ins function_run built_in_run form_of place_of note_text note_kind has_place note_line mark_of digits
-assignments_of_lamport-worked = (refl, tt)
+assignments_of_lamport-worked = refl ⨾ tt
 
 pub loop_tests-worked : AreTested assigned.loop_tests
 unfolding named_lower built_in_of built_ins function_run built_in_run form_of place_of note_text note_kind has_place note_line mark_of digits

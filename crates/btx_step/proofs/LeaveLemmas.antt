@@ -1,5 +1,5 @@
 -- What a step leaves, over all tokens.
-use Rattle.std.proofs.Common.{◌≡◌, ℕ, true, false, [], length, drop, slice_get, Option, Some, None, refl, ap, true≢false}
+use Rattle.std.proofs.Common.{◌≡◌, ℕ, true, false, length, drop, slice_get, Option, Some, None, refl, ap, true≢false, []}
 use Rattle.btx_bst.specs.declared.built_in.BuiltIn.{BuiltIn}
 use Rattle.btx_bst.specs.declared.built_in.BuiltIn.TheVariants as built_in
 use Rattle.btx_bst.specs.declared.callee.Callee.{Callee}
@@ -20,6 +20,7 @@ use Rattle.btx_step.specs.laws.Leaves.{LowerLiteralsStay, ListingEmpties}
 use Rattle.btx_step.proofs.AssignLemmas.{assigned}
 use Rattle.btx_step.proofs.RuleLemmas.{pushed_by}
 use Rattle.btx_step.proofs.KeepLemmas as keep
+use Rattle.btx_step.proofs.PlainLemmas as plain
 use Rattle.btx_step.proofs.KeepLemmas.{Keeps}
 
 no_step : {A : Type 0} → true ≡ false → A
@@ -27,7 +28,7 @@ no_step e = absurd (true≢false e)
 
 missing_kept : (current : Option ℕ) (s : Store) → Keeps (with_literals [] s) (drop 1 s.literals) (runs_missing current s)
 missing_kept None s = keep.without_entry s.literals s
-missing_kept (Some entry) s = keep.by_operands (row built_in.Missing).operands stand_in.Zero finds_missing (λ field p s r. keep.absence field s) s.literals s
+missing_kept (Some entry) s = keep.by_operands (row built_in.Missing).operands stand_in.Zero finds_missing (λ field p s r. plain.absence keep.Any_below keep.Kept keep.plain field s tt) s.literals s
 
 built_in_kept : (job : Job) (f : BuiltIn) (s : Store)
     → is_assignment (token.Run (callee.BuiltIn f)) ≡ false → is_listing (token.Run (callee.BuiltIn f)) ≡ false
@@ -44,9 +45,9 @@ run_kept : (job : Job) (f : Callee) (s : Store) → is_assignment (token.Run f) 
 unfolding function_run
 run_kept job (callee.BuiltIn f) s a l = built_in_kept job f s a l
 run_kept job (callee.User i) s a l = keep.answered (next.Open i) said.Nothing s
-run_kept job (callee.Field i) s a l = keep.field job i s.current s
-run_kept job (callee.EntryInteger i) s a l = keep.entry_integer i s.current s
-run_kept job (callee.EntryString i) s a l = keep.entry_string i s.current s
+run_kept job (callee.Field i) s a l = plain.field keep.Any_below keep.Kept keep.plain job i s.current s tt
+run_kept job (callee.EntryInteger i) s a l = plain.entry_integer keep.Any_below keep.Kept keep.plain i s.current s tt
+run_kept job (callee.EntryString i) s a l = plain.entry_string keep.Any_below keep.Kept keep.plain i s.current s tt
 run_kept job (callee.GlobalInteger i) s a l = keep.pushing said.Nothing _ s
 run_kept job (callee.GlobalString i) s a l = keep.pushing said.Nothing _ s
 

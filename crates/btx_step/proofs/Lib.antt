@@ -8,6 +8,7 @@ pub mod QuickLemmas
 pub mod PairLemmas
 pub mod RowLemmas
 pub mod RuleLemmas
+pub mod PlainLemmas
 pub mod AppliedLemmas
 pub mod KeepLemmas
 pub mod AssignLemmas

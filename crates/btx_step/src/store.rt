@@ -17,6 +17,7 @@ mod arithmetic;
 mod control;
 mod entries;
 mod names;
+mod operands;
 mod pairs;
 mod quick;
 mod stacks;
@@ -284,7 +285,7 @@ impl<'a> Store<'a> {
 
     // A line of the log, and what stands in for a result.
     #[cold]
-    fn log_note(
+    fn complain(
         &mut self,
         note: Note<'a>,
         instead: StandIn,
@@ -298,7 +299,7 @@ impl<'a> Store<'a> {
 
     // The stack was empty `missing` times.
     #[cold]
-    fn log_lack(
+    fn lack(
         &mut self,
         missing: usize,
         instead: StandIn,
@@ -313,52 +314,6 @@ impl<'a> Store<'a> {
 
     // A literal of another kind was wanted.
     #[cold]
-    fn log_refusal(
-        &mut self,
-        value: Literal<'a>,
-        wanted: Wanted,
-        instead: StandIn,
-        said: &mut Said<'a>,
-    ) -> Result<Next, AllocError>
-        ensures { IfOk result (λ next. answer next said.new self.new ≡ refuses value.entry wanted instead self.old) }
-    {
-        self.log_note(Note::WrongKind(value, wanted), instead, said)
-    }
-
-    // What a function says where something is wrong. Each of these calls takes the answer of the one behind it apart: so the answer of a function
-    // that goes well needs no place in memory, which saves some ten instructions a step.
-
-    // A line of the log, and what stands in for a result.
-    #[inline(always)]
-    fn complain(
-        &mut self,
-        note: Note<'a>,
-        instead: StandIn,
-        said: &mut Said<'a>,
-    ) -> Result<Next, AllocError>
-        ensures { IfOk result (λ next. answer next said.new self.new ≡ complains note.entry instead self.old) }
-    {
-        let next = self.log_note(note, instead, said)?;
-        Ok(next)
-    }
-
-    // The stack was empty `missing` times.
-    #[inline(always)]
-    fn lack(
-        &mut self,
-        missing: usize,
-        instead: StandIn,
-        said: &mut Said<'a>,
-    ) -> Result<Next, AllocError>
-        requires { self.old.literals ≡ [] }
-        ensures { IfOk result (λ next. answer next said.new self.new ≡ lacks missing instead self.old) }
-    {
-        let next = self.log_lack(missing, instead, said)?;
-        Ok(next)
-    }
-
-    // A literal of another kind was wanted.
-    #[inline(always)]
     fn refuse(
         &mut self,
         value: Literal<'a>,
@@ -368,12 +323,10 @@ impl<'a> Store<'a> {
     ) -> Result<Next, AllocError>
         ensures { IfOk result (λ next. answer next said.new self.new ≡ refuses value.entry wanted instead self.old) }
     {
-        let next = self.log_refusal(value, wanted, instead, said)?;
-        Ok(next)
+        self.complain(Note::WrongKind(value, wanted), instead, said)
     }
 
     // There is no current entry.
-    #[inline(always)]
     fn miss_entry(&mut self, said: &mut Said<'a>) -> Result<Next, AllocError>
         ensures { IfOk result (λ next. answer next said.new self.new ≡ outside self.old) }
     {

@@ -8,6 +8,7 @@ ghost use Rattle.btx_step.specs.refinement.Control as kept_spec;
 ghost use Rattle.btx_step.specs.language.Table.{runs};
 
 use super::Store;
+use super::operands::{fitting, popped};
 use crate::literal::{Literal, Wanted};
 use crate::next::Next;
 use crate::said::{Note, Notes, Said};
@@ -21,27 +22,13 @@ impl<'a> Store<'a> {
         requires { said.old ≡ silence }
         ensures { IfOk result (λ next. answer next said.new self.new ≡ runs built_in.If kept_spec.chooses self.old) }
     {
-        let Some(otherwise) = self.literals.pop(self.alloc)? else {
-            return self.lack(3, StandIn::Nothing, said);
-        };
-        let Some(then) = self.literals.pop(self.alloc)? else {
-            return self.lack(2, StandIn::Nothing, said);
-        };
-        let Some(number) = self.literals.pop(self.alloc)? else {
-            return self.lack(1, StandIn::Nothing, said);
-        };
-        let otherwise = match otherwise {
-            Literal::Function(otherwise) => otherwise,
-            other => return self.refuse(other, Wanted::Function, StandIn::Nothing, said),
-        };
-        let then = match then {
-            Literal::Function(then) => then,
-            other => return self.refuse(other, Wanted::Function, StandIn::Nothing, said),
-        };
-        match number {
-            Literal::Integer(n) => Ok(Next::Run(if n > 0 { then } else { otherwise })),
-            other => self.refuse(other, Wanted::Integer, StandIn::Nothing, said),
-        }
+        let otherwise = popped!(self, 3, Nothing, said);
+        let then = popped!(self, 2, Nothing, said);
+        let number = popped!(self, 1, Nothing, said);
+        let otherwise = fitting!(self, otherwise, Function, Nothing, said);
+        let then = fitting!(self, then, Function, Nothing, said);
+        let n = fitting!(self, number, Integer, Nothing, said);
+        Ok(Next::Run(if n > 0 { then } else { otherwise }))
     }
 
     // `while$`
@@ -49,20 +36,11 @@ impl<'a> Store<'a> {
         requires { said.old ≡ silence }
         ensures { IfOk result (λ next. answer next said.new self.new ≡ runs built_in.While kept_spec.loops self.old) }
     {
-        let Some(body) = self.literals.pop(self.alloc)? else {
-            return self.lack(2, StandIn::Nothing, said);
-        };
-        let Some(test) = self.literals.pop(self.alloc)? else {
-            return self.lack(1, StandIn::Nothing, said);
-        };
-        let body = match body {
-            Literal::Function(body) => body,
-            other => return self.refuse(other, Wanted::Function, StandIn::Nothing, said),
-        };
-        match test {
-            Literal::Function(test) => Ok(Next::Loop(test, body)),
-            other => self.refuse(other, Wanted::Function, StandIn::Nothing, said),
-        }
+        let body = popped!(self, 2, Nothing, said);
+        let test = popped!(self, 1, Nothing, said);
+        let body = fitting!(self, body, Function, Nothing, said);
+        let test = fitting!(self, test, Function, Nothing, said);
+        Ok(Next::Loop(test, body))
     }
 
     /// Pops what a loop's test left, and answers whether the body runs: if it is an integer above 0.

@@ -9,6 +9,7 @@ ghost use Rattle.btx_step.specs.language.Table.{runs};
 ghost use Rattle.btx_text.specs.language.Lists.{only_if};
 
 use super::Store;
+use super::operands::{fitting, popped};
 use crate::job::Job;
 use crate::literal::{Literal, Wanted};
 use crate::next::Next;
@@ -24,14 +25,10 @@ impl<'a> Store<'a> {
         requires { said.old ≡ silence }
         ensures { IfOk result (λ next. answer next said.new self.new ≡ runs built_in.NumNames kept_spec.counts_names self.old) }
     {
-        match self.literals.pop(self.alloc)? {
-            Some(Literal::Text(names)) => {
-                let count = btx_names::num_names(names.as_bytes());
-                Ok(self.push_number(count))
-            }
-            Some(other) => self.refuse(other, Wanted::Text, StandIn::Zero, said),
-            None => self.lack(1, StandIn::Zero, said),
-        }
+        let value = popped!(self, 1, Zero, said);
+        let names = fitting!(self, value, Text, Zero, said);
+        let count = btx_names::num_names(names.as_bytes());
+        Ok(self.push_number(count))
     }
 
     // `format.name$`
@@ -44,27 +41,13 @@ impl<'a> Store<'a> {
         requires { said.old ≡ silence }
         ensures { IfOk result (λ next. answer next said.new self.new ≡ runs built_in.FormatName (spec.formats_name job.now) self.old) }
     {
-        let Some(format) = self.literals.pop(self.alloc)? else {
-            return self.lack(3, StandIn::Empty, said);
-        };
-        let Some(number) = self.literals.pop(self.alloc)? else {
-            return self.lack(2, StandIn::Empty, said);
-        };
-        let Some(names) = self.literals.pop(self.alloc)? else {
-            return self.lack(1, StandIn::Empty, said);
-        };
-        let format = match format {
-            Literal::Text(format) => format,
-            other => return self.refuse(other, Wanted::Text, StandIn::Empty, said),
-        };
-        let number = match number {
-            Literal::Integer(number) => number,
-            other => return self.refuse(other, Wanted::Integer, StandIn::Empty, said),
-        };
-        match names {
-            Literal::Text(names) => self.push_name(job, names, number, format, said),
-            other => self.refuse(other, Wanted::Text, StandIn::Empty, said),
-        }
+        let format = popped!(self, 3, Empty, said);
+        let number = popped!(self, 2, Empty, said);
+        let names = popped!(self, 1, Empty, said);
+        let format = fitting!(self, format, Text, Empty, said);
+        let number = fitting!(self, number, Integer, Empty, said);
+        let names = fitting!(self, names, Text, Empty, said);
+        self.push_name(job, names, number, format, said)
     }
 
     // A name of this number in a format.
