@@ -8,6 +8,7 @@ pub mod items;
 pub mod journal;
 pub mod last;
 pub mod law;
+pub mod lists;
 pub mod machine;
 pub mod marks;
 pub mod outputs;

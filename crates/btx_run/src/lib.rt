@@ -1,7 +1,7 @@
 //! A run: from a job's files to its list of references and its log.
 #![tactic(auto)]
 
-mod contents;
+pub mod contents;
 pub mod files;
 pub mod law;
 pub mod run_fault;

@@ -4,7 +4,6 @@ ghost use Rattle.btx_code.specs.refinement.Codes.{bodies_of};
 ghost use Rattle.btx_text.specs.language.Limits.{greatest_file};
 ghost use Rattle.btx_run.specs.refinement.Files.Readings.{StyleFits};
 
-use crate::contents::read_library;
 use crate::explainer::Explainer;
 use crate::scratch::Scratch;
 use btx_aux::{AuxJob, Finder};
@@ -12,6 +11,7 @@ use btx_bst::read_style;
 use btx_machine::report::report_of;
 use btx_machine::{Journal, LogCounts, Report};
 use btx_run::Options;
+use btx_run::contents::read_library;
 use btx_run::files::{FilesRead, JobFiles, read_files, read_job};
 use btx_step::Job;
 use btx_text::Fault;

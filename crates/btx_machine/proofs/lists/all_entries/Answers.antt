@@ -1,6 +1,6 @@
 use Rattle.std.proofs.Common.{◌≡◌, ◌-◌, ◌+◌, ◌++◌, ℕ, List, length, sym, subst, arith}
 use Rattle.btx_machine.proofs.DoLemmas.{one_entry}
-use Rattle.btx_machine.proofs.items.all_entries.Goals as goal
+use Rattle.btx_machine.proofs.lists.all_entries.Goals as goal
 use Rattle.btx_machine.specs.refinement.Items.{numbers_from}
 
 pub loop-entry-preserved : goal.loop-entry-preserved

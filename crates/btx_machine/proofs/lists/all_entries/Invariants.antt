@@ -1,5 +1,5 @@
 use Rattle.std.proofs.Common.{◌≡◌, ◌-◌, ◌++◌, length}
-use Rattle.btx_machine.proofs.items.all_entries.Given as goal
+use Rattle.btx_machine.proofs.lists.all_entries.Given as goal
 use Rattle.btx_machine.specs.refinement.Items.{numbers_from}
 
 abbrev pub invariant-loop-entry : goal.invariant-loop-entry
