@@ -36,7 +36,7 @@ RECORDED = {("article", 10_000): (2_565_800_000, 13.2), ("plain", 10_000): (2_35
             ("alpha", 10_000): (2_642_000_000, 28.0), ("jurabib", 10_000): (6_698_600_000, 39.0)}
 # What the program is to take at 10,000 entries at most, and in the typical job, as a share of what the original takes.
 AIMED_SIZE = 10_000
-INSTRUCTIONS_AIMED = {TYPICAL: 0.10, PLAIN: 0.40, ALPHA: 0.40, LONG: 0.40, ARTICLE: 0.40, READING_ALONE: 0.15, MESSAGES: 0.15}
+INSTRUCTIONS_AIMED = {TYPICAL: 0.06, PLAIN: 0.40, ALPHA: 0.40, LONG: 0.40, ARTICLE: 0.40, READING_ALONE: 0.15, MESSAGES: 0.15}
 SECONDS_AIMED = 0.50
 MEMORY_AIMED = {TYPICAL: 0.50, PLAIN: 0.75, ALPHA: 0.60, LONG: 0.50, ARTICLE: 0.85}
 INSTRUCTIONS, SECONDS, MEMORY = "instructions", "processor seconds", "memory"
