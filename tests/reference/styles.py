@@ -231,12 +231,17 @@ class Reader:
     def read_strings(self, word):
         self.read_list(lambda name: Variable(name, False, True))
 
-    def read_function(self, word):
+    def read_defined(self, table):
+        """A name in braces that isn't in the table yet, and the brace that opens its definition."""
         self.open_brace()
         name = self.read_name()
-        self.ask_new(name, self.style.known)
+        self.ask_new(name, table)
         self.close_brace()
         self.open_brace()
+        return name
+
+    def read_function(self, word):
+        name = self.read_defined(self.style.known)
         before = len(self.style.bodies)
         try:
             body = self.read_body()
@@ -250,11 +255,7 @@ class Reader:
         return Function(len(self.style.bodies) - 1, name)
 
     def read_macro(self, word):
-        self.open_brace()
-        name = self.read_name()
-        self.ask_new(name, self.style.macros)
-        self.close_brace()
-        self.open_brace()
+        name = self.read_defined(self.style.macros)
         self.sign(b'"', b'I was expecting a "')
         text, quote, after = self.rest().partition(b'"')
         if not quote:
