@@ -37,6 +37,13 @@ def uses(found):
     return by_word
 
 
+def explained(found):
+    """Each word of the library with what it means, its example as a sentence, and the line that shows it best; an empty text or None where there is none."""
+    by_word, computed = uses(found), examples()
+    for word, meaning in meanings().items():
+        yield word, meaning, sentence(computed[word]) if word in computed else "", shortest_use(word, by_word.get(word, []))
+
+
 def words_of(found):
     """The words of the library that some definitions use, each with what it means."""
     used = uses(found)

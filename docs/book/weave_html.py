@@ -14,6 +14,7 @@ import layout
 import links
 import manuals
 import rules
+from blocks import Blocks
 from definitions import KEYWORDS, TOKEN, Word
 
 STYLE = pathlib.Path(__file__).with_name("book.css")
@@ -201,12 +202,11 @@ def index_html(found):
 
 
 def words_html(found):
-    by_word, computed, rows = glossary.uses(found), glossary.examples(), []
-    for word, meaning in glossary.meanings().items():
-        use = glossary.shortest_use(word, by_word.get(word, []))
-        example = f'<a href="#{use[0].id}">{use[0].number}</a>{code_use(use)}' if use else ""
+    rows = []
+    for word, meaning, example, use in glossary.explained(found):
+        shown = f'<a href="#{use[0].id}">{use[0].number}</a>{code_use(use)}' if use else ""
         rows.append(f'<tr id="{word_id(word)}"><td><code>{html.escape(word)}</code></td><td>{text(meaning)}'
-                    + (f"<br>{text(glossary.sentence(computed[word]))}" if word in computed else "") + f'</td><td>{example}</td></tr>')
+                    + (f"<br>{text(example)}" if example else "") + f'</td><td>{shown}</td></tr>')
     return f'<table class="words">{"".join(rows)}</table>'
 
 
@@ -240,26 +240,26 @@ def code_use(use):
     return " <code>" + html.escape(line, quote=False) + "</code>"
 
 
+def heading_html(title):
+    return f'<h3 id="{links.heading_id(title)}">{text(title)}</h3>'
+
+
+def shown_html(it):
+    """A definition that a chapter of the book's own words shows."""
+    return f'<div class="shown"><p><a href="#{it.id}">{it.number}</a> {text(layout.prose(it.comment))}</p>{code(it)}</div>'
+
+
+def text_html(block, by_id):
+    """A paragraph or a list."""
+    return items_html(block, by_id) if block.startswith(("- ", "1. ")) else f"<p>{text(links.linked(rules.joined(block), by_id))}</p>"
+
+
+BLOCKS = Blocks(heading_html, shown_html, words_html, rows_html, manuals_html, text_html)
+
+
 def notation_html(front, book, level=2):
-    """A chapter of the book's own words: its paragraphs, lists and headings, the definitions that it shows, and the tables."""
-    by_id, out = book.by_id, [f'<h{level} id="{front.anchor}">{front.title}</h{level}>']
-    for block in front.blocks:
-        if block.startswith("## "):
-            out.append(f'<h3 id="{links.heading_id(block[3:])}">{text(block[3:])}</h3>')
-        elif block.startswith("@show "):
-            it = by_id[block[6:].replace("::", ".")]
-            out.append(f'<div class="shown"><p><a href="#{it.id}">{it.number}</a> {text(layout.prose(it.comment))}</p>{code(it)}</div>')
-        elif block == "@words":
-            out.append(words_html(book.found))
-        elif block in ("@terms", "@questions"):
-            out.append(rows_html(f"{block[1:]}.txt", by_id))
-        elif block == "@manuals":
-            out.append(manuals_html(book.sections))
-        elif block.startswith(("- ", "1. ")):
-            out.append(items_html(block, by_id))
-        else:
-            out.append(f"<p>{text(links.linked(rules.joined(block), by_id))}</p>")
-    return "\n".join(out)
+    """A chapter of the book's own words."""
+    return "\n".join([f'<h{level} id="{front.anchor}">{front.title}</h{level}>', *BLOCKS.woven(front, book)])
 
 
 def page_html(title, body, script=""):

@@ -12,6 +12,7 @@ import layout
 import links
 import manuals
 import rules
+from blocks import Blocks
 
 HEAD = """---
 title: "BibTeX, proved: the book of definitions"
@@ -114,12 +115,10 @@ def names_markdown(chapter):
 
 
 def words_markdown(found):
-    by_word, computed, rows = glossary.uses(found), glossary.examples(), []
-    for word, meaning in glossary.meanings().items():
-        use = glossary.shortest_use(word, by_word.get(word, []))
-        example = f" {glossary.sentence(computed[word])}." if word in computed else ""
+    rows = []
+    for word, meaning, example, use in glossary.explained(found):
         shown = f" As in [{use[0].number}](#{anchor(use[0])}): `{use[1]}`" if use else ""
-        rows.append(f"- `{word}`: {meaning}.{example}{shown}")
+        rows.append(f"- `{word}`: {meaning}." + (f" {example}." if example else "") + shown)
     return "\n".join(rows) + "\n"
 
 
@@ -135,23 +134,26 @@ def manuals_markdown(sections):
                      for (manual, number), found in manuals.followers(sections)) + "\n"
 
 
+def heading_markdown(title):
+    return f"## {title} {{#{links.heading_id(title)} .unnumbered}}\n"
+
+
+def shown_markdown(it):
+    """A definition that a chapter of the book's own words shows."""
+    return f"[{it.number}](#{anchor(it)}) {layout.prose(it.comment)}\n\n{code(it)}\n"
+
+
+def text_markdown(block, by_id):
+    """A paragraph, or a list with a point a line."""
+    return links.linked(re.sub(r"\n(?!- |\d+\. )", " ", block), by_id, True) + "\n"
+
+
+BLOCKS = Blocks(heading_markdown, shown_markdown, words_markdown, rows_markdown, manuals_markdown, text_markdown)
+
+
 def notation_markdown(front, book, level=1):
-    by_id, out = book.by_id, [f"{'#' * level} {front.title} {{#{front.anchor} .unnumbered}}\n"]
-    for block in front.blocks:
-        if block.startswith("## "):
-            out.append(f"## {block[3:]} {{#{links.heading_id(block[3:])} .unnumbered}}\n")
-        elif block.startswith("@show "):
-            it = by_id[block[6:].replace("::", ".")]
-            out.append(f"[{it.number}](#{anchor(it)}) {layout.prose(it.comment)}\n\n{code(it)}\n")
-        elif block == "@words":
-            out.append(words_markdown(book.found))
-        elif block in ("@terms", "@questions"):
-            out.append(rows_markdown(f"{block[1:]}.txt", by_id))
-        elif block == "@manuals":
-            out.append(manuals_markdown(book.sections))
-        else:
-            out.append(links.linked(re.sub(r"\n(?!- |\d+\. )", " ", block), by_id, True) + "\n")
-    return "\n".join(out)
+    """A chapter of the book's own words."""
+    return "\n".join([f"{'#' * level} {front.title} {{#{front.anchor} .unnumbered}}\n", *BLOCKS.woven(front, book)])
 
 
 def index_markdown(found):
