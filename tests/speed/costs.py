@@ -18,7 +18,7 @@ import sys
 import tempfile
 from typing import Callable, NamedTuple
 
-from measure import PROGRAM, Bars, compile_once
+from measure import PROGRAM, Bars, compile_once, named_in
 
 HERE = pathlib.Path(__file__).resolve().parent
 RULES = HERE.parents[1] / "docs/RULES.md"
@@ -342,16 +342,9 @@ def judge(program, cost, said, room, bars):
 # ---- the command ----
 
 
-def named_costs(text):
-    unknown = [name for name in text.split(",") if name not in COSTS]
-    if unknown:
-        raise argparse.ArgumentTypeError(f"no cost is named {unknown[0]}; there are {', '.join(COSTS)}")
-    return [COSTS[name] for name in text.split(",")]
-
-
 def read_arguments():
     parser = argparse.ArgumentParser()
-    parser.add_argument("--only", type=named_costs, default=list(COSTS.values()), metavar="NAME,..", help="these costs alone")
+    parser.add_argument("--only", type=named_in(COSTS, "cost"), default=list(COSTS.values()), metavar="NAME,..", help="these costs alone")
     parser.add_argument("--without-times", action="store_true", help="leave out what is measured in seconds")
     parser.add_argument("program", nargs="?", type=pathlib.Path, default=PROGRAM)
     return parser.parse_args()
@@ -374,8 +367,7 @@ def main():
         for cost in chosen:
             judge(arguments.program.resolve(), cost, said, room, bars)
             sys.stdout.flush()
-    print(f"{bars.met} bars met, {bars.missed} not")
-    return min(bars.missed, 1)
+    return bars.status()
 
 
 if __name__ == "__main__":

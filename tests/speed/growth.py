@@ -12,7 +12,7 @@ import pathlib
 import sys
 import tempfile
 
-from measure import MOST_GROWTH, PROGRAM, Bars, compile_once, exponent, find_tools, has_commands, measure, millions, row
+from measure import MOST_GROWTH, PROGRAM, Bars, compile_once, exponent, find_tools, has_commands, measure, millions, named_in, row
 from shapes import SHAPES, START
 
 # No shape leaves anything to chance.
@@ -81,16 +81,9 @@ def print_bars(measured, start, bars):
 # ---- the command ----
 
 
-def named_shapes(text):
-    unknown = [name for name in text.split(",") if name not in SHAPES]
-    if unknown:
-        raise argparse.ArgumentTypeError(f"no shape is named {unknown[0]}; there are {', '.join(SHAPES)}")
-    return [SHAPES[name] for name in text.split(",")]
-
-
 def read_arguments():
     parser = argparse.ArgumentParser()
-    parser.add_argument("--only", type=named_shapes, default=list(SHAPES.values()), metavar="NAME,..", help="these shapes alone")
+    parser.add_argument("--only", type=named_in(SHAPES, "shape"), default=list(SHAPES.values()), metavar="NAME,..", help="these shapes alone")
     parser.add_argument("--original", action="store_true", help="adds rows of the original")
     parser.add_argument("--runs", type=int, default=3, help="seconds are the best of this number of runs")
     parser.add_argument("program", nargs="?", type=pathlib.Path, default=PROGRAM)
@@ -111,8 +104,7 @@ def main():
         print_bars(measured, start, bars)
     else:
         bars.missed += 1
-    print(f"{bars.met} bars met, {bars.missed} not")
-    return min(bars.missed, 1)
+    return bars.status()
 
 
 if __name__ == "__main__":

@@ -188,6 +188,11 @@ class Bars:
         printed = found if isinstance(found, str) else shown(found)
         print(f"{'met      ' if is_met else 'NOT MET  '} {what}: {printed}, at most {shown(most)}")
 
+    def status(self):
+        """Prints how many were met; the exit status."""
+        print(f"{self.met} bars met, {self.missed} not")
+        return min(self.missed, 1)
+
 
 def of_original(measured, job):
     """The original's instructions and MB on this job."""
@@ -290,6 +295,16 @@ def read_arguments():
     return parser.parse_args()
 
 
+def named_in(table, kind):
+    """Reads the names of an option, with commas between them, as what the table has for them."""
+    def read(text):
+        unknown = [name for name in text.split(",") if name not in table]
+        if unknown:
+            raise argparse.ArgumentTypeError(f"no {kind} is named {unknown[0]}; there are {', '.join(table)}")
+        return [table[name] for name in text.split(",")]
+    return read
+
+
 def find_tools(arguments, room, longest_run=LONGEST_RUN):
     tools = []
     if arguments.program.is_file():
@@ -353,8 +368,7 @@ def main():
         bars.missed += 1
     for tool in tools:
         print_growth(measured, tool, bars)
-    print(f"{bars.met} bars met, {bars.missed} not")
-    return min(bars.missed, 1)
+    return bars.status()
 
 
 if __name__ == "__main__":
