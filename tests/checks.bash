@@ -38,16 +38,69 @@ letters() {
     printf "$2%.0s" $(seq "$1")
 }
 
-# run_program WORD..: runs the program in the check's folder, for at most a minute, without standard input.
-run_program() {
-    status=0
-    timeout 60 "$program" "$@" </dev/null >"$folder/stdout" 2>"$folder/stderr" || status=$?
+# start_program WORD..: becomes the program, for at most a minute.
+start_program() {
+    exec timeout 60 "$program" "$@"
 }
 
-# run_failing REASON FILE: runs the job where this file can't be opened for this reason; `fail_open` is the library of tests/fail_open.c.
-run_failing() {
+# run_program WORD..: runs the program in the check's folder, without standard input.
+run_program() {
     status=0
-    timeout 60 env LD_PRELOAD="$fail_open" FAIL_REASON="$1" FAIL_OPEN="$2" "$program" job </dev/null >"$folder/stdout" 2>"$folder/stderr" || status=$?
+    (start_program "$@") </dev/null >"$folder/stdout" 2>"$folder/stderr" || status=$?
+}
+
+# run_without STREAMS START WORD..: what START becomes runs with these of the standard streams 0, 1 and 2 closed.
+run_without() {
+    local streams=$1
+    shift
+    status=0
+    (
+        exec </dev/null >"$folder/stdout" 2>"$folder/stderr"
+        [[ $streams != *0* ]] || exec 0<&-
+        [[ $streams != *1* ]] || exec 1>&-
+        [[ $streams != *2* ]] || exec 2>&-
+        "$@"
+    ) || status=$?
+}
+
+# use_stream STREAM: the database is this standard stream, by its number. An old list holds a database, which the job doesn't read where the stream
+# is closed, though the list is the first file that it opens.
+use_stream() {
+    cite k
+    rm d.bib
+    ln -s "/dev/fd/$1" d.bib
+    printf '@misc{k, title = {T}}\n' >job.bbl
+    use_style 'FUNCTION {f} {title write$ newline$} ITERATE {f}'
+}
+
+# compile_failures: compiles tests/fail_open.c, whose library makes calls of the system fail, as variables say.
+compile_failures() {
+    fail_open=$room/fail_open.so
+    gcc -O2 -Wall -Werror -shared -fPIC -o "$fail_open" "$here/fail_open.c" -ldl
+}
+
+# run_with VARIABLE=VALUE..: runs the job with these variables of tests/fail_open.c.
+run_with() {
+    status=0
+    timeout 60 env LD_PRELOAD="$fail_open" "$@" "$program" job </dev/null >"$folder/stdout" 2>"$folder/stderr" || status=$?
+}
+
+# run_failing REASON FILE: runs the job where this file can't be opened for this reason.
+run_failing() {
+    run_with FAIL_REASON="$1" FAIL_OPEN="$2"
+}
+
+# keeps_modes RUN: who may read and write the outputs of the jobs that RUN runs is what the system says of new files, and of old ones what it was.
+keeps_modes() {
+    umask 027
+    echo 'old list' >old.bbl
+    cp job.aux old.aux
+    chmod 606 old.bbl
+    "$1" job
+    "$1" old
+    umask 022
+    [ "$(stat -c %a job.bbl job.blg old.bbl | tr '\n' ' ')" = '640 640 606 ' ] || complaints+=("the modes are $(stat -c %a job.bbl job.blg old.bbl)")
+    wants_text old.bbl $'a\n'
 }
 
 # wants_status N: the exit status was N.

@@ -32,10 +32,7 @@ end
 
 # The 21st file isn't asked for, and neither are the style and the database: the run ends at its limit.
 begin too_many_open_files
-for n in $(seq 20); do
-    printf '\\@input{f%d.aux}\n' $((n + 1)) >"f$n.aux"
-done
-printf '\\@input{f1.aux}\n\\citation{k}\n\\bibdata{d}\n\\bibstyle{s}\n' >job.aux
+nest_files 20
 run "$tests/job" . job list log
 wants_status 3
 wants_error ''

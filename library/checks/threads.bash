@@ -33,20 +33,13 @@ for example in "${jobs[@]}"; do
 done
 
 begin stack_of_nested_files
-for n in $(seq 19); do
-    printf '\\@input{f%d.aux}\n' $((n + 1)) >"f$n.aux"
-done
-printf '\\@input{f1.aux}\n\\citation{k}\n\\bibdata{d}\n\\bibstyle{s}\n' >job.aux
+nest_files 19
 run "$tests/stack" . job
 wants_stack
 end
 
 begin stack_of_open_calls
-{
-    printf 'ENTRY {}{}{}\nFUNCTION {f0} {}\n'
-    for n in $(seq 4000); do printf 'FUNCTION {f%d} {f%d}\n' "$n" $((n - 1)); done
-    printf 'READ EXECUTE {f4000}\n'
-} >s.bst
+nest_calls 4000
 run "$tests/stack" . job
 wants_stack
 end
@@ -79,11 +72,7 @@ check_nested loops_and_choices incomplete "$(letters 19 '{i} { ')$(letters 1000 
 check_nested recursion incomplete "{duplicate\$ i swap\$ 'skip\$ if\$} duplicate\$ i swap\$ 'skip\$ if\$ pop\$"
 
 begin stack_of_check.calls
-{
-    printf 'ENTRY {}{}{}\nFUNCTION {f0} {}\n'
-    for n in $(seq 4000); do printf 'FUNCTION {f%d} {f%d}\n' "$n" $((n - 1)); done
-    printf 'READ EXECUTE {f4000}\n'
-} >s.bst
+nest_calls 4000
 run "$tests/stack" --check . s.bst
 wants_stack 1048576
 end

@@ -2,20 +2,6 @@
 
 device_error=$'bibtex: device error\n'
 
-# run_without STREAMS WORD..: runs the program with these of the standard streams 0, 1 and 2 closed.
-run_without() {
-    local streams=$1
-    shift
-    status=0
-    (
-        exec </dev/null >"$folder/stdout" 2>"$folder/stderr"
-        [[ $streams != *0* ]] || exec 0<&-
-        [[ $streams != *1* ]] || exec 1>&-
-        [[ $streams != *2* ]] || exec 2>&-
-        exec timeout 60 "$program" "$@"
-    ) || status=$?
-}
-
 # wants_streams STREAMS OUTPUT: this was printed on standard output. Where that is closed, it could not be printed, which is a device error.
 wants_streams() {
     case $1 in
@@ -32,22 +18,12 @@ wants_streams() {
     esac
 }
 
-# read_database_from_closed_stream STREAMS STREAM: the database is this one of them, by its number. It is empty: it isn't the list, which is the
-# first file that the job opens.
-read_database_from_closed_stream() {
-    rm d.bib
-    ln -s "/dev/fd/$2" d.bib
-    printf '@misc{k, title = {T}}\n' >job.bbl
-    use_style 'FUNCTION {f} {title write$ newline$} ITERATE {f}'
-    run_without "$1" job
-}
-
 warned_log="${found_log}Warning--I didn't find a database entry for \"k\"
 Ended: finished, warnings 1, errors 0, steps 0
 "
 for streams in 0 1 2 01 02 12 012; do
     begin "closed_streams_$streams"
-    run_without "$streams" job
+    run_without "$streams" start_program job
     wants_streams "$streams" "$first_log"
     wants_text job.bbl $'a\n'
     wants_text job.blg "$first_log"
@@ -56,8 +32,8 @@ for streams in 0 1 2 01 02 12 012; do
 
     for stream in $(echo "$streams" | grep -o .); do
         begin "database_from_stream_${stream}_of_closed_streams_$streams"
-        cite k
-        read_database_from_closed_stream "$streams" "$stream"
+        use_stream "$stream"
+        run_without "$streams" start_program job
         wants_streams "$streams" "$warned_log"
         wants_text job.bbl ''
         wants_text job.blg "$warned_log"
@@ -67,7 +43,7 @@ for streams in 0 1 2 01 02 12 012; do
     # The list can't be created: the fault is the status, and nothing else is written.
     begin "fault_with_closed_streams_$streams"
     mkdir job.bbl
-    run_without "$streams" job
+    run_without "$streams" start_program job
     wants_status 6
     wants_output ''
     [[ $streams == *2* ]] && wants_error '' || wants_error "$device_error"

@@ -1,8 +1,7 @@
 # Files and outputs that fail.
 
 device_error=$'bibtex: device error\n'
-fail_open=$room/fail_open.so
-gcc -O2 -Wall -Werror -shared -fPIC -o "$fail_open" "$here/fail_open.c" -ldl
+compile_failures
 
 begin no_folder
 run_program --dir nowhere job
@@ -65,20 +64,30 @@ ln -s /dev/full job.blg
 log_is_printed_all_the_same
 end
 
-# Standard output takes no byte: the files are written all the same.
+# wants_unprinted: what the job printed wasn't taken, and its files were written all the same.
+wants_unprinted() {
+    wants_status 6
+    wants_error "$device_error"
+    wants_text job.bbl $'a\n'
+    wants_text job.blg "$first_log"
+}
+
+# Standard output takes no byte.
 begin output_that_cannot_be_written
 status=0
 timeout 60 "$program" job </dev/null >/dev/full 2>"$folder/stderr" || status=$?
-wants_status 6
-wants_error "$device_error"
-wants_text job.bbl $'a\n'
-wants_text job.blg "$first_log"
+wants_unprinted
 end
+
+# log_much: the style logs 512 warnings of 160 bytes, more than a pipe holds.
+log_much() {
+    use_style 'FUNCTION {g} {"0123456789" duplicate$ * duplicate$ * duplicate$ * duplicate$ * warning$} FUNCTION {f} {g g g g g g g g}
+FUNCTION {h} {f f f f f f f f} EXECUTE {h} EXECUTE {h} EXECUTE {h} EXECUTE {h} EXECUTE {h} EXECUTE {h} EXECUTE {h} EXECUTE {h}'
+}
 
 # The log is stored before it is printed: it stands in its file while the reader of standard output takes nothing.
 begin log_stored_before_it_is_printed
-use_style 'FUNCTION {g} {"0123456789" duplicate$ * duplicate$ * duplicate$ * duplicate$ * warning$} FUNCTION {f} {g g g g g g g g}
-FUNCTION {h} {f f f f f f f f} EXECUTE {h} EXECUTE {h} EXECUTE {h} EXECUTE {h} EXECUTE {h} EXECUTE {h} EXECUTE {h} EXECUTE {h}'
+log_much
 status=0
 timeout 60 python3 - "$program" >"$folder/stdout" 2>"$folder/stderr" <<'EOF' || status=$?
 import subprocess, sys, time
@@ -140,10 +149,6 @@ end
 
 # moves_in VARIABLES: with these variables of tests/fail_open.c the job does what it does without them.
 moves_in() {
-    run_with() {
-        status=0
-        timeout 60 env LD_PRELOAD="$fail_open" "$@" "$program" job </dev/null >"$folder/stdout" 2>"$folder/stderr" || status=$?
-    }
     begin "moves_in_$(printf '%s' "$*" | tr -c 'A-Za-z0-9' _)"
     use_style 'FUNCTION {f} {"a" write$ newline$ "b " write$} EXECUTE {f} EXECUTE {f}'
     printf '@comment{%s}\n@misc{k, title = {T}}\n' "$(letters 3000 x)" >d.bib
@@ -159,8 +164,7 @@ moves_in FAIL_READ=first FAIL_REASON=EINTR
 # A signal interrupts the writing of the log.
 begin interrupted_log
 use_style ''
-status=0
-timeout 60 env LD_PRELOAD="$fail_open" FAIL_WRITE=first FAIL_REASON=EINTR "$program" job </dev/null >"$folder/stdout" 2>"$folder/stderr" || status=$?
+run_with FAIL_WRITE=first FAIL_REASON=EINTR
 wants_found 0 '' 'Ended: finished, warnings 0, errors 0, steps 0'
 end
 
@@ -245,23 +249,19 @@ wants_text job.bbl ''
 wants_text job.blg ''
 end
 
-# The reader of standard output has closed it: the files are written all the same.
+# The reader of standard output has closed it.
 begin output_closed_by_its_reader
 exec {pipe}> >(:)
 wait $!
 status=0
 timeout 60 "$program" job </dev/null >&"$pipe" 2>"$folder/stderr" || status=$?
 exec {pipe}>&-
-wants_status 6
-wants_error "$device_error"
-wants_text job.bbl $'a\n'
-wants_text job.blg "$first_log"
+wants_unprinted
 end
 
 # Standard output is a pipe that takes a part of the log and then nothing: the files are written all the same.
 begin output_that_takes_a_part
-use_style 'FUNCTION {g} {"0123456789" duplicate$ * duplicate$ * duplicate$ * duplicate$ * warning$} FUNCTION {f} {g g g g g g g g}
-FUNCTION {h} {f f f f f f f f} EXECUTE {h} EXECUTE {h} EXECUTE {h} EXECUTE {h} EXECUTE {h} EXECUTE {h} EXECUTE {h} EXECUTE {h}'
+log_much
 status=0
 timeout 60 python3 - "$program" >"$folder/taken" 2>"$folder/stderr" <<'EOF' || status=$?
 import os, subprocess, sys

@@ -7,8 +7,7 @@ old_log='a log of an earlier run, with its last line
 Ended: finished, warnings 0, errors 0, steps 4711
 '
 
-fail_open=$room/fail_open.so
-gcc -O2 -Wall -Werror -shared -fPIC -o "$fail_open" "$here/fail_open.c" -ldl
+compile_failures
 
 # leave_old_files: an earlier run left a list and a log.
 leave_old_files() {
@@ -89,15 +88,9 @@ goes 6
 
 # The device doesn't empty the list's file: nothing is written over what an earlier run left, and that is a device error, also at the end of a
 # run that writes nothing.
-# run_unemptied: runs the job where no file can be emptied.
-run_unemptied() {
-    status=0
-    timeout 60 env LD_PRELOAD="$fail_open" FAIL_REASON=EIO FAIL_EMPTY=yes "$program" job </dev/null >"$folder/stdout" 2>"$folder/stderr" || status=$?
-}
-
 begin old_list_that_cannot_be_emptied
 leave_old_files
-run_unemptied
+run_with FAIL_REASON=EIO FAIL_EMPTY=yes
 wants_status 6
 wants_error $'bibtex: device error\n'
 wants_output "$found_log"
@@ -108,7 +101,7 @@ end
 begin old_list_that_cannot_be_emptied_at_the_end
 leave_old_files
 use_style ''
-run_unemptied
+run_with FAIL_REASON=EIO FAIL_EMPTY=yes
 wants_status 6
 wants_error $'bibtex: device error\n'
 wants_output "${found_log}Ended: finished, warnings 0, errors 0, steps 0
@@ -116,17 +109,8 @@ wants_output "${found_log}Ended: finished, warnings 0, errors 0, steps 0
 wants_text job.bbl "$old_list"
 end
 
-# Who may read and write the outputs is what the system says of new files, and of old ones what it was.
 begin modes_of_the_outputs
-umask 027
-echo 'old list' >old.bbl
-cp job.aux old.aux
-chmod 606 old.bbl
-run_program job
-run_program old
-umask 022
-[ "$(stat -c %a job.bbl job.blg old.bbl | tr '\n' ' ')" = '640 640 606 ' ] || complaints+=("the modes are $(stat -c %a job.bbl job.blg old.bbl)")
-wants_text old.bbl $'a\n'
+keeps_modes run_program
 end
 
 # An old list may be a pipe or a device: these have nothing to throw away.

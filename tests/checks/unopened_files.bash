@@ -1,7 +1,6 @@
 # A file that can't be opened isn't there, whatever the reason: the log has a message, the run goes on without it, and the status is 2.
 
-fail_open=$room/fail_open.so
-gcc -O2 -Wall -Werror -shared -fPIC -o "$fail_open" "$here/fail_open.c" -ldl
+compile_failures
 
 # include_file: the first line of the job's .aux file includes another one.
 include_file() {
@@ -99,8 +98,7 @@ end
 failing_by_each_error() {
     begin "$1"
     for number in $error_numbers; do
-        status=0
-        timeout 60 env LD_PRELOAD="$fail_open" "${@:3}" FAIL_REASON="$number" "$program" job </dev/null >"$folder/stdout" 2>"$folder/stderr" || status=$?
+        run_with "${@:3}" FAIL_REASON="$number"
         before=${#complaints[@]}
         wants_status 6
         wants_output "$2"

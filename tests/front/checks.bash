@@ -174,6 +174,13 @@ named() {
     printf '\\citation{k}\n\\bibdata{%s}\n\\bibstyle{%s}\n' "$1" "$2" >job.aux
 }
 
+# keep_at_home: the database and the style stand in the tree of a home, in folders of folders.
+keep_at_home() {
+    mkdir -p home/texmf/bibtex/{bst,bib}/sub
+    mv d.bib home/texmf/bibtex/bib/sub
+    mv s.bst home/texmf/bibtex/bst/sub
+}
+
 # files_of_tex_live ENDING: the names of all styles (bst) or databases (bib) that kpsewhich finds in TeX's trees.
 files_of_tex_live() {
     find $(kpsewhich -expand-braces='$TEXMF' | tr : '\n' | sed 's/^!!//' | sort -u) -name "*.$1" -printf '%f\n' 2>/dev/null | grep -v "[ ,{}]" | sort -u >"$folder/all" || true

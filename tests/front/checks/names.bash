@@ -276,9 +276,7 @@ if has kpsewhich; then
     end
 
     begin search_paths_of_a_home
-    mkdir -p home/texmf/bibtex/{bst,bib}/sub
-    mv d.bib home/texmf/bibtex/bib/sub
-    mv s.bst home/texmf/bibtex/bst/sub
+    keep_at_home
     HOME=$PWD/home run_search job
     wants_first job
     end

@@ -70,29 +70,24 @@ for name in $(beginnings terse 1); do
     end
 done
 
-for name in $(beginnings help 1); do
-    begin "option_$name"
-    for word in "-$name" "--$name"; do
-        run_search "$word"
-        wants_status 0
-        wants_error ''
-        head -n 1 "$folder/stdout" | grep -q '^Usage: bibtex-search ' || complaints+=("the help begins $(head -n 1 "$folder/stdout")")
-        wants_files d.bib job.aux s.bst
+# prints NAME EXPRESSION: each form of this option prints a text whose first line is like this, and no job is run.
+prints() {
+    local name word
+    for name in $(beginnings "$1" 1); do
+        begin "option_$name"
+        for word in "-$name" "--$name"; do
+            run_search "$word"
+            wants_status 0
+            wants_error ''
+            head -n 1 "$folder/stdout" | grep -q -- "$2" || complaints+=("$word prints $(head -n 1 "$folder/stdout")")
+            wants_files d.bib job.aux s.bst
+        done
+        end
     done
-    end
-done
+}
 
-for name in $(beginnings version 1); do
-    begin "option_$name"
-    for word in "-$name" "--$name"; do
-        run_search "$word"
-        wants_status 0
-        wants_error ''
-        grep -q 'bibtex-search' "$folder/stdout" || complaints+=("the version is $(cat "$folder/stdout")")
-        wants_files d.bib job.aux s.bst
-    done
-    end
-done
+prints help '^Usage: bibtex-search '
+prints version 'bibtex-search'
 
 # Numbers as the original reads them: digits behind whitespace and a sign, up to the first other sign.
 for value in 3 03 +3 ' 3' 3x 3.9 '3 4'; do

@@ -381,19 +381,11 @@ for called in bibtex-search bibtex-explain bibtex-lint bibtex-confined; do
 done
 end
 
-# Who may read and write the outputs is what the system says of new files, and of old ones what it was; links stay links.
 begin modes_of_the_outputs
-umask 027
-echo 'old list' >old.bbl
-cp job.aux old.aux
-chmod 606 old.bbl
-run_search job
-run_search old
-umask 022
-[ "$(stat -c %a job.bbl job.blg old.bbl | tr '\n' ' ')" = '640 640 606 ' ] || complaints+=("the modes are $(stat -c %a job.bbl job.blg old.bbl)")
-wants_text old.bbl $'a\n'
+keeps_modes run_search
 end
 
+# Links stay links.
 begin outputs_through_links
 ln -s kept.bbl job.bbl
 echo 'old log' >kept.blg

@@ -189,9 +189,7 @@ if has kpsewhich; then
     done
 
     begin set_up_of_a_home_of_tex_live
-    mkdir -p home/texmf/bibtex/{bst,bib}/sub
-    mv d.bib home/texmf/bibtex/bib/sub
-    mv s.bst home/texmf/bibtex/bst/sub
+    keep_at_home
     HOME=$PWD/home run_by_set_up job
     wants_first job
     mv home/texmf ours

@@ -1,24 +1,10 @@
 # The front end is started with standard streams closed, and with ones that take nothing. No file of the job takes the place of a stream, and nothing that is printed lands
 # in a file.
 
-# run_without STREAMS WORD..: runs it with these of the standard streams 0, 1 and 2 closed.
-run_without() {
-    local streams=$1
-    shift
-    status=0
-    (
-        exec </dev/null >"$folder/stdout" 2>"$folder/stderr"
-        [[ $streams != *0* ]] || exec 0<&-
-        [[ $streams != *1* ]] || exec 1>&-
-        [[ $streams != *2* ]] || exec 2>&-
-        start_search "$@"
-    ) || status=$?
-}
-
 for streams in 0 1 2 01 02 12 012; do
     begin "closed_streams_$streams"
     cite k,nosuch
-    run_without "$streams" job
+    run_without "$streams" start_search job
     case $streams in
     *1*) [[ " 0 6 " == *" $status "* ]] || complaints+=("the exit status is $status") ;;
     *) wants_status 0 ;;
@@ -31,10 +17,10 @@ for streams in 0 1 2 01 02 12 012; do
     begin "failing_with_closed_streams_$streams"
     leave_old
     rm job.aux
-    run_without "$streams" job
+    run_without "$streams" start_search job
     wants_status 3
     wants_old
-    run_without "$streams" -nosuch
+    run_without "$streams" start_search -nosuch
     wants_status 1
     wants_old
     end
@@ -42,12 +28,8 @@ for streams in 0 1 2 01 02 12 012; do
     # A database that is the stream with a number isn't an output of the job that got this number.
     for stream in $(echo "$streams" | grep -o .); do
         begin "database_from_stream_${stream}_of_closed_streams_$streams"
-        cite k
-        rm d.bib
-        ln -s "/dev/fd/$stream" d.bib
-        printf '@misc{k, title = {T}}\n' >job.bbl
-        use_style 'FUNCTION {f} {title write$ newline$} ITERATE {f}'
-        run_without "$streams" job
+        use_stream "$stream"
+        run_without "$streams" start_search job
         [ "$status" -ne 124 ] || complaints+=('it waits')
         ! grep -q T job.bbl || grep -q 'title = {T}' job.bbl || complaints+=("the list was read as a database: $(cat job.bbl)")
         end
