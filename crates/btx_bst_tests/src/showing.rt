@@ -15,54 +15,109 @@ pub enum Shown {
     Bodies,
 }
 
-// The items of a style, each with its end: a command by its word and its name, a message as the log has it.
-fn push_items(alloc: Global, shown: &mut Vec<u8>, style: &Style<'_>) -> Result<(), AllocError> {
-    for item in style.items() {
-        push_item(alloc, shown, style, item)?;
-        shown.extend_from_slice(b"\n")?;
-    }
-    Ok(())
-}
-
-// The tokens of a body.
-fn push_tokens(
+// What is shown of a style, as far as it is written.
+#[derive(Drop)]
+struct Writing<'w, 't> {
     alloc: Global,
-    shown: &mut Vec<u8>,
-    style: &Style<'_>,
-    tokens: &[Token],
-) -> Result<(), AllocError> {
-    for token in tokens {
-        push_token(alloc, shown, style, *token)?;
+    style: &'w Style<'t>,
+    text: Vec<u8>,
+}
+
+impl<'w, 't> Writing<'w, 't> {
+    fn push(&mut self, text: &[u8]) -> Result<(), AllocError> {
+        self.text.extend_from_slice(text)
     }
-    Ok(())
-}
 
-// The number of a body.
-fn push_body_number(alloc: Global, shown: &mut Vec<u8>, number: usize) -> Result<(), AllocError> {
-    let head = format!(in alloc; "{number}:")?;
-    shown.extend_from_slice(head.as_bytes())
-}
-
-// The bodies of a style, each with its end: its tokens behind its number.
-fn push_bodies(alloc: Global, shown: &mut Vec<u8>, style: &Style<'_>) -> Result<(), AllocError> {
-    for number in 0..style.functions() {
-        push_body_number(alloc, shown, number)?;
-        push_tokens(alloc, shown, style, style.body(number))?;
-        shown.extend_from_slice(b"\n")?;
+    // What is shown.
+    fn push_all(&mut self, shown: Shown) -> Result<(), AllocError> {
+        match shown {
+            Shown::Items => self.push_items(),
+            Shown::Bodies => self.push_bodies(),
+        }
     }
-    Ok(())
-}
 
-// What is shown of a style.
-fn push_style(
-    alloc: Global,
-    text: &mut Vec<u8>,
-    style: &Style<'_>,
-    shown: Shown,
-) -> Result<(), AllocError> {
-    match shown {
-        Shown::Items => push_items(alloc, text, style),
-        Shown::Bodies => push_bodies(alloc, text, style),
+    // The items, each with its end: a command by its word and its name, a message as the log has it.
+    fn push_items(&mut self) -> Result<(), AllocError> {
+        for item in self.style.items() {
+            self.push_item(item)?;
+            self.push(b"\n")?;
+        }
+        Ok(())
+    }
+
+    fn push_item(&mut self, item: &Item<'_>) -> Result<(), AllocError> {
+        match item {
+            Item::Message(message) => self.push_message(message),
+            Item::Entry => self.push(b"ENTRY"),
+            Item::Function(number) => self.push_named(b"FUNCTION ", Callee::User(*number)),
+            Item::Read => self.push(b"READ"),
+            Item::Execute(callee) => self.push_named(b"EXECUTE ", *callee),
+            Item::Iterate(callee) => self.push_named(b"ITERATE ", *callee),
+            Item::Reverse(callee) => self.push_named(b"REVERSE ", *callee),
+            Item::Sort => self.push(b"SORT"),
+            Item::Integers => self.push(b"INTEGERS"),
+            Item::Strings => self.push(b"STRINGS"),
+            Item::Macro => self.push(b"MACRO"),
+        }
+    }
+
+    fn push_message(&mut self, message: &Message<'_>) -> Result<(), AllocError> {
+        let line = message.log_line(self.alloc, self.style.file_name())?;
+        self.push(line.text())
+    }
+
+    fn push_named(&mut self, before: &[u8], callee: Callee) -> Result<(), AllocError> {
+        self.push(before)?;
+        self.push(self.style.name(callee))
+    }
+
+    // The bodies, each with its end: its tokens behind its number.
+    fn push_bodies(&mut self) -> Result<(), AllocError> {
+        let style = self.style;
+        for number in 0..style.functions() {
+            self.push_body(number, style.body(number))?;
+        }
+        Ok(())
+    }
+
+    fn push_body(&mut self, number: usize, tokens: &[Token]) -> Result<(), AllocError> {
+        let head = format!(in self.alloc; "{number}:")?;
+        self.push(head.as_bytes())?;
+        for token in tokens {
+            self.push_token(*token)?;
+        }
+        self.push(b"\n")
+    }
+
+    // A token behind a space: a string in quotes, an integer behind a `#`, a literal behind a `'`; a function of the style by its number.
+    fn push_token(&mut self, token: Token) -> Result<(), AllocError> {
+        match token {
+            Token::Text(number) => {
+                self.push(b" \"")?;
+                self.push(self.style.text(number))?;
+                self.push(b"\"")
+            }
+            Token::Integer(value) => {
+                self.push(b" #")?;
+                self.push_number(i64::from(value))
+            }
+            Token::Quote(callee) => self.push_callee(b" '", callee),
+            Token::Run(callee) => self.push_callee(b" ", callee),
+        }
+    }
+
+    fn push_callee(&mut self, before: &[u8], callee: Callee) -> Result<(), AllocError> {
+        self.push(before)?;
+        match callee {
+            Callee::User(number) => self.push_number(i64::from(number)),
+            _ => self.push(self.style.name(callee)),
+        }
+    }
+
+    // A number in decimal.
+    fn push_number(&mut self, number: i64) -> Result<(), AllocError> {
+        let digits = format!(in self.alloc; "{number}")?;
+        self.push(digits.as_bytes())
     }
 }
 
@@ -73,9 +128,13 @@ fn style_shows(
     shown: Shown,
     wanted: &[u8],
 ) -> Result<bool, Fault> {
-    let mut text = Vec::new(alloc);
-    push_style(alloc, &mut text, style, shown)?;
-    Ok(text.as_slice() == wanted)
+    let mut writing = Writing {
+        alloc,
+        style,
+        text: Vec::new(alloc),
+    };
+    writing.push_all(shown)?;
+    Ok(writing.text.as_slice() == wanted)
 }
 
 // Whether this is what is shown of the style of a text. Nothing but the reading may fail here, since each `?` is a way out on which the whole style is
@@ -93,89 +152,6 @@ pub fn first_wrong(alloc: Global, rows: &[Row], shown: Shown) -> Result<Option<u
         }
     }
     Ok(None)
-}
-
-// A number in decimal.
-fn push_number(alloc: Global, shown: &mut Vec<u8>, number: i64) -> Result<(), AllocError> {
-    let digits = format!(in alloc; "{number}")?;
-    shown.extend_from_slice(digits.as_bytes())
-}
-
-fn push_item(
-    alloc: Global,
-    shown: &mut Vec<u8>,
-    style: &Style<'_>,
-    item: &Item<'_>,
-) -> Result<(), AllocError> {
-    match item {
-        Item::Message(message) => push_message(alloc, shown, style, message),
-        Item::Entry => shown.extend_from_slice(b"ENTRY"),
-        Item::Function(number) => push_named(shown, style, b"FUNCTION ", Callee::User(*number)),
-        Item::Read => shown.extend_from_slice(b"READ"),
-        Item::Execute(callee) => push_named(shown, style, b"EXECUTE ", *callee),
-        Item::Iterate(callee) => push_named(shown, style, b"ITERATE ", *callee),
-        Item::Reverse(callee) => push_named(shown, style, b"REVERSE ", *callee),
-        Item::Sort => shown.extend_from_slice(b"SORT"),
-        Item::Integers => shown.extend_from_slice(b"INTEGERS"),
-        Item::Strings => shown.extend_from_slice(b"STRINGS"),
-        Item::Macro => shown.extend_from_slice(b"MACRO"),
-    }
-}
-
-fn push_message(
-    alloc: Global,
-    shown: &mut Vec<u8>,
-    style: &Style<'_>,
-    message: &Message<'_>,
-) -> Result<(), AllocError> {
-    let line = message.log_line(alloc, style.file_name())?;
-    shown.extend_from_slice(line.text())
-}
-
-fn push_named(
-    shown: &mut Vec<u8>,
-    style: &Style<'_>,
-    before: &[u8],
-    callee: Callee,
-) -> Result<(), AllocError> {
-    shown.extend_from_slice(before)?;
-    shown.extend_from_slice(style.name(callee))
-}
-
-// A token behind a space: a string in quotes, an integer behind a `#`, a literal behind a `'`; a function of the style by its number.
-fn push_token(
-    alloc: Global,
-    shown: &mut Vec<u8>,
-    style: &Style<'_>,
-    token: Token,
-) -> Result<(), AllocError> {
-    match token {
-        Token::Text(number) => {
-            shown.extend_from_slice(b" \"")?;
-            shown.extend_from_slice(style.text(number))?;
-            shown.extend_from_slice(b"\"")
-        }
-        Token::Integer(value) => {
-            shown.extend_from_slice(b" #")?;
-            push_number(alloc, shown, i64::from(value))
-        }
-        Token::Quote(callee) => push_callee(alloc, shown, style, b" '", callee),
-        Token::Run(callee) => push_callee(alloc, shown, style, b" ", callee),
-    }
-}
-
-fn push_callee(
-    alloc: Global,
-    shown: &mut Vec<u8>,
-    style: &Style<'_>,
-    before: &[u8],
-    callee: Callee,
-) -> Result<(), AllocError> {
-    shown.extend_from_slice(before)?;
-    match callee {
-        Callee::User(number) => push_number(alloc, shown, i64::from(number)),
-        _ => shown.extend_from_slice(style.name(callee)),
-    }
 }
 
 // How many messages a style has.
