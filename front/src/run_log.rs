@@ -29,30 +29,18 @@ pub enum Interrupted {
 
 /// The log of a run.
 pub struct RunLog<'a> {
-    words: &'a Words,
-    files: &'a Files,
+    pub words: &'a Words,
+    pub files: &'a Files,
     /// The log's name.
-    name: &'a [u8],
-    ran: &'a Ran,
+    pub name: &'a [u8],
+    pub ran: &'a Ran,
     /// What a signal ended, if one came.
-    interrupted: Option<Interrupted>,
+    pub interrupted: Option<Interrupted>,
     /// Where the style stood at its errors.
-    scenes: Scenes,
+    pub scenes: Scenes,
 }
 
-impl<'a> RunLog<'a> {
-    /// The log of this run.
-    pub fn new(
-        words: &'a Words,
-        files: &'a Files,
-        name: &'a [u8],
-        ran: &'a Ran,
-        interrupted: Option<Interrupted>,
-        scenes: Scenes,
-    ) -> Self {
-        RunLog { words, files, name, ran, interrupted, scenes }
-    }
-
+impl RunLog<'_> {
     /// The log as the library wrote it, with the places in the style.
     fn log(&self) -> Log<'_> {
         let is_interrupted = matches!(self.interrupted, Some(Interrupted::Run(_)));

@@ -86,7 +86,7 @@ impl Task {
     }
 
     fn run_log<'a>(&'a self, ran: &'a Ran, interrupted: Option<Interrupted>, scenes: Scenes) -> RunLog<'a> {
-        RunLog::new(&self.words, &self.files, &self.log, ran, interrupted, scenes)
+        RunLog { words: &self.words, files: &self.files, name: &self.log, ran, interrupted, scenes }
     }
 
     fn say_that_it_takes_long(&self) {
