@@ -11,6 +11,7 @@ import itertools
 from product import Options, run
 from styles import BUILT_IN
 from systematic_texts import all_texts, in_groups, style, texts_of
+from systematic_turns import all_turns
 from worked_jobs import AUX, DECLARED, Job, citing, files_of
 
 # One byte of each kind stands often: digits and letters behave alike.
@@ -155,7 +156,7 @@ def operands(name, kinds, command):
     """Each built-in function with three operands of these kinds in each order, and with fewer, and what it leaves."""
     for function in BUILT_IN:
         cases = [b" ".join(case) + b" " + function + b" stack$" for number in range(4) for case in itertools.product(kinds, repeat=number)]
-        yield style(f"{function.decode()} {name}", b"\n".join(cases), command, options={"budget": 10_000})
+        yield style(f"{function.decode()} {name}", b"\n".join(cases), command, database=b"@misc{k}", options={"budget": 10_000})
 
 
 def commands_early():
@@ -489,6 +490,7 @@ def all_jobs():
     yield from files_in_turn()
     yield from names_that_are_shown()
     yield from widths()
+    yield from all_turns()
 
 
 def systematic_jobs():
