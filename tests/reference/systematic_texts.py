@@ -80,6 +80,7 @@ def titles():
 
 def conversions():
     yield from calls("conversions", b'"Ab: Cd" "%s" change.case$', texts_of([b"t", b"l", b"u", b"T", b"x", b" ", b"{"], 3))
+    yield from calls("conversions of several texts", b'"%s" "t" change.case$ write$ "%s" "x%s" change.case$', texts_of([b"A", b": ", b"{", b"}"], 3))
 
 
 def special_characters():

@@ -370,7 +370,9 @@ STYLES = [
 # ---- comparing ----
 
 def files_of(job):
-    return {b"job.aux": job.aux, b"d.bib": job.database, b"s.bst": job.declared + job.text, **job.others}
+    """Those of `others` that are None aren't there."""
+    files = {b"job.aux": job.aux, b"d.bib": job.database, b"s.bst": job.declared + job.text, **job.others}
+    return {name: text for name, text in files.items() if text is not None}
 
 
 def differences(job):
