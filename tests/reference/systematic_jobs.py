@@ -1,6 +1,6 @@
 """Jobs that go through all of something: each byte at each place of the files, each built-in function with operands of each kind, each command before READ,
 each name that is defined from the beginning, sizes around those that something may end at, children with their parents, files that end at each place, what
-stands behind each mistake, and all short texts over some pieces; and what systematic_texts.py has. What they give isn't written out: the built program is
+stands behind each mistake, and all short texts over some pieces; and what systematic_texts.py and systematic_turns.py have. What they give isn't written out: the built program is
 compared with the reference over them, as over jobs that are made from a seed (compare_with_program.py).
 
     python3 systematic_jobs.py        how large each job is, and how the reference's log of it ends
