@@ -156,6 +156,12 @@ def short_tokens():
             yield from calls("short tokens", shape, texts_of(pieces, 3), options={"utf8": utf8})
 
 
+def abbreviations():
+    """Tokens whose first letter, of one byte or of two, stands behind braces, in them or in a special character, abbreviated as bytes and as UTF-8."""
+    for utf8 in (False, True):
+        yield from calls("abbreviations", b'"%s Bo" #1 "{f.}{l}" format.name$', texts_of([b"{", b"}", b"{\\", b"\xc3\x89", b"\xc3", b"a", b"1"], 3), options={"utf8": utf8})
+
+
 def names_in_sections():
     """Names with two commas and with one, no token, one or more in each section, each part in full and abbreviated."""
     sections = [(b"Bo", b"Bo Cy", b"de Bo", b"de La von Bo-Cy", b"de la"), (b"", b"Jr", b"Jr de Mi", b"jr-X~Y"), (b"", b"Ann", b"Ann di Eve", b"{\\'e}-B")]
@@ -195,6 +201,8 @@ def greatest_values(size):
         for value in values:
             yield (item % value).decode(), b"@string{s={ab}}" + item % (value % long) + b"@misc{j}"
     yield "two preambles", b"@preamble{{ab}}@preamble{{%s}}@misc{j}" % long
+    for ignored in (b"@misc{k,title={T},title={%sab}}", b"@misc{k,nosuch={%sab}}", b"@misc{uncited,title={%sab}}"):
+        yield "ignored, " + ignored.decode(), ignored % long + b"@misc{j}"
 
 
 def greatest_sizes():
@@ -229,6 +237,7 @@ def all_texts():
     yield from texts_that_are_pending()
     yield from lists_of_names()
     yield from short_tokens()
+    yield from abbreviations()
     yield from names_in_sections()
     yield from gaps_between_tokens()
     yield from pieces_side_by_side()
