@@ -126,6 +126,11 @@ def strings_that_are_cut():
                   options={"entry_max": 4, "global_max": 5})
 
 
+def texts_that_are_shown():
+    """Short texts, the empty one among them, in a warning, as literals and as a line."""
+    yield from calls("texts that are shown", b'"%s" warning$ "%s" top$ "%s" #1 stack$ "%s"', texts_of([b" ", b"\t", b"a", b"--", b"'", b"{", b"%", b"\xc3"], 2))
+
+
 def lines_of_characters():
     """Lines of characters of more than one byte, which are broken by their bytes."""
     yield from calls("lines of characters", b'"%s"', texts_of([b"\xc3\xa9" * 4, b"\xe2\x82\xac", b" ", b"a" * 6, b"\xf0\x9f\x82\xac" * 5], 5), options={"line": 20, "utf8": True})
@@ -233,6 +238,7 @@ def all_texts():
     yield from special_characters()
     yield from parts_of_sequences()
     yield from strings_that_are_cut()
+    yield from texts_that_are_shown()
     yield from lines_of_characters()
     yield from texts_that_are_pending()
     yield from lists_of_names()
