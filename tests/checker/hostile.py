@@ -12,7 +12,7 @@ import resource
 import subprocess
 import tempfile
 
-# (a million functions take five seconds on a machine that is quiet, and were seen to take fourteen)
+# (a million functions took 8 to 14 seconds of a processor, on machines with other work)
 MOST_SECONDS = 40
 MOST_MEMORY = 1_000_000
 LONGEST = 300
