@@ -60,17 +60,6 @@ module _ (wanted : Request) where
           (sym whole)
           ∙ ap (kept_messages wanted database kept) (sym (events-some (keeping_kept wanted) kept w s step e))
 
-      pub turn-messages : (database : Database) (before now : List Message) (rest : List ℕ) → rest ≡ step.rest
-          → now ≡ before ++ messages_of wanted database kept step.event rest
-          → now ++ kept_messages wanted database after (events_with wanted after step.wanted step.rest) ≡ before
-          ++ kept_messages wanted database kept (events_with wanted kept w s)
-      turn-messages database before now rest at logs =
-          let others = kept_messages wanted database after (events_with wanted after step.wanted step.rest) in
-          ap (λ (ms : List Message). ms ++ others) logs
-          ∙ append_assoc before (messages_of wanted database kept step.event rest) others
-          ∙ ap (λ (r : List ℕ). before ++ (messages_of wanted database kept step.event r ++ others)) at
-          ∙ ap (λ (ms : List Message). before ++ ms) (turn-logged database)
-
 pub ended-if : (b : Bool) → not b ≡ true → b ≡ false
 ended-if true h = cc
 ended-if false h = refl

@@ -17,6 +17,7 @@ pub mod PassingLemmas
 pub mod KeptLemmas
 pub mod ApartLemmas
 pub mod AlongLemmas
+pub mod ReadingLemmas
 pub mod RequestLemmas
 pub mod LineLemmas
 pub mod MessageLemmas

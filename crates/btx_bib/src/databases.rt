@@ -6,6 +6,7 @@ use crate::grammar::line_counter::LineCounter;
 use crate::grammar::value_texts::squeezed_text;
 use crate::library::Library;
 use crate::message::Messages;
+use crate::reading::Reading;
 use crate::request::Request;
 use crate::site::Site;
 use crate::spelling::Word;
@@ -46,11 +47,19 @@ impl<'a> Gathering<'a> {
         ensures state { OnOk result (self.new ≡ closed (wanted request.now) (kept_along (wanted request.now) self.old (events_with (wanted request.now) self.old next.Item source.now.bytes.now))) }
         ensures logged { OnOk result (messages.new ≡ messages.old ++ kept_messages (wanted request.now) (source_database source.now) self.old (events_with (wanted request.now) self.old next.Item source.now.bytes.now)) }
     {
-        let mut site = Site {
+        let site = Site {
             file: Word::new(source.name),
             lines: LineCounter::of(source.bytes),
         };
-        self.read_events(alloc, request, source.bytes, &mut site, messages)?;
+        let mut reading = Reading {
+            alloc,
+            request,
+            site,
+            messages: std::mem::replace(messages, Messages::new(alloc)),
+        };
+        self.read_events(source.bytes, &mut reading)?;
+        let Reading { messages: read, .. } = reading;
+        let _before = std::mem::replace(messages, read);
         self.close(alloc, request)
     }
 
@@ -92,17 +101,23 @@ impl<'a> Gathering<'a> {
         Ok(())
     }
 
-    /// What is kept where nothing was read.
-    pub fn new(alloc: Global, request: &Request<'_, 'a>) -> Result<Gathering<'a>, AllocError>
-        ensures { IfOk result (λ kept. kept ≡ nothing_gathered (wanted request.now)) }
+    // What is kept before the first database: the macros of the style.
+    fn of_macros(
+        alloc: Global,
+        request: &Request<'_, 'a>,
+        macros: &Macros<'a>,
+    ) -> Result<Gathering<'a>, AllocError>
+        ensures { IfOk result (λ kept. kept ≡ kept_macros (nothing_gathered (wanted request.now)) macros.now) }
     {
-        Ok(Gathering {
+        let mut gathering = Gathering {
             draft: Draft::of_cited(alloc, request)?,
             strings: StringTable::new(alloc),
             current: None,
             preamble: Text::empty(),
             ending: End::Whole,
-        })
+        };
+        gathering.define_macros(alloc, macros)?;
+        Ok(gathering)
     }
 
     // A macro of the style.
@@ -136,22 +151,6 @@ impl<'a> Gathering<'a> {
             }
         }
         Ok(())
-    }
-
-    // Reads the macros of the style, and then all databases.
-    fn read(
-        &mut self,
-        alloc: Global,
-        request: &Request<'_, 'a>,
-        macros: &Macros<'a>,
-        sources: &[Source<'a>],
-        messages: &mut Messages<'a>,
-    ) -> Result<(), AllocError>
-        ensures state { OnOk result (self.new ≡ kept_by_all (wanted request.now) (kept_macros self.old macros.now) (source_databases sources.now)) }
-        ensures logged { OnOk result (messages.new ≡ messages.old ++ messages_of_all (wanted request.now) (kept_macros self.old macros.now) (source_databases sources.now)) }
-    {
-        self.define_macros(alloc, macros)?;
-        self.read_all(alloc, request, sources, messages)
     }
 
     // The library of what is kept and reported, where all databases were read.
@@ -243,8 +242,8 @@ fn library_requested<'a>(
 ) -> Result<Library<'a>, AllocError>
     ensures { IfOk result (λ library. library ≡ library_of (wanted request.now) macros.now (source_databases sources.now)) }
 {
-    let mut gathering = Gathering::new(alloc, request)?;
+    let mut gathering = Gathering::of_macros(alloc, request, macros)?;
     let mut messages = Messages::new(alloc);
-    gathering.read(alloc, request, macros, sources, &mut messages)?;
+    gathering.read_all(alloc, request, sources, &mut messages)?;
     gathering.library(alloc, request, messages)
 }

@@ -8,9 +8,9 @@ use crate::grammar::reader::{Reader, StoredKeys};
 use crate::grammar::value_ends::Ends;
 use crate::grammar::value_texts::{plain_text, value_text};
 use crate::grammar::values::Value;
-use crate::message::{Message, Messages};
+use crate::message::Message;
+use crate::reading::Reading;
 use crate::request::Request;
-use crate::site::{Site, report_kind, report_names};
 use crate::slots::Body;
 use crate::spelling::Word;
 use crate::strings::{Others, StringTable};
@@ -48,33 +48,30 @@ impl<'a> Pending<'a> {
     ghost use Rattle.btx_bib.specs.refinement.Grammar.PlainFields.{IsPlainPart, part_in_view, plain_field_view};
     ghost use Rattle.btx_bib.specs.refinement.Gatherings.{IfTaken, IsSilent, messages_of_field, taken_by};
     ghost use Rattle.btx_bib.specs.refinement.Requests.{wanted};
-    ghost use Rattle.btx_bib.specs.refinement.Sites.{site_database};
+    ghost use Rattle.btx_bib.specs.refinement.Sites.{asked_in, database_read, reported};
 
     // Takes a field, if it is declared and the entry has no value for it yet. Answers whether its value is short enough.
     fn take(
         &mut self,
-        alloc: Global,
-        request: &Request<'_, 'a>,
         strings: &StringTable<'a>,
         field: &Field<'a>,
         rest: &[u8],
-        site: &mut Site<'a>,
-        messages: &mut Messages<'a>,
+        reading: &mut Reading<'_, 'a>,
     ) -> Result<bool, AllocError>
-        ensures entry { IfOk result (λ fits. (self.new, fits) ≡ taken_by (wanted request.now) strings.now self.old (field_view field.now)) }
-        ensures logged { OnOk result (messages.new ≡ messages.old ++ messages_of_field (wanted request.now) (site_database site.old) strings.now self.old (field_view field.now) rest.now) }
-        ensures same { OnOk result (site.new ≡ site.old) }
+        ensures entry { IfOk result (λ fits. (self.new, fits) ≡ taken_by (asked_in reading.old) strings.now self.old (field_view field.now)) }
+        ensures logged { OnOk result (reading.new ≡ reported reading.old (messages_of_field (asked_in reading.old) (database_read reading.old) strings.now self.old (field_view field.now) rest.now)) }
     {
-        let Some(number) = request.field(alloc, field.name)? else {
+        let alloc = reading.alloc;
+        let Some(number) = reading.request.field(alloc, field.name)? else {
             return Ok(true);
         };
         if self.body.values.has(number) {
-            let spot = site.spot_before(rest);
+            let spot = reading.site.spot_before(rest);
             let message = Message::ExtraField(self.key.copy(), Word::new(field.name), spot);
-            messages.push(message)?;
+            reading.messages.push(message)?;
             return Ok(true);
         }
-        report_names(alloc, &field.value, strings, None, site, messages)?;
+        reading.report_names(&field.value, strings, None)?;
         match value_text(alloc, &field.value, strings, Ends::Trimmed) {
             Ok(text) => {
                 self.body.values.put(alloc, number, text.share()?)?;
@@ -118,8 +115,8 @@ impl<'a> Pending<'a> {
 impl<'a> Gathering<'a> {
     ghost use Rattle.std.specs.Prelude.{◌≡◌, ◌≤◌, ◌++◌, None, Some, true, not, length, IfOk, OnOk};
     ghost use Rattle.btx_bib.specs.declared.draft.Standing.TheVariants as standing;
-    ghost use Rattle.btx_bib.specs.refinement.Gatherings.{GoesOn, IfTaken, IsSilent, all_kept, all_messages, closed, begun, begun_by, entered, events_with, fielded_by, kept_after, kept_along, kept_messages, messages_of, messages_of_current, messages_of_entry, messages_of_standing, with_preamble, with_kept_string};
-    ghost use Rattle.btx_bib.specs.refinement.Sites.{site_database};
+    ghost use Rattle.btx_bib.specs.refinement.Gatherings.{GoesOn, IfTaken, IsSilent, all_kept, all_messages, closed, begun, begun_by, entered, events_with, fielded_by, kept_after, kept_along, kept_messages, messages_of, messages_of_current, messages_of_entry, messages_of_standing, read_on, with_preamble, with_kept_string};
+    ghost use Rattle.btx_bib.specs.refinement.Sites.{asked_in, database_read, reported};
     ghost use Rattle.btx_bib.specs.language.Messages.{Database, value_messages};
     ghost use Rattle.btx_bib.specs.refinement.Grammar.FieldViews.{field_view};
     ghost use Rattle.btx_bib.specs.refinement.Grammar.PlainFields.{IsPlainPart, part_in_view, plain_field_view};
@@ -162,65 +159,51 @@ impl<'a> Gathering<'a> {
     // An entry begins that is stored. A type that the style doesn't have is reported.
     fn begin_messages(
         &mut self,
-        alloc: Global,
-        request: &Request<'_, 'a>,
         kind: &[u8],
         key: &'a [u8],
         rest: &[u8],
-        site: &mut Site<'a>,
-        messages: &mut Messages<'a>,
+        reading: &mut Reading<'_, 'a>,
     ) -> Result<(), AllocError>
-        ensures state { OnOk result (self.new ≡ begun_by (wanted request.now) self.old kind.now key.entry.now standing.Wanted) }
-        ensures logged { OnOk result (messages.new ≡ messages.old ++ messages_of_standing (wanted request.now) (site_database site.old) kind.now key.entry.now rest.now standing.Wanted) }
-        ensures same { OnOk result (site.new ≡ site.old) }
+        ensures state { OnOk result (self.new ≡ begun_by (asked_in reading.old) self.old kind.now key.entry.now standing.Wanted) }
+        ensures logged { OnOk result (reading.new ≡ reported reading.old (messages_of_standing (asked_in reading.old) (database_read reading.old) kind.now key.entry.now rest.now standing.Wanted)) }
     {
-        let kind = request.kind(alloc, kind)?;
-        report_kind(kind, key, rest, site, messages)?;
-        self.begin(alloc, request, kind, key)
+        let kind = reading.request.kind(reading.alloc, kind)?;
+        reading.report_kind(kind, key, rest)?;
+        self.begin(reading.alloc, reading.request, kind, key)
     }
 
     // An entry's type and key: the one that was being read is at its end.
     fn enter(
         &mut self,
-        alloc: Global,
-        request: &Request<'_, 'a>,
         kind: &[u8],
         key: &'a [u8],
         rest: &[u8],
-        site: &mut Site<'a>,
-        messages: &mut Messages<'a>,
+        reading: &mut Reading<'_, 'a>,
     ) -> Result<(), AllocError>
-        ensures state { OnOk result (self.new ≡ entered (wanted request.now) self.old kind.now key.entry.now) }
-        ensures logged { OnOk result (messages.new ≡ messages.old ++ messages_of_entry (wanted request.now) (site_database site.old) self.old kind.now key.entry.now rest.now) }
-        ensures same { OnOk result (site.new ≡ site.old) }
+        ensures state { OnOk result (self.new ≡ entered (asked_in reading.old) self.old kind.now key.entry.now) }
+        ensures logged { OnOk result (reading.new ≡ reported reading.old (messages_of_entry (asked_in reading.old) (database_read reading.old) self.old kind.now key.entry.now rest.now)) }
     {
-        self.close(alloc, request)?;
-        match self.draft.standing(alloc, request, key)? {
+        self.close(reading.alloc, reading.request)?;
+        match self.draft.standing(reading.alloc, reading.request, key)? {
             Standing::Unwanted | Standing::Repeated => Ok(()),
-            Standing::Wanted => self.begin_messages(
-                alloc, request, kind, key, rest, site, messages,
-            ),
+            Standing::Wanted => self.begin_messages(kind, key, rest, reading),
         }
     }
 
     // A field of the entry that is being read, or of none.
     fn field(
         &mut self,
-        alloc: Global,
-        request: &Request<'_, 'a>,
         field: &Field<'a>,
         rest: &[u8],
-        site: &mut Site<'a>,
-        messages: &mut Messages<'a>,
+        reading: &mut Reading<'_, 'a>,
     ) -> Result<(), AllocError>
-        ensures state { OnOk result (self.new ≡ fielded_by (wanted request.now) self.old (field_view field.now) self.old.current) }
-        ensures logged { OnOk result (messages.new ≡ messages.old ++ messages_of_current (wanted request.now) (site_database site.old) self.old.strings (field_view field.now) rest.now self.old.current) }
-        ensures same { OnOk result (site.new ≡ site.old) }
+        ensures state { OnOk result (self.new ≡ fielded_by (asked_in reading.old) self.old (field_view field.now) self.old.current) }
+        ensures logged { OnOk result (reading.new ≡ reported reading.old (messages_of_current (asked_in reading.old) (database_read reading.old) self.old.strings (field_view field.now) rest.now self.old.current)) }
     {
         let Some(pending) = &mut self.current else {
             return Ok(());
         };
-        let fits = pending.take(alloc, request, &self.strings, field, rest, site, messages)?;
+        let fits = pending.take(&self.strings, field, rest, reading)?;
         if !fits {
             self.ending = End::StringLimit;
         }
@@ -230,17 +213,15 @@ impl<'a> Gathering<'a> {
     // A `@string`.
     fn define(
         &mut self,
-        alloc: Global,
         name: &'a [u8],
         value: &Value<'a>,
-        site: &mut Site<'a>,
-        messages: &mut Messages<'a>,
+        reading: &mut Reading<'_, 'a>,
     ) -> Result<(), AllocError>
         ensures state { OnOk result (self.new ≡ with_kept_string self.old name.entry.now value.now) }
-        ensures logged { OnOk result (messages.new ≡ messages.old ++ value_messages (site_database site.old) self.old.strings (Some name.entry.now) value.now) }
-        ensures same { OnOk result (site.new ≡ site.old) }
+        ensures logged { OnOk result (reading.new ≡ reported reading.old (value_messages (database_read reading.old) self.old.strings (Some name.entry.now) value.now)) }
     {
-        report_names(alloc, value, &self.strings, Some(name), site, messages)?;
+        let alloc = reading.alloc;
+        reading.report_names(value, &self.strings, Some(name))?;
         let others = Others {
             strings: &self.strings,
             own: name,
@@ -262,16 +243,14 @@ impl<'a> Gathering<'a> {
     // A `@preamble`.
     fn preamble(
         &mut self,
-        alloc: Global,
         value: &Value<'a>,
-        site: &mut Site<'a>,
-        messages: &mut Messages<'a>,
+        reading: &mut Reading<'_, 'a>,
     ) -> Result<(), AllocError>
         ensures state { OnOk result (self.new ≡ with_preamble self.old value.now) }
-        ensures logged { OnOk result (messages.new ≡ messages.old ++ value_messages (site_database site.old) self.old.strings None value.now) }
-        ensures same { OnOk result (site.new ≡ site.old) }
+        ensures logged { OnOk result (reading.new ≡ reported reading.old (value_messages (database_read reading.old) self.old.strings None value.now)) }
     {
-        report_names(alloc, value, &self.strings, None, site, messages)?;
+        let alloc = reading.alloc;
+        reading.report_names(value, &self.strings, None)?;
         match value_text(alloc, value, &self.strings, Ends::Kept) {
             Ok(text) if text.len() <= GREATEST_STRING - self.preamble.len() => {
                 let before = std::mem::replace(&mut self.preamble, Text::empty());
@@ -290,26 +269,22 @@ impl<'a> Gathering<'a> {
     // Something that was read, with the text behind it.
     fn take(
         &mut self,
-        alloc: Global,
-        request: &Request<'_, 'a>,
         event: &Event<'a>,
         rest: &[u8],
-        site: &mut Site<'a>,
-        messages: &mut Messages<'a>,
+        reading: &mut Reading<'_, 'a>,
     ) -> Result<(), AllocError>
-        ensures state { OnOk result (self.new ≡ kept_after (wanted request.now) self.old (event_view event.now)) }
-        ensures logged { OnOk result (messages.new ≡ messages.old ++ messages_of (wanted request.now) (site_database site.old) self.old (event_view event.now) rest.now) }
-        ensures same { OnOk result (site.new ≡ site.old) }
+        ensures state { OnOk result (self.new ≡ kept_after (asked_in reading.old) self.old (event_view event.now)) }
+        ensures logged { OnOk result (reading.new ≡ reported reading.old (messages_of (asked_in reading.old) (database_read reading.old) self.old (event_view event.now) rest.now)) }
     {
         match event {
             Event::Comment | Event::End => Ok(()),
-            Event::Preamble(value) => self.preamble(alloc, value, site, messages),
-            Event::Definition(name, value) => self.define(alloc, name, value, site, messages),
-            Event::Entry(kind, key) => self.enter(alloc, request, kind, key, rest, site, messages),
-            Event::Field(field) => self.field(alloc, request, field, rest, site, messages),
+            Event::Preamble(value) => self.preamble(value, reading),
+            Event::Definition(name, value) => self.define(name, value, reading),
+            Event::Entry(kind, key) => self.enter(kind, key, rest, reading),
+            Event::Field(field) => self.field(field, rest, reading),
             Event::Wrong(slip) => {
-                let spot = site.spot_at(rest);
-                messages.push(Message::Wrong(*slip, spot))
+                let spot = reading.site.spot_at(rest);
+                reading.messages.push(Message::Wrong(*slip, spot))
             }
         }
     }
@@ -324,25 +299,20 @@ impl<'a> Gathering<'a> {
     /// The events of a database.
     pub fn read_events(
         &mut self,
-        alloc: Global,
-        request: &Request<'_, 'a>,
         text: &'a [u8],
-        site: &mut Site<'a>,
-        messages: &mut Messages<'a>,
+        reading: &mut Reading<'_, 'a>,
     ) -> Result<(), AllocError>
         requires { goes_on self.old.ending ≡ true }
-        ensures state { OnOk result (self.new ≡ kept_along (wanted request.now) self.old (events_with (wanted request.now) self.old next.Item text.entry.now)) }
-        ensures logged { OnOk result (messages.new ≡ messages.old ++ kept_messages (wanted request.now) (site_database site.old) self.old (events_with (wanted request.now) self.old next.Item text.entry.now)) }
-        ensures same { OnOk result (site.new ≡ site.old) }
+        ensures { OnOk result ((self.new, reading.new) ≡ read_on reading.old self.old (next.Item, text.entry.now)) }
     {
         let mut reader = Reader::of(text);
-        self.pass_plainly(alloc, request, &mut reader)?;
-        while let Some(placed) = reader.read(alloc, self)? {
-            self.take(alloc, request, &placed.event, placed.rest, site, messages)?;
+        self.pass_plainly(reading.alloc, reading.request, &mut reader)?;
+        while let Some(placed) = reader.read(reading.alloc, self)? {
+            self.take(&placed.event, placed.rest, reading)?;
             if self.has_ended() {
                 return Ok(());
             }
-            self.pass_plainly(alloc, request, &mut reader)?;
+            self.pass_plainly(reading.alloc, reading.request, &mut reader)?;
         }
         Ok(())
     }

@@ -17,6 +17,7 @@ mod message_texts;
 mod names;
 mod passes;
 mod places;
+mod reading;
 mod request;
 mod site;
 mod slots;

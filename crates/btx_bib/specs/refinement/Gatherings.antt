@@ -12,6 +12,7 @@ use Rattle.btx_bib.specs.declared.grammar.commands.Wanted.{Wanted as Next}
 use Rattle.btx_bib.specs.declared.grammar.value_ends.Ends.TheVariants.{Kept, Trimmed}
 use Rattle.btx_bib.specs.declared.message.Message.{Message}
 use Rattle.btx_bib.specs.declared.message.Message.TheVariants as message
+use Rattle.btx_bib.specs.declared.reading.Reading.{Reading}
 use Rattle.btx_bib.specs.language.Grammar.Fields.{Field}
 use Rattle.btx_bib.specs.language.Grammar.Items.{Event, Comment, Preamble, Definition, Entry, FieldOf, End, Wrong, Placed, Keeping, events_from}
 use Rattle.btx_bib.specs.language.Grammar.Values.{Part}
@@ -27,6 +28,7 @@ use Rattle.btx_bib.specs.language.Known.{goes_on}
 use Rattle.btx_bib.specs.language.Messages.{Database, spot_at, spot_before, value_messages}
 use Rattle.btx_bib.specs.refinement.Strings.{Strings}
 use Rattle.btx_bib.specs.refinement.Messages.{type_messages}
+use Rattle.btx_bib.specs.refinement.Sites.{asked_in, database_read, reported}
 
 -- an entry with the value of a field
 abbrev pub with_field_text : Pending → ℕ → List ℕ → Pending
@@ -168,6 +170,10 @@ all_kept wanted kept place = kept_along wanted kept (events_with wanted kept pla
 
 abbrev pub all_messages : Request → Database → Gathering → Next × List ℕ → List Message
 all_messages wanted database kept place = kept_messages wanted database kept (events_with wanted kept place.0 place.1)
+
+-- what is kept, and the reading, once all events from a place on are read
+abbrev pub read_on : Reading → Gathering → Next × List ℕ → Gathering × Reading
+read_on reading kept place = (all_kept (asked_in reading) kept place, reported reading (all_messages (asked_in reading) (database_read reading) kept place))
 
 -- what is kept and logged from a place on is what it is from an earlier one, and no more is left to read
 abbrev pub GoesOn : Request → Gathering → Next × List ℕ → Next × List ℕ → Type 0
