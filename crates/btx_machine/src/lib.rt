@@ -12,6 +12,7 @@ pub mod lists;
 pub mod machine;
 pub mod marks;
 pub mod outputs;
+pub mod program;
 pub mod quick;
 pub mod report;
 pub mod run;

@@ -3,7 +3,6 @@ ghost use Rattle.std.specs.Prelude.{◌≡◌, [], IfOk, IsSome, OnErr, OnOk, ma
 ghost use Rattle.std.specs.Io.KnownBytes.{Appends};
 ghost use Rattle.btx_out.specs.language.Pieces.{AppendsPrefix};
 ghost use Rattle.btx_bib.specs.language.MessageTexts.{message_line};
-ghost use Rattle.btx_step.specs.refinement.Answers.{silence};
 ghost use Rattle.btx_machine.specs.declared.ending.Ending.TheVariants.{Finished};
 ghost use Rattle.btx_machine.specs.language.Reports.{last_line};
 ghost use Rattle.btx_machine.specs.language.Saying.{ended_line, lines_logged, said_on};
@@ -91,16 +90,15 @@ impl<'s, W: Sink, L: Sink> Outputs<'s, W, L> {
         job: &Job<'_>,
         executed: &[u8],
         current: Option<usize>,
-        said: &mut Said<'_>,
+        said: Said<'_>,
     ) -> Result<(), Fault>
         requires { Writes self.old }
-        ensures ok { OnOk result (Becomes self.old self.new (λ out. said_on job.now executed.now current said.old out)) }
-        ensures err { OnErr result (Stops self.old self.new (λ out. said_on job.now executed.now current said.old out)) }
-        ensures silent { said.new ≡ silence }
+        ensures ok { OnOk result (Becomes self.old self.new (λ out. said_on job.now executed.now current said.entry out)) }
+        ensures err { OnErr result (Stops self.old self.new (λ out. said_on job.now executed.now current said.entry out)) }
         ensures writes { OnOk result (Writes self.new) }
         ensures counts { CountsOfBoth result self.old self.new }
     {
-        match std::mem::replace(said, Said::Nothing) {
+        match said {
             Said::Nothing => Ok(()),
             Said::Wrote(text) => self.write(text.as_bytes()),
             Said::EndedLine => self.end_line(),

@@ -1,6 +1,5 @@
 //! What explains a run: a pass that finds the visits that log errors, one that finds their steps, and one for each of these.
-ghost use Rattle.std.specs.Prelude.{◌≡◌, ◌≤◌, IfOk};
-ghost use Rattle.btx_code.specs.refinement.Codes.{bodies_of};
+ghost use Rattle.std.specs.Prelude.{◌≤◌, IfOk};
 
 use crate::course::{Course, Event, Word};
 use crate::items::do_items;
@@ -16,6 +15,7 @@ use btx_bst::{BuiltIn, Callee, Item};
 use btx_code::Code;
 use btx_machine::marks::Marks;
 use btx_machine::outputs::Outputs;
+use btx_machine::program::Program;
 use btx_machine::report::report_of;
 use btx_machine::work::Work;
 use btx_machine::{End, Journal, LogCounts, Report};
@@ -46,7 +46,8 @@ impl<'j, 'a, 'o, 'w, 'l, 'n, W: Scratch, L: Scratch> Explainer<'j, 'a, 'o, 'w, '
         let style = job.style();
         let code = Code::of(self.alloc, style)?;
         let mut first = Course::following(self.alloc, budget, Vec::new(self.alloc), most);
-        let report = self.pass(job, &code, &mut first)?;
+        let program = Program { job, code: &code };
+        let report = self.pass(program, &mut first)?;
         if first.faulty.is_empty() && report.end == End::Finished {
             return Ok(report);
         }
@@ -56,19 +57,18 @@ impl<'j, 'a, 'o, 'w, 'l, 'n, W: Scratch, L: Scratch> Explainer<'j, 'a, 'o, 'w, '
             code: &code,
             lines: &lines,
         };
-        self.note_events(job, &known, first.faulty.as_slice(), most)?;
+        self.note_events(program, &known, first.faulty.as_slice(), most)?;
         self.note_end(&known, &first, &report)?;
         Ok(report)
     }
 
     // Runs the style, notes in `course` what is to be noted on the way, and answers the report.
-    fn pass(&mut self, job: &Job<'a>, code: &Code, course: &mut Course) -> Result<Report, Fault>
-        requires code { bodies_of code.now ≡ job.now.style.bodies }
+    fn pass(&mut self, program: Program<'_, 'a>, course: &mut Course) -> Result<Report, Fault>
         ensures bound { IfOk result (λ report. report.steps ≤ self.old.options.now.budget) }
     {
         self.list.forget();
         self.log.forget();
-        let store = Store::new(self.alloc, job)?;
+        let store = Store::new(self.alloc, program.job)?;
         let outputs = Outputs::new(
             self.list,
             self.options.line,
@@ -80,13 +80,12 @@ impl<'j, 'a, 'o, 'w, 'l, 'n, W: Scratch, L: Scratch> Explainer<'j, 'a, 'o, 'w, '
             outputs,
         };
         let mut marks = Marks::new(self.alloc)?;
-        let mut at = beginning(code, Callee::BuiltIn(BuiltIn::Skip));
+        let mut at = beginning(program.code, Callee::BuiltIn(BuiltIn::Skip));
         let mut left = self.options.budget;
         let stand = do_items(
             &mut work,
-            job,
-            job.style().items(),
-            code,
+            program,
+            program.job.style().items(),
             &mut marks,
             &mut at,
             &mut left,
@@ -103,20 +102,17 @@ impl<'j, 'a, 'o, 'w, 'l, 'n, W: Scratch, L: Scratch> Explainer<'j, 'a, 'o, 'w, '
     // Finds the events in these visits, and notes them.
     fn note_events(
         &mut self,
-        job: &Job<'a>,
+        program: Program<'_, 'a>,
         known: &Known<'_>,
         faulty: &[u64],
         most: usize,
-    ) -> Result<(), Fault>
-        requires code { bodies_of known.now.code.now ≡ known.now.style.now.bodies }
-        requires job { bodies_of known.now.code.now ≡ job.now.style.bodies }
-    {
+    ) -> Result<(), Fault> {
         if faulty.is_empty() {
             return Ok(());
         }
         let followed = Vec::from_slice(self.alloc, faulty)?;
         let mut second = Course::following(self.alloc, self.options.budget, followed, most);
-        self.pass(job, known.code, &mut second)?;
+        self.pass(program, &mut second)?;
         for event in &second.events {
             self.note_one(known, event)?;
         }
@@ -124,9 +120,7 @@ impl<'j, 'a, 'o, 'w, 'l, 'n, W: Scratch, L: Scratch> Explainer<'j, 'a, 'o, 'w, '
     }
 
     // Notes an event, and where the run stood before its step.
-    fn note_one(&mut self, known: &Known<'_>, event: &Event) -> Result<(), Fault>
-        requires { bodies_of known.now.code.now ≡ known.now.style.now.bodies }
-    {
+    fn note_one(&mut self, known: &Known<'_>, event: &Event) -> Result<(), Fault> {
         let moment = &event.moment;
         let (before, behind) = (moment.before.errors, moment.after.errors);
         let word = event.word.as_bytes();

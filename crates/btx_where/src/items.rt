@@ -1,7 +1,6 @@
 //! What the items of a style do, followed step by step or passed over.
 ghost use Rattle.std.specs.Prelude.{◌≡◌, ◌≤◌, ◌-◌, [], IfOk, OnOk};
 ghost use Rattle.btx_bst.specs.refinement.Views.{item_view, items_view};
-ghost use Rattle.btx_code.specs.refinement.Codes.{bodies_of};
 ghost use Rattle.btx_machine.specs.declared.ending.Ending.TheVariants as ending;
 ghost use Rattle.btx_machine.specs.language.Items.{do_item, do_items, list_after};
 ghost use Rattle.btx_machine.specs.refinement.Faults.{Writes};
@@ -14,14 +13,13 @@ use crate::course::Course;
 use crate::stand::Stand;
 use crate::visits::{visit, visit_all};
 use btx_bst::Item;
-use btx_code::Code;
 use btx_machine::Command;
 use btx_machine::lists::{all_entries, read_limit, reversed};
 use btx_machine::machine::Position;
 use btx_machine::marks::Marks;
+use btx_machine::program::Program;
 use btx_machine::work::Work;
 use btx_out::Sink;
-use btx_step::Job;
 use btx_step::sorting::sort;
 use btx_text::Fault;
 
@@ -31,26 +29,24 @@ const SORT_VARIABLE: u32 = 0;
 /// Does items, one after another. If it is stopped here, `at` and `marks` are where the machine stands then.
 pub fn do_items<'a, W: Sink, L: Sink>(
     work: &mut Work<'a, '_, W, L>,
-    job: &Job<'a>,
+    program: Program<'_, 'a>,
     items: &[Item<'_>],
-    code: &Code,
     marks: &mut Marks,
     at: &mut Position,
     left: &mut u64,
     course: &mut Course,
 ) -> Result<Stand, Fault>
-    requires code { bodies_of code.now ≡ job.now.style.bodies }
     requires empty { marks.old ≡ [] }
     requires writes { Writes work.old.outputs }
-    ensures stands { IfOk result (λ end. end ≡ Here → Comes work.old work.new (StandsInStyle job.now code.now at.new marks.new (do_items job.now (items_view items.now) []) (left.old - left.new))) }
-    ensures placed { IfOk result (λ end. end ≡ Here → StandInCode code.now at.new.place marks.new) }
+    ensures stands { IfOk result (λ end. end ≡ Here → Comes work.old work.new (StandsInStyle program.entry.job.now program.entry.code.now at.new marks.new (do_items program.entry.job.now (items_view items.now) []) (left.old - left.new))) }
+    ensures placed { IfOk result (λ end. end ≡ Here → StandInCode program.entry.code.now at.new.place marks.new) }
     ensures spent { IfOk result (λ end. end ≡ Here → left.new ≡ 0) }
     ensures fewer { left.new ≤ left.old }
     ensures writes { OnOk result (Writes work.new.outputs) }
 {
     let mut list = Vec::new(work.alloc);
     for item in items {
-        match do_item(work, job, code, &mut list, marks, item, at, left, course)? {
+        match do_item(work, program, &mut list, marks, item, at, left, course)? {
             Stand::Finished => course.end_item(),
             end => return Ok(end),
         }
@@ -62,8 +58,7 @@ pub fn do_items<'a, W: Sink, L: Sink>(
 #[tactic(auto, unfolding(btx_machine::specs::language::Items::do_item))]
 fn do_item<'a, W: Sink, L: Sink>(
     work: &mut Work<'a, '_, W, L>,
-    job: &Job<'a>,
-    code: &Code,
+    program: Program<'_, 'a>,
     list: &mut Vec<usize>,
     marks: &mut Marks,
     item: &Item<'_>,
@@ -71,13 +66,12 @@ fn do_item<'a, W: Sink, L: Sink>(
     left: &mut u64,
     course: &mut Course,
 ) -> Result<Stand, Fault>
-    requires code { bodies_of code.now ≡ job.now.style.bodies }
     requires empty { marks.old ≡ [] }
     requires writes { Writes work.old.outputs }
-    ensures finishes { IfOk result (λ end. end ≡ Finished → Comes work.old work.new (Runs (do_item job.now list.old.items (item_view item.now)) (left.old - left.new) ending.Finished)) }
-    ensures list { IfOk result (λ end. end ≡ Finished → list.new.items ≡ list_after job.now (item_view item.now) list.old.items work.old.store) }
-    ensures stands { IfOk result (λ end. end ≡ Here → Comes work.old work.new (StandsInCommand job.now code.now at.new marks.new (do_item job.now list.old.items (item_view item.now)) (left.old - left.new))) }
-    ensures placed { IfOk result (λ end. end ≡ Here → StandInCode code.now at.new.place marks.new) }
+    ensures finishes { IfOk result (λ end. end ≡ Finished → Comes work.old work.new (Runs (do_item program.entry.job.now list.old.items (item_view item.now)) (left.old - left.new) ending.Finished)) }
+    ensures list { IfOk result (λ end. end ≡ Finished → list.new.items ≡ list_after program.entry.job.now (item_view item.now) list.old.items work.old.store) }
+    ensures stands { IfOk result (λ end. end ≡ Here → Comes work.old work.new (StandsInCommand program.entry.job.now program.entry.code.now at.new marks.new (do_item program.entry.job.now list.old.items (item_view item.now)) (left.old - left.new))) }
+    ensures placed { IfOk result (λ end. end ≡ Here → StandInCode program.entry.code.now at.new.place marks.new) }
     ensures spent { IfOk result (λ end. end ≡ Here → left.new ≡ 0) }
     ensures cleared { IfOk result (λ end. end ≡ Finished → marks.new ≡ []) }
     ensures fewer { left.new ≤ left.old }
@@ -85,14 +79,14 @@ fn do_item<'a, W: Sink, L: Sink>(
 {
     match item {
         Item::Message(message) => {
-            let line = message.log_line(work.alloc, job.style().file_name())?;
+            let line = message.log_line(work.alloc, program.job.style().file_name())?;
             work.log_one(&line)?;
             Ok(Stand::Finished)
         }
         Item::Read => {
-            let all = all_entries(work.alloc, job)?;
-            work.log_library(job)?;
-            match read_limit(job) {
+            let all = all_entries(work.alloc, program.job)?;
+            work.log_library(program.job)?;
+            match read_limit(program.job) {
                 Some(kind) => Ok(Stand::Limit(kind)),
                 None => {
                     *list = all;
@@ -102,8 +96,7 @@ fn do_item<'a, W: Sink, L: Sink>(
         }
         Item::Execute(function) => visit(
             work,
-            job,
-            code,
+            program,
             marks,
             Command::Execute,
             *function,
@@ -114,8 +107,7 @@ fn do_item<'a, W: Sink, L: Sink>(
         ),
         Item::Iterate(function) => visit_all(
             work,
-            job,
-            code,
+            program,
             marks,
             Command::Iterate,
             *function,
@@ -128,8 +120,7 @@ fn do_item<'a, W: Sink, L: Sink>(
             let reversed = reversed(list)?;
             visit_all(
                 work,
-                job,
-                code,
+                program,
                 marks,
                 Command::Reverse,
                 *function,

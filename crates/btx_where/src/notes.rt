@@ -26,6 +26,7 @@ pub struct Known<'s> {
     pub style: &'s Style<'s>,
     pub code: &'s Code,
     pub lines: &'s StyleLines,
+    pub ghost coded: { bodies_of code.now ≡ style.now.bodies },
 }
 
 // The named function in whose command a function stands: itself, or the next one that has a name.
@@ -76,9 +77,7 @@ impl<'s> Known<'s> {
     }
 
     /// The token before a place of the code.
-    pub fn token_before(&self, place: usize) -> Option<Place>
-        requires { bodies_of self.now.code.now ≡ self.now.style.now.bodies }
-    {
+    pub fn token_before(&self, place: usize) -> Option<Place> {
         place_before(self.code, self.style, place)
     }
 
@@ -160,9 +159,7 @@ impl<'s> Known<'s> {
     }
 
     /// Notes since which token each literal has been there that a command left, the uppermost first.
-    pub fn note_since(&self, notes: &mut Vec<u8>, event: &Event) -> Result<(), AllocError>
-        requires { bodies_of self.now.code.now ≡ self.now.style.now.bodies }
-    {
+    pub fn note_since(&self, notes: &mut Vec<u8>, event: &Event) -> Result<(), AllocError> {
         for place in &event.since {
             match self.token_before(*place) {
                 Some(place) => self.note_place(notes, b"since", place)?,

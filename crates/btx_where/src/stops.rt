@@ -3,7 +3,6 @@ ghost use Rattle.std.specs.Prelude.{◌≡◌, [], length, take, IfOk, IfSome};
 ghost use Rattle.btx_out.specs.laws.Breaking.{Collecting};
 ghost use Rattle.btx_out.specs.laws.Lengths.{IsLineLength};
 ghost use Rattle.btx_out.specs.refinement.Breakers.{holding};
-ghost use Rattle.btx_code.specs.refinement.Codes.{bodies_of};
 ghost use Rattle.btx_step.specs.language.Starts.{first_store};
 ghost use Rattle.btx_machine.specs.laws.Reports.{log_counts};
 ghost use Rattle.btx_machine.specs.refinement.Marks.{StandInCode, frames_of};
@@ -22,6 +21,7 @@ use btx_code::Code;
 use btx_machine::machine::Position;
 use btx_machine::marks::Marks;
 use btx_machine::outputs::Outputs;
+use btx_machine::program::Program;
 use btx_machine::work::Work;
 use btx_machine::{Journal, LogCounts};
 use btx_out::{LineLength, Sink};
@@ -49,20 +49,19 @@ fn literals_of<'a>(alloc: Global, store: &mut Store<'a>) -> Result<Vec<Literal<'
 // What is shown of where the machine stands. Nothing is open then, and the literals are taken off.
 fn scene_of<'a>(
     alloc: Global,
-    job: &Job<'a>,
-    code: &Code,
+    program: Program<'_, 'a>,
     marks: &mut Marks,
     at: &Position,
     store: &mut Store<'a>,
 ) -> Result<Option<Scene<'a>>, AllocError>
-    requires code { bodies_of code.now ≡ job.now.style.bodies }
-    requires placed { StandInCode code.now at.now.place marks.old }
-    ensures next { IfOk result (λ found. IfSome found (λ scene. scene.next ≡ next_token code.now at.now)) }
-    ensures levels { IfOk result (λ found. IfSome found (λ scene. frames_shown job.now.style scene.levels.items ≡ frames_of code.now at.now.place marks.old)) }
+    requires placed { StandInCode program.code.now at.now.place marks.old }
+    ensures next { IfOk result (λ found. IfSome found (λ scene. scene.next ≡ next_token program.entry.code.now at.now)) }
+    ensures levels { IfOk result (λ found. IfSome found (λ scene. frames_shown program.entry.job.now.style scene.levels.items ≡ frames_of program.entry.code.now at.now.place marks.old)) }
     ensures entry { IfOk result (λ found. IfSome found (λ scene. scene.entry ≡ store.old.current)) }
     ensures depth { IfOk result (λ found. IfSome found (λ scene. scene.depth ≡ length store.old.literals)) }
     ensures literals { IfOk result (λ found. IfSome found (λ scene. scene.literals.items ≡ take MOST_LITERALS store.old.literals)) }
 {
+    let Program { job, code } = program;
     let next = at.token(code);
     let Some(levels) = levels_of(alloc, code, job.style(), at.place, marks)? else {
         return Ok(None);
@@ -92,6 +91,7 @@ fn stop<'a, W: Sink, L: Sink>(
     ensures { IfOk result (λ found. IfSome found (λ scene. IsScene job.now (log_counts work.old.outputs.log.warnings work.old.outputs.log.errors) budget scene)) }
 {
     let code = Code::of(work.alloc, job.style())?;
+    let program = Program { job, code: &code };
     let mut marks = Marks::new(work.alloc)?;
     let mut at = beginning(&code, Callee::BuiltIn(BuiltIn::Skip));
     let mut left = budget;
@@ -99,9 +99,8 @@ fn stop<'a, W: Sink, L: Sink>(
     let items = job.style().items();
     let end = do_items(
         work,
-        job,
+        program,
         items,
-        &code,
         &mut marks,
         &mut at,
         &mut left,
@@ -109,7 +108,7 @@ fn stop<'a, W: Sink, L: Sink>(
     )?;
     match end {
         Stand::Here => {
-            let scene = scene_of(work.alloc, job, &code, &mut marks, &at, &mut work.store)?;
+            let scene = scene_of(work.alloc, program, &mut marks, &at, &mut work.store)?;
             Ok(scene)
         }
         _ => Ok(None),

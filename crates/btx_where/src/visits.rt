@@ -1,6 +1,5 @@
 //! What commands do, followed step by step or passed over.
 ghost use Rattle.std.specs.Prelude.{◌≡◌, ◌≤◌, ◌-◌, [], IfOk, OnOk};
-ghost use Rattle.btx_code.specs.refinement.Codes.{bodies_of};
 ghost use Rattle.btx_machine.specs.declared.ending.Ending.TheVariants as ending;
 ghost use Rattle.btx_machine.specs.language.Commands.{visit};
 ghost use Rattle.btx_machine.specs.refinement.Commands.{visits};
@@ -14,20 +13,18 @@ use crate::course::Course;
 use crate::machine::{beginning, execute};
 use crate::stand::Stand;
 use btx_bst::Callee;
-use btx_code::Code;
 use btx_machine::machine::Position;
 use btx_machine::marks::Marks;
+use btx_machine::program::Program;
 use btx_machine::work::Work;
 use btx_machine::{Command, Ending};
 use btx_out::Sink;
-use btx_step::Job;
 use btx_text::Fault;
 
 // Executes the function of a command step by step, and then empties the stack.
 fn follow<'a, W: Sink, L: Sink>(
     work: &mut Work<'a, '_, W, L>,
-    job: &Job<'a>,
-    code: &Code,
+    program: Program<'_, 'a>,
     marks: &mut Marks,
     command: Command,
     function: Callee,
@@ -36,25 +33,24 @@ fn follow<'a, W: Sink, L: Sink>(
     left: &mut u64,
     course: &mut Course,
 ) -> Result<Stand, Fault>
-    requires code { bodies_of code.now ≡ job.now.style.bodies }
     requires empty { marks.old ≡ [] }
     requires writes { Writes work.old.outputs }
-    ensures finishes { IfOk result (λ end. end ≡ Finished → Comes work.old work.new (Runs (visit job.now command function entry) (left.old - left.new) ending.Finished)) }
-    ensures stands { IfOk result (λ end. end ≡ Here → Comes work.old work.new (StandsInFunction job.now command code.now at.new marks.new (visit job.now command function entry) (left.old - left.new))) }
-    ensures placed { IfOk result (λ end. end ≡ Here → StandInCode code.now at.new.place marks.new) }
+    ensures finishes { IfOk result (λ end. end ≡ Finished → Comes work.old work.new (Runs (visit program.entry.job.now command function entry) (left.old - left.new) ending.Finished)) }
+    ensures stands { IfOk result (λ end. end ≡ Here → Comes work.old work.new (StandsInFunction program.entry.job.now command program.entry.code.now at.new marks.new (visit program.entry.job.now command function entry) (left.old - left.new))) }
+    ensures placed { IfOk result (λ end. end ≡ Here → StandInCode program.entry.code.now at.new.place marks.new) }
     ensures spent { IfOk result (λ end. end ≡ Here → left.new ≡ 0) }
     ensures cleared { IfOk result (λ end. end ≡ Finished → marks.new ≡ []) }
     ensures fewer { left.new ≤ left.old }
     ensures writes { OnOk result (Writes work.new.outputs) }
 {
     work.store.set_current(entry);
-    *at = beginning(code, function);
-    let end = execute(work, job, code, marks, at, left, course)?;
+    *at = beginning(program.code, function);
+    let end = execute(work, program, marks, at, left, course)?;
     match end {
         Ending::Finished => {
             let depth = work.store.depth();
             let before = work.outputs.counts();
-            work.clear(job, command)?;
+            work.clear(program.job, command)?;
             let moment = course.moment(*left, before, work.outputs.counts());
             course.note_left(&moment, depth)?;
             course.end_visit();
@@ -68,8 +64,7 @@ fn follow<'a, W: Sink, L: Sink>(
 // Executes the function of a command as a run does, and then empties the stack.
 fn pass<'a, W: Sink, L: Sink>(
     work: &mut Work<'a, '_, W, L>,
-    job: &Job<'a>,
-    code: &Code,
+    program: Program<'_, 'a>,
     marks: &mut Marks,
     command: Command,
     function: Callee,
@@ -77,17 +72,16 @@ fn pass<'a, W: Sink, L: Sink>(
     left: &mut u64,
     course: &mut Course,
 ) -> Result<Stand, Fault>
-    requires code { bodies_of code.now ≡ job.now.style.bodies }
     requires empty { marks.old ≡ [] }
     requires writes { Writes work.old.outputs }
-    ensures finishes { IfOk result (λ end. end ≡ Finished → Comes work.old work.new (Runs (visit job.now command function entry) (left.old - left.new) ending.Finished)) }
+    ensures finishes { IfOk result (λ end. end ≡ Finished → Comes work.old work.new (Runs (visit program.entry.job.now command function entry) (left.old - left.new) ending.Finished)) }
     ensures elsewhere { IfOk result (λ end. end ≡ Here → ⊥) }
     ensures cleared { IfOk result (λ end. end ≡ Finished → marks.new ≡ []) }
     ensures fewer { left.new ≤ left.old }
     ensures writes { OnOk result (Writes work.new.outputs) }
 {
     let before = work.outputs.counts();
-    let end = btx_machine::visits::visit(work, job, code, marks, command, function, entry, left)?;
+    let end = btx_machine::visits::visit(work, program, marks, command, function, entry, left)?;
     course.note_visit(before, work.outputs.counts())?;
     match end {
         Ending::Finished => {
@@ -103,8 +97,7 @@ fn pass<'a, W: Sink, L: Sink>(
 /// many remain. If it is stopped here, `at` and `marks` are where the machine stands then.
 pub fn visit<'a, W: Sink, L: Sink>(
     work: &mut Work<'a, '_, W, L>,
-    job: &Job<'a>,
-    code: &Code,
+    program: Program<'_, 'a>,
     marks: &mut Marks,
     command: Command,
     function: Callee,
@@ -113,12 +106,11 @@ pub fn visit<'a, W: Sink, L: Sink>(
     left: &mut u64,
     course: &mut Course,
 ) -> Result<Stand, Fault>
-    requires code { bodies_of code.now ≡ job.now.style.bodies }
     requires empty { marks.old ≡ [] }
     requires writes { Writes work.old.outputs }
-    ensures finishes { IfOk result (λ end. end ≡ Finished → Comes work.old work.new (Runs (visit job.now command function entry) (left.old - left.new) ending.Finished)) }
-    ensures stands { IfOk result (λ end. end ≡ Here → Comes work.old work.new (StandsInFunction job.now command code.now at.new marks.new (visit job.now command function entry) (left.old - left.new))) }
-    ensures placed { IfOk result (λ end. end ≡ Here → StandInCode code.now at.new.place marks.new) }
+    ensures finishes { IfOk result (λ end. end ≡ Finished → Comes work.old work.new (Runs (visit program.entry.job.now command function entry) (left.old - left.new) ending.Finished)) }
+    ensures stands { IfOk result (λ end. end ≡ Here → Comes work.old work.new (StandsInFunction program.entry.job.now command program.entry.code.now at.new marks.new (visit program.entry.job.now command function entry) (left.old - left.new))) }
+    ensures placed { IfOk result (λ end. end ≡ Here → StandInCode program.entry.code.now at.new.place marks.new) }
     ensures spent { IfOk result (λ end. end ≡ Here → left.new ≡ 0) }
     ensures cleared { IfOk result (λ end. end ≡ Finished → marks.new ≡ []) }
     ensures fewer { left.new ≤ left.old }
@@ -126,20 +118,17 @@ pub fn visit<'a, W: Sink, L: Sink>(
 {
     if course.follows() {
         follow(
-            work, job, code, marks, command, function, entry, at, left, course,
+            work, program, marks, command, function, entry, at, left, course,
         )
     } else {
-        pass(
-            work, job, code, marks, command, function, entry, left, course,
-        )
+        pass(work, program, marks, command, function, entry, left, course)
     }
 }
 
 /// Executes the function of a command for each entry of `list`, in order.
 pub fn visit_all<'a, W: Sink, L: Sink>(
     work: &mut Work<'a, '_, W, L>,
-    job: &Job<'a>,
-    code: &Code,
+    program: Program<'_, 'a>,
     marks: &mut Marks,
     command: Command,
     function: Callee,
@@ -148,12 +137,11 @@ pub fn visit_all<'a, W: Sink, L: Sink>(
     left: &mut u64,
     course: &mut Course,
 ) -> Result<Stand, Fault>
-    requires code { bodies_of code.now ≡ job.now.style.bodies }
     requires empty { marks.old ≡ [] }
     requires writes { Writes work.old.outputs }
-    ensures finishes { IfOk result (λ end. end ≡ Finished → Comes work.old work.new (Runs (visits job.now command function list.now) (left.old - left.new) ending.Finished)) }
-    ensures stands { IfOk result (λ end. end ≡ Here → Comes work.old work.new (StandsInCommand job.now code.now at.new marks.new (visits job.now command function list.now) (left.old - left.new))) }
-    ensures placed { IfOk result (λ end. end ≡ Here → StandInCode code.now at.new.place marks.new) }
+    ensures finishes { IfOk result (λ end. end ≡ Finished → Comes work.old work.new (Runs (visits program.entry.job.now command function list.now) (left.old - left.new) ending.Finished)) }
+    ensures stands { IfOk result (λ end. end ≡ Here → Comes work.old work.new (StandsInCommand program.entry.job.now program.entry.code.now at.new marks.new (visits program.entry.job.now command function list.now) (left.old - left.new))) }
+    ensures placed { IfOk result (λ end. end ≡ Here → StandInCode program.entry.code.now at.new.place marks.new) }
     ensures spent { IfOk result (λ end. end ≡ Here → left.new ≡ 0) }
     ensures cleared { IfOk result (λ end. end ≡ Finished → marks.new ≡ []) }
     ensures fewer { left.new ≤ left.old }
@@ -162,8 +150,7 @@ pub fn visit_all<'a, W: Sink, L: Sink>(
     for entry in list {
         match visit(
             work,
-            job,
-            code,
+            program,
             marks,
             command,
             function,

@@ -15,6 +15,6 @@ invariant-loop-entry g l = record {
   sinks : SameSinks l.fn.work.outputs l.work.outputs;
   bbl_counts : l.work.outputs.bbl.failures.count ≡ l.fn.work.outputs.bbl.failures.count;
   log_counts : l.work.outputs.log.sink.failures.count ≡ l.fn.work.outputs.log.sink.failures.count;
-  same : Comes l.fn.work l.work
-      (Remains (λ entry. visit l.job l.command l.function (Some entry)) (drop l.entry-index l.list) l.list (l.fn.left - l.left));
+  same : Comes l.fn.work l.work (Remains (λ entry. visit l.program.job.now l.command l.function (Some entry)) (drop l.entry-index l.list) l.list
+      (l.fn.left - l.left));
 }

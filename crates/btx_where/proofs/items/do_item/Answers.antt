@@ -7,33 +7,31 @@ use Rattle.btx_where.proofs.RestLemmas.{execute_stands, iterate_stands, reverse_
 use Rattle.btx_where.proofs.items.do_item.Goals as goal
 
 pub returns-in-Execute-clause-stands : goal.returns-in-Execute-clause-stands
-returns-in-Execute-clause-stands g c =
-    ok_map (λ end stands here. execute_stands c.args.job.now c.args.code.now c.visit.new.at c.visit.new.marks c.args.work.now c.visit.new.work
-    (c.args.left.now - c.visit.new.left) c.args.list.now.items (item_view c.args.item.now) c.in-Execute.function (ap item_view c.in-Execute.is) (stands here))
-    c.visit.result c.visit.ensures.stands
+returns-in-Execute-clause-stands g c = ok_map (λ end stands here. execute_stands c.args.program.job.now c.args.program.code.now c.visit.new.at c.visit.new.marks
+    c.args.work.now c.visit.new.work (c.args.left.now - c.visit.new.left) c.args.list.now.items (item_view c.args.item.now) c.in-Execute.function
+    (ap item_view c.in-Execute.is) (stands here)) c.visit.result c.visit.ensures.stands
 
 pub returns-in-Iterate-clause-stands : goal.returns-in-Iterate-clause-stands
-returns-in-Iterate-clause-stands g c =
-    ok_map (λ end stands here. iterate_stands c.args.job.now c.args.code.now c.visit_all.new.at c.visit_all.new.marks c.args.work.now c.visit_all.new.work
-    (c.args.left.now - c.visit_all.new.left) c.args.list.now.items (item_view c.args.item.now) c.in-Iterate.function (ap item_view c.in-Iterate.is)
-    c.as_slice.result.now c.as_slice.ensures.value (stands here)) c.visit_all.result c.visit_all.ensures.stands
+returns-in-Iterate-clause-stands g c = ok_map (λ end stands here. iterate_stands c.args.program.job.now c.args.program.code.now c.visit_all.new.at
+    c.visit_all.new.marks c.args.work.now c.visit_all.new.work (c.args.left.now - c.visit_all.new.left) c.args.list.now.items (item_view c.args.item.now)
+    c.in-Iterate.function (ap item_view c.in-Iterate.is) c.as_slice.result.now c.as_slice.ensures.value (stands here)) c.visit_all.result
+    c.visit_all.ensures.stands
 
 pub returns-in_ok-reversed-in-Reverse-clause-stands : goal.returns-in_ok-reversed-in-Reverse-clause-stands
-returns-in_ok-reversed-in-Reverse-clause-stands g c =
-    ok_map (λ end stands here. reverse_stands c.args.job.now c.args.code.now c.visit_all-in-Reverse.new.at c.visit_all-in-Reverse.new.marks c.args.work.now
-    c.visit_all-in-Reverse.new.work (c.args.left.now - c.visit_all-in-Reverse.new.left) c.args.list.now.items (item_view c.args.item.now) c.in-Reverse.function
-    (ap item_view c.in-Reverse.is) c.as_slice-in-Reverse.result.now (c.as_slice-in-Reverse.ensures.value ∙ c.in_ok-reversed-in-Reverse.ensures) (stands here))
-    c.visit_all-in-Reverse.result c.visit_all-in-Reverse.ensures.stands
+returns-in_ok-reversed-in-Reverse-clause-stands g c = ok_map (λ end stands here. reverse_stands c.args.program.job.now c.args.program.code.now
+    c.visit_all-in-Reverse.new.at c.visit_all-in-Reverse.new.marks c.args.work.now c.visit_all-in-Reverse.new.work (c.args.left.now
+    - c.visit_all-in-Reverse.new.left) c.args.list.now.items (item_view c.args.item.now) c.in-Reverse.function (ap item_view c.in-Reverse.is)
+    c.as_slice-in-Reverse.result.now (c.as_slice-in-Reverse.ensures.value ∙ c.in_ok-reversed-in-Reverse.ensures) (stands here)) c.visit_all-in-Reverse.result
+    c.visit_all-in-Reverse.ensures.stands
 
 pub returns-in-Iterate-clause-finishes : goal.returns-in-Iterate-clause-finishes
-returns-in-Iterate-clause-finishes g c =
-    ok_map (λ end comes finished. iterate_runs c.args.job.now c.args.list.now.items c.in-Iterate.function (item_view c.args.item.now) c.args.work.now
-    c.args.left.now c.visit_all.new.work.outputs (ap item_view c.in-Iterate.is) c.as_slice.result.now c.as_slice.ensures.value c.visit_all.new.work
-    (c.args.left.now - c.visit_all.new.left) ends.Finished (comes finished)) c.visit_all.result c.visit_all.ensures.finishes
+returns-in-Iterate-clause-finishes g c = ok_map (λ end comes finished. iterate_runs c.args.program.job.now c.args.list.now.items c.in-Iterate.function
+    (item_view c.args.item.now) c.args.work.now c.args.left.now c.visit_all.new.work.outputs (ap item_view c.in-Iterate.is) c.as_slice.result.now
+    c.as_slice.ensures.value c.visit_all.new.work (c.args.left.now - c.visit_all.new.left) ends.Finished (comes finished)) c.visit_all.result
+    c.visit_all.ensures.finishes
 
 pub returns-in_ok-reversed-in-Reverse-clause-finishes : goal.returns-in_ok-reversed-in-Reverse-clause-finishes
-returns-in_ok-reversed-in-Reverse-clause-finishes g c =
-    ok_map (λ end comes finished. reverse_runs c.args.job.now c.args.list.now.items c.in-Reverse.function (item_view c.args.item.now) c.args.work.now
-    c.args.left.now c.visit_all-in-Reverse.new.work.outputs (ap item_view c.in-Reverse.is) c.as_slice-in-Reverse.result.now (c.as_slice-in-Reverse.ensures.value
-    ∙ c.in_ok-reversed-in-Reverse.ensures) c.visit_all-in-Reverse.new.work (c.args.left.now - c.visit_all-in-Reverse.new.left) ends.Finished (comes finished))
-    c.visit_all-in-Reverse.result c.visit_all-in-Reverse.ensures.finishes
+returns-in_ok-reversed-in-Reverse-clause-finishes g c = ok_map (λ end comes finished. reverse_runs c.args.program.job.now c.args.list.now.items
+    c.in-Reverse.function (item_view c.args.item.now) c.args.work.now c.args.left.now c.visit_all-in-Reverse.new.work.outputs (ap item_view c.in-Reverse.is)
+    c.as_slice-in-Reverse.result.now (c.as_slice-in-Reverse.ensures.value ∙ c.in_ok-reversed-in-Reverse.ensures) c.visit_all-in-Reverse.new.work
+    (c.args.left.now - c.visit_all-in-Reverse.new.left) ends.Finished (comes finished)) c.visit_all-in-Reverse.result c.visit_all-in-Reverse.ensures.finishes

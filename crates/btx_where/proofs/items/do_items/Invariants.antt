@@ -12,6 +12,6 @@ invariant-loop-item g l = record {
   marks : l.marks ≡ [];
   fewer : l.left ≤ l.fn.left;
   writes : Writes l.work.outputs;
-  same : Comes l.fn.work l.work
-      (Reached (do_items l.job (items_view l.items) []) (do_items l.job (items_view (drop l.item-index l.items)) l.list.items) (l.fn.left - l.left));
+  same : Comes l.fn.work l.work (Reached (do_items l.program.job.now (items_view l.items) []) (do_items l.program.job.now
+      (items_view (drop l.item-index l.items)) l.list.items) (l.fn.left - l.left));
 }

@@ -7,27 +7,24 @@ use Rattle.btx_where.proofs.RestLemmas.{one_stands}
 use Rattle.btx_where.proofs.visits.visit_all.Goals as goal
 
 pub returns-in_default-clause-stands : goal.returns-in_default-clause-stands
-returns-in_default-clause-stands g c = λ here. one_stands c.args.job.now c.args.code.now c.visit.new.at c.visit.new.marks c.args.work.now c.loop-entry.work
-    c.visit.new.work (c.args.left.now - c.loop-entry.left) (c.loop-entry.left - c.visit.new.left) (c.args.left.now - c.visit.new.left)
-    (omega (arith, c.loop-entry.invariant.fewer, c.visit.ensures.fewer))
-    c.args.command c.args.function _ (drop c.loop-entry.entry-index c.args.list.now) (drop (c.loop-entry.entry-index + 1) c.args.list.now) c.args.list.now
-    (drop_step c.args.list.now c.loop-entry.entry-index _ (omega arith)) c.loop-entry.invariant.same (c.in_ok-end.ensures.stands here)
+returns-in_default-clause-stands g c = λ here. one_stands c.args.program.job.now c.args.program.code.now c.visit.new.at c.visit.new.marks c.args.work.now
+    c.loop-entry.work c.visit.new.work (c.args.left.now - c.loop-entry.left) (c.loop-entry.left - c.visit.new.left) (c.args.left.now - c.visit.new.left)
+    (omega (arith, c.loop-entry.invariant.fewer, c.visit.ensures.fewer)) c.args.command c.args.function _ (drop c.loop-entry.entry-index c.args.list.now)
+    (drop (c.loop-entry.entry-index + 1) c.args.list.now) c.args.list.now (drop_step c.args.list.now c.loop-entry.entry-index _ (omega arith))
+    c.loop-entry.invariant.same (c.in_ok-end.ensures.stands here)
 
 pub loop-entry-preserved : goal.loop-entry-preserved
 loop-entry-preserved g c = record {
   writes = search rules;
   marks = c.in_ok-end.ensures.cleared c.in-Finished.is;
-  fewer =
-      omega (arith, c.loop-entry.invariant.fewer, c.visit.ensures.fewer);
-  same =
-      by.one_less (λ entry. visit c.args.job.now c.args.command c.args.function (Some entry)) _ (drop c.loop-entry.entry-index c.args.list.now)
-      (drop (c.loop-entry.entry-index + 1) c.args.list.now) c.args.list.now c.args.work.now c.loop-entry.work c.visit.new.work
-      (c.args.left.now - c.loop-entry.left) (c.loop-entry.left - c.visit.new.left) (c.args.left.now - c.visit.new.left)
-      (omega (arith, c.loop-entry.invariant.fewer, c.visit.ensures.fewer)) (drop_step c.args.list.now c.loop-entry.entry-index _ (omega arith))
-      c.loop-entry.invariant.same (c.in_ok-end.ensures.finishes c.in-Finished.is);
+  fewer = omega (arith, c.loop-entry.invariant.fewer, c.visit.ensures.fewer);
+  same = by.one_less (λ entry. visit c.args.program.job.now c.args.command c.args.function (Some entry)) _ (drop c.loop-entry.entry-index c.args.list.now) (drop
+      (c.loop-entry.entry-index + 1) c.args.list.now) c.args.list.now c.args.work.now c.loop-entry.work c.visit.new.work (c.args.left.now - c.loop-entry.left)
+      (c.loop-entry.left - c.visit.new.left) (c.args.left.now - c.visit.new.left) (omega (arith, c.loop-entry.invariant.fewer, c.visit.ensures.fewer))
+      (drop_step c.args.list.now c.loop-entry.entry-index _ (omega arith)) c.loop-entry.invariant.same (c.in_ok-end.ensures.finishes c.in-Finished.is);
 }
 
 pub returns-clause-finishes : goal.returns-clause-finishes
-returns-clause-finishes g c = λ finished. by.none_remain (λ entry. visit c.args.job.now c.args.command c.args.function (Some entry))
+returns-clause-finishes g c = λ finished. by.none_remain (λ entry. visit c.args.program.job.now c.args.command c.args.function (Some entry))
     (drop c.loop-entry.entry-index c.args.list.now) c.args.list.now c.args.work.now c.loop-entry.work (c.args.left.now - c.loop-entry.left)
     (drop_all c.loop-entry.entry-index c.args.list.now (omega arith)) c.loop-entry.invariant.same

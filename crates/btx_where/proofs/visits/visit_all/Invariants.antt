@@ -11,6 +11,6 @@ invariant-loop-entry g l = record {
   marks : l.marks ≡ [];
   fewer : l.left ≤ l.fn.left;
   writes : Writes l.work.outputs;
-  same : Comes l.fn.work l.work
-      (Remains (λ entry. visit l.job l.command l.function (Some entry)) (drop l.entry-index l.list) l.list (l.fn.left - l.left));
+  same : Comes l.fn.work l.work (Remains (λ entry. visit l.program.job.now l.command l.function (Some entry)) (drop l.entry-index l.list) l.list
+      (l.fn.left - l.left));
 }
