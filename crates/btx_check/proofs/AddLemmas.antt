@@ -54,3 +54,11 @@ added_set xs k j a b l e h g = record { into = into_set xs k j a l g; sub = sub_
 
 pub added_from : (a b : Abstract) (old new : List Abstract) → Within a b → Added b old new → Added a old new
 added_from a b old new w h = record { into = record { into = λ job left s i. h.into.into job left s (w.within job left s i) }; sub = h.sub }
+
+pub added_inside : (xs : List Abstract) (k : ℕ) (a b : Abstract) → k < length xs → b ≡ get_or xs k b → Within a b → Added a xs xs
+added_inside xs k a b l e h = record { into = inside xs k (subst (λ (x : Abstract). Within a x) e h) l; sub = sub_same xs }
+  where
+    inside : (ys : List Abstract) (k : ℕ) → Within a (get_or ys k b) → k < length ys → Into a ys
+    inside [] k h l = absurd (omega (arith, l))
+    inside (y ∷ ys) zero h l = record { into = λ job left s i. inl (h.within job left s i) }
+    inside (y ∷ ys) (suc k) h l = record { into = λ job left s i. inr ((inside ys k h (omega (arith, l))).into job left s i) }

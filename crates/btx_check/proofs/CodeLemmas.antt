@@ -107,6 +107,10 @@ code_stack a old new x = ruled _ _ _ _ (rule_stack a new x.into) (x.sub)
 pub added_at : (x y : Abstract) (old new : List Abstract) → x ≡ y → Added x old new → Added y old new
 added_at x y old new e h = subst (λ (z : Abstract). Added z old new) e h
 
+-- the number that was on top, pushed again
+pub pushed_back : (a b : Abstract) (i : ℕ) (d : Value) → TopIs a i d b → pushing i b ≡ a
+pushed_back a b i d t = ap (λ (x : Abstract). pushing i x) t.rest ∙ ap (λ (is : List ℕ). with_stack is a) (sym t.stack)
+
 -- a literal, where a number is known better
 pub found_at : (b b' : Abstract) (i : ℕ) (d d' r r' : Value) (old new : List Abstract) → b' ≡ b → d' ≡ d → r' ≡ r
     → Added (pushing_new r' (knowing i d' b')) old new → Added (pushing_new r (knowing i d b)) old new
@@ -268,6 +272,25 @@ code_assign_integer style allowed deep loops a b j i (callee.EntryString k) lo h
 code_assign_integer style allowed deep loops a b j i (callee.Field k) lo hi old new t v x = absurd v
 code_assign_integer style allowed deep loops a b j i (callee.BuiltIn k) lo hi old new t v x = absurd v
 code_assign_integer style allowed deep loops a b j i (callee.User k) lo hi old new t v x = absurd v
+
+-- a variable that can be assigned where its operands are taken off can be assigned before
+pub integer_below : (style : Style) (f : Callee) (a b : Abstract) → b ≡ with_stack b.stack a → IsIntegerOf style f b → IsIntegerOf style f a
+integer_below style (callee.GlobalInteger k) a b e h = h
+integer_below style (callee.EntryInteger k) a b e h = (h.0, sym (ap (λ (x : Abstract). x.entry) e) ∙ h.1)
+integer_below style (callee.GlobalString k) a b e h = absurd h
+integer_below style (callee.EntryString k) a b e h = absurd h
+integer_below style (callee.Field k) a b e h = absurd h
+integer_below style (callee.BuiltIn k) a b e h = absurd h
+integer_below style (callee.User k) a b e h = absurd h
+
+pub string_below : (style : Style) (f : Callee) (a b : Abstract) → b ≡ with_stack b.stack a → IsStringOf style f b → IsStringOf style f a
+string_below style (callee.GlobalString k) a b e h = h
+string_below style (callee.EntryString k) a b e h = (h.0, sym (ap (λ (x : Abstract). x.entry) e) ∙ h.1)
+string_below style (callee.GlobalInteger k) a b e h = absurd h
+string_below style (callee.EntryInteger k) a b e h = absurd h
+string_below style (callee.Field k) a b e h = absurd h
+string_below style (callee.BuiltIn k) a b e h = absurd h
+string_below style (callee.User k) a b e h = absurd h
 
 pub code_assign_text : (style : Style) (allowed : List ℕ) (deep loops : ℕ) (a b : Abstract) (j i : ℕ) (f : Callee) (m : Mask) (old new : List Abstract)
     → TwoAre a j i (value.Function f) (value.Text m) b → m.missing ≡ false → IsStringOf style f a

@@ -77,7 +77,7 @@ among_parts [] a job left s (inr h) = absurd h
 among_parts (x ∷ xs) a job left s (inl h) = inl (inl h)
 among_parts (x ∷ xs) a job left s (inr h) = elim (among_parts xs a job left s h) [ inl k ↦ inl (inr k) | inr k ↦ inr k ]
 
-stepped_more : (style : Style) (allowed : List ℕ) (t : Token) (xs : List Abstract) (a : Abstract) (r w : ℕ) (old mid new : List Abstract)
+pub stepped_more : (style : Style) (allowed : List ℕ) (t : Token) (xs : List Abstract) (a : Abstract) (r w : ℕ) (old mid new : List Abstract)
     → Stepped style allowed t xs r w old mid → Stepped style allowed t (a ∷ []) r w mid new
     → Stepped style allowed t (xs ++ a ∷ []) r w old new
 stepped_more style allowed t xs a r w old mid new h g = record {
@@ -96,6 +96,11 @@ pub stepped_step : (style : Style) (allowed : List ℕ) (t : Token) (r w : ℕ) 
     → Stepped style allowed t (a ∷ []) r w mid new → Stepped style allowed t (take (k + 1) xs) r w old new
 stepped_step style allowed t r w xs k a old mid new l e h g = subst (λ (ys : List Abstract). Stepped style allowed t ys r w old new) (sym (taking xs k a l e))
     (stepped_more style allowed t (take k xs) a r w old mid new h g)
+
+pub copied_step : (xs : List Abstract) (k : ℕ) (a b : Abstract) (old new : List Abstract) → k < length xs → a ≡ get_or xs k a → old ≡ take k xs
+    → new ≡ old ++ b ∷ [] → b ≡ a → new ≡ take (k + 1) xs
+copied_step xs k a b old new l e h n q =
+    n ∙ (ap (λ (ys : List Abstract). ys ++ b ∷ []) h ∙ (ap (λ (x : Abstract). take k xs ++ x ∷ []) q ∙ sym (taking xs k a l e)))
 
 -- ---- the tokens of a body
 
@@ -276,6 +281,13 @@ into_at a xs ys e h = subst (λ (zs : List Abstract). Into a zs) e h
 pub stepped_at : (style : Style) (allowed : List ℕ) (t : Token) (xs ys : List Abstract) (r w : ℕ) (old new : List Abstract) → xs ≡ ys
     → Stepped style allowed t xs r w old new → Stepped style allowed t ys r w old new
 stepped_at style allowed t xs ys r w old new e h = subst (λ (zs : List Abstract). Stepped style allowed t zs r w old new) e h
+
+-- the only description of a list
+pub stepped_only : (style : Style) (allowed : List ℕ) (t : Token) (xs ys : List Abstract) (a : Abstract) (r w : ℕ) (new : List Abstract) → xs ≡ ys ++ a ∷ []
+    → length xs ≡ 1 → Stepped style allowed t (a ∷ []) r w ys new → Stepped style allowed t xs r w [] new
+stepped_only style allowed t xs [] a r w new e l h = subst (λ (zs : List Abstract). Stepped style allowed t zs r w [] new) (sym e) h
+stepped_only style allowed t xs (y ∷ []) a r w new e l h = let n = ap {B = ℕ} length e in absurd (omega (arith, n, l))
+stepped_only style allowed t xs (y ∷ z ∷ ys) a r w new e l h = let n = ap {B = ℕ} length e in absurd (omega (arith, n, l))
 
 -- a rule that needs no step less, in the form in which the code meets it
 pub ruled : (f : Callee) (a : Abstract) (old new : List Abstract) → RuleNow f a new → Sub old new → Ruled f a old new

@@ -7,6 +7,7 @@ ghost use Rattle.btx_check.specs.Inclusion.{Sub, Into};
 ghost use Rattle.btx_check.specs.Answers.{Added};
 
 use crate::description::{Mask, Value};
+use crate::likeness::Likeness;
 use crate::state::State;
 use crate::work::{MANY, Work};
 use btx_bst::Callee;
@@ -20,7 +21,7 @@ fn set_at(out: &mut Vec<State>, k: usize, j: State)
     out[k] = j;
 }
 
-/// Adds a description to others. One that describes nothing is left out, and one that is like another is joined to it.
+/// Adds a description to others. One that describes nothing is left out.
 pub fn add(work: &Work, out: &mut Vec<State>, a: State) -> Result<(), AllocError>
     ensures { IfOk result (λ _. Added a out.old.items out.new.items) }
 {
@@ -30,26 +31,48 @@ pub fn add(work: &Work, out: &mut Vec<State>, a: State) -> Result<(), AllocError
     add_sure(work, out, a)
 }
 
+// Adds a description, unless the literal of this number can't be.
+fn add_where(work: &Work, out: &mut Vec<State>, a: State, number: usize) -> Result<(), AllocError>
+    ensures { IfOk result (λ _. Added a out.old.items out.new.items) }
+{
+    if a.is_impossible_at(number) {
+        return Ok(());
+    }
+    add_sure(work, out, a)
+}
+
 /// Adds a description to others, to one that it is like if there is one, without a look whether it describes anything.
 pub fn add_sure(work: &Work, out: &mut Vec<State>, a: State) -> Result<(), AllocError>
     ensures { IfOk result (λ _. Added a out.old.items out.new.items) }
 {
-    let b = a.tidied(work.alloc)?;
+    let mut b = a.tidied(work.alloc)?;
+    if out.is_empty() {
+        b.mark(Likeness::unknown());
+        out.push(b)?;
+        return Ok(());
+    }
+    let likeness = b.likeness_by(work);
+    b.mark(likeness);
     add_possible(work, out, b)?;
     Ok(())
 }
 
-// Adds a description to others.
+// Adds a description to others: to the first that it is like, unless that one says no more already.
 fn add_possible(work: &Work, out: &mut Vec<State>, a: State) -> Result<(), AllocError>
     ensures { IfOk result (λ _. Added a out.old.items out.new.items) }
 {
     let is_coarse = out.len() > MANY;
     for k in 0..out.len() {
-        match out[k].merged(work, &a, is_coarse)? {
-            None => {}
-            Some(j) => {
-                set_at(out, k, j);
+        if out[k].is_alike(work, &a, is_coarse) {
+            if a.is_inside(work.alloc, &out[k])? {
                 return Ok(());
+            }
+            match out[k].merged(work.alloc, &a, a.likeness.joined(is_coarse))? {
+                None => {}
+                Some(j) => {
+                    set_at(out, k, j);
+                    return Ok(());
+                }
             }
         }
     }
@@ -111,7 +134,7 @@ pub fn add_known(
 {
     let mut a = b;
     a.know(i, d);
-    add(work, out, a)
+    add_where(work, out, a, i)
 }
 
 /// Adds a description in which a number is known better, with a new literal.
@@ -128,7 +151,7 @@ pub fn add_found(
     let mut a = b;
     a.know(i, d);
     a.push_new(answer)?;
-    add(work, out, a)
+    add_where(work, out, a, i)
 }
 
 /// A number, and what is known of it.
@@ -153,7 +176,10 @@ pub fn add_tested(
     a.know(second.number, second.value);
     a.know(first.number, first.value);
     a.push_new(answer)?;
-    add(work, out, a)
+    if a.is_impossible_at(second.number) {
+        return Ok(());
+    }
+    add_where(work, out, a, first.number)
 }
 
 /// Adds a description in which a name of which nothing was known has a number, which is pushed.

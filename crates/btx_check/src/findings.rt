@@ -3,8 +3,8 @@ ghost use Rattle.std.specs.Result.{IfOk};
 ghost use Rattle.btx_check.specs.Verdicts.{IsRight, NoneIfClean};
 
 use crate::description::Value;
-use crate::tracing::trace;
 use crate::verdict::{Verdict, judged};
+use crate::visits::trace;
 use crate::work::{Place, Work};
 use btx_bst::{Callee, Style};
 use btx_step::Wanted;

@@ -1,5 +1,6 @@
 //! Which descriptions are joined, and what is proposed for both: guesses, which `State::is_within` tests.
 use crate::description::{Upper, Value};
+use crate::likeness::{Likeness, mark_of_kind, mark_of_shape, mixed};
 use crate::state::State;
 use crate::work::Work;
 use btx_bst::Callee;
@@ -26,6 +27,27 @@ impl State {
             }
         }
         is_coarse || !self.differs(work, other)
+    }
+
+    /// The same, where their likenesses don't say already that they aren't alike.
+    pub fn is_alike(&self, work: &Work, other: &State, is_coarse: bool) -> bool {
+        self.likeness.may_be(other.likeness, is_coarse) && self.is_like(work, other, is_coarse)
+    }
+
+    /// The likeness of this description: that of all that it is like is the same.
+    pub fn likeness_by(&self, work: &Work) -> Likeness {
+        let mut coarse = mixed(self.stack.len() as u64, if self.entry { 1 } else { 2 });
+        let mut fine = coarse;
+        for k in 0..self.stack.len() {
+            let value = self.value(self.stack[k]);
+            let shape = mark_of_shape(value);
+            fine = mixed(fine, shape);
+            coarse = mixed(coarse, if k >= 2 { mark_of_kind(value) } else { shape });
+        }
+        for flag in work.flags.iter() {
+            fine = mixed(fine, mark_of_flag(flag_of(self, *flag)));
+        }
+        Likeness { fine, coarse }
     }
 
     // Whether a flag is known to be one thing here and another thing there.
@@ -103,6 +125,7 @@ impl State {
             entry_strings,
             fields,
             entry: self.entry,
+            likeness: Likeness::unknown(),
         };
         Ok(Some(Both {
             state,
@@ -327,15 +350,16 @@ fn is_same_kind(a: Value, b: Value) -> bool {
     }
 }
 
-// By what integers are distinguished: certainly above 0, certainly not, or open.
+/// By what integers are distinguished: certainly above 0, certainly not, or open.
 #[derive(Clone, Copy, PartialEq, Eq)]
-enum Sign {
+pub enum Sign {
     Positive,
     NotPositive,
     Open,
 }
 
-fn sign_of(low: Option<i32>, high: Upper) -> Sign {
+/// The sign of an integer of these bounds.
+pub fn sign_of(low: Option<i32>, high: Upper) -> Sign {
     match low {
         Some(m) => {
             if m > 0 {
@@ -380,6 +404,18 @@ fn flag_of(state: &State, flag: Callee) -> Flag {
             },
             _ => Flag::Open,
         },
+    }
+}
+
+// What tells flags apart in a likeness.
+fn mark_of_flag(flag: Flag) -> u64 {
+    match flag {
+        Flag::Number(n) => mixed(n.unsigned_abs() as u64, 7),
+        Flag::Positive => 1,
+        Flag::NotPositive => 2,
+        Flag::Full => 3,
+        Flag::Blank => 4,
+        Flag::Open => 5,
     }
 }
 

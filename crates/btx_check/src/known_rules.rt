@@ -15,10 +15,10 @@ use crate::work::Work;
 use std::alloc::AllocError;
 
 /// `empty$`.
-pub fn empty(work: &Work, a: &State, out: &mut Vec<State>) -> Result<bool, AllocError>
-    ensures { IfOk result (λ ok. IsTrue ok → Ruled (callee.BuiltIn built_in.Empty) a.now out.old.items out.new.items) }
+pub fn empty(work: &Work, a: State, out: &mut Vec<State>) -> Result<bool, AllocError>
+    ensures { IfOk result (λ ok. IsTrue ok → Ruled (callee.BuiltIn built_in.Empty) a out.old.items out.new.items) }
 {
-    match top_of(a)? {
+    match top_of(a) {
         None => Ok(false),
         Some(t) => match t.value {
             Value::Text(m) => {
@@ -34,13 +34,13 @@ pub fn empty(work: &Work, a: &State, out: &mut Vec<State>) -> Result<bool, Alloc
 }
 
 /// `missing$`.
-pub fn missing(work: &Work, a: &State, out: &mut Vec<State>) -> Result<bool, AllocError>
-    ensures { IfOk result (λ ok. IsTrue ok → Ruled (callee.BuiltIn built_in.Missing) a.now out.old.items out.new.items) }
+pub fn missing(work: &Work, a: State, out: &mut Vec<State>) -> Result<bool, AllocError>
+    ensures { IfOk result (λ ok. IsTrue ok → Ruled (callee.BuiltIn built_in.Missing) a out.old.items out.new.items) }
 {
     if !a.has_entry() {
         return Ok(false);
     }
-    match top_of(a)? {
+    match top_of(a) {
         None => Ok(false),
         Some(t) => match t.value {
             Value::Text(m) => {
@@ -56,10 +56,10 @@ pub fn missing(work: &Work, a: &State, out: &mut Vec<State>) -> Result<bool, All
 }
 
 /// `num.names$`.
-pub fn num_names(work: &Work, a: &State, out: &mut Vec<State>) -> Result<bool, AllocError>
-    ensures { IfOk result (λ ok. IsTrue ok → Ruled (callee.BuiltIn built_in.NumNames) a.now out.old.items out.new.items) }
+pub fn num_names(work: &Work, a: State, out: &mut Vec<State>) -> Result<bool, AllocError>
+    ensures { IfOk result (λ ok. IsTrue ok → Ruled (callee.BuiltIn built_in.NumNames) a out.old.items out.new.items) }
 {
-    match top_of(a)? {
+    match top_of(a) {
         None => Ok(false),
         Some(t) => match t.value {
             Value::Text(m) => {
@@ -78,10 +78,10 @@ pub fn num_names(work: &Work, a: &State, out: &mut Vec<State>) -> Result<bool, A
 }
 
 /// `*`.
-pub fn concatenate(work: &Work, a: &State, out: &mut Vec<State>) -> Result<bool, AllocError>
-    ensures { IfOk result (λ ok. IsTrue ok → Ruled (callee.BuiltIn built_in.Concatenate) a.now out.old.items out.new.items) }
+pub fn concatenate(work: &Work, a: State, out: &mut Vec<State>) -> Result<bool, AllocError>
+    ensures { IfOk result (λ ok. IsTrue ok → Ruled (callee.BuiltIn built_in.Concatenate) a out.old.items out.new.items) }
 {
-    match pair_of(a)? {
+    match pair_of(a) {
         None => Ok(false),
         Some(t) => match (t.first_value, t.second_value) {
             (Value::Text(m), Value::Text(n)) => {
@@ -101,10 +101,10 @@ pub fn concatenate(work: &Work, a: &State, out: &mut Vec<State>) -> Result<bool,
 }
 
 /// `+`.
-pub fn plus(work: &Work, a: &State, out: &mut Vec<State>) -> Result<bool, AllocError>
-    ensures { IfOk result (λ ok. IsTrue ok → Ruled (callee.BuiltIn built_in.Plus) a.now out.old.items out.new.items) }
+pub fn plus(work: &Work, a: State, out: &mut Vec<State>) -> Result<bool, AllocError>
+    ensures { IfOk result (λ ok. IsTrue ok → Ruled (callee.BuiltIn built_in.Plus) a out.old.items out.new.items) }
 {
-    match pair_of(a)? {
+    match pair_of(a) {
         None => Ok(false),
         Some(t) => match (t.first_value, t.second_value) {
             (Value::Integer(low, high), Value::Integer(low2, high2)) => {
@@ -118,10 +118,10 @@ pub fn plus(work: &Work, a: &State, out: &mut Vec<State>) -> Result<bool, AllocE
 }
 
 /// `-`.
-pub fn minus(work: &Work, a: &State, out: &mut Vec<State>) -> Result<bool, AllocError>
-    ensures { IfOk result (λ ok. IsTrue ok → Ruled (callee.BuiltIn built_in.Minus) a.now out.old.items out.new.items) }
+pub fn minus(work: &Work, a: State, out: &mut Vec<State>) -> Result<bool, AllocError>
+    ensures { IfOk result (λ ok. IsTrue ok → Ruled (callee.BuiltIn built_in.Minus) a out.old.items out.new.items) }
 {
-    match pair_of(a)? {
+    match pair_of(a) {
         None => Ok(false),
         Some(t) => match (t.first_value, t.second_value) {
             (Value::Integer(low, high), Value::Integer(low2, high2)) => {
@@ -135,10 +135,10 @@ pub fn minus(work: &Work, a: &State, out: &mut Vec<State>) -> Result<bool, Alloc
 }
 
 /// `>`.
-pub fn greater(work: &Work, a: &State, out: &mut Vec<State>) -> Result<bool, AllocError>
-    ensures { IfOk result (λ ok. IsTrue ok → Ruled (callee.BuiltIn built_in.Greater) a.now out.old.items out.new.items) }
+pub fn greater(work: &Work, a: State, out: &mut Vec<State>) -> Result<bool, AllocError>
+    ensures { IfOk result (λ ok. IsTrue ok → Ruled (callee.BuiltIn built_in.Greater) a out.old.items out.new.items) }
 {
-    match pair_of(a)? {
+    match pair_of(a) {
         None => Ok(false),
         Some(t) => match (t.first_value, t.second_value) {
             (Value::Integer(low, high), Value::Integer(low2, high2)) => {
@@ -172,10 +172,10 @@ pub fn greater(work: &Work, a: &State, out: &mut Vec<State>) -> Result<bool, All
 }
 
 /// `<`.
-pub fn less(work: &Work, a: &State, out: &mut Vec<State>) -> Result<bool, AllocError>
-    ensures { IfOk result (λ ok. IsTrue ok → Ruled (callee.BuiltIn built_in.Less) a.now out.old.items out.new.items) }
+pub fn less(work: &Work, a: State, out: &mut Vec<State>) -> Result<bool, AllocError>
+    ensures { IfOk result (λ ok. IsTrue ok → Ruled (callee.BuiltIn built_in.Less) a out.old.items out.new.items) }
 {
-    match pair_of(a)? {
+    match pair_of(a) {
         None => Ok(false),
         Some(t) => match (t.first_value, t.second_value) {
             (Value::Integer(low, high), Value::Integer(low2, high2)) => {
@@ -209,10 +209,10 @@ pub fn less(work: &Work, a: &State, out: &mut Vec<State>) -> Result<bool, AllocE
 }
 
 /// `=`.
-pub fn equals(work: &Work, a: &State, out: &mut Vec<State>) -> Result<bool, AllocError>
-    ensures { IfOk result (λ ok. IsTrue ok → Ruled (callee.BuiltIn built_in.Equals) a.now out.old.items out.new.items) }
+pub fn equals(work: &Work, a: State, out: &mut Vec<State>) -> Result<bool, AllocError>
+    ensures { IfOk result (λ ok. IsTrue ok → Ruled (callee.BuiltIn built_in.Equals) a out.old.items out.new.items) }
 {
-    match pair_of(a)? {
+    match pair_of(a) {
         None => Ok(false),
         Some(t) => match (t.first_value, t.second_value) {
             (Value::Integer(low, high), Value::Integer(low2, high2)) => {

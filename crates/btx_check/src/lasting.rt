@@ -16,8 +16,7 @@ pub fn all_within(work: &Work, states: &[State], b: &State) -> Result<bool, Allo
     ensures { IfOk result (λ ok. IsTrue ok → Sub states.now (b.now ∷ [])) }
 {
     for a in states {
-        let numbers = a.numbers_for(work.alloc, b)?;
-        if !a.is_within(b, &numbers) {
+        if !a.is_inside(work.alloc, b)? {
             return Ok(false);
         }
     }

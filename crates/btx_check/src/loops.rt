@@ -4,7 +4,7 @@ ghost use Rattle.std.specs.Result.{IfOk};
 ghost use Rattle.btx_check.specs.Inclusion.{Sub, Into};
 ghost use Rattle.btx_check.specs.Answers.{TurnedInto};
 
-use crate::adding::{add_known, add_same};
+use crate::adding::{add_known, add_sure};
 use crate::bounds::{not_positive, positive};
 use crate::description::Value;
 use crate::operands::top_of;
@@ -21,7 +21,7 @@ pub fn turn(
 ) -> Result<bool, AllocError>
     ensures { IfOk result (λ ok. IsTrue ok → TurnedInto (a.now ∷ []) again.old.items ends.old.items again.new.items ends.new.items) }
 {
-    match top_of(a)? {
+    match top_of(a.copy()?) {
         None => Ok(false),
         Some(t) => match t.value {
             Value::Integer(low, high) => {
@@ -54,14 +54,26 @@ pub fn turn_all(
 }
 
 /// Adds all of these.
-pub fn add_all(work: &Work, states: &[State], out: &mut Vec<State>) -> Result<(), AllocError>
-    ensures these { IfOk result (λ _. Sub states.now out.new.items) }
+pub fn add_all(work: &Work, states: Vec<State>, out: &mut Vec<State>) -> Result<(), AllocError>
+    ensures these { IfOk result (λ _. Sub states.items out.new.items) }
     ensures sub { IfOk result (λ _. Sub out.old.items out.new.items) }
 {
     for a in states {
-        add_same(work, a, out)?;
+        add_sure(work, out, a)?;
     }
     Ok(())
+}
+
+/// The same descriptions once more.
+pub fn copies_of(work: &Work, states: &[State]) -> Result<Vec<State>, AllocError>
+    ensures { IfOk result (λ copies. copies.items ≡ states.now) }
+{
+    let mut copies: Vec<State> = Vec::with_capacity(work.alloc, states.len())?;
+    for a in states {
+        let b = a.copy()?;
+        copies.push(b)?;
+    }
+    Ok(copies)
 }
 
 /// Whether a description says no less than one of these.
@@ -69,8 +81,7 @@ pub fn is_in(work: &Work, a: &State, states: &[State]) -> Result<bool, AllocErro
     ensures { IfOk result (λ ok. IsTrue ok → Into a.now states.now) }
 {
     for b in states {
-        let numbers = a.numbers_for(work.alloc, b)?;
-        if a.is_within(b, &numbers) {
+        if a.is_inside(work.alloc, b)? {
             return Ok(true);
         }
     }

@@ -48,8 +48,8 @@ pub fn has_value(a: &State, name: Callee) -> bool
 }
 
 /// A variable or a field.
-pub fn name(work: &Work, a: &State, f: Callee, out: &mut Vec<State>) -> Result<bool, AllocError>
-    ensures { IfOk result (λ ok. IsTrue ok → Ruled f a.now out.old.items out.new.items) }
+pub fn name(work: &Work, a: State, f: Callee, out: &mut Vec<State>) -> Result<bool, AllocError>
+    ensures { IfOk result (λ ok. IsTrue ok → Ruled f a out.old.items out.new.items) }
 {
     if !a.has_room() {
         return Ok(false);
@@ -57,16 +57,16 @@ pub fn name(work: &Work, a: &State, f: Callee, out: &mut Vec<State>) -> Result<b
     if !is_name(f) {
         return Ok(false);
     }
-    if !has_value(a, f) {
+    if !has_value(&a, f) {
         return Ok(false);
     }
     match a.slot(f) {
         Some(i) => {
-            add_pushed(work, a.copy()?, i, out)?;
+            add_pushed(work, a, i, out)?;
             Ok(true)
         }
         None => {
-            add_recalled(work, a.copy()?, f, kind_of(f), out)?;
+            add_recalled(work, a, f, kind_of(f), out)?;
             Ok(true)
         }
     }
@@ -98,16 +98,16 @@ pub fn is_string_variable(style: &Style, a: &State, f: Callee) -> bool
 pub fn assign(
     work: &Work,
     style: &Style,
-    a: &State,
+    a: State,
     out: &mut Vec<State>,
 ) -> Result<bool, AllocError>
-    ensures { IfOk result (λ ok. IsTrue ok → (allowed : List ℕ) (deep loops : ℕ) → Stepped style.now allowed (token.Run (callee.BuiltIn built_in.Assign)) (a.now ∷ []) deep loops out.old.items out.new.items) }
+    ensures { IfOk result (λ ok. IsTrue ok → (allowed : List ℕ) (deep loops : ℕ) → Stepped style.now allowed (token.Run (callee.BuiltIn built_in.Assign)) (a ∷ []) deep loops out.old.items out.new.items) }
 {
-    match pair_of(a)? {
+    match pair_of(a) {
         None => Ok(false),
         Some(t) => match (t.first_value, t.second_value) {
             (Value::Function(f), Value::Integer(_, _)) => {
-                if !is_integer_variable(style, a, f) {
+                if !is_integer_variable(style, &t.below, f) {
                     return Ok(false);
                 }
                 add_put(work, t.below, f, t.second, out)?;
@@ -117,7 +117,7 @@ pub fn assign(
                 if m.missing {
                     return Ok(false);
                 }
-                if !is_string_variable(style, a, f) {
+                if !is_string_variable(style, &t.below, f) {
                     return Ok(false);
                 }
                 add_text_put(work, t.below, f, m, out)?;

@@ -21,15 +21,7 @@ pub struct Top {
 }
 
 /// What stands on top, if there is something.
-pub fn top_of(a: &State) -> Result<Option<Top>, AllocError>
-    ensures { IfOk result (λ o. IfSome o (λ t. TopIs a.now t.number t.value t.below)) }
-{
-    let all = a.copy()?;
-    Ok(taken_off(all))
-}
-
-/// What stands on top of a description that isn't needed any more, if there is something.
-fn taken_off(a: State) -> Option<Top>
+pub fn top_of(a: State) -> Option<Top>
     ensures { IfSome result (λ t. TopIs a t.number t.value t.below) }
 {
     if !a.has_room() {
@@ -61,20 +53,20 @@ pub struct Pair {
 
 /// The two literals on top of the stack, if there are two.
 #[tactic(auto, using(crate::proofs::RunLemmas::two_are))]
-pub fn pair_of(a: &State) -> Result<Option<Pair>, AllocError>
-    ensures { IfOk result (λ o. IfSome o (λ t. TwoAre a.now t.first t.second t.first_value t.second_value t.below)) }
+pub fn pair_of(a: State) -> Option<Pair>
+    ensures { IfSome result (λ t. TwoAre a t.first t.second t.first_value t.second_value t.below) }
 {
-    match top_of(a)? {
-        None => Ok(None),
-        Some(t) => match taken_off(t.below) {
-            None => Ok(None),
-            Some(u) => Ok(Some(Pair {
+    match top_of(a) {
+        None => None,
+        Some(t) => match top_of(t.below) {
+            None => None,
+            Some(u) => Some(Pair {
                 first: t.number,
                 first_value: t.value,
                 second: u.number,
                 second_value: u.value,
                 below: u.below,
-            })),
+            }),
         },
     }
 }
@@ -93,14 +85,14 @@ pub struct Triple {
 
 /// The three literals on top of the stack, if there are three.
 #[tactic(auto, using(crate::proofs::RunLemmas::three_are))]
-pub fn triple_of(a: &State) -> Result<Option<Triple>, AllocError>
-    ensures { IfOk result (λ o. IfSome o (λ t. ThreeAre a.now t.first t.second t.third t.first_value t.second_value t.third_value t.below)) }
+pub fn triple_of(a: State) -> Option<Triple>
+    ensures { IfSome result (λ t. ThreeAre a t.first t.second t.third t.first_value t.second_value t.third_value t.below) }
 {
-    match pair_of(a)? {
-        None => Ok(None),
-        Some(p) => match taken_off(p.below) {
-            None => Ok(None),
-            Some(t) => Ok(Some(Triple {
+    match pair_of(a) {
+        None => None,
+        Some(p) => match top_of(p.below) {
+            None => None,
+            Some(t) => Some(Triple {
                 first: p.first,
                 first_value: p.first_value,
                 second: p.second,
@@ -108,7 +100,7 @@ pub fn triple_of(a: &State) -> Result<Option<Triple>, AllocError>
                 third: t.number,
                 third_value: t.value,
                 below: t.below,
-            })),
+            }),
         },
     }
 }
@@ -129,71 +121,65 @@ pub fn is_fit(value: Value, wanted: Wanted) -> bool
 }
 
 /// Takes nothing.
-pub fn take_none(a: &State) -> Result<Option<State>, AllocError>
-    ensures { IfOk result (λ o. IfSome o (λ b. Taken [] a.now b)) }
+pub fn take_none(a: State) -> Option<State>
+    ensures { IfSome result (λ b. Taken [] a b) }
 {
     if !a.has_room() {
-        return Ok(None);
+        return None;
     }
-    let below = a.copy()?;
-    Ok(Some(below))
+    Some(a)
 }
 
 /// Takes an operand, if it is there and fits: what is left below it.
-pub fn take_one(a: &State, wanted: Wanted) -> Result<Option<State>, AllocError>
-    ensures { IfOk result (λ o. IfSome o (λ b. Taken (Of wanted ∷ []) a.now b)) }
+pub fn take_one(a: State, wanted: Wanted) -> Option<State>
+    ensures { IfSome result (λ b. Taken (Of wanted ∷ []) a b) }
 {
-    match top_of(a)? {
-        None => Ok(None),
+    match top_of(a) {
+        None => None,
         Some(t) => {
             if !is_fit(t.value, wanted) {
-                return Ok(None);
+                return None;
             }
-            Ok(Some(t.below))
+            Some(t.below)
         }
     }
 }
 
 /// Takes two operands, the first from the top.
-pub fn take_two(a: &State, first: Wanted, second: Wanted) -> Result<Option<State>, AllocError>
-    ensures { IfOk result (λ o. IfSome o (λ b. Taken (Of first ∷ Of second ∷ []) a.now b)) }
+pub fn take_two(a: State, first: Wanted, second: Wanted) -> Option<State>
+    ensures { IfSome result (λ b. Taken (Of first ∷ Of second ∷ []) a b) }
 {
-    match pair_of(a)? {
-        None => Ok(None),
+    match pair_of(a) {
+        None => None,
         Some(t) => {
             if !is_fit(t.first_value, first) {
-                return Ok(None);
+                return None;
             }
             if !is_fit(t.second_value, second) {
-                return Ok(None);
+                return None;
             }
-            Ok(Some(t.below))
+            Some(t.below)
         }
     }
 }
 
 /// Takes three operands, the first from the top.
-pub fn take_three(
-    a: &State,
-    first: Wanted,
-    second: Wanted,
-    third: Wanted,
-) -> Result<Option<State>, AllocError>
-    ensures { IfOk result (λ o. IfSome o (λ b. Taken (Of first ∷ Of second ∷ Of third ∷ []) a.now b)) }
+pub fn take_three(a: State, first: Wanted, second: Wanted, third: Wanted) -> Option<State>
+    ensures { IfSome result (λ b. Taken (Of first ∷ Of second ∷ Of third ∷ []) a b) }
 {
-    match triple_of(a)? {
-        None => Ok(None),
+    match triple_of(a) {
+        None => None,
         Some(t) => {
             if !is_fit(t.first_value, first) {
-                return Ok(None);
+                return None;
             }
             if !is_fit(t.second_value, second) {
-                return Ok(None);
+                return None;
             }
             if !is_fit(t.third_value, third) {
-                return Ok(None);
+                return None;
             }
-            Ok(Some(t.below))
+            Some(t.below)
         }
     }
 }

@@ -19,8 +19,8 @@ use btx_text::classify::is_white;
 use std::alloc::AllocError;
 
 /// A function of one step, from a description: what follows is added to the others. False if it may go wrong, or isn't of one step.
-pub fn one_step(work: &Work, a: &State, f: Callee, out: &mut Vec<State>) -> Result<bool, AllocError>
-    ensures { IfOk result (λ ok. IsTrue ok → Ruled f a.now out.old.items out.new.items) }
+pub fn one_step(work: &Work, a: State, f: Callee, out: &mut Vec<State>) -> Result<bool, AllocError>
+    ensures { IfOk result (λ ok. IsTrue ok → Ruled f a out.old.items out.new.items) }
 {
     match f {
         Callee::BuiltIn(b) => built_in(work, a, b, out),
@@ -30,8 +30,8 @@ pub fn one_step(work: &Work, a: &State, f: Callee, out: &mut Vec<State>) -> Resu
 }
 
 // A built-in function of one step.
-fn built_in(work: &Work, a: &State, b: BuiltIn, out: &mut Vec<State>) -> Result<bool, AllocError>
-    ensures { IfOk result (λ ok. IsTrue ok → Ruled (callee.BuiltIn b) a.now out.old.items out.new.items) }
+fn built_in(work: &Work, a: State, b: BuiltIn, out: &mut Vec<State>) -> Result<bool, AllocError>
+    ensures { IfOk result (λ ok. IsTrue ok → Ruled (callee.BuiltIn b) a out.old.items out.new.items) }
 {
     match b {
         BuiltIn::Duplicate => stack_rules::duplicate(work, a, out),
@@ -96,11 +96,11 @@ fn is_blank(text: &[u8]) -> bool
 pub fn push_token(
     work: &Work,
     style: &Style,
-    a: &State,
+    a: State,
     t: Token,
     out: &mut Vec<State>,
 ) -> Result<bool, AllocError>
-    ensures { IfOk result (λ ok. IsTrue ok → (allowed : List ℕ) (deep loops : ℕ) → Stepped style.now allowed t (a.now ∷ []) deep loops out.old.items out.new.items) }
+    ensures { IfOk result (λ ok. IsTrue ok → (allowed : List ℕ) (deep loops : ℕ) → Stepped style.now allowed t (a ∷ []) deep loops out.old.items out.new.items) }
 {
     if !a.has_room() {
         return Ok(false);
@@ -108,20 +108,20 @@ pub fn push_token(
     match t {
         Token::Text(i) => {
             let mask = mask_of(style.text(i));
-            add_new(work, a.copy()?, Value::Text(mask), out)?;
+            add_new(work, a, Value::Text(mask), out)?;
             Ok(true)
         }
         Token::Integer(n) => {
             add_new(
                 work,
-                a.copy()?,
+                a,
                 Value::Integer(Some(n), Upper::Number(Some(n))),
                 out,
             )?;
             Ok(true)
         }
         Token::Quote(f) => {
-            add_new(work, a.copy()?, Value::Function(f), out)?;
+            add_new(work, a, Value::Function(f), out)?;
             Ok(true)
         }
         Token::Run(_) => Ok(false),

@@ -6,38 +6,40 @@ ghost use Rattle.btx_bst.specs.declared.callee.Callee.TheVariants as callee;
 ghost use Rattle.btx_bst.specs.declared.token.Token.TheVariants as token;
 ghost use Rattle.btx_check.specs.Answers.{Ruled, Stepped, Looped, TypesStepped};
 
-use crate::adding::add_same;
+use crate::adding::add_sure;
 use crate::bounds::{not_positive, positive};
 use crate::description::Value;
-use crate::loops::{add_all, all_in, is_in, proposed, turn_all};
+use crate::loops::{add_all, all_in, copies_of, is_in, proposed, turn_all};
 use crate::name_rules::assign;
 use crate::operands::{pair_of, triple_of};
 use crate::rules::{one_step, push_token};
 use crate::state::State;
-use crate::work::{Room, Work};
+use crate::work::{Room, Work, missing_field};
 use btx_bst::{BuiltIn, Callee, Style, Token};
 use std::alloc::AllocError;
+use std::mem;
 
-/// A function, from a description: what it leads to is added to the others. False if something may go wrong, or the room doesn't suffice.
+/// A function, from a description in which the literal of a number is known better: nothing is to be done if it can't be.
 #[cycle(search)]
-pub fn run(
+pub fn run_where(
     work: &mut Work,
     style: &Style,
     allowed: &[u32],
     room: Room,
-    a: &State,
+    a: State,
+    number: usize,
     f: Callee,
     out: &mut Vec<State>,
 ) -> Result<bool, AllocError>
-    ensures { IfOk result (λ ok. IsTrue ok → Stepped style.now allowed.now (token.Run f) (a.now ∷ []) room.deep room.loops out.old.items out.new.items) }
+    ensures { IfOk result (λ ok. IsTrue ok → Stepped style.now allowed.now (token.Run f) (a ∷ []) room.deep room.loops out.old.items out.new.items) }
 {
-    if a.is_impossible() {
+    if a.is_impossible_at(number) {
         return Ok(true);
     }
     run_sure(work, style, allowed, room, a, f, out)
 }
 
-/// The same, without a look whether the description describes anything.
+/// A function, from a description: what it leads to is added to the others. False if something may go wrong, or the room doesn't suffice.
 #[cycle(search)]
 #[inline(never)]
 pub fn run_sure(
@@ -45,11 +47,11 @@ pub fn run_sure(
     style: &Style,
     allowed: &[u32],
     room: Room,
-    a: &State,
+    a: State,
     f: Callee,
     out: &mut Vec<State>,
 ) -> Result<bool, AllocError>
-    ensures { IfOk result (λ ok. IsTrue ok → Stepped style.now allowed.now (token.Run f) (a.now ∷ []) room.deep room.loops out.old.items out.new.items) }
+    ensures { IfOk result (λ ok. IsTrue ok → Stepped style.now allowed.now (token.Run f) (a ∷ []) room.deep room.loops out.old.items out.new.items) }
 {
     if room.fuel == 0 {
         work.gave_up = true;
@@ -76,12 +78,13 @@ pub fn run_sure(
 
 /// A function of one step. Where it may go wrong, that is noted.
 #[inline(never)]
-fn run_one(work: &mut Work, a: &State, f: Callee, out: &mut Vec<State>) -> Result<bool, AllocError>
-    ensures { IfOk result (λ ok. IsTrue ok → Ruled f a.now out.old.items out.new.items) }
+fn run_one(work: &mut Work, a: State, f: Callee, out: &mut Vec<State>) -> Result<bool, AllocError>
+    ensures { IfOk result (λ ok. IsTrue ok → Ruled f a out.old.items out.new.items) }
 {
+    let missing = missing_field(&a);
     let is_done = one_step(work, a, f, out)?;
     if !is_done {
-        work.warn(f, a)?;
+        work.warn(f, missing)?;
     }
     Ok(is_done)
 }
@@ -93,16 +96,17 @@ fn run_assign(
     style: &Style,
     allowed: &[u32],
     room: Room,
-    a: &State,
+    a: State,
     out: &mut Vec<State>,
 ) -> Result<bool, AllocError>
-    ensures { IfOk result (λ ok. IsTrue ok → Stepped style.now allowed.now (token.Run (callee.BuiltIn built_in.Assign)) (a.now ∷ []) room.deep room.loops out.old.items out.new.items) }
+    ensures { IfOk result (λ ok. IsTrue ok → Stepped style.now allowed.now (token.Run (callee.BuiltIn built_in.Assign)) (a ∷ []) room.deep room.loops out.old.items out.new.items) }
 {
     let _ = allowed.len();
     let _ = room.deep;
+    let missing = missing_field(&a);
     let is_done = assign(work, style, a, out)?;
     if !is_done {
-        work.warn(Callee::BuiltIn(BuiltIn::Assign), a)?;
+        work.warn(Callee::BuiltIn(BuiltIn::Assign), missing)?;
     }
     Ok(is_done)
 }
@@ -114,11 +118,11 @@ pub fn run_token(
     style: &Style,
     allowed: &[u32],
     room: Room,
-    a: &State,
+    a: State,
     t: Token,
     out: &mut Vec<State>,
 ) -> Result<bool, AllocError>
-    ensures { IfOk result (λ ok. IsTrue ok → Stepped style.now allowed.now t (a.now ∷ []) room.deep room.loops out.old.items out.new.items) }
+    ensures { IfOk result (λ ok. IsTrue ok → Stepped style.now allowed.now t (a ∷ []) room.deep room.loops out.old.items out.new.items) }
 {
     match t {
         Token::Run(f) => run_sure(work, style, allowed, room, a, f, out),
@@ -134,11 +138,11 @@ pub fn run_all(
     style: &Style,
     allowed: &[u32],
     room: Room,
-    states: &[State],
+    states: Vec<State>,
     t: Token,
     out: &mut Vec<State>,
 ) -> Result<bool, AllocError>
-    ensures { IfOk result (λ ok. IsTrue ok → Stepped style.now allowed.now t states.now room.deep room.loops out.old.items out.new.items) }
+    ensures { IfOk result (λ ok. IsTrue ok → Stepped style.now allowed.now t states.items room.deep room.loops out.old.items out.new.items) }
 {
     for a in states {
         if !run_token(work, style, allowed, room, a, t, out)? {
@@ -146,6 +150,31 @@ pub fn run_all(
         }
     }
     Ok(true)
+}
+
+/// The next token of a body, from each of `states`, which then are what it leads to.
+#[cycle(search)]
+#[inline(never)]
+pub fn run_next(
+    work: &mut Work,
+    style: &Style,
+    allowed: &[u32],
+    room: Room,
+    t: Token,
+    states: &mut Vec<State>,
+) -> Result<bool, AllocError>
+    ensures { IfOk result (λ ok. IsTrue ok → Stepped style.now allowed.now t states.old.items room.deep room.loops [] states.new.items) }
+{
+    if states.len() == 1 {
+        // Mostly there is one: its place is used again.
+        match states.pop() {
+            None => Ok(false),
+            Some(a) => run_token(work, style, allowed, room, a, t, states),
+        }
+    } else {
+        let before = mem::replace(states, Vec::new(work.alloc));
+        run_all(work, style, allowed, room, before, t, states)
+    }
 }
 
 /// The body of a function of the style.
@@ -156,11 +185,11 @@ pub fn run_user(
     style: &Style,
     allowed: &[u32],
     room: Room,
-    a: &State,
+    a: State,
     i: u32,
     out: &mut Vec<State>,
 ) -> Result<bool, AllocError>
-    ensures { IfOk result (λ ok. IsTrue ok → Stepped style.now allowed.now (token.Run (callee.User i)) (a.now ∷ []) room.deep room.loops out.old.items out.new.items) }
+    ensures { IfOk result (λ ok. IsTrue ok → Stepped style.now allowed.now (token.Run (callee.User i)) (a ∷ []) room.deep room.loops out.old.items out.new.items) }
 {
     if room.deep == 0 {
         work.gave_up = true;
@@ -176,19 +205,16 @@ pub fn run_user(
     };
     work.enter(i, inside.deep)?;
     let body = style.body(i as usize);
-    let first = a.copy()?;
     let mut states: Vec<State> = Vec::new(work.alloc);
-    states.push(first)?;
+    states.push(a)?;
     for t in body {
-        let mut after: Vec<State> = Vec::new(work.alloc);
-        if !run_all(work, style, allowed, inside, &states, *t, &mut after)? {
+        if !run_next(work, style, allowed, inside, *t, &mut states)? {
             return Ok(false);
         }
-        states = after;
         work.advance();
     }
     work.leave();
-    add_all(work, &states, out)?;
+    add_all(work, states, out)?;
     Ok(true)
 }
 
@@ -200,29 +226,30 @@ pub fn run_if(
     style: &Style,
     allowed: &[u32],
     room: Room,
-    a: &State,
+    a: State,
     out: &mut Vec<State>,
 ) -> Result<bool, AllocError>
-    ensures { IfOk result (λ ok. IsTrue ok → Stepped style.now allowed.now (token.Run (callee.BuiltIn built_in.If)) (a.now ∷ []) room.deep room.loops out.old.items out.new.items) }
+    ensures { IfOk result (λ ok. IsTrue ok → Stepped style.now allowed.now (token.Run (callee.BuiltIn built_in.If)) (a ∷ []) room.deep room.loops out.old.items out.new.items) }
 {
-    match triple_of(a)? {
+    let missing = missing_field(&a);
+    match triple_of(a) {
         None => {
-            work.warn(Callee::BuiltIn(BuiltIn::If), a)?;
+            work.warn(Callee::BuiltIn(BuiltIn::If), missing)?;
             Ok(false)
         }
         Some(t) => match (t.first_value, t.second_value, t.third_value) {
             (Value::Function(g), Value::Function(f), Value::Integer(low, high)) => {
                 let mut yes = t.below.copy()?;
                 yes.know(t.third, positive(low, high));
-                let mut no = t.below.copy()?;
+                let mut no = t.below;
                 no.know(t.third, not_positive(low, high));
-                if !run(work, style, allowed, room, &yes, f, out)? {
+                if !run_where(work, style, allowed, room, yes, t.third, f, out)? {
                     return Ok(false);
                 }
-                run(work, style, allowed, room, &no, g, out)
+                run_where(work, style, allowed, room, no, t.third, g, out)
             }
             _ => {
-                work.warn(Callee::BuiltIn(BuiltIn::If), a)?;
+                work.warn(Callee::BuiltIn(BuiltIn::If), missing)?;
                 Ok(false)
             }
         },
@@ -237,10 +264,10 @@ pub fn run_while(
     style: &Style,
     allowed: &[u32],
     room: Room,
-    a: &State,
+    a: State,
     out: &mut Vec<State>,
 ) -> Result<bool, AllocError>
-    ensures { IfOk result (λ ok. IsTrue ok → Stepped style.now allowed.now (token.Run (callee.BuiltIn built_in.While)) (a.now ∷ []) room.deep room.loops out.old.items out.new.items) }
+    ensures { IfOk result (λ ok. IsTrue ok → Stepped style.now allowed.now (token.Run (callee.BuiltIn built_in.While)) (a ∷ []) room.deep room.loops out.old.items out.new.items) }
 {
     if room.loops == 0 {
         work.gave_up = true;
@@ -251,9 +278,10 @@ pub fn run_while(
         deep: room.deep,
         loops: room.loops - 1,
     };
-    match pair_of(a)? {
+    let missing = missing_field(&a);
+    match pair_of(a) {
         None => {
-            work.warn(Callee::BuiltIn(BuiltIn::While), a)?;
+            work.warn(Callee::BuiltIn(BuiltIn::While), missing)?;
             Ok(false)
         }
         Some(t) => match (t.first_value, t.second_value) {
@@ -261,7 +289,7 @@ pub fn run_while(
                 work, style, allowed, inside, &t.below, f, g, out,
             ),
             _ => {
-                work.warn(Callee::BuiltIn(BuiltIn::While), a)?;
+                work.warn(Callee::BuiltIn(BuiltIn::While), missing)?;
                 Ok(false)
             }
         },
@@ -287,13 +315,14 @@ pub fn run_loop(
     let mut heads: Vec<State> = Vec::new(work.alloc);
     heads.push(first)?;
     for round in 0..60 {
+        let copies = copies_of(work, &heads)?;
         let mut tests: Vec<State> = Vec::new(work.alloc);
         if !run_all(
             work,
             style,
             allowed,
             room,
-            &heads,
+            copies,
             Token::Run(f),
             &mut tests,
         )? {
@@ -302,7 +331,7 @@ pub fn run_loop(
         let mut again: Vec<State> = Vec::new(work.alloc);
         let mut ends: Vec<State> = Vec::new(work.alloc);
         if !turn_all(work, &tests, &mut again, &mut ends)? {
-            work.warn(Callee::BuiltIn(BuiltIn::While), b)?;
+            work.warn(Callee::BuiltIn(BuiltIn::While), missing_field(b))?;
             return Ok(false);
         }
         let mut bodies: Vec<State> = Vec::new(work.alloc);
@@ -311,14 +340,14 @@ pub fn run_loop(
             style,
             allowed,
             room,
-            &again,
+            again,
             Token::Run(g),
             &mut bodies,
         )? {
             return Ok(false);
         }
         if is_in(work, b, &heads)? && all_in(work, &bodies, &heads)? {
-            add_all(work, &ends, out)?;
+            add_all(work, ends, out)?;
             return Ok(true);
         }
         heads = proposed(work, b, heads, &bodies, round > 0)?;
@@ -335,25 +364,33 @@ pub fn run_types(
     style: &Style,
     allowed: &[u32],
     room: Room,
-    a: &State,
+    a: State,
     out: &mut Vec<State>,
 ) -> Result<bool, AllocError>
-    ensures { IfOk result (λ ok. IsTrue ok → Stepped style.now allowed.now (token.Run (callee.BuiltIn built_in.CallType)) (a.now ∷ []) room.deep room.loops out.old.items out.new.items) }
+    ensures { IfOk result (λ ok. IsTrue ok → Stepped style.now allowed.now (token.Run (callee.BuiltIn built_in.CallType)) (a ∷ []) room.deep room.loops out.old.items out.new.items) }
 {
     if !a.has_entry() {
-        work.warn(Callee::BuiltIn(BuiltIn::CallType), a)?;
+        work.warn(Callee::BuiltIn(BuiltIn::CallType), missing_field(&a))?;
         return Ok(false);
     }
     for number in allowed {
-        if !run(work, style, allowed, room, a, Callee::User(*number), out)? {
+        if !run_sure(
+            work,
+            style,
+            allowed,
+            room,
+            a.copy()?,
+            Callee::User(*number),
+            out,
+        )? {
             return Ok(false);
         }
     }
     match style.type_function(b"default.type") {
         None => {
-            add_same(work, a, out)?;
+            add_sure(work, out, a)?;
             Ok(true)
         }
-        Some(number) => run(work, style, allowed, room, a, Callee::User(number), out),
+        Some(number) => run_sure(work, style, allowed, room, a, Callee::User(number), out),
     }
 }

@@ -5,7 +5,7 @@ ghost use Rattle.btx_bst.specs.declared.built_in.BuiltIn.TheVariants as built_in
 ghost use Rattle.btx_bst.specs.declared.callee.Callee.TheVariants as callee;
 ghost use Rattle.btx_check.specs.Answers.{Ruled};
 
-use crate::adding::{add_pushed, add_pushed_both, add_same, add_sure, add_without_stack};
+use crate::adding::{add_pushed_both, add_sure, add_without_stack};
 use crate::description::Value;
 use crate::operands::{pair_of, top_of};
 use crate::state::State;
@@ -13,23 +13,23 @@ use crate::work::Work;
 use std::alloc::AllocError;
 
 /// `duplicate$`.
-pub fn duplicate(work: &Work, a: &State, out: &mut Vec<State>) -> Result<bool, AllocError>
-    ensures { IfOk result (λ ok. IsTrue ok → Ruled (callee.BuiltIn built_in.Duplicate) a.now out.old.items out.new.items) }
+pub fn duplicate(work: &Work, a: State, out: &mut Vec<State>) -> Result<bool, AllocError>
+    ensures { IfOk result (λ ok. IsTrue ok → Ruled (callee.BuiltIn built_in.Duplicate) a out.old.items out.new.items) }
 {
-    match top_of(a)? {
+    match top_of(a) {
         None => Ok(false),
         Some(t) => {
-            add_pushed(work, a.copy()?, t.number, out)?;
+            add_pushed_both(work, t.below, t.number, t.number, out)?;
             Ok(true)
         }
     }
 }
 
 /// `pop$`.
-pub fn pop(work: &Work, a: &State, out: &mut Vec<State>) -> Result<bool, AllocError>
-    ensures { IfOk result (λ ok. IsTrue ok → Ruled (callee.BuiltIn built_in.Pop) a.now out.old.items out.new.items) }
+pub fn pop(work: &Work, a: State, out: &mut Vec<State>) -> Result<bool, AllocError>
+    ensures { IfOk result (λ ok. IsTrue ok → Ruled (callee.BuiltIn built_in.Pop) a out.old.items out.new.items) }
 {
-    match top_of(a)? {
+    match top_of(a) {
         None => Ok(false),
         Some(t) => {
             add_sure(work, out, t.below)?;
@@ -39,10 +39,10 @@ pub fn pop(work: &Work, a: &State, out: &mut Vec<State>) -> Result<bool, AllocEr
 }
 
 /// `top$`.
-pub fn top(work: &Work, a: &State, out: &mut Vec<State>) -> Result<bool, AllocError>
-    ensures { IfOk result (λ ok. IsTrue ok → Ruled (callee.BuiltIn built_in.Top) a.now out.old.items out.new.items) }
+pub fn top(work: &Work, a: State, out: &mut Vec<State>) -> Result<bool, AllocError>
+    ensures { IfOk result (λ ok. IsTrue ok → Ruled (callee.BuiltIn built_in.Top) a out.old.items out.new.items) }
 {
-    match top_of(a)? {
+    match top_of(a) {
         None => Ok(false),
         Some(t) => {
             add_sure(work, out, t.below)?;
@@ -52,26 +52,26 @@ pub fn top(work: &Work, a: &State, out: &mut Vec<State>) -> Result<bool, AllocEr
 }
 
 /// `skip$`.
-pub fn skip(work: &Work, a: &State, out: &mut Vec<State>) -> Result<bool, AllocError>
-    ensures { IfOk result (λ ok. IsTrue ok → Ruled (callee.BuiltIn built_in.Skip) a.now out.old.items out.new.items) }
+pub fn skip(work: &Work, a: State, out: &mut Vec<State>) -> Result<bool, AllocError>
+    ensures { IfOk result (λ ok. IsTrue ok → Ruled (callee.BuiltIn built_in.Skip) a out.old.items out.new.items) }
 {
-    add_same(work, a, out)?;
+    add_sure(work, out, a)?;
     Ok(true)
 }
 
 /// `stack$`.
-pub fn stack(work: &Work, a: &State, out: &mut Vec<State>) -> Result<bool, AllocError>
-    ensures { IfOk result (λ ok. IsTrue ok → Ruled (callee.BuiltIn built_in.Stack) a.now out.old.items out.new.items) }
+pub fn stack(work: &Work, a: State, out: &mut Vec<State>) -> Result<bool, AllocError>
+    ensures { IfOk result (λ ok. IsTrue ok → Ruled (callee.BuiltIn built_in.Stack) a out.old.items out.new.items) }
 {
-    add_without_stack(work, a.copy()?, out)?;
+    add_without_stack(work, a, out)?;
     Ok(true)
 }
 
 /// `swap$`.
-pub fn swap(work: &Work, a: &State, out: &mut Vec<State>) -> Result<bool, AllocError>
-    ensures { IfOk result (λ ok. IsTrue ok → Ruled (callee.BuiltIn built_in.Swap) a.now out.old.items out.new.items) }
+pub fn swap(work: &Work, a: State, out: &mut Vec<State>) -> Result<bool, AllocError>
+    ensures { IfOk result (λ ok. IsTrue ok → Ruled (callee.BuiltIn built_in.Swap) a out.old.items out.new.items) }
 {
-    match pair_of(a)? {
+    match pair_of(a) {
         None => Ok(false),
         Some(t) => {
             add_pushed_both(work, t.below, t.first, t.second, out)?;
@@ -81,10 +81,10 @@ pub fn swap(work: &Work, a: &State, out: &mut Vec<State>) -> Result<bool, AllocE
 }
 
 /// `write$`.
-pub fn write(work: &Work, a: &State, out: &mut Vec<State>) -> Result<bool, AllocError>
-    ensures { IfOk result (λ ok. IsTrue ok → Ruled (callee.BuiltIn built_in.Write) a.now out.old.items out.new.items) }
+pub fn write(work: &Work, a: State, out: &mut Vec<State>) -> Result<bool, AllocError>
+    ensures { IfOk result (λ ok. IsTrue ok → Ruled (callee.BuiltIn built_in.Write) a out.old.items out.new.items) }
 {
-    match top_of(a)? {
+    match top_of(a) {
         None => Ok(false),
         Some(t) => match t.value {
             Value::Text(m) => {

@@ -12,8 +12,8 @@ ghost use Rattle.btx_check.specs.Running.{Starts};
 ghost use Rattle.btx_check.specs.Between.{IsGlobal, IsLocal, Combines, Shifted, IsShifted, where_entry};
 
 use crate::description::{Mask, Upper, Value};
+use crate::likeness::Likeness;
 use crate::within::{fields_map, stack_maps, values_map};
-use crate::work::Work;
 use btx_bst::{Callee, Style};
 use std::alloc::{AllocError, Global};
 use std::marker::Model;
@@ -32,6 +32,8 @@ pub struct State {
     pub(crate) entry_strings: RcSlice<Option<usize>>,
     pub(crate) fields: RcSlice<Option<usize>>,
     pub(crate) entry: bool,
+    // By which those that aren't like it are told apart. No clause speaks of it.
+    pub(crate) likeness: Likeness,
 }
 
 impl Model for State {
@@ -64,6 +66,7 @@ impl State {
             entry_strings: no_numbers(alloc, style.entry_strings())?,
             fields: no_numbers(alloc, style.fields())?,
             entry,
+            likeness: Likeness::unknown(),
         })
     }
 
@@ -80,6 +83,7 @@ impl State {
             entry_strings: self.entry_strings.clone()?,
             fields: self.fields.clone()?,
             entry: self.entry,
+            likeness: Likeness::unknown(),
         })
     }
 
@@ -105,6 +109,7 @@ impl State {
             entry_strings: no_numbers(alloc, self.entry_strings.len())?,
             fields: no_numbers(alloc, self.fields.len())?,
             entry: self.entry,
+            likeness: Likeness::unknown(),
         })
     }
 
@@ -121,6 +126,7 @@ impl State {
             entry_strings: self.entry_strings.clone()?,
             fields: self.fields.clone()?,
             entry: self.entry,
+            likeness: Likeness::unknown(),
         })
     }
 
@@ -141,6 +147,7 @@ impl State {
             entry_strings: shifted(alloc, &other.entry_strings, n)?,
             fields: shifted(alloc, &other.fields, n)?,
             entry: true,
+            likeness: Likeness::unknown(),
         })
     }
 
@@ -282,6 +289,13 @@ impl State {
         }
     }
 
+    /// Notes its likeness.
+    pub fn mark(&mut self, likeness: Likeness)
+        ensures { self.new ≡ self.old }
+    {
+        self.likeness = likeness;
+    }
+
     /// Whether an entry is current.
     pub fn has_entry(&self) -> bool
         ensures { result ≡ self.now.entry }
@@ -299,6 +313,24 @@ impl State {
             }
         }
         false
+    }
+
+    /// Whether no store is described, since the literal of this number can't be.
+    pub fn is_impossible_at(&self, number: usize) -> bool
+        ensures { IsTrue result → IsImpossible self.now }
+    {
+        if number >= self.values.len() {
+            return false;
+        }
+        is_nothing(self.values[number])
+    }
+
+    /// Whether this says no less than the other one: a test for the numbers that stand in the same places.
+    pub fn is_inside(&self, alloc: Global, other: &State) -> Result<bool, AllocError>
+        ensures { IfOk result (λ ok. IsTrue ok → Within self.now other.now) }
+    {
+        let numbers = self.numbers_for(alloc, other)?;
+        Ok(self.is_within(other, &numbers))
     }
 
     /// Whether this says no less than the other one, with these numbers for the other's.
@@ -345,19 +377,16 @@ impl State {
         self.values.len() > live.saturating_add(SPARE_NUMBERS)
     }
 
-    /// What says no more than this and another one, if they are to be joined.
+    /// What says no more than this and another one, if there is one.
     pub fn merged(
         &self,
-        work: &Work,
+        alloc: Global,
         other: &State,
-        is_coarse: bool,
+        likeness: Likeness,
     ) -> Result<Option<State>, AllocError>
         ensures { IfOk result (λ o. IfSome o (λ j. Within self.now j × Within other.now j)) }
     {
-        if !self.is_like(work, other, is_coarse) {
-            return Ok(None);
-        }
-        match self.both(work.alloc, other, false)? {
+        match self.both(alloc, other, false)? {
             None => Ok(None),
             Some(both) => {
                 if !self.is_within(&both.state, &both.firsts) {
@@ -366,7 +395,9 @@ impl State {
                 if !other.is_within(&both.state, &both.seconds) {
                     return Ok(None);
                 }
-                Ok(Some(both.state))
+                let mut j = both.state;
+                j.mark(likeness);
+                Ok(Some(j))
             }
         }
     }
@@ -423,7 +454,7 @@ pub fn is_nothing(value: Value) -> bool
 }
 
 // How many further items a copy has room for.
-const ROOM_TO_GROW: usize = 2;
+const ROOM_TO_GROW: usize = 8;
 
 // The same numbers once more, with room for some others.
 fn copied_numbers(numbers: &Vec<usize>) -> Result<Vec<usize>, AllocError>

@@ -61,10 +61,10 @@ fn visit(
     allowed: &[u32],
     deepest: usize,
     f: Callee,
-    starts: &[State],
+    starts: Vec<State>,
     out: &mut Vec<State>,
 ) -> Result<bool, AllocError>
-    ensures { IfOk result (λ ok. IsTrue ok → Visited style.now allowed.now f deepest starts.now out.new.items) }
+    ensures { IfOk result (λ ok. IsTrue ok → Visited style.now allowed.now f deepest starts.items out.new.items) }
 {
     let room = Room {
         fuel: MOST_NESTED,
@@ -75,10 +75,7 @@ fn visit(
         return Ok(false);
     }
     if !all_empty(out) {
-        match starts.first() {
-            Some(start) => work.warn(f, start)?,
-            None => {}
-        }
+        work.warn(f, None)?;
         return Ok(false);
     }
     Ok(true)
@@ -101,7 +98,7 @@ fn execute(
     let mut starts: Vec<State> = Vec::new(work.alloc);
     starts.push(start)?;
     let mut out: Vec<State> = Vec::new(work.alloc);
-    if !visit(work, style, allowed, deepest, f, &starts, &mut out)? {
+    if !visit(work, style, allowed, deepest, f, starts, &mut out)? {
         return Ok(None);
     }
     let after = globals_of(work, style, &out)?;
@@ -154,7 +151,7 @@ fn iterate(
     let globals = lasting(work, style, allowed, f, &before.globals)?;
     let starts = starts_of(work.alloc, &globals, &before.entries)?;
     let mut out: Vec<State> = Vec::new(work.alloc);
-    if !visit(work, style, allowed, deepest, f, &starts, &mut out)? {
+    if !visit(work, style, allowed, deepest, f, starts, &mut out)? {
         return Ok(None);
     }
     let entries = entries_of(work, style, &out)?;

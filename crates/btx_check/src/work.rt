@@ -148,13 +148,12 @@ impl Work {
         }
     }
 
-    /// Notes what was executed where something may go wrong, and from what.
-    pub fn warn(&mut self, executed: Callee, a: &State) -> Result<(), AllocError> {
+    /// Notes what was executed where something may go wrong, and the field that may be missing there.
+    pub fn warn(&mut self, executed: Callee, missing: Option<Callee>) -> Result<(), AllocError> {
         if self.warning.is_some() || self.gave_up {
             return Ok(());
         }
         let places = self.open.clone()?;
-        let missing = missing_field(a);
         self.warning = Some(Warning {
             places,
             executed,
@@ -239,8 +238,8 @@ impl Work {
     }
 }
 
-// The field whose value stands on top, or just below, and may be missing.
-fn missing_field(a: &State) -> Option<Callee> {
+/// The field whose value stands on top, or just below, and may be missing.
+pub fn missing_field(a: &State) -> Option<Callee> {
     for k in 0..a.stack.len() {
         if k < 3 {
             let number = a.stack[k];

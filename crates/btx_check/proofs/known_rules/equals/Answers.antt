@@ -6,7 +6,7 @@ use Rattle.btx_check.proofs.known_rules.equals.Goals as goal
 pub returns-in_ok-add_tested-in-Integer-Integer-2 : goal.returns-in_ok-add_tested-in-Integer-Integer-2
 returns-in_ok-add_tested-in-Integer-Integer-2 c =
     λ t. code_equals_integers _ _ _ _ _ _ _ _ _ _ _ _ _ _ _
-    (two_at _ _ _ _ _ _ _ _ (rw c.in-Some.is at c.in_ok-pair_of.ensures) c.in-Integer-Integer.is-0 c.in-Integer-Integer.is-1)
+    (two_at _ _ _ _ _ _ _ _ (rw c.in-Some.is at c.pair_of.ensures) c.in-Integer-Integer.is-0 c.in-Integer-Integer.is-1)
     (matches_same (value.Integer c.in-Integer-Integer.low2 c.in-Integer-Integer.high2) (value.Integer c.in-Integer-Integer.low c.in-Integer-Integer.high) _
     c.both-same.ensures)
     (matches_other (value.Integer c.in-Integer-Integer.low2 c.in-Integer-Integer.high2) (value.Integer c.in-Integer-Integer.low c.in-Integer-Integer.high) _ _
@@ -15,7 +15,7 @@ returns-in_ok-add_tested-in-Integer-Integer-2 c =
     (tested_at _ _ _ _ _ _ _ _ _ _ refl c.zero.ensures c.in_ok-add_tested-in-Integer-Integer-2.ensures)
 
 pub returns-in_ok-add_new-in_default-2 : goal.returns-in_ok-add_new-in_default-2
-returns-in_ok-add_new-in_default-2 c = λ t. code_equals _ _ _ _ _ _ _ _ _ (rw c.in-Some.is at c.in_ok-pair_of.ensures)
+returns-in_ok-add_new-in_default-2 c = λ t. code_equals _ _ _ _ _ _ _ _ _ (rw c.in-Some.is at c.pair_of.ensures)
     (c.is_comparable.ensures (search (rules, c.if-not-is_comparable.false)))
     (new_at _ _ _ _ _ _ c.in_ok-copy-in_default.ensures c.one-in_default.ensures c.in_ok-add_new-in_default.ensures)
     (new_at _ _ _ _ _ _ refl c.zero-in_default.ensures c.in_ok-add_new-in_default-2.ensures)

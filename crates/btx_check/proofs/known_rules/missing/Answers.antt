@@ -4,6 +4,6 @@ use Rattle.btx_check.proofs.known_rules.missing.Goals as goal
 
 pub returns-in_ok-add_found-in-Text-2 : goal.returns-in_ok-add_found-in-Text-2
 returns-in_ok-add_found-in-Text-2 c = λ t. code_missing _ _ _ c.in-Text.m _ _ _ (entry_is _ _ c.has_entry.ensures (search (rules, c.if-not-has_entry.false)))
-    (top_at _ _ _ _ _ (rw c.in-Some.is at c.in_ok-top_of.ensures) c.in-Text.is)
+    (top_at _ _ _ _ _ (rw c.in-Some.is at c.top_of.ensures) c.in-Text.is)
     (found_at _ _ _ _ _ _ _ _ _ c.in_ok-copy-in-Text.ensures (text_at _ _ c.gone.ensures) c.one.ensures c.in_ok-add_found-in-Text.ensures)
     (found_at _ _ _ _ _ _ _ _ _ refl (text_at _ _ c.present.ensures) c.zero.ensures c.in_ok-add_found-in-Text-2.ensures)

@@ -3,7 +3,7 @@ use Rattle.btx_check.proofs.CodeLemmas.{code_num_names, top_at, found_at, text_a
 use Rattle.btx_check.proofs.known_rules.num_names.Goals as goal
 
 pub returns-in_ok-add_found-in-Text-2 : goal.returns-in_ok-add_found-in-Text-2
-returns-in_ok-add_found-in-Text-2 c = λ t. code_num_names _ _ _ c.in-Text.m _ _ _ (top_at _ _ _ _ _ (rw c.in-Some.is at c.in_ok-top_of.ensures) c.in-Text.is)
+returns-in_ok-add_found-in-Text-2 c = λ t. code_num_names _ _ _ c.in-Text.m _ _ _ (top_at _ _ _ _ _ (rw c.in-Some.is at c.top_of.ensures) c.in-Text.is)
     c.if-m.false
     (found_at _ _ _ _ _ _ _ _ _ c.in_ok-copy-in-Text.ensures (text_at _ _ c.nothing.ensures) c.zero.ensures c.in_ok-add_found-in-Text.ensures)
     (found_at _ _ _ _ _ _ _ _ _ refl (text_at _ _ c.something.ensures) c.some_count.ensures c.in_ok-add_found-in-Text-2.ensures)

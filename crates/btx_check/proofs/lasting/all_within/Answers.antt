@@ -10,7 +10,7 @@ use Rattle.btx_check.proofs.lasting.all_within.Goals as goal
 pub loop-a-preserved : goal.loop-a-preserved
 loop-a-preserved c = sub_step _ _ _ (c.args.b.now ∷ []) (c.args.b.now ∷ []) (c.args.b.now ∷ []) (omega arith) c.a-item.is c.loop-a.invariant
     (sub_same (c.args.b.now ∷ []))
-    (into_only _ _ (c.is_within.ensures (search (rules, c.if-not-is_within.false))))
+    (into_only _ _ (c.in_ok-is_inside.ensures (search (rules, c.if-not-branch.false))))
 
 pub returns : goal.returns
 returns c = λ t. subst (λ (xs : List Abstract). Sub xs (c.args.b.now ∷ [])) (take_all c.loop-a.a-index c.args.states.now (omega arith)) c.loop-a.invariant

@@ -6,5 +6,5 @@ use Rattle.btx_check.proofs.PlainLemmas.{code_chr_to_int}
 use Rattle.btx_check.proofs.plain_rules.chr_to_int.Goals as goal
 
 pub returns : goal.returns
-returns c = ok_map c.pushes.result (λ ok. IsTrue ok → Pushed c.in_ok-taken.taken c.any_integer.result c.args.out.now.items c.pushes.new.out.items) _
-    (λ b h ok. code_chr_to_int _ _ _ _ c.in_ok-taken.ensures (pushed_at _ _ _ _ _ c.any_integer.ensures (h ok))) c.pushes.ensures
+returns c = ok_map c.pushes.result (λ ok. IsTrue ok → Pushed c.take_one-taken.result c.any_integer.result c.args.out.now.items c.pushes.new.out.items) _
+    (λ b h ok. code_chr_to_int _ _ _ _ c.take_one-taken.ensures (pushed_at _ _ _ _ _ c.any_integer.ensures (h ok))) c.pushes.ensures

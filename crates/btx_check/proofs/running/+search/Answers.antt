@@ -6,85 +6,104 @@ use Rattle.btx_bst.specs.declared.callee.Callee.TheVariants as callee
 use Rattle.btx_bst.specs.declared.token.Token.TheVariants as token
 use Rattle.btx_check.specs.Answers.{Ruled, Stepped, Looped}
 use Rattle.btx_check.proofs.AddLemmas.{sub_then}
-use Rattle.std.proofs.Common.{sym}
+use Rattle.std.proofs.Common.{sym, map-id}
+use Rattle.std.proofs.lemmas.Iterator.Consumers.{YieldsList-end}
+use Rattle.std.proofs.lemmas.Iterator.Adapters.{YieldsList-from_vec}
 use Rattle.btx_check.proofs.CodeLemmas.{entry_is}
 use Rattle.btx_check.proofs.TypeLemmas.{types_step, types_with, types_without}
-use Rattle.btx_check.proofs.RunLemmas.{impossible_ran, rule_ran, ok_map, stepped_step, if_ran_of, while_ran_of, reached_init, reached_step, user_ran_of, looped}
+use Rattle.btx_check.proofs.RunLemmas.{impossible_ran, rule_ran, ok_map, stepped_more, stepped_only, if_ran_of, while_ran_of, reached_init, reached_step, user_ran_of, looped}
 use Rattle.btx_check.proofs.RunLemmas.{splits_of, push_one, stepped_at, turned_at, sub_at, into_at}
 use Rattle.btx_check.proofs.running.+search.Goals as goal
 
-pub run-returns-then-is_impossible : goal.run-returns-then-is_impossible
-run-returns-then-is_impossible t c = λ h. impossible_ran _ _ _ _ _ _ _ (c.is_impossible.ensures (search (rules, c.if-is_impossible.true)))
+pub run_where-returns-then-is_impossible_at : goal.run_where-returns-then-is_impossible_at
+run_where-returns-then-is_impossible_at t c = λ h. impossible_ran _ _ _ _ _ _ _ (c.is_impossible_at.ensures (search (rules, c.if-is_impossible_at.true)))
 
 pub run_sure-returns-in_default : goal.run_sure-returns-in_default
-run_sure-returns-in_default t c = ok_map c.run_one.result (λ ok. IsTrue ok → Ruled c.args.f c.args.a.now c.args.out.now.items c.run_one.new.out.items) _
+run_sure-returns-in_default t c = ok_map c.run_one.result (λ ok. IsTrue ok → Ruled c.args.f c.args.a c.args.out.now.items c.run_one.new.out.items) _
     (λ b h ok. rule_ran _ _ _ _ _ _ _ _ (h ok)) c.run_one.ensures
 
 pub run_token-returns-in_default : goal.run_token-returns-in_default
 run_token-returns-in_default t c = ok_map c.push_token.result (λ ok. IsTrue ok → (allowed : List ℕ) (deep loops : ℕ)
-    → Stepped c.args.style.now allowed c.args.t (c.args.a.now ∷ []) deep loops c.args.out.now.items c.push_token.new.out.items) _
+    → Stepped c.args.style.now allowed c.args.t (c.args.a ∷ []) deep loops c.args.out.now.items c.push_token.new.out.items) _
     (λ b h ok. h ok c.args.allowed.now c.args.room.deep c.args.room.loops) c.push_token.ensures
 
 pub run_all-loop-a-preserved : goal.run_all-loop-a-preserved
-run_all-loop-a-preserved t c = stepped_step _ _ _ _ _ _ _ _ _ _ _ (omega arith) c.a-item.is c.loop-a.invariant
-    (c.in_ok-run_token.ensures (search (rules, c.if-not-branch.false)))
+run_all-loop-a-preserved t c = stepped_more _ _ _ _ _ _ _ _ _ _ c.loop-a.invariant (c.in_ok-run_token.ensures (search (rules, c.if-not-branch.false)))
+
+pub run_all-returns : goal.run_all-returns
+run_all-returns t c =
+    let end = YieldsList-end (YieldsList-from_vec {s = c.into_iter-a-iterator.result} c.args.states.items (search rules) (search rules))
+    c.loop-a.yielded c.loop-a.a-iterator c.loop-a.yielded_by c.next.result c.next.new.self c.in-None.is c.next.ensures.steps in
+    λ ok. rw (← end.0, map-id) c.loop-a.invariant
+
+pub run_next-returns-in-Some : goal.run_next-returns-in-Some
+run_next-returns-in-Some t c = ok_map c.run_token.result
+    (λ ok. IsTrue ok → Stepped c.args.style.now c.args.allowed.now c.args.t (c.in-Some.a ∷ []) c.args.room.deep c.args.room.loops c.pop.new.self.items
+    c.run_token.new.out.items) _
+    (λ b h ok. stepped_only _ _ _ _ _ _ _ _ _ (rw c.in-Some.is at c.pop.ensures.items) (omega (arith, c.if-len-eq1.true)) (h ok)) c.run_token.ensures
+
+pub run_next-returns-else-len-eq1 : goal.run_next-returns-else-len-eq1
+run_next-returns-else-len-eq1 t c = ok_map c.run_all.result
+    (λ ok. IsTrue ok → Stepped c.args.style.now c.args.allowed.now c.args.t c.replace-before.result.items c.args.room.deep c.args.room.loops
+    c.replace-before.new.dest.items c.run_all.new.out.items) _
+    (λ b h ok. rw (c.replace-before.ensures.value, c.replace-before.ensures.after, c.new.ensures.items) at (h ok)) c.run_all.ensures
 
 pub run_user-loop-t-init : goal.run_user-loop-t-init
-run_user-loop-t-init t c = reached_init _ _ _ _ _ _ _ (push_one _ _ _ _ c.in_ok-push.ensures.items c.new-states.ensures.items c.in_ok-first.ensures)
+run_user-loop-t-init t c = reached_init _ _ _ _ _ _ _ (push_one _ _ _ _ c.in_ok-push.ensures.items c.new-states.ensures.items refl)
 
 pub run_user-loop-t-preserved : goal.run_user-loop-t-preserved
-run_user-loop-t-preserved t c = reached_step _ _ _ _ _ _ _ _ _ _ _ _ (omega arith) c.deref.ensures.value c.loop-t.invariant
-    (c.in_ok-run_all.ensures (search (rules, c.if-not-branch.false)))
+run_user-loop-t-preserved t c = reached_step _ _ _ _ _ _ _ _ _ _ _ _ (omega arith) refl c.loop-t.invariant
+    (c.in_ok-run_next.ensures (search (rules, c.if-not-branch.false)))
 
 pub run_user-returns : goal.run_user-returns
 run_user-returns t c = λ ok. user_ran_of _ _ _ _ _ _ (c.args.room.deep - 1) _ _ _ _ _ (omega arith)
     (drop_all c.loop-t.t-index c.body-body.result.now (omega arith)) c.body-body.ensures c.loop-t.invariant
-    (sub_at _ _ _ _ c.deref-2.ensures.value refl c.in_ok-add_all.ensures.these) c.in_ok-add_all.ensures.sub
+    c.in_ok-add_all.ensures.these c.in_ok-add_all.ensures.sub
 
 pub run_while-returns-in-Function-Function : goal.run_while-returns-in-Function-Function
 run_while-returns-in-Function-Function t c =
     ok_map c.run_loop.result (λ ok. IsTrue ok → Looped c.args.style.now c.args.allowed.now c.in-Some.t.below c.in-Function-Function.f c.in-Function-Function.g
     c.args.room.deep (c.args.room.loops - 1) c.args.out.now.items c.run_loop.new.out.items) _
-    (λ b h ok. while_ran_of _ _ _ _ _ _ _ _ _ _ _ (c.args.room.loops - 1) _ _ _ (rw c.in-Some.is at c.in_ok-pair_of.ensures) c.in-Function-Function.is-0
+    (λ b h ok. while_ran_of _ _ _ _ _ _ _ _ _ _ _ (c.args.room.loops - 1) _ _ _ (rw c.in-Some.is at c.pair_of.ensures) c.in-Function-Function.is-0
     c.in-Function-Function.is-1 (omega arith) (h ok)) c.run_loop.ensures
 
-pub run_if-returns-in-Function-Function-Integer : goal.run_if-returns-in-Function-Function-Integer
-run_if-returns-in-Function-Function-Integer t c = ok_map c.run-in-Function-Function-Integer.result
+pub run_if-returns-else-not-branch : goal.run_if-returns-else-not-branch
+run_if-returns-else-not-branch t c = ok_map c.run_where-in-Function-Function-Integer.result
     (λ ok. IsTrue ok → Stepped c.args.style.now c.args.allowed.now (token.Run c.in-Function-Function-Integer.g)
-    (c.know-in-Function-Function-Integer.new.self ∷ []) c.args.room.deep c.args.room.loops c.run.new.out.items
-    c.run-in-Function-Function-Integer.new.out.items) _
+    (c.know-in-Function-Function-Integer.new.self ∷ []) c.args.room.deep c.args.room.loops c.run_where.new.out.items
+    c.run_where-in-Function-Function-Integer.new.out.items) _
     (λ b h ok. if_ran_of _ _ _ _ c.know.new.self c.know-in-Function-Function-Integer.new.self _ _ _ _ _ c.in-Function-Function-Integer.low
-    c.in-Function-Function-Integer.high _ _ _ c.positive.result c.not_positive.result _ _ _ c.run.new.out.items _
-    (rw c.in-Some.is at c.in_ok-triple_of.ensures) c.in-Function-Function-Integer.is-0 c.in-Function-Function-Integer.is-1 c.in-Function-Function-Integer.is-2
+    c.in-Function-Function-Integer.high _ _ _ c.positive.result c.not_positive.result _ _ _ c.run_where.new.out.items _
+    (rw c.in-Some.is at c.triple_of.ensures) c.in-Function-Function-Integer.is-0 c.in-Function-Function-Integer.is-1 c.in-Function-Function-Integer.is-2
     (c.know.ensures ∙ ap (λ (x : Abstract). knowing c.in-Some.t.third c.positive.result x) c.in_ok-yes-in-Function-Function-Integer.ensures)
-    (c.know-in-Function-Function-Integer.ensures ∙ ap (λ (x : Abstract). knowing c.in-Some.t.third c.not_positive.result x)
-    c.in_ok-no-in-Function-Function-Integer.ensures)
+    c.know-in-Function-Function-Integer.ensures
     (splits_of (value.Integer c.in-Function-Function-Integer.low c.in-Function-Function-Integer.high) c.positive.result c.not_positive.result c.positive.ensures
     c.not_positive.ensures)
-    (c.in_ok-run-in-Function-Function-Integer.ensures (search (rules, c.if-not-branch.false))) (h ok)) c.run-in-Function-Function-Integer.ensures
+    (c.in_ok-run_where-in-Function-Function-Integer.ensures (search (rules, c.if-not-branch.false))) (h ok)) c.run_where-in-Function-Function-Integer.ensures
 
 pub run_loop-returns-then-branch-2 : goal.run_loop-returns-then-branch-2
 run_loop-returns-then-branch-2 t c = λ ok. looped _ _ _ _ _ _ _ c.loop-round.heads.items c.run_all.new.out.items c.turn_all.new.again.items
     c.turn_all.new.ends.items c.run_all-in-loop-round.new.out.items _ _ _ _ _ _
-    (into_at _ _ _ c.deref-in-loop-round-3.ensures.value (c.in_ok-is_in.ensures (search (rules, c.if-branch.true))))
-    (stepped_at _ _ _ _ _ _ _ _ _ c.deref.ensures.value (c.in_ok-run_all.ensures (search (rules, c.if-not-branch.false))))
+    (into_at _ _ _ c.deref-in-loop-round-2.ensures.value (c.in_ok-is_in.ensures (search (rules, c.if-branch.true))))
+    (stepped_at _ _ _ _ _ _ _ _ _ (c.in_ok-copies.ensures ∙ c.deref.ensures.value) (c.in_ok-run_all.ensures (search (rules, c.if-not-branch.false))))
     (turned_at _ _ _ _ _ _ c.deref-in-loop-round.ensures.value (c.in_ok-turn_all.ensures (search (rules, c.if-not-branch-2.false))))
-    (stepped_at _ _ _ _ _ _ _ _ _ c.deref-in-loop-round-2.ensures.value (c.in_ok-run_all-2.ensures (search (rules, c.if-not-branch-3.false))))
+    (c.in_ok-run_all-2.ensures (search (rules, c.if-not-branch-3.false)))
     (sub_at _ _ _ _ c.deref-then-branch.ensures.value c.deref-then-branch-2.ensures.value (c.in_ok-all_in.ensures (search (rules, c.if-branch-2.true))))
-    (sub_at _ _ _ _ c.deref-then-branch-2-2.ensures.value refl c.in_ok-add_all.ensures.these)
+    c.in_ok-add_all.ensures.these
     (sub_then _ _ _ c.loop-round.invariant c.in_ok-add_all.ensures.sub)
 
 pub run_types-loop-number-preserved : goal.run_types-loop-number-preserved
-run_types-loop-number-preserved t c = types_step _ _ _ _ _ _ _ _ _ _ _ (omega arith) c.loop-number.invariant (c.in_ok-run.ensures c.if-not-branch.false)
+run_types-loop-number-preserved t c = types_step _ _ _ _ _ _ _ _ _ _ _ (omega arith) c.loop-number.invariant
+    (rw c.in_ok-copy.ensures at (c.in_ok-run_sure.ensures c.if-not-branch.false))
 
 pub run_types-returns-in-Some : goal.run_types-returns-in-Some
-run_types-returns-in-Some t c = ok_map c.run-in-Some.result
-    (λ ok. IsTrue ok → Stepped c.args.style.now c.args.allowed.now (token.Run (callee.User c.in-Some.number)) (c.args.a.now ∷ []) c.args.room.deep
-    c.args.room.loops c.loop-number.out.items c.run-in-Some.new.out.items) _
+run_types-returns-in-Some t c = ok_map c.run_sure-in-Some.result
+    (λ ok. IsTrue ok → Stepped c.args.style.now c.args.allowed.now (token.Run (callee.User c.in-Some.number)) (c.args.a ∷ []) c.args.room.deep
+    c.args.room.loops c.loop-number.out.items c.run_sure-in-Some.new.out.items) _
     (λ b h ok. types_with _ _ _ _ _ _ _ _ _ _ (entry_is _ _ c.has_entry.ensures (search (rules, c.if-not-has_entry.false))) (omega arith)
-    c.loop-number.invariant (sym c.type_function.ensures ∙ c.in-Some.is) (h ok)) c.run-in-Some.ensures
+    c.loop-number.invariant (sym c.type_function.ensures ∙ c.in-Some.is) (h ok)) c.run_sure-in-Some.ensures
 
-pub run_types-returns-in_ok-add_same-in-None : goal.run_types-returns-in_ok-add_same-in-None
-run_types-returns-in_ok-add_same-in-None t c =
+pub run_types-returns-in_ok-add_sure-in-None : goal.run_types-returns-in_ok-add_sure-in-None
+run_types-returns-in_ok-add_sure-in-None t c =
     λ ok. types_without _ _ _ _ _ _ _ _ _ (entry_is _ _ c.has_entry.ensures (search (rules, c.if-not-has_entry.false))) (omega arith) c.loop-number.invariant
-    (sym c.type_function.ensures ∙ c.in-None.is) c.in_ok-add_same-in-None.ensures
+    (sym c.type_function.ensures ∙ c.in-None.is) c.in_ok-add_sure-in-None.ensures

@@ -1,0 +1,72 @@
+//! Marks by which descriptions that aren't alike are told apart without a look at each literal. No proof rests on them.
+use crate::description::Value;
+use crate::joining::{Sign, sign_of};
+use btx_bst::Callee;
+
+/// Marks of what `State::is_like` compares: alike descriptions have the same, and others mostly not. 0 is unknown.
+#[derive(Clone, Copy)]
+pub struct Likeness {
+    /// Of the whole stack and the flags.
+    pub fine: u64,
+    /// Of what is compared where there are many descriptions.
+    pub coarse: u64,
+}
+
+impl Likeness {
+    /// The likeness of a description that may be like any other.
+    pub fn unknown() -> Likeness {
+        Likeness { fine: 0, coarse: 0 }
+    }
+
+    /// That of a description joined from two of this likeness: if they were compared coarsely, they may differ in what is finer.
+    pub fn joined(self, is_coarse: bool) -> Likeness {
+        Likeness {
+            fine: if is_coarse { 0 } else { self.fine },
+            coarse: self.coarse,
+        }
+    }
+
+    /// Whether descriptions of these likenesses may be alike.
+    pub fn may_be(self, other: Likeness, is_coarse: bool) -> bool {
+        if is_coarse {
+            is_same(self.coarse, other.coarse)
+        } else {
+            is_same(self.fine, other.fine)
+        }
+    }
+}
+
+fn is_same(a: u64, b: u64) -> bool {
+    a == b || a == 0 || b == 0
+}
+
+/// A mark, and behind it another one.
+pub fn mixed(mark: u64, other: u64) -> u64 {
+    mark.wrapping_mul(0x9E37_79B9_7F4A_7C15).wrapping_add(other)
+}
+
+/// What tells shapes of literals apart.
+pub fn mark_of_shape(value: Value) -> u64 {
+    match value {
+        Value::Integer(low, high) => match sign_of(low, high) {
+            Sign::Positive => 1,
+            Sign::NotPositive => 2,
+            Sign::Open => 3,
+        },
+        Value::Text(m) => if m.full { 4 } else { 5 },
+        _ => mark_of_kind(value),
+    }
+}
+
+/// What tells kinds of literals apart, and functions of a style.
+pub fn mark_of_kind(value: Value) -> u64 {
+    match value {
+        Value::Integer(_, _) => 1,
+        Value::Text(_) => 4,
+        Value::Any => 6,
+        Value::Function(f) => match f {
+            Callee::User(i) => mixed(i as u64, 8),
+            _ => 7,
+        },
+    }
+}
