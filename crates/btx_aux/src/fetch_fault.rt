@@ -16,6 +16,9 @@ pub enum FetchFault {
     Device,
 }
 
+/// What a fetch answers: whether there is such a file, or why it could not be fetched.
+pub type Fetched = Result<bool, FetchFault>;
+
 impl From<FetchFault> for Fault {
     ghost from_gives = { λ fault result. result ≡ fault_of fault };
 

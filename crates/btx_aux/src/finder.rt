@@ -6,7 +6,7 @@ ghost use Rattle.btx_text.specs.declared.failures.Failures.{Failures};
 ghost use Rattle.btx_text.specs.language.Counts.{failures_after};
 ghost use Rattle.btx_aux.specs.language.Fetches.{is_device_fetch};
 
-use crate::fetch_fault::FetchFault;
+use crate::fetch_fault::Fetched;
 use std::alloc::Global;
 
 /// A source of files by name. Its content, which no call changes, says for each name the file's bytes or that there is no such
@@ -23,7 +23,7 @@ pub trait Finder {
 
     /// Fetches a file. `Ok(true)`: `into` is the file's bytes. `Ok(false)`: there is no such file, and `into` is empty. After a
     /// fault `into` is empty, and the count of failures rose, by one, exactly where the fault is the device's.
-    fn fetch(&mut self, alloc: Global, name: &[u8], into: &mut Vec<u8>) -> Result<bool, FetchFault>
+    fn fetch(&mut self, alloc: Global, name: &[u8], into: &mut Vec<u8>) -> Fetched
         ensures stays { content self.new ≡ content self.old }
         ensures bytes { IfSome (content self.old) (λ files.
             IfOk result (λ found. files name.now ≡ file_of found into.new.items)) }

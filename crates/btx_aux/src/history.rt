@@ -1,7 +1,10 @@
 //! The answers that a finder has given.
-ghost use Rattle.std.specs.Prelude.{◌≡◌, ◌++◌, ◌∷◌, [], OnErr, OnOk};
+ghost use Rattle.std.specs.Prelude.{◌≡◌, ◌++◌, ◌∷◌, [], Ok, IfOk, OnErr, OnOk};
+ghost use Rattle.btx_aux.specs.language.Answers.{answers_after};
+ghost use Rattle.btx_aux.specs.language.Fetches.{is_device_fetch};
 ghost use Rattle.btx_aux.specs.language.Files.{file_of};
 
+use crate::fetch_fault::{FetchFault, Fetched};
 use std::alloc::{AllocError, Global};
 use std::marker::Model;
 use std::snapshot::Snapshot;
@@ -59,5 +62,31 @@ impl History {
             bytes: Snapshot::of(bytes),
         })?;
         Ok(())
+    }
+
+    /// Hands on the answer of a fetch of this name, which left the bytes `into`, and adds it. After a fault nothing is added, and `into` is emptied; so
+    /// too if memory is refused for the name, which is the answer then.
+    pub fn answer(
+        &mut self,
+        alloc: Global,
+        name: &[u8],
+        answer: Fetched,
+        into: &mut Vec<u8>,
+    ) -> Fetched
+        ensures same { IfOk result (λ found. answer ≡ Ok found) }
+        ensures kept { OnOk result (into.new.items ≡ into.old.items) }
+        ensures fault { OnErr result (into.new.items ≡ []) }
+        ensures grows { self.new ≡ answers_after result name.now into.new.items self.old }
+        ensures device { is_device_fetch result ≡ is_device_fetch answer }
+    {
+        let fault = match answer {
+            Ok(found) => match self.note(alloc, name, found, into) {
+                Ok(()) => return Ok(found),
+                Err(_) => FetchFault::Memory,
+            },
+            Err(fault) => fault,
+        };
+        into.clear();
+        Err(fault)
     }
 }

@@ -21,8 +21,8 @@ mod reading;
 
 pub use citations::read_aux;
 pub use end::End;
-pub use fetch_fault::FetchFault;
+pub use fetch_fault::{FetchFault, Fetched};
 pub use finder::Finder;
 pub use history::History;
 pub use job::AuxJob;
-pub use memory::MemoryFinder;
+pub use memory::{MemoryFinder, fill};

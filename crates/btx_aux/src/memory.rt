@@ -9,7 +9,7 @@ ghost use Rattle.btx_aux.specs.refinement.Pairs.{first_file};
 ghost use Rattle.btx_aux.specs.refinement.Entries.{pairs_in};
 ghost use Rattle.btx_aux.specs.refinement.Borrowed.{pairs_of};
 
-use crate::fetch_fault::FetchFault;
+use crate::fetch_fault::{FetchFault, Fetched};
 use crate::finder::Finder;
 use crate::history::History;
 use indexmap::IndexMap;
@@ -63,8 +63,8 @@ fn put(
     Ok(())
 }
 
-// Puts these bytes in place of what was there.
-fn fill(into: &mut Vec<u8>, bytes: &[u8]) -> Result<(), FetchFault>
+/// Puts `bytes` in place of what `into` had. The only fault is want of memory.
+pub fn fill(into: &mut Vec<u8>, bytes: &[u8]) -> Result<(), FetchFault>
     ensures ok { OnOk result (into.new.items ≡ bytes.now) }
     ensures err { OnErr result (into.new.items ≡ []) }
     ensures fault { IfErr result (λ fault. fault ≡ FetchFault.Memory) }
@@ -104,17 +104,8 @@ impl Finder for MemoryFinder {
 
     ghost failures = { λ _. no_failures };
 
-    fn fetch(
-        &mut self,
-        alloc: Global,
-        name: &[u8],
-        into: &mut Vec<u8>,
-    ) -> Result<bool, FetchFault> {
-        let found = copy(&self.files, name, into)?;
-        if self.history.note(alloc, name, found, into).is_err() {
-            into.clear();
-            return Err(FetchFault::Memory);
-        }
-        Ok(found)
+    fn fetch(&mut self, alloc: Global, name: &[u8], into: &mut Vec<u8>) -> Fetched {
+        let answer = copy(&self.files, name, into);
+        self.history.answer(alloc, name, answer, into)
     }
 }

@@ -1,10 +1,11 @@
 //! The answers of a finder over files that were handed in.
-ghost use Rattle.std.specs.Prelude.{◌≡◌, ◌++◌, ◌∷◌, [], OnErr, OnOk};
-ghost use Rattle.btx_aux.specs.language.Files.{file_of};
+ghost use Rattle.std.specs.Prelude.{◌≡◌, [], Ok, IfOk, OnErr, OnOk};
+ghost use Rattle.btx_aux.specs.language.Answers.{answers_after};
+ghost use Rattle.btx_aux.specs.language.Fetches.{is_device_fetch};
 ghost use Rattle.btx_c.specs.Handed.{WereHeld};
 
-use btx_aux::History;
-use std::alloc::{AllocError, Global};
+use btx_aux::{Fetched, History};
+use std::alloc::Global;
 use std::marker::Model;
 
 /// The answers that a finder has given. Each text among them was held in memory.
@@ -35,20 +36,24 @@ impl Answers {
         }
     }
 
-    /// Adds the answer to this name: the file's bytes, or that there is no such file. The fault is want of memory, for the name.
-    pub fn note(
+    /// Hands on the answer of a fetch and adds it, as `History::answer`.
+    pub fn answer(
         &mut self,
         alloc: Global,
         name: &[u8],
-        found: bool,
-        bytes: &Vec<u8>,
-    ) -> Result<(), AllocError>
-        ensures ok { OnOk result (self.new ≡ self.old ++ record { name = name.now; bytes = file_of found bytes.now.items } ∷ []) }
-        ensures err { OnErr result (self.new ≡ self.old) }
+        answer: Fetched,
+        into: &mut Vec<u8>,
+    ) -> Fetched
+        ensures same { IfOk result (λ found. answer ≡ Ok found) }
+        ensures kept { OnOk result (into.new.items ≡ into.old.items) }
+        ensures fault { OnErr result (into.new.items ≡ []) }
+        ensures grows { self.new ≡ answers_after result name.now into.new.items self.old }
+        ensures device { is_device_fetch result ≡ is_device_fetch answer }
     {
+        let answer = self.history.answer(alloc, name, answer, into);
         // The proof reads how many bytes there may be.
-        let _len = bytes.len();
-        self.history.note(alloc, name, found, bytes)
+        let _len = into.len();
+        answer
     }
 
     /// Does nothing. It says to proofs that each text was held in memory.

@@ -1,5 +1,5 @@
 //! The files that a caller hands in.
-ghost use Rattle.std.specs.Prelude.{◌≡◌, [], false, Ok, Some, OnOk, OnErr, IfErr, IfOk};
+ghost use Rattle.std.specs.Prelude.{◌≡◌, [], false, Ok, Some, OnErr, IfOk};
 ghost use Rattle.btx_text.specs.refinement.Counts.{no_failures};
 ghost use Rattle.btx_aux.specs.language.Files.{file_of};
 ghost use Rattle.btx_c.specs.Handed.{OtherFiles, beside, bytes_in, file_in, known};
@@ -8,7 +8,7 @@ ghost use Rattle.btx_c.specs.Known.{known_of};
 use crate::answers::Answers;
 use crate::index::Index;
 use crate::others::Others;
-use btx_aux::{FetchFault, Finder};
+use btx_aux::{FetchFault, Fetched, Finder, fill};
 use btx_text::Failures;
 use std::alloc::Global;
 
@@ -77,17 +77,6 @@ impl<'i, 'f> Handed<'i, 'f> {
     }
 }
 
-/// Puts `bytes` in place of what `into` had. The only fault is want of memory.
-pub fn fill(into: &mut Vec<u8>, bytes: &[u8]) -> Result<(), FetchFault>
-    ensures ok { OnOk result (into.new.items ≡ bytes.now) }
-    ensures err { OnErr result (into.new.items ≡ []) }
-    ensures fault { IfErr result (λ fault. fault ≡ FetchFault.Memory) }
-{
-    into.clear();
-    into.extend_from_slice(bytes)
-        .map_err(|_| FetchFault::Memory)
-}
-
 // Copies the file of this name, if something was said of it. If nothing was, that is the device's fault.
 fn copy(index: &Index<'_>, name: &[u8], into: &mut Vec<u8>) -> Result<bool, FetchFault>
     ensures bytes { IfOk result (λ found. known index.now name.now ≡ Some (file_of found into.new.items)) }
@@ -118,20 +107,10 @@ impl<'i, 'f> Finder for Handed<'i, 'f> {
     ghost failures = { λ finder. finder.failures };
 
     #[tactic(auto, using(crate::proofs::HandedLemmas::beside_known))]
-    fn fetch(
-        &mut self,
-        alloc: Global,
-        name: &[u8],
-        into: &mut Vec<u8>,
-    ) -> Result<bool, FetchFault> {
+    fn fetch(&mut self, alloc: Global, name: &[u8], into: &mut Vec<u8>) -> Fetched {
         let answer = copy(self.index, name, into);
         self.failures
             .note(matches!(answer, Err(FetchFault::Device)));
-        let found = answer?;
-        if self.answers.note(alloc, name, found, into).is_err() {
-            into.clear();
-            return Err(FetchFault::Memory);
-        }
-        Ok(found)
+        self.answers.answer(alloc, name, answer, into)
     }
 }

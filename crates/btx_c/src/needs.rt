@@ -7,9 +7,9 @@ ghost use Rattle.btx_aux.specs.refinement.Entries.{texts_of};
 ghost use Rattle.btx_c.specs.Handed.{beside};
 ghost use Rattle.btx_c.specs.Needs.{AsksNothing, EndsWithAuxFiles, NeedsNoOther, ReadsAuxFiles, SaysAlways, line_for, lines_for, lines_named, no_files};
 
-use crate::handed::{BtxFile, Handed, Known, fill};
+use crate::handed::{BtxFile, Handed, Known};
 use crate::index::Index;
-use btx_aux::{AuxJob, End, FetchFault, Finder, History};
+use btx_aux::{AuxJob, End, FetchFault, Fetched, Finder, History, fill};
 use btx_run::files::read_job;
 use btx_text::Fault;
 use std::alloc::{AllocError, Global};
@@ -124,18 +124,9 @@ impl<'i, 'f> Finder for Asking<'i, 'f> {
 
     ghost failures = { λ _. no_failures };
 
-    fn fetch(
-        &mut self,
-        alloc: Global,
-        name: &[u8],
-        into: &mut Vec<u8>,
-    ) -> Result<bool, FetchFault> {
-        let found = copy_or_ask(self.index, name, &mut self.asked, into)?;
-        if self.history.note(alloc, name, found, into).is_err() {
-            into.clear();
-            return Err(FetchFault::Memory);
-        }
-        Ok(found)
+    fn fetch(&mut self, alloc: Global, name: &[u8], into: &mut Vec<u8>) -> Fetched {
+        let answer = copy_or_ask(self.index, name, &mut self.asked, into);
+        self.history.answer(alloc, name, answer, into)
     }
 }
 

@@ -7,10 +7,10 @@ ghost use Rattle.btx_core.specs.refinement.ComputedProduct.{product};
 ghost use Rattle.btx_c.specs.Handed.{beside};
 ghost use Rattle.btx_c.specs.Needs.{NeedsAnother, empty_files};
 
-use crate::handed::{Known, fill};
+use crate::handed::Known;
 use crate::index::Index;
 use crate::kept::Kept;
-use btx_aux::{FetchFault, Finder, History};
+use btx_aux::{FetchFault, Fetched, Finder, History, fill};
 use btx_run::{Options, RunFault, run};
 use std::alloc::Global;
 
@@ -52,18 +52,9 @@ impl<'i, 'f> Finder for Supposed<'i, 'f> {
 
     ghost failures = { λ _. no_failures };
 
-    fn fetch(
-        &mut self,
-        alloc: Global,
-        name: &[u8],
-        into: &mut Vec<u8>,
-    ) -> Result<bool, FetchFault> {
-        let found = copy_or_suppose(self.index, name, self.are_there, into)?;
-        if self.history.note(alloc, name, found, into).is_err() {
-            into.clear();
-            return Err(FetchFault::Memory);
-        }
-        Ok(found)
+    fn fetch(&mut self, alloc: Global, name: &[u8], into: &mut Vec<u8>) -> Fetched {
+        let answer = copy_or_suppose(self.index, name, self.are_there, into);
+        self.history.answer(alloc, name, answer, into)
     }
 }
 

@@ -11,7 +11,7 @@ ghost use Rattle.btx_command.specs.FolderFiles.{folder_files};
 use crate::paths::path_in;
 use crate::reading::read_front;
 use crate::system::System;
-use btx_run::{FetchFault, Finder, History};
+use btx_run::{FetchFault, Fetched, Finder, History};
 use std::alloc::Global;
 use std::io;
 use std::io::ErrorKind;
@@ -120,24 +120,10 @@ impl<S: System> Finder for DirectoryFinder<'_, S> {
 
     ghost failures = { λ finder. failures_of_fetches (S.failures finder.system) finder.last_failed };
 
-    fn fetch(
-        &mut self,
-        alloc: Global,
-        name: &[u8],
-        into: &mut Vec<u8>,
-    ) -> Result<bool, FetchFault> {
+    fn fetch(&mut self, alloc: Global, name: &[u8], into: &mut Vec<u8>) -> Fetched {
         into.clear();
         let answer = read_in(alloc, &mut self.system, self.directory, name, into);
         self.last_failed = matches!(answer, Err(FetchFault::Device));
-        match answer {
-            Ok(found) => {
-                if self.history.note(alloc, name, found, into).is_err() {
-                    into.clear();
-                    return Err(FetchFault::Memory);
-                }
-            }
-            Err(_) => into.clear(),
-        }
-        answer
+        self.history.answer(alloc, name, answer, into)
     }
 }

@@ -7,7 +7,7 @@ pub mod law;
 pub mod run_fault;
 pub mod runner;
 
-pub use btx_aux::{FetchFault, Finder, History, MemoryFinder};
+pub use btx_aux::{FetchFault, Fetched, Finder, History, MemoryFinder};
 pub use btx_core::Options;
 pub use btx_machine::{End, Report};
 pub use btx_out::{LineLength, Over, Sink, SinkFault};

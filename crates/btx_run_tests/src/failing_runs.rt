@@ -2,7 +2,7 @@
 use crate::jobs::{AUX, DATABASE, FOUND, File, STYLE, job_of, options, status_of};
 use btx_run::{FetchFault, MemoryFinder, Over, RunFault, run};
 use btx_tests::fakes::{Failing, FakeWriter};
-use btx_tests::finders::FailingFinder;
+use btx_tests::finders::FaultyFinder;
 use btx_text::Failures;
 use std::alloc::Global;
 use std::process::Abort;
@@ -85,9 +85,10 @@ fn try_job(
     bbl: Device,
     log: Device,
 ) -> Result<Tried, FetchFault> {
-    let mut finder = FailingFinder {
+    let mut finder = FaultyFinder {
         inner: MemoryFinder::new(alloc, files)?,
         fails_at,
+        fault: FetchFault::Device,
         fetches: 0,
         failures: failures(u64::MAX),
     };

@@ -1,5 +1,5 @@
 //! What the `.aux` files of a job say, and files in memory. A helper answers whether a job says what it is to say, so no test holds a job or a finder.
-use crate::finders::{EveryFinder, FailingFinder, RefusedFinder};
+use crate::finders::{EveryFinder, FaultyFinder};
 use crate::texts::joined;
 use btx_aux::{AuxJob, End, FetchFault, Finder, History, MemoryFinder, read_aux};
 use btx_text::{Failures, Fault, LineKind, LogLine};
@@ -439,41 +439,23 @@ fn goes_on_behind_the_twentieth(rt: HostRuntime) -> Result<(), Fail> {
 // How a read ended whose finder fails: its fault, and how often the finder was asked and failed.
 type Tried = (Option<Fault>, u64, u64);
 
-// Reads the files that input one another, where the device fails at one fetch.
-fn read_failing(alloc: Global, inner: MemoryFinder, fails_at: u64) -> Tried {
-    let mut finder = FailingFinder {
+// Reads the files that input one another, where one fetch fails.
+fn read_faulty(alloc: Global, inner: MemoryFinder, fault: FetchFault, fails_at: u64) -> Tried {
+    let mut finder = FaultyFinder {
         inner,
         fails_at,
+        fault,
         fetches: 0,
         failures: Failures::none(),
     };
-    let fault = says_over(alloc, &mut finder, b"job.aux", through_job()).err();
-    (fault, finder.fetches, finder.failures.count)
-}
-
-// Reads the files that input one another, where one fetch is refused memory.
-fn read_refused(alloc: Global, inner: MemoryFinder, refused_at: u64) -> Tried {
-    let mut finder = RefusedFinder {
-        inner,
-        refused_at,
-        fetches: 0,
-        failures: Failures::none(),
-    };
-    let fault = says_over(alloc, &mut finder, b"job.aux", through_job()).err();
-    (fault, finder.fetches, finder.failures.count)
+    let answer = says_over(alloc, &mut finder, b"job.aux", through_job());
+    (answer.err(), finder.fetches, finder.failures.count)
 }
 
 // Reads them so over files in memory. Without memory for these nothing is fetched.
-fn try_failing(alloc: Global, fails_at: u64) -> Tried {
+fn try_faulty(alloc: Global, fault: FetchFault, fails_at: u64) -> Tried {
     match MemoryFinder::new(alloc, &through()) {
-        Ok(inner) => read_failing(alloc, inner, fails_at),
-        Err(_) => (None, 0, 0),
-    }
-}
-
-fn try_refused(alloc: Global, refused_at: u64) -> Tried {
-    match MemoryFinder::new(alloc, &through()) {
-        Ok(inner) => read_refused(alloc, inner, refused_at),
+        Ok(inner) => read_faulty(alloc, inner, fault, fails_at),
         Err(_) => (None, 0, 0),
     }
 }
@@ -482,17 +464,17 @@ fn try_refused(alloc: Global, refused_at: u64) -> Tried {
 #[test]
 fn stops_at_a_failing_fetch(rt: HostRuntime) {
     let device = Some(Fault::Device);
-    assert!(rt; try_failing(rt.alloc(), 0) == (device, 1, 1));
-    assert!(rt; try_failing(rt.alloc(), 1) == (device, 2, 1));
-    assert!(rt; try_failing(rt.alloc(), 2) == (None, 2, 0));
+    assert!(rt; try_faulty(rt.alloc(), FetchFault::Device, 0) == (device, 1, 1));
+    assert!(rt; try_faulty(rt.alloc(), FetchFault::Device, 1) == (device, 2, 1));
+    assert!(rt; try_faulty(rt.alloc(), FetchFault::Device, 2) == (None, 2, 0));
 }
 
 #[test]
 fn stops_at_a_refused_fetch(rt: HostRuntime) {
     let memory = Some(Fault::Memory);
-    assert!(rt; try_refused(rt.alloc(), 0) == (memory, 1, 0));
-    assert!(rt; try_refused(rt.alloc(), 1) == (memory, 2, 0));
-    assert!(rt; try_refused(rt.alloc(), 2) == (None, 2, 0));
+    assert!(rt; try_faulty(rt.alloc(), FetchFault::Memory, 0) == (memory, 1, 0));
+    assert!(rt; try_faulty(rt.alloc(), FetchFault::Memory, 1) == (memory, 2, 0));
+    assert!(rt; try_faulty(rt.alloc(), FetchFault::Memory, 2) == (None, 2, 0));
 }
 
 // Whether a job of 100,000 lines has these keys.

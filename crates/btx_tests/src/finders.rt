@@ -2,76 +2,39 @@
 ghost use Rattle.std.specs.Prelude.{◌≡◌, IfErr, None, OnErr, OnOk, [], Ok, false};
 ghost use Rattle.btx_text.specs.refinement.Counts.{no_failures};
 
-use btx_aux::{FetchFault, Finder, History};
+use btx_aux::{FetchFault, Fetched, Finder, History, fill};
 use btx_text::Failures;
 use std::alloc::Global;
 
-/// A finder whose device fails at one fetch.
+/// A finder that fails at one fetch.
 #[derive(Drop)]
-pub struct FailingFinder<F> {
+pub struct FaultyFinder<F> {
     pub inner: F,
+    /// The number of that fetch, from 0.
     pub fails_at: u64,
+    /// What the fetch fails with.
+    pub fault: FetchFault,
+    /// How many fetches there were.
     pub fetches: u64,
     pub failures: Failures,
 }
 
-impl<F: Finder> Finder for FailingFinder<F> {
+impl<F: Finder> Finder for FaultyFinder<F> {
     ghost content = { λ finder. F.content finder.inner };
 
     ghost answers = { λ finder. F.answers finder.inner };
 
     ghost failures = { λ finder. finder.failures };
 
-    fn fetch(
-        &mut self,
-        alloc: Global,
-        name: &[u8],
-        into: &mut Vec<u8>,
-    ) -> Result<bool, FetchFault> {
+    fn fetch(&mut self, alloc: Global, name: &[u8], into: &mut Vec<u8>) -> Fetched {
         let fails = self.fetches == self.fails_at;
         self.fetches = self.fetches.saturating_add(1);
-        if fails {
+        let answer = if fails {
             into.clear();
-            self.failures.note(true);
-            return Err(FetchFault::Device);
-        }
-        let answer = self.inner.fetch(alloc, name, into);
-        self.failures
-            .note(matches!(answer, Err(FetchFault::Device)));
-        answer
-    }
-}
-
-/// A finder that is refused memory at one fetch.
-#[derive(Drop)]
-pub struct RefusedFinder<F> {
-    pub inner: F,
-    pub refused_at: u64,
-    pub fetches: u64,
-    pub failures: Failures,
-}
-
-impl<F: Finder> Finder for RefusedFinder<F> {
-    ghost content = { λ finder. F.content finder.inner };
-
-    ghost answers = { λ finder. F.answers finder.inner };
-
-    ghost failures = { λ finder. finder.failures };
-
-    fn fetch(
-        &mut self,
-        alloc: Global,
-        name: &[u8],
-        into: &mut Vec<u8>,
-    ) -> Result<bool, FetchFault> {
-        let is_refused = self.fetches == self.refused_at;
-        self.fetches = self.fetches.saturating_add(1);
-        if is_refused {
-            into.clear();
-            self.failures.note(false);
-            return Err(FetchFault::Memory);
-        }
-        let answer = self.inner.fetch(alloc, name, into);
+            Err(self.fault)
+        } else {
+            self.inner.fetch(alloc, name, into)
+        };
         self.failures
             .note(matches!(answer, Err(FetchFault::Device)));
         answer
@@ -87,16 +50,6 @@ pub struct EveryFinder<'a> {
     pub history: History,
 }
 
-// Puts these bytes in place of what was there.
-fn fill(into: &mut Vec<u8>, bytes: &[u8]) -> Result<(), FetchFault>
-    ensures err { OnErr result (into.new.items ≡ []) }
-    ensures fault { IfErr result (λ fault. fault ≡ FetchFault.Memory) }
-{
-    into.clear();
-    into.extend_from_slice(bytes)
-        .map_err(|_| FetchFault::Memory)
-}
-
 impl Finder for EveryFinder<'_> {
     ghost content = { λ _. None };
 
@@ -104,22 +57,13 @@ impl Finder for EveryFinder<'_> {
 
     ghost failures = { λ _. no_failures };
 
-    fn fetch(
-        &mut self,
-        alloc: Global,
-        name: &[u8],
-        into: &mut Vec<u8>,
-    ) -> Result<bool, FetchFault> {
+    fn fetch(&mut self, alloc: Global, name: &[u8], into: &mut Vec<u8>) -> Fetched {
         let bytes = if name == self.name {
             self.bytes
         } else {
             self.others
         };
-        fill(into, bytes)?;
-        if self.history.note(alloc, name, true, into).is_err() {
-            into.clear();
-            return Err(FetchFault::Memory);
-        }
-        Ok(true)
+        let answer = fill(into, bytes).map(|()| true);
+        self.history.answer(alloc, name, answer, into)
     }
 }
