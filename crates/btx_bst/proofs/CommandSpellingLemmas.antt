@@ -386,7 +386,7 @@ command_gives command.Macro = macro_gives
 
 -- ---- the words of commands
 
-word_named : (c : Command) → command_named (folded (command_word_of c)) ≡ Some c
+pub word_named : (c : Command) → command_named (folded (command_word_of c)) ≡ Some c
 unfolding command_named
 word_named command.Entry = refl
 word_named command.Function = refl
@@ -400,18 +400,18 @@ word_named command.Strings = refl
 word_named command.Macro = refl
 
 -- what a name is if it is the word of a command
-abbrev IsItsWord : List ℕ → Option Command → Type 0
+abbrev pub IsItsWord : List ℕ → Option Command → Type 0
 IsItsWord name None = Unit {0}
 IsItsWord name (Some c) = name ≡ folded (command_word_of c)
 
-its_word : (name lit : List ℕ) (c : Command) (rest : Option Command) → lit ≡ folded (command_word_of c) → IsItsWord name rest
+unfoldable pub its_word : (name lit : List ℕ) (c : Command) (rest : Option Command) → lit ≡ folded (command_word_of c) → IsItsWord name rest
     → IsItsWord name (cond (bytes_eq name lit) (Some c) rest)
 its_word name lit c rest e h = at (bytes_eq name lit) refl where
   at : (t : Bool) → bytes_eq name lit ≡ t → IsItsWord name (cond t (Some c) rest)
   at true f = (bytes_eq-Decides name lit).0 f ∙ e
   at false f = h
 
-named_word : (name : List ℕ) → IsItsWord name (command_named name)
+unfoldable pub named_word : (name : List ℕ) → IsItsWord name (command_named name)
 unfolding command_named
 named_word name =
     its_word name (codes "entry") command.Entry _ refl (its_word name (codes "function") command.Function _ refl

@@ -11,7 +11,6 @@ use Rattle.std.proofs.lemmas.Bool.{eqb-true, eq-eqb, lt-ltb}
 use Rattle.btx_text.specs.language.Elements.{depth_after, depth_of}
 use Rattle.btx_bib.specs.language.Grammar.ByteSets.{begins}
 use Rattle.btx_names.specs.declared.format_items.PartName.{PartName}
-use Rattle.btx_names.specs.declared.format_items.PartName.TheVariants.{First, Von, Last, Jr}
 use Rattle.btx_names.specs.declared.runs.Stop.{Stop}
 use Rattle.btx_names.specs.declared.runs.Stop.TheVariants.{Letter, Closing, Brace}
 use Rattle.btx_names.specs.language.Runs.{stops, run_len}
@@ -20,7 +19,7 @@ use Rattle.btx_names.specs.language.Formats.{split_item, inside_item, group_item
 use Rattle.btx_names.specs.laws.Formats.{has_no_letter}
 use Rattle.btx_names.specs.laws.FormatTexts.{in_braces, in_lower_case, is_brace, letter_of, letters_of_part, text_of_between}
 use Rattle.btx_names.specs.laws.WrittenFormats.{are_items, begin_literal, can_be_between, is_balanced, is_item, is_outer, IsFormatOf, IsTextOf}
-use Rattle.btx_names.proofs.ItemLemmas.{deeper, letter_keeps}
+use Rattle.btx_names.proofs.ItemLemmas.{deeper, letter_keeps, named}
 use Rattle.btx_names.proofs.RunLemmas.{run_len-le}
 use Rattle.btx_core.specs.language.Names.{AreDivisions, IsFront}
 use Rattle.btx_core.proofs.ComputedLemmas.{computed}
@@ -92,20 +91,6 @@ closing_front : (text : List ℕ) → IsBalanced text → take (run_len Closing 
 closing_front text h = ap (λ n. take n text) (full_run Closing 0 text h.none) ∙ take_all (length text) text (omega arith)
 
 -- ---- a letter
-
-named : (letter : ℕ) (part : PartName) → part_named letter ≡ Some part → to_ascii_lowercase letter ≡ letter_of part
-unfolding part_named
-named letter part is =
-    at (to_ascii_lowercase letter == 102) (to_ascii_lowercase letter == 118) (to_ascii_lowercase letter == 108) (to_ascii_lowercase letter == 106) refl refl
-    refl refl is where
-      at : (f v l j : Bool) → (to_ascii_lowercase letter == 102) ≡ f → (to_ascii_lowercase letter == 118) ≡ v → (to_ascii_lowercase letter == 108) ≡ l
-          → (to_ascii_lowercase letter == 106) ≡ j →
-          cond f (Some First) (cond v (Some Von) (cond l (Some Last) (cond j (Some Jr) None))) ≡ Some part → to_ascii_lowercase letter ≡ letter_of part
-      at true v l j a b c d same = let e : First ≡ part = cc in eqb-true _ 102 a ∙ ap letter_of e
-      at false true l j a b c d same = let e : Von ≡ part = cc in eqb-true _ 118 b ∙ ap letter_of e
-      at false false true j a b c d same = let e : Last ≡ part = cc in eqb-true _ 108 c ∙ ap letter_of e
-      at false false false true a b c d same = let e : Jr ≡ part = cc in eqb-true _ 106 d ∙ ap letter_of e
-      at false false false false a b c d same = let none : ⊥ = cc in absurd none
 
 -- a letter that names a part keeps the depth
 keeps : (part : PartName) (b depth : ℕ) → to_ascii_lowercase b ≡ letter_of part → depth_after depth b ≡ depth

@@ -8,7 +8,6 @@ pub mod StyleLemmas
 pub mod StyleThere
 pub mod AuxLemmas
 pub mod DivisionLemmas
-pub mod StandsLemmas
 pub mod LibraryLemmas
 pub mod SortLemmas
 pub mod ProductLemmas

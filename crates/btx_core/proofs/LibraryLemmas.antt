@@ -15,7 +15,7 @@ use Rattle.std.specs.Prelude.{is_some}
 use Rattle.btx_core.specs.language.Styles.{Library}
 use Rattle.btx_core.specs.language.Databases.{Request, Known, keeping, known_after, closed, AreEvents, IsReadBy, AreRead, with_macros}
 use Rattle.btx_core.specs.language.Lists.{Slot, IsInherited, no_entry_line, entry_at, places, parent_messages, slots_of, IsGathered, IsLibrary}
-use Rattle.btx_core.proofs.StandsLemmas.{stands-step, nothing-step, step-stands, known-outcome, OptionStands}
+use Rattle.btx_bib.proofs.GrammarLemmas.ReadingLemmas.{stands-step, nothing-step, step-stands, known-outcome, OptionStands}
 use Rattle.btx_bib.proofs.GrammarLemmas.LengthLemmas.{StepsTo, next-leaves}
 use Rattle.btx_bib.specs.refinement.Grammar.Items.{known_step}
 use Rattle.btx_bib.specs.refinement.Grammar.Reads.{left}

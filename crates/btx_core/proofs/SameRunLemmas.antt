@@ -14,6 +14,7 @@ use Rattle.std.proofs.lemmas.Slice.Eq.{bytes_eq-Decides}
 use Rattle.std.proofs.lemmas.Bool.{eqb-true}
 use Rattle.btx_text.specs.declared.limits.Limit.{Limit}
 use Rattle.btx_text.specs.language.LogLines.{Line}
+use Rattle.btx_bst.specs.declared.built_in.BuiltIn.{BuiltIn}
 use Rattle.btx_bst.specs.declared.callee.Callee.{Callee}
 use Rattle.btx_bst.specs.declared.callee.Callee.TheVariants as callee
 use Rattle.btx_bst.specs.declared.token.Token.{Token}
@@ -93,32 +94,36 @@ taken make (Some x) b i one apart e = ap Some (one x i (same_Some (make x) (make
 named_at : (n : List ℕ) (xs : List (List ℕ)) (i : ℕ) → position (bytes_eq n) xs ≡ Some i → slice_index_or xs i [] ≡ n
 named_at n xs i e = sym ((bytes_eq-Decides n (slice_index_or xs i [])).0 (position-Some (bytes_eq n) xs i [] e).1)
 
-pub entry_string_named : (names : Names) (n : List ℕ) (i : ℕ) → named_lower names n ≡ Some (callee.EntryString i) → slice_index_or names.entry_strings i [] ≡ n
+-- what is no built-in function, no function of the style, no field and no integer of each entry is named behind these
+behind_entry_integers : (names : Names) (n : List ℕ) (c : Callee) → ((x : BuiltIn) → callee.BuiltIn x ≡ c → ⊥) → ((x : ℕ) → callee.User x ≡ c → ⊥)
+    → ((x : ℕ) → callee.Field x ≡ c → ⊥) → ((x : ℕ) → callee.EntryInteger x ≡ c → ⊥) → named_lower names n ≡ Some c
+    → option_or (option_map callee.EntryString (position (bytes_eq n) names.entry_strings))
+    (option_or (option_map callee.GlobalInteger (position (bytes_eq n) names.global_integers))
+    (option_map callee.GlobalString (position (bytes_eq n) names.global_strings))) ≡ Some c
 unfolding named_lower
-entry_string_named names n i e =
+behind_entry_integers names n c built_in user field integer e =
     let is_called : Option (List ℕ) → Bool = λ other. option_map_or (bytes_eq n) other false in
+    let h = skipped callee.BuiltIn (built_in_of n) _ c built_in e in
+    let h1 = skipped callee.User (position is_called names.functions) _ c user h in
+    let h2 = skipped callee.Field (position (bytes_eq n) names.fields) _ c field h1 in
+    skipped callee.EntryInteger (position (bytes_eq n) names.entry_integers) _ c integer h2
+
+pub entry_string_named : (names : Names) (n : List ℕ) (i : ℕ) → named_lower names n ≡ Some (callee.EntryString i) → slice_index_or names.entry_strings i [] ≡ n
+entry_string_named names n i e =
     let c = callee.EntryString i in
-    let h = skipped callee.BuiltIn (built_in_of n) _ c (λ x e. absurd (cc)) e in
-    let h1 = skipped callee.User (position is_called names.functions) _ c (λ x e. absurd (cc)) h in
-    let h2 = skipped callee.Field (position (bytes_eq n) names.fields) _ c (λ x e. absurd (cc)) h1 in
-    let h3 = skipped callee.EntryInteger (position (bytes_eq n) names.entry_integers) _ c (λ x e. absurd (cc)) h2 in
+    let h = behind_entry_integers names n c (λ x e. absurd (cc)) (λ x e. absurd (cc)) (λ x e. absurd (cc)) (λ x e. absurd (cc)) e in
     named_at n names.entry_strings i (taken callee.EntryString (position (bytes_eq n) names.entry_strings) _ i (λ x y e. cc)
     (λ e. not_made callee.GlobalString (position (bytes_eq n) names.global_strings) c (λ x e. absurd (cc))
-    (skipped callee.GlobalInteger (position (bytes_eq n) names.global_integers) _ c (λ x e. absurd (cc)) e)) h3)
+    (skipped callee.GlobalInteger (position (bytes_eq n) names.global_integers) _ c (λ x e. absurd (cc)) e)) h)
 
 pub global_integer_named : (names : Names) (n : List ℕ) (i : ℕ) → named_lower names n ≡ Some (callee.GlobalInteger i)
     → slice_index_or names.global_integers i [] ≡ n
-unfolding named_lower
 global_integer_named names n i e =
-    let is_called : Option (List ℕ) → Bool = λ other. option_map_or (bytes_eq n) other false in
     let c = callee.GlobalInteger i in
-    let h = skipped callee.BuiltIn (built_in_of n) _ c (λ x e. absurd (cc)) e in
-    let h1 = skipped callee.User (position is_called names.functions) _ c (λ x e. absurd (cc)) h in
-    let h2 = skipped callee.Field (position (bytes_eq n) names.fields) _ c (λ x e. absurd (cc)) h1 in
-    let h3 = skipped callee.EntryInteger (position (bytes_eq n) names.entry_integers) _ c (λ x e. absurd (cc)) h2 in
-    let h4 = skipped callee.EntryString (position (bytes_eq n) names.entry_strings) _ c (λ x e. absurd (cc)) h3 in
+    let h = behind_entry_integers names n c (λ x e. absurd (cc)) (λ x e. absurd (cc)) (λ x e. absurd (cc)) (λ x e. absurd (cc)) e in
+    let h1 = skipped callee.EntryString (position (bytes_eq n) names.entry_strings) _ c (λ x e. absurd (cc)) h in
     named_at n names.global_integers i (taken callee.GlobalInteger (position (bytes_eq n) names.global_integers) _ i (λ x y e. cc)
-    (λ e. not_made callee.GlobalString (position (bytes_eq n) names.global_strings) c (λ x e. absurd (cc)) e) h4)
+    (λ e. not_made callee.GlobalString (position (bytes_eq n) names.global_strings) c (λ x e. absurd (cc)) e) h1)
 
 -- ---- commands
 

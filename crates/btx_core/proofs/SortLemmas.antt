@@ -1,17 +1,14 @@
 -- SORT gives one order (btx_step's proof, for entries).
-use Rattle.std.proofs.Common.{◌≡◌, ℕ, true, false, not, ◌&&◌, List, [], ◌∷◌, filter, nat_cmp, is_lt, sym, ap, refl, ◌∙◌}
-use Rattle.std.specs.Cmp.Lexicographic.{slice_cmp, pointwise}
+use Rattle.std.proofs.Common.{◌≡◌, ℕ, true, false, not, ◌&&◌, List, [], ◌∷◌, filter, nat_cmp, is_lt, sym, ap, ◌∙◌}
+use Rattle.std.specs.Cmp.Lexicographic.{slice_cmp}
 use Rattle.std.specs.List.{AllByRecursion}
 use Rattle.std.specs.List.Sorted.{ties}
-use Rattle.std.specs.Ordering.{is_eq, ordering_reverse}
 use Rattle.std.specs.Str.{bytes_eq}
-use Rattle.std.proofs.Common.{Ordering, Less, Equal, Greater, nat_eq, arith}
-use Rattle.std.proofs.lemmas.Bool.Decides.{nat_tests}
-use Rattle.std.proofs.lemmas.Cmp.{nat_list_cmp_total, nat_list_eq_equiv, same_from_slice_cmp}
+use Rattle.std.proofs.lemmas.Cmp.{nat_list_cmp_total, nat_list_eq_equiv}
 use Rattle.std.proofs.lemmas.List.Elements.{filter_agree}
 use Rattle.btx_step.specs.laws.Orders.{precedes}
 use Rattle.btx_step.specs.refinement.Sorting.{by_key}
-use Rattle.btx_step.proofs.Orders.{compares_bytes}
+use Rattle.btx_step.proofs.Orders.{compares_bytes, equal_is, neither}
 use Rattle.btx_step.proofs.Order as order
 use Rattle.btx_step.proofs.Ascent.{by_key_order, sorted_ascends, sorted_passes}
 use Rattle.btx_step.specs.language.Sorting.{sorted_by}
@@ -20,14 +17,6 @@ use Rattle.std.proofs.lemmas.Bool.{cases_Bool}
 use Rattle.std.proofs.lemmas.Slice.Eq.{bytes_eq-Decides}
 use Rattle.btx_core.specs.language.Styles.{Entry}
 use Rattle.btx_core.specs.language.Runs.{NoneBefore, Ascends, IsInOrder}
-
-neither : (o : Ordering) → not (is_lt o) && not (is_lt (ordering_reverse o)) ≡ is_eq o
-neither Less = refl
-neither Equal = refl
-neither Greater = refl
-
-equal_is : (a b : List ℕ) → is_eq (slice_cmp nat_cmp a b) ≡ pointwise nat_eq a b
-equal_is a b = same_from_slice_cmp nat_cmp is_eq (pointwise nat_eq) refl (λ _ _. refl) (λ _ _. refl) (λ x y xs ys o e. grind (arith, nat_tests)) a b _ refl
 
 ties_are : (key : Entry → List ℕ) (z x : Entry) → ties (by_key key) z x ≡ bytes_eq (key x) (key z)
 ties_are key z x =

@@ -13,7 +13,6 @@ use Rattle.btx_bst.specs.language.Complaints.{Complaint, NoOpen, NoClose, NoName
 use Rattle.btx_bst.specs.language.Complaints.{Defined as NameTaken}
 use Rattle.btx_bst.specs.language.Lists.{brace_in, name_in, quoted_in, letters_at}
 use Rattle.btx_bst.specs.language.Words.{BodyWord, Open, Close, Unended, Ended, met, Met}
-use Rattle.btx_bst.specs.language.CommandWords.{command_word_of}
 use Rattle.btx_bst.specs.language.Commands.{command_named}
 use Rattle.btx_bst.specs.laws.Spelling.{Parts, Nothing, Plain, Group, IsPlain, Fragment, Here, After, AfterGroup, Inner, breaks, complaint_in}
 use Rattle.btx_bst.specs.language.Words as words
@@ -23,6 +22,7 @@ use Rattle.btx_bst.specs.laws.WordSpelling.{NextWord, BreakOff}
 use Rattle.btx_bst.specs.laws.WordSpelling.{AreParts as AreBodyParts}
 use Rattle.btx_bst.specs.laws.CommandSpelling.{IsWordOf, Skips}
 use Rattle.btx_bst.specs.laws.Places.{beginning}
+use Rattle.btx_bst.proofs.CommandSpellingLemmas.{word_named}
 use Rattle.btx_bst.proofs.TokenSpellingLemmas.{gap_one, Agrees, spaced, sign_agrees, name_agrees, text_agrees, letters_agrees}
 use Rattle.btx_bst.proofs.WordSpellingLemmas.{token-met}
 use Rattle.btx_core.specs.language.Styles.{Function, Declared, Defined, Command, Execute, Iterate, Reverse, Style}
@@ -351,19 +351,6 @@ behind_one command.Integers = lists_one kind.GlobalInteger _ (makes_one _)
 behind_one command.Strings = lists_one kind.GlobalString _ (makes_one _)
 behind_one command.Macro = where_one _ _ _
     (opened_one _ (named_one _ (λ name. where_one _ _ _ (closed_one _ (opened_one _ (text_one _ (λ text. closed_one _ (makes_one _))))))))
-
-pub word_named : (c : CommandName) → command_named (folded (command_word_of c)) ≡ Some c
-unfolding command_named
-word_named command.Entry = refl
-word_named command.Function = refl
-word_named command.Read = refl
-word_named command.Execute = refl
-word_named command.Iterate = refl
-word_named command.Reverse = refl
-word_named command.Sort = refl
-word_named command.Integers = refl
-word_named command.Strings = refl
-word_named command.Macro = refl
 
 command_name : (c d : CommandName) → Some c ≡ Some d → c ≡ d
 command_name c d e = cc

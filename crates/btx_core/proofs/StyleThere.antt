@@ -1,9 +1,6 @@
 -- Each text is a style: commands, one after another, and its end.
-use Rattle.std.proofs.Common.{◌≡◌, ◌⊎◌, inl, inr, ℕ, zero, suc, ◌+◌, ◌<◌, ◌≤◌, ◌==◌, ◌||◌, Bool, true, false, cond, List, [], ◌∷◌, ◌++◌, length, Option, None}
+use Rattle.std.proofs.Common.{◌≡◌, ◌⊎◌, inl, inr, ℕ, zero, suc, ◌+◌, ◌<◌, ◌≤◌, ◌==◌, ◌||◌, Bool, true, false, List, [], ◌∷◌, ◌++◌, length, Option, None}
 use Rattle.std.proofs.Common.{Some, is_some, unwrap_or, sym, ap, subst, ◌∙◌, refl, arith, true≢false}
-use Rattle.std.specs.Str.{bytes_eq}
-use Rattle.std.specs.Prelude.{codes}
-use Rattle.std.proofs.lemmas.Slice.Eq.{bytes_eq-Decides}
 use Rattle.btx_text.specs.language.Class.{begins_name}
 use Rattle.btx_text.specs.language.Keys.{folded}
 use Rattle.btx_text.specs.laws.Bytes.{open_brace, close_brace}
@@ -18,13 +15,13 @@ use Rattle.btx_bst.specs.language.Complaints.{Defined as NameTaken}
 use Rattle.btx_bst.specs.language.Lists.{brace_in, name_in, quoted_in, letters_at, closing, next_name}
 use Rattle.btx_bst.specs.language.Words.{BodyWord, Open, Close, Unended, Ended, met, met_at}
 use Rattle.btx_bst.specs.language.Words as words
-use Rattle.btx_bst.specs.language.CommandWords.{command_word_of}
 use Rattle.btx_bst.specs.language.Commands.{command_named}
 use Rattle.btx_bst.specs.laws.Spelling.{Parts, Nothing, Plain, Group, IsPlain, Spells, Fragment, Here, After, AfterGroup, Inner, Breaks, Division, complaint_in}
 use Rattle.btx_bst.specs.laws.ItemSpelling.{AreFull}
 use Rattle.btx_bst.specs.laws.TokenSpelling.{StyleGrammar, Gap, BehindGap, IsMissing, StyleSignHere, StyleNameHere, TextHere, LettersHere}
 use Rattle.btx_bst.specs.laws.CommandSpelling.{IsWordOf, Skips}
 use Rattle.btx_bst.specs.laws.Places.{beginning}
+use Rattle.btx_bst.proofs.CommandSpellingLemmas.{IsItsWord, named_word, word_named}
 use Rattle.btx_bst.proofs.TokenSpellingLemmas.{gap_met, gap_one, Agrees, spaced, sign_agrees, name_agrees, text_agrees, letters_agrees}
 use Rattle.btx_bst.proofs.WordSpellingLemmas.{spelled-parts, spelled-break}
 use Rattle.btx_bst.proofs.SizeLemmas.{ink-size, skipped-size}
@@ -34,7 +31,7 @@ use Rattle.btx_core.specs.language.Styles.{Function, Declared, Defined, Command,
 use Rattle.btx_core.specs.language.StyleTexts.{SoFar, meaning, unread, and_name, and_command, and_says, CommandEnd, ended_at, Rule, Next, Opened, Closed, Where}
 use Rattle.btx_core.specs.language.StyleTexts.{Makes, Names, Lists, body_of, wrong_in, wrong_till, HasBody, is_function, Executes, Behind, Named, FollowsOn}
 use Rattle.btx_core.specs.language.StyleTexts.{AreCommands, IsStyle, is_a_field}
-use Rattle.btx_core.proofs.StyleLemmas.{skips_one, word_named, is_list_byte}
+use Rattle.btx_core.proofs.StyleLemmas.{skips_one, is_list_byte}
 use Rattle.btx_bst.proofs.WrittenLemmas.{ink_twice}
 
 -- a rule gives what a command comes to, from each place on, and ends no further from the end of the text
@@ -236,26 +233,6 @@ behind_has command.Integers = lists_has kind.GlobalInteger _ (makes_has _)
 behind_has command.Strings = lists_has kind.GlobalString _ (makes_has _)
 behind_has command.Macro = where_has _ _ _
     (opened_has _ (named_has _ (λ name. where_has _ _ _ (closed_has _ (opened_has _ (text_has _ (λ text. closed_has _ (makes_has _))))))))
-
-abbrev IsItsWord : List ℕ → Option CommandName → Type 0
-IsItsWord name None = Unit {0}
-IsItsWord name (Some c) = name ≡ folded (command_word_of c)
-
-unfoldable pub its_word : (name lit : List ℕ) (c : CommandName) (rest : Option CommandName) → lit ≡ folded (command_word_of c) → IsItsWord name rest
-    → IsItsWord name (cond (bytes_eq name lit) (Some c) rest)
-its_word name lit c rest e h = at (bytes_eq name lit) refl where
-  at : (t : Bool) → bytes_eq name lit ≡ t → IsItsWord name (cond t (Some c) rest)
-  at true f = (bytes_eq-Decides name lit).0 f ∙ e
-  at false f = h
-
-unfoldable pub named_word : (name : List ℕ) → IsItsWord name (command_named name)
-unfolding command_named
-named_word name =
-    its_word name (codes "entry") command.Entry _ refl (its_word name (codes "function") command.Function _ refl
-    (its_word name (codes "read") command.Read _ refl (its_word name (codes "execute") command.Execute _ refl
-    (its_word name (codes "iterate") command.Iterate _ refl (its_word name (codes "reverse") command.Reverse _ refl
-    (its_word name (codes "sort") command.Sort _ refl (its_word name (codes "integers") command.Integers _ refl
-    (its_word name (codes "strings") command.Strings _ refl (its_word name (codes "macro") command.Macro None refl tt)))))))))
 
 unfoldable pub no_word : (letters : List ℕ) → command_named (folded letters) ≡ None → (c : CommandName) → IsWordOf c letters → ⊥
 no_word letters e c h = let f : command_named (folded letters) ≡ Some c = ap command_named h ∙ word_named c in absurd (cc)

@@ -5,6 +5,7 @@ use Rattle.std.specs.Option.{option_map_or}
 use Rattle.std.specs.Str.{bytes_eq}
 use Rattle.std.proofs.lemmas.Slice.Eq.{bytes_eq-Decides}
 use Rattle.std.proofs.lemmas.Bool.{eqb-true, eq-eqb}
+use Rattle.btx_step.proofs.AssignLemmas.{read_other}
 use Rattle.btx_core.specs.language.Styles.{set}
 
 -- names of numbers: which name a number has, and which number a name has, if it has one
@@ -52,13 +53,6 @@ read_at : {X : Type 0} (xs : List X) (i : ℕ) (v : X) → i < length xs → sli
 read_at [] i v within = absurd (omega (arith, within))
 read_at (x ∷ xs) zero v within = refl
 read_at (x ∷ xs) (suc i) v within = read_at xs i v (omega (arith, within))
-
-read_other : {X : Type 0} (xs : List X) (i j : ℕ) (v : X) → j ≢ i → slice_get (slice_set xs i v) j ≡ slice_get xs j
-read_other [] i j v apart = refl
-read_other (x ∷ xs) zero zero v apart = absurd (apart refl)
-read_other (x ∷ xs) zero (suc j) v apart = refl
-read_other (x ∷ xs) (suc i) zero v apart = refl
-read_other (x ∷ xs) (suc i) (suc j) v apart = read_other xs i j v (λ e. apart (ap suc e))
 
 pub item_set : {A : Type 0} (xs : List A) (d v : A) (i : ℕ) → i < length xs → item (slice_set xs i v) d ≡ changed i v (item xs d)
 item_set xs d v i lt = λ k j. at j (j == i) refl k where

@@ -4,7 +4,8 @@ use Rattle.btx_core.proofs.ThereIsProduct.{behind_there, goes_there, come_there,
 use Rattle.btx_core.proofs.ThereIsProduct.{behind_files_there, holds}
 use Rattle.btx_core.proofs.StyleThere.{next_has, opened_has, closed_has, named_has, text_has, where_has, makes_has, missing_both, gap_same, names_within}
 use Rattle.btx_core.proofs.StyleThere.{lists_has, met-less, met-most, plain-less, spells-less, breaks-most, body_has, some_function, executes_has, behind_has}
-use Rattle.btx_core.proofs.StyleThere.{its_word, named_word, no_word, word_has, full_more, full_lines, skips_met, skips-most, follows_by, begun, gap_again}
+use Rattle.btx_bst.proofs.CommandSpellingLemmas.{its_word, named_word}
+use Rattle.btx_core.proofs.StyleThere.{no_word, word_has, full_more, full_lines, skips_met, skips-most, follows_by, begun, gap_again}
 use Rattle.btx_core.proofs.StyleThere.{commands_by, commands_within, there_is_style, plain_divided, rest_divided, open_divided, word_divided, divided_within}
 use Rattle.btx_core.proofs.StyleThere.{divided}
 use Rattle.btx_core.proofs.LibraryLemmas.{events_by, events_there, there_is_reading, all_read, gathering, there_is_library}

@@ -96,7 +96,7 @@ between_joined (b ∷ bs) low = at (eqb b 123) refl where
       ∙ ap (λ xs. 123 ∷ xs) (append_assoc (take size bs) (125 ∷ []) cut.rest ∙ whole)
       ∙ ap (λ c. c ∷ bs) (sym is_brace)
 
-named : (letter : ℕ) (part : PartName) → part_named letter ≡ Some part → to_ascii_lowercase letter ≡ letter_of part
+pub named : (letter : ℕ) (part : PartName) → part_named letter ≡ Some part → to_ascii_lowercase letter ≡ letter_of part
 unfolding part_named
 named letter part is =
     at (eqb (to_ascii_lowercase letter) 102) (eqb (to_ascii_lowercase letter) 118) (eqb (to_ascii_lowercase letter) 108) (eqb (to_ascii_lowercase letter) 106)

@@ -2,43 +2,26 @@
 use Rattle.std.proofs.Common.{◌≡◌, ℕ, zero, suc, ◌+◌, ◌-◌, ◌<◌, ◌≤◌, Bool, true, false, cond, eqb, ◌&&◌, ◌||◌, List, [], ◌∷◌, ◌++◌, length, take, drop, get_or}
 use Rattle.std.proofs.Common.{count_by, ◌⊎◌, inl, inr, ⊎_elim, refl, sym, ◌∙◌, ap, arith, length-append, append_assoc}
 use Rattle.std.specs.List.{list_all}
-use Rattle.std.proofs.lemmas.Bool.{false≢true, and_parts, eqb-true, cases_lt, ltb-false, le-ltb}
-use Rattle.std.proofs.lemmas.Bool.Decides.{nat_tests}
+use Rattle.std.proofs.lemmas.Bool.{false≢true, and_parts, cases_lt, ltb-false, le-ltb}
 use Rattle.std.proofs.lemmas.List.{take-append-le, drop-append-le, length-take, length-take-le, get_or-take}
 use Rattle.std.proofs.lemmas.List.Sums.{sum_by-cons}
 use Rattle.btx_text.specs.declared.element_kind.Kind.{Kind}
 use Rattle.btx_text.specs.declared.element_kind.Kind.TheVariants.{Byte, Open, Close, Special, Wide}
 use Rattle.btx_text.specs.declared.element_kind.TextMode.{TextMode}
-use Rattle.btx_text.specs.language.Sequences.{is_further, sequence_size, second_fits, is_sequence, begins_sequence}
+use Rattle.btx_text.specs.language.Sequences.{is_further, sequence_size, is_sequence, begins_sequence}
 use Rattle.btx_text.specs.language.Elements.{Element, depth_after, is_utf8, kind_at, extent, group_len, elements_from, elements_of, is_character}
 use Rattle.btx_names.specs.declared.name_tokens.Joint.{Joint}
 use Rattle.btx_names.specs.declared.name_tokens.Joint.TheVariants.{Space, Tie, Hyphen}
 use Rattle.btx_names.specs.language.FormattedNames.{is_short, tie_of}
 use Rattle.btx_text.specs.refinement.Elements.{begins_special, kind_of, element_at}
+use Rattle.btx_text.proofs.SequenceLemmas.{further_high, is_sequence-size, second_fits-high}
 
 -- ---- a sequence of UTF-8
-
-sequence_size-low : (b : ℕ) → b < 128 → sequence_size b ≡ 0
-unfolding sequence_size
-sequence_size-low b h = grind (arith, nat_tests)
-
-second_fits-high : (a b : ℕ) → second_fits a b ≡ true → 128 ≤ b
-unfolding second_fits
-second_fits-high a b h = grind (arith, nat_tests)
-
-further_high : (b : ℕ) → is_further b ≡ true → 128 ≤ b
-further_high b h = grind (arith, nat_tests)
 
 further_at : (bs : List ℕ) → list_all is_further bs ≡ true → (i : ℕ) → i < length bs → 128 ≤ get_or bs i 0
 further_at [] h i lt = absurd (omega arith)
 further_at (b ∷ bs) h zero lt = further_high b (and_parts _ _ h).0
 further_at (b ∷ bs) h (suc i) lt = further_at bs (and_parts _ _ h).1 i (omega arith)
-
-sequence_len : (t : List ℕ) → is_sequence t ≡ true → (length t ≡ sequence_size (get_or t 0 0)) × (2 ≤ length t)
-unfolding is_sequence
-sequence_len [] h = absurd (false≢true h)
-sequence_len (a ∷ []) h = absurd (false≢true h)
-sequence_len (a ∷ b ∷ bs) h = (eqb-true _ _ (and_parts _ _ (and_parts _ _ h).0).0, omega arith)
 
 -- behind the first byte of a sequence no byte is below 128
 sequence_at : (t : List ℕ) → is_sequence t ≡ true → (i : ℕ) → 0 < i → i < length t → 128 ≤ get_or t i 0
@@ -61,7 +44,7 @@ no_sequence : (n x : ℕ) (xs : List ℕ) (b : ℕ) (ys : List ℕ) → b < 128 
     (is_sequence (take n (x ∷ xs)) ≡ false) × (is_sequence (take n (x ∷ (xs ++ b ∷ ys))) ≡ false)
 no_sequence n x xs b ys low size lt = (
   not_true _ (λ h.
-      let len = sequence_len (take n (x ∷ xs)) h in
+      let len = is_sequence-size (take n (x ∷ xs)) h in
       let first : get_or (take n (x ∷ xs)) 0 0 ≡ x = get_or-take n (x ∷ xs) 0 0 (omega arith) in
       let same = ap sequence_size first in
       absurd (omega (arith, len.0, length-take n (x ∷ xs)))),
@@ -84,7 +67,7 @@ begins_len : (x : ℕ) (xs : List ℕ) → begins_sequence (x ∷ xs) ≡ true �
 unfolding begins_sequence
 begins_len x xs h =
     let n = sequence_size x in
-    let len = sequence_len (take n (x ∷ xs)) h in
+    let len = is_sequence-size (take n (x ∷ xs)) h in
     let cut = length-take n (x ∷ xs) in
     ⊎_elim
     (λ lt. let all = no_sequence n x xs 0 [] (omega arith) refl lt in absurd (false≢true (sym all.0 ∙ h)))

@@ -22,7 +22,7 @@ pub record Leaves (below : List Literal) (current : Option ℕ) (entries : List 
   pub others : (entry : ℕ) → IsOther changed entry → slice_get a.store.entries entry ≡ slice_get entries entry
 
 -- what was written to one place is read at no other
-read_other : {X : Type 0} (xs : List X) (i j : ℕ) (v : X) → j ≢ i → slice_get (slice_set xs i v) j ≡ slice_get xs j
+pub read_other : {X : Type 0} (xs : List X) (i j : ℕ) (v : X) → j ≢ i → slice_get (slice_set xs i v) j ≡ slice_get xs j
 read_other [] i j v apart = refl
 read_other (x ∷ xs) zero zero v apart = absurd (apart refl)
 read_other (x ∷ xs) zero (suc j) v apart = refl

@@ -23,12 +23,12 @@ compares_bytes = precedes_reads
 
 -- ---- ties are equal keys
 
-neither : (o : Ordering) → not (is_lt o) && not (is_lt (ordering_reverse o)) ≡ is_eq o
+pub neither : (o : Ordering) → not (is_lt o) && not (is_lt (ordering_reverse o)) ≡ is_eq o
 neither Less = refl
 neither Equal = refl
 neither Greater = refl
 
-equal_is : (a b : List ℕ) → is_eq (slice_cmp nat_cmp a b) ≡ pointwise nat_eq a b
+pub equal_is : (a b : List ℕ) → is_eq (slice_cmp nat_cmp a b) ≡ pointwise nat_eq a b
 equal_is a b = same_from_slice_cmp nat_cmp is_eq (pointwise nat_eq) refl (λ _ _. refl) (λ _ _. refl) (λ x y xs ys o e. grind (arith, nat_tests)) a b _ refl
 
 ties_are : (key : ℕ → List ℕ) (z x : ℕ) → ties (by_key key) z x ≡ bytes_eq (key x) (key z)

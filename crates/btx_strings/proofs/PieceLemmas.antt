@@ -110,7 +110,7 @@ other_group : (c : Conversion) (p : Place) (bs : List ℕ) → starts_with nat_e
 unfolding cased_rest elements_from kind_at
 other_group c p bs h = rw (h, same {X = List ℕ} (is_title c && is_beginning p) (123 ∷ [])) (ap (λ xs. 123 ∷ xs) (in_group c 1 0 bs))
 
-group_front : (e : ℕ) (es : List ℕ) → (m : ℕ) × (take (group_len 1 (e ∷ es)) (e ∷ es) ≡ e ∷ take m es)
+pub group_front : (e : ℕ) (es : List ℕ) → (m : ℕ) × (take (group_len 1 (e ∷ es)) (e ∷ es) ≡ e ∷ take m es)
 unfolding group_len
 group_front e es = at (eqb (depth_after 1 e) 0) (group_len (depth_after 1 e) es) where
   at : (t : Bool) (n : ℕ) → (m : ℕ) × (take (cond t 1 (suc n)) (e ∷ es) ≡ e ∷ take m es)

@@ -18,7 +18,7 @@ use Rattle.btx_text.proofs.ElementLemmas.{group_len-le, elements_from-step, elem
 use Rattle.btx_strings.specs.language.Controls.{glyphs_of}
 use Rattle.btx_strings.specs.language.Purify.{purified_as, purified_class, purified_glyph, purify_of}
 use Rattle.btx_strings.specs.refinement.Purify.{stays, purified_group, purified_byte}
-use Rattle.btx_strings.proofs.PieceLemmas.{above_zero, deeper, kind_inside, less_deep, one_more}
+use Rattle.btx_strings.proofs.PieceLemmas.{above_zero, deeper, group_front, kind_inside, less_deep, one_more}
 use Rattle.btx_text.specs.refinement.Elements.{element_at}
 
 abbrev left_of : Element → List ℕ
@@ -92,13 +92,6 @@ other_group : (bs : List ℕ) → starts_with nat_eq bs (92 ∷ []) ≡ false �
     purify_of (123 ∷ bs) ≡ flat_map purified_byte (take (group_len 1 bs) bs) ++ purify_of (drop (group_len 1 bs) bs)
 unfolding elements_of elements_from kind_at
 other_group bs h = rw h (in_group 1 0 bs)
-
-group_front : (e : ℕ) (es : List ℕ) → (m : ℕ) × (take (group_len 1 (e ∷ es)) (e ∷ es) ≡ e ∷ take m es)
-unfolding group_len
-group_front e es = at (eqb (depth_after 1 e) 0) (group_len (depth_after 1 e) es) where
-  at : (t : Bool) (n : ℕ) → (m : ℕ) × (take (cond t 1 (suc n)) (e ∷ es) ≡ e ∷ take m es)
-  at true n = (0, refl)
-  at false n = (n, refl)
 
 group_left : (bs : List ℕ) →
     let s = 123 ∷ bs in

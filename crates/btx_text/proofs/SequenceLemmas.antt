@@ -12,11 +12,11 @@ pub sequence_size-low : (b : ℕ) → b < 128 → sequence_size b ≡ 0
 unfolding sequence_size
 sequence_size-low b h = grind (arith, nat_tests)
 
-second_fits-high : (a b : ℕ) → second_fits a b ≡ true → 128 ≤ b
+pub second_fits-high : (a b : ℕ) → second_fits a b ≡ true → 128 ≤ b
 unfolding second_fits
 second_fits-high a b h = grind (arith, nat_tests)
 
-further_high : (b : ℕ) → is_further b ≡ true → 128 ≤ b
+pub further_high : (b : ℕ) → is_further b ≡ true → 128 ≤ b
 further_high b h = grind (arith, nat_tests)
 
 -- a sequence has as many bytes as its first says, two at least

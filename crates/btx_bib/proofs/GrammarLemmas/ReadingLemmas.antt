@@ -200,11 +200,11 @@ at-of (b ∷ bs) t h = rw h.0 (at-of bs t h.1)
 -- ---- one step
 
 -- a step is an outcome whose front may stand here
-abbrev IsStep : Event → Wanted → Result (Event × Wanted) Slip → Type 0
+abbrev pub IsStep : Event → Wanted → Result (Event × Wanted) Slip → Type 0
 IsStep event next (Ok got) = (event ≡ got.0) × (next ≡ got.1)
 IsStep event next (Err slip) = (event ≡ Wrong slip) × (next ≡ Item)
 
-abbrev StepStands : Wanted → List ℕ → Step → Type 0
+abbrev pub StepStands : Wanted → List ℕ → Step → Type 0
 StepStands w s step = (o : Result (Event × Wanted) Slip) × (front : List ℕ) × (front ++ step.rest ≡ s) × IsStep step.event step.wanted o
     × Stands w o front step.rest
 
@@ -220,7 +220,7 @@ item-splits s t (Err wrong) e h =
     let at = at-splits s t e in
     (at.0 ++ 64 ∷ h.0, append_assoc at.0 (64 ∷ h.0) wrong.1 ∙ ap (λ x. at.0 ++ 64 ∷ x) h.1 ∙ sym at.1, (at.0, h.0, refl, at.2, h.2))
 
-abbrev OptionStands : Wanted → List ℕ → Option Step → Type 0
+abbrev pub OptionStands : Wanted → List ℕ → Option Step → Type 0
 OptionStands w s None = (w ≡ Item) × HasNoAt s
 OptionStands w s (Some step) = StepStands w s step
 
@@ -228,13 +228,13 @@ item-step : (s : List ℕ) (o : Option (List ℕ)) → behind_at s ≡ o → Opt
 item-step s None e = (refl, at-none s e)
 item-step s (Some t) e = read-stands Item s (head_at t) (item-splits s t (head_at t) e (head-decides.total t))
 
-step-stands : (w : Wanted) (s : List ℕ) → OptionStands w s (expected_step w s)
+pub step-stands : (w : Wanted) (s : List ℕ) → OptionStands w s (expected_step w s)
 unfolding expected_step
 step-stands Item s = item-step s (behind_at s) refl
 step-stands (Closing d) s = read-stands (Closing d) s (item_end (sign_at (closing_delimiter d) (NoClosing d) s)) ((end-decides d).total s)
 step-stands (Fields d) s = read-stands (Fields d) s (field_event d (more_at d s)) ((fields-decides d).total s)
 
-stands-step : (w : Wanted) (o : Result (Event × Wanted) Slip) (front rest : List ℕ) → Stands w o front rest → expected_step w (front ++ rest)
+pub stands-step : (w : Wanted) (o : Result (Event × Wanted) Slip) (front rest : List ℕ) → Stands w o front rest → expected_step w (front ++ rest)
     ≡ Some (step_by (read_as o rest))
 unfolding expected_step
 stands-step Item o front rest h =
@@ -245,7 +245,7 @@ stands-step (Closing d) o front rest h = ap (λ r. Some (step_by r)) ((end-decid
 stands-step (Fields d) o front rest h = ap (λ r. Some (step_by r)) ((fields-decides d).only o front rest h)
 
 -- what is known of a step is known of its outcome
-known-outcome : {S : Type 0} (keeping : Keeping S) (state : S) (event : Event) (next : Wanted) (o : Result (Event × Wanted) Slip) → IsStep event next o →
+pub known-outcome : {S : Type 0} (keeping : Keeping S) (state : S) (event : Event) (next : Wanted) (o : Result (Event × Wanted) Slip) → IsStep event next o →
     let got = as_known (keeping.is_stored state) (event, next) in IsOutcome keeping state got.0 got.1 o
 known-outcome keeping state event next (Ok got) h = rw (h.0, h.1) (refl, refl)
 known-outcome keeping state event next (Err slip) h = rw (h.0, h.1) (refl, refl)
@@ -279,7 +279,7 @@ reading-total keeping (suc m) state w s lt =
 pub is_reading : {S : Type 0} (keeping : Keeping S) (state : S) (w : Wanted) (s : List ℕ) → IsReading keeping state w s (events_from keeping state w s)
 is_reading keeping state w s = reading-total keeping (suc (left w (length s))) state w s (omega arith)
 
-nothing-step : (w : Wanted) (s : List ℕ) → w ≡ Item → HasNoAt s → expected_step w s ≡ None
+pub nothing-step : (w : Wanted) (s : List ℕ) → w ≡ Item → HasNoAt s → expected_step w s ≡ None
 unfolding expected_step
 nothing-step w s is h = rw (is, none-at s h) refl
 
