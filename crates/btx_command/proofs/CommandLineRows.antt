@@ -1,5 +1,5 @@
 -- The definitions at command lines that are written out.
-use Rattle.std.proofs.Common.{◌≡◌, refl, List, [], ◌∷◌, Some, codes, map}
+use Rattle.std.proofs.Common.{◌≡◌, refl, List, [], ◌∷◌, Option, Some, codes, map}
 use Rattle.clap.specs.Words.{Kinds, Row, Text, fault_of, first_of, matches_of, one_of}
 use Rattle.clap.specs.declared.error.kind.ErrorKind.TheVariants as kind
 use Rattle.clap.proofs.OnLiterals.{clap_on_literals}
@@ -23,27 +23,22 @@ faults words = fault_of (bibtex_command modes) (codes "bibtex" ∷ words)
 abbrev numbers : List Text
 numbers = codes "min-crossrefs" ∷ codes "budget" ∷ codes "line" ∷ codes "entry-max" ∷ codes "global-max" ∷ []
 
+-- the command is run with these words, which give these texts for the folder, for how text is read and for the job, these numbers, and this for `--terse`
+abbrev AreRead : List Text → List (Option Text) → List (Option Text) → Option Text → Type 0
+AreRead words texts of_numbers terse =
+    (faults words ≡ [])
+    × (map (λ id. first_of id (given words)) (codes "dir" ∷ codes "text" ∷ codes "JOB" ∷ []) ≡ texts)
+    × (map (λ id. one_of id (given words)) numbers ≡ of_numbers)
+    × (one_of (codes "terse") (given words) ≡ terse)
+
 -- `j` alone
 abbrev job_alone : List Text
 job_alone = codes "j" ∷ []
 
-job_alone_is_run : faults job_alone ≡ []
+job_alone_is_read : AreRead job_alone (Some (codes ".") ∷ Some (codes "bytes") ∷ Some (codes "j") ∷ [])
+    (Some (codes "2") ∷ Some (codes "1000000000") ∷ Some (codes "79") ∷ Some (codes "250") ∷ Some (codes "20000") ∷ []) (Some (codes "false"))
 unfolding clap_on_literals bibtex_command
-job_alone_is_run = refl
-
-usual_texts : map (λ id. first_of id (given job_alone)) (codes "dir" ∷ codes "text" ∷ codes "JOB" ∷ [])
-    ≡ Some (codes ".") ∷ Some (codes "bytes") ∷ Some (codes "j") ∷ []
-unfolding clap_on_literals bibtex_command
-usual_texts = refl
-
-usual_numbers : map (λ id. one_of id (given job_alone)) numbers
-    ≡ Some (codes "2") ∷ Some (codes "1000000000") ∷ Some (codes "79") ∷ Some (codes "250") ∷ Some (codes "20000") ∷ []
-unfolding clap_on_literals bibtex_command
-usual_numbers = refl
-
-not_terse : one_of (codes "terse") (given job_alone) ≡ Some (codes "false")
-unfolding clap_on_literals bibtex_command
-not_terse = refl
+job_alone_is_read = (refl, refl, refl, refl)
 
 -- each option, in both of its forms
 abbrev all_words : List Text
@@ -51,23 +46,10 @@ all_words =
     codes "--dir=a" ∷ codes "--budget" ∷ codes "7" ∷ codes "--terse" ∷ codes "--min-crossrefs=1" ∷ codes "j.aux" ∷ codes "--text" ∷ codes "utf8"
     ∷ codes "--line=80" ∷ codes "--entry-max" ∷ codes "12" ∷ codes "--global-max=+34" ∷ []
 
-all_words_are_run : faults all_words ≡ []
+all_words_are_read : AreRead all_words (Some (codes "a") ∷ Some (codes "utf8") ∷ Some (codes "j.aux") ∷ [])
+    (Some (codes "1") ∷ Some (codes "7") ∷ Some (codes "80") ∷ Some (codes "12") ∷ Some (codes "+34") ∷ []) (Some (codes "true"))
 unfolding clap_on_literals bibtex_command
-all_words_are_run = refl
-
-given_texts : map (λ id. first_of id (given all_words)) (codes "dir" ∷ codes "text" ∷ codes "JOB" ∷ [])
-    ≡ Some (codes "a") ∷ Some (codes "utf8") ∷ Some (codes "j.aux") ∷ []
-unfolding clap_on_literals bibtex_command
-given_texts = refl
-
-given_numbers : map (λ id. one_of id (given all_words)) numbers
-    ≡ Some (codes "1") ∷ Some (codes "7") ∷ Some (codes "80") ∷ Some (codes "12") ∷ Some (codes "+34") ∷ []
-unfolding clap_on_literals bibtex_command
-given_numbers = refl
-
-terse : one_of (codes "terse") (given all_words) ≡ Some (codes "true")
-unfolding clap_on_literals bibtex_command
-terse = refl
+all_words_are_read = (refl, refl, refl, refl)
 
 -- the faults of one word before `j`
 abbrev faults_of_word : Text → Kinds
