@@ -1,9 +1,9 @@
 """Styles and jobs made from a seed, for the checker: small styles with loops, fields and variables, and styles with a token changed."""
 
-import random
 import re
 
 from product import Options
+from seeded import Seeded
 
 HEAD = b"ENTRY {title author note}{n}{t} INTEGERS {i j} STRINGS {s u}\n"
 # What styles are made of: pieces that mostly leave the stack as it should be, and single tokens.
@@ -20,13 +20,7 @@ VALUES = [b"", b" ", b"x", b"A b and C d", b"{\\\"O}z, A.", b" lead", b"and", b"
 UNKNOWN = b"late"
 
 
-class Maker:
-    def __init__(self, seed):
-        self.random = random.Random(seed)
-
-    def pick(self, values):
-        return self.random.choice(values)
-
+class Maker(Seeded):
     # ---- small styles ----
 
     def statement(self, depth=0):

@@ -3,8 +3,9 @@
     python3 make_database.py [SEED [ENTRIES]]
 """
 
-import random
 import sys
+
+from seeded import Seeded
 
 FIRST = ["Anna", "Bo", "Clara Maria", "D.", "Jean-Paul", "J.-P.", "{\\'E}mile", "Mar{\\'\\i}a", "K. L.", "{\\O}ystein",
          "Fran{\\c c}ois", "Ed~W.", "Li", "{Th}eo", "Zo{\\\"e}", "Charles Louis Xavier Joseph"]
@@ -49,13 +50,7 @@ FIELDS = {
 }
 
 
-class Maker:
-    def __init__(self, seed):
-        self.random = random.Random(seed)
-
-    def pick(self, values):
-        return self.random.choice(values)
-
+class Maker(Seeded):
     def chance(self, part):
         return self.random.random() < part
 

@@ -1,9 +1,8 @@
 """Jobs made from a seed: small ones with much in them, right and wrong, for comparing two implementations."""
 
-import random
-
 import corner_jobs
 import worked_jobs as worked
+from seeded import Seeded
 from styles import BUILT_IN
 
 # Wherever a name may stand, some have byte 127 or bytes from 128 up.
@@ -48,13 +47,7 @@ PROGRAM_ENDS = [b"}\nEXECUTE {program}\nEXECUTE {show}\n", b"}\nITERATE {program
 PROGRAM_DATABASE = b'@misc{a, title = {A {\\ss}tory of: Two}, author = "Ann {\\"O}z and de la Tour, Jr, B"}\n@book{b, note = {n} # " o"}\n'
 
 
-class Maker:
-    def __init__(self, seed):
-        self.random = random.Random(seed)
-
-    def pick(self, values):
-        return self.random.choice(values)
-
+class Maker(Seeded):
     def some(self, pieces, counts, between=b" "):
         return between.join(self.pick(pieces) for _ in range(self.pick(counts)))
 
