@@ -1,16 +1,20 @@
 """Jobs that go through all of something: each byte at each place of the files, each built-in function with operands of each kind, each command before READ,
 each name that is defined from the beginning, sizes around those that something may end at, children with their parents, files that end at each place, what
-stands behind each mistake, and all short texts over some pieces; and what systematic_texts.py and systematic_turns.py have. What they give isn't written out: the built program is
-compared with the reference over them, as over jobs that are made from a seed (compare_with_program.py).
+stands behind each mistake, and all short texts over some pieces; and what systematic_texts.py, systematic_turns.py, systematic_readings.py and
+systematic_mixed.py have. What they give isn't written out: the built program is compared with the reference over them, as over jobs that are made from a seed
+(compare_with_program.py).
 
     python3 systematic_jobs.py        how large each job is, and how the reference's log of it ends
 """
 
 import itertools
+import re
 
 from product import Options, run
 from styles import BUILT_IN
-from systematic_texts import all_texts, in_groups, style, texts_of
+from systematic_mixed import all_mixed
+from systematic_readings import all_readings
+from systematic_texts import all_texts, in_groups, jobs_of, style, texts_of
 from systematic_turns import all_turns
 from worked_jobs import AUX, DECLARED, Job, citing, files_of
 
@@ -80,27 +84,54 @@ def bytes_of_styles():
         yield Job("each byte in " + shape.decode(), SHOW, declared=text, aux=citing(b"*"), database=lines(b"@misc{k%d,title=m%d}" % (byte[0], byte[0]) for byte in BYTES))
 
 
+# What gives a string or shows one, where a byte may stand in its operand.
+STRINGS_WITH_A_BYTE = [b'"%s" purify$', b'"{\\a %s}" purify$', b'"{\\%s b}" purify$', b'"%s" width$ int.to.str$', b'"{\\a%s}" width$ int.to.str$', b'"{\\%s x}" width$ int.to.str$', b'"{\\a%s x}" width$ int.to.str$', b'"{\\i%s A}" "u" change.case$', b'"A%sB" "l" change.case$',
+                       b'"a%sb" "u" change.case$', b'"A:%sB" "t" change.case$', b'"{\\%sA}" "l" change.case$', b'"{\\i%sA}" "u" change.case$', b'"Ab" "%s" change.case$', b'"a%s" add.period$',
+                       b'"a%s}" add.period$', b'"{%s" text.length$ int.to.str$', b'"a%sb" #2 text.prefix$', b'"%s" empty$ int.to.str$', b'"A%sand B" num.names$ int.to.str$',
+                       b'"A and%sB" num.names$ int.to.str$', b'"A a%sd B" num.names$ int.to.str$', b'"A%sB C" #1 "{ff }{vv }{ll}{ jj}" format.name$', b'"%sx Y" #1 "{vv}" format.name$',
+                       b'"A B,%s" #1 "{ff}{ll}" format.name$', b'"%sa B" #1 "{f}" format.name$', b'"Ann Bo" #1 "{f%s}" format.name$', b'"Ann Bo" #1 "{%sf}" format.name$', b'"Ann Bo" #1 "%s" format.name$',
+                       b'"Ann Bo C" #1 "{f{%s}}" format.name$', b'"%s" chr.to.int$ int.to.str$', b'"%s" write$ newline$ ""',
+                       b'"a.%s" add.period$', b'"%sA B" #1 "{f}" format.name$']
+
+
 def bytes_of_strings():
     """What each function on strings gives where the byte stands in its string."""
-    text = [b'"%s" purify$', b'"{\\a %s}" purify$', b'"{\\%s b}" purify$', b'"%s" width$ int.to.str$', b'"{\\a%s}" width$ int.to.str$', b'"{\\%s x}" width$ int.to.str$', b'"A%sB" "l" change.case$',
-            b'"a%sb" "u" change.case$', b'"A:%sB" "t" change.case$', b'"{\\%sA}" "l" change.case$', b'"{\\i%sA}" "u" change.case$', b'"Ab" "%s" change.case$', b'"a%s" add.period$',
-            b'"a%s}" add.period$', b'"{%s" text.length$ int.to.str$', b'"a%sb" #2 text.prefix$', b'"%s" empty$ int.to.str$', b'"A%sand B" num.names$ int.to.str$',
-            b'"A and%sB" num.names$ int.to.str$', b'"A a%sd B" num.names$ int.to.str$', b'"A%sB C" #1 "{ff }{vv }{ll}{ jj}" format.name$', b'"%sx Y" #1 "{vv}" format.name$',
-            b'"A B,%s" #1 "{ff}{ll}" format.name$', b'"%sa B" #1 "{f}" format.name$', b'"Ann Bo" #1 "{f%s}" format.name$', b'"Ann Bo" #1 "{%sf}" format.name$', b'"Ann Bo" #1 "%s" format.name$',
-            b'"Ann Bo C" #1 "{f{%s}}" format.name$', b'"%s" chr.to.int$ int.to.str$', b'"%s" write$ newline$ ""']
-    for shape in text:
+    for shape in STRINGS_WITH_A_BYTE:
         for utf8 in (False, True):
             body = b"\n".join(shape % byte + b" write$ newline$" for byte in LITERAL)
             yield style(f"each byte in {shape.decode()}, read as {'UTF-8' if utf8 else 'bytes'}", body, b"EXECUTE", options={"utf8": utf8})
     yield style("each code", b" ".join(b"#%d int.to.chr$ top$" % code for code in range(-130, 260)), b"EXECUTE")
 
 
+# Where it may stand in a line of the list, of 20 bytes at most.
+LINES_WITH_A_BYTE = [b"aaa%s" + b"b" * 20, b"a" * 19 + b"%sb", b"a" * 20 + b"%sb", b"a" * 21 + b"%sb", b"aa%s" + b"b" * 20, b"a" * 18 + b"%s", b"a" * 25 + b"%s", b"a" * 21 + b"%s%s" + b"b", b"a" * 21 + b" %s b"]
+
+
 def bytes_of_lines():
     """Where a line is broken if the byte stands in it."""
-    shapes = [b"aaa%s" + b"b" * 20, b"a" * 19 + b"%sb", b"a" * 20 + b"%sb", b"a" * 21 + b"%sb", b"aa%s" + b"b" * 20, b"a" * 18 + b"%s", b"a" * 25 + b"%s", b"a" * 21 + b"%s%s" + b"b"]
-    for shape in shapes:
+    for shape in LINES_WITH_A_BYTE:
         body = b"\n".join(b'"' + shape.replace(b"%s", byte) + b'" write$ newline$' for byte in LITERAL)
         yield style("each byte in a line of " + shape.decode(), body, b"EXECUTE", options={"line": 20})
+
+
+def with_a_made_byte(shape):
+    """The call of a shape whose string is joined from its parts and what the function `b` gives."""
+    return re.sub(rb'"[^"]*%s[^"]*"', lambda found: found[0].replace(b"%s", b'" b "') + b" *" * (2 * found[0].count(b"%s")), shape)
+
+
+def bytes_that_are_made():
+    """The same with a line feed and with a quote, which no literal string has: `int.to.chr$` and `quote$` make them. And where they are logged, compared and sorted by."""
+    logged = [b'"%s" warning$', b'"%s" top$', b'"a%s" #1 +', b'"%s" "%s" change.case$', b'"%sb" chr.to.int$', b'"A%sB" #2 "{ll}" format.name$', b'"A%s," #1 "{%s" format.name$', b'"a%s" "a%s" =',
+              b'"a%s" "a" =', b'"a%sbc" \'sort.key$ := sort.key$', b'"%s%s" \'s :=', b'"%s"']
+    for made in (b"#10 int.to.chr$", b"quote$"):
+        start = b"STRINGS {s} FUNCTION {b} {" + made + b"} FUNCTION {f} {"
+        for utf8 in (False, True):
+            body = b"\n".join(with_a_made_byte(shape) + b" write$ newline$" for shape in STRINGS_WITH_A_BYTE)
+            yield Job(f"{made.decode()} in strings, read as {'UTF-8' if utf8 else 'bytes'}", start + body + b"} EXECUTE {f}", options={"utf8": utf8})
+        shapes = [b'"%s"', b'" %s"', b'"%s "', b'"a %s %s"', *(b'"' + shape + b'"' for shape in LINES_WITH_A_BYTE)]
+        yield Job(f"{made.decode()} in lines", start + b"\n".join(with_a_made_byte(shape) + b" write$ newline$" for shape in shapes) + b"} EXECUTE {f}", options={"line": 20})
+        yield Job(f"{made.decode()} in the log", start + b" stack$\n".join(map(with_a_made_byte, logged)) + b"} ITERATE {f} SORT ITERATE {f} EXECUTE {f}", options={"entry_max": 3, "global_max": 1},
+                  aux=citing(b"*"), database=b"@misc{k}@misc{j}")
 
 
 # ---- files that end early, and what stands behind a mistake ----
@@ -285,9 +316,10 @@ def sizes_of_strings(size):
     deep, tokens = b"{" * size + b"A: B" + b"}" * size, b" ".join(b"Ab%d" % place for place in range(size))
     names = b" and ".join(b"N%d" % place for place in range(size))
     many = b"#%d" % size
-    texts = [deep, b"a" + deep + b": C", b" " * size, b"x" * size, b"x" * size + b" y", b"{\\a" + deep + b"} B", tokens, tokens + b", Jr, A", names, b"A, " * (size % 30) + b"B",
-             b"-".join(b"Cd" for _ in range(size)), b"a~" * size + b"B", b"\xc3\x89" * size]
-    functions = [b"purify$", b'"t" change.case$', b'"u" change.case$', b"text.length$ int.to.str$", b"width$ int.to.str$", b"num.names$ int.to.str$", b"add.period$", b"empty$ int.to.str$",
+    texts = [deep, b"a" + deep + b": C", b" " * size, b" " * size + b"y", b"x" * size, b"x" * size + b" y", b"{\\a" + deep + b"} B", tokens, tokens + b", Jr, A", names, b"A, " * (size % 30) + b"B",
+             b"-".join(b"Cd" for _ in range(size)), b"a~" * size + b"B", b"\xc3\x89" * size, b"x." + b"}" * size, b"{" * size + b"x" * size + b"y", b"{\\a" + b"{" * size + b" b",
+             b"{\\i" + b" " * size + b"A}", b"A:" + b" " * size + b"B", b"A" + b" " * size + b"and" + b"\t" * size + b"B,", b"a b" + b"-" * size + b"C~" + b" " * size + b"D" + b"," * size]
+    functions = [b"purify$", b'"t" change.case$', b'"u" change.case$', b"text.length$ int.to.str$", b"width$ int.to.str$", b"num.names$ int.to.str$", b"add.period$", b"empty$ int.to.str$", b'duplicate$ "y" * = int.to.str$', b'duplicate$ "" * = int.to.str$',
                  many + b" text.prefix$", b"#2 " + many + b" substring$", b"#-2 " + many + b" substring$", many + b" #3 substring$", b"#-" + many[1:] + b" #3 substring$",
                  b'#1 "{ff~}{vv~}{ll}{, jj}" format.name$', b'#1 "{f.~}{l}" format.name$', many + b' "{ll}" format.name$', b"'s := s", b"'es := es"]
     for function in functions:
@@ -298,6 +330,16 @@ def sizes_of_strings(size):
                   options={"utf8": size % 2 == 1, "entry_max": 250, "global_max": 256})
 
 
+def sizes_of_formats(size):
+    """Formats with braces, ties, pieces and plain bytes, this number of them."""
+    deep = b"{" * size + b"x" + b"}" * size
+    formats = [b"{ff" + deep + b"}", b"{" + deep + b"ff~}", b"{f" + deep + b"x}", b"{f{" + deep + b"}" + deep + b"}", b"{" + deep, deep + b"{ll}", b"{ll" + b"~" * size + b"}", b"{" + b"~" * size + b"}",
+               b"{" + b"." * size + b"f. }", b"." * size + b"{f. }", b"{f}" * size + b"-", b"{f" + b"." * size + b"~}", b"{l" * size]
+    names = [b"Ann Bo Cy Dee", b"Ann Bo Cy Dee,", b"A " * (size % 30) + b"B", b"A" * size + b" Bo Cy"]
+    if size <= MOST_TOKENS:
+        yield style(f"formats of {size}", b"\n".join(b'"%s" #1 "%s" format.name$ write$ newline$' % pair for pair in itertools.product(names, formats)), options={"utf8": size % 2 == 1})
+
+
 def sizes_of_jobs(size):
     """Lines, messages, entries, fields, strings, functions and variables, this number of them."""
     empty, many = b"\n" * size, range(size)
@@ -305,8 +347,9 @@ def sizes_of_jobs(size):
     yield style(f"{size} warnings and errors", b'"w" warning$ + pop$ ' * size, b"EXECUTE")
     yield Job(f"{size} entries", SHOW, aux=citing(b"*"), database=lines(b"@misc{k%d,title={T%d}}" % (place, place) for place in many))
     yield Job(f"{size} keys", SHOW, aux=citing(b",".join(b"k%d" % place for place in many)), database=b"@misc{k1,title={T}}")
-    yield Job(f"{size} children", SHOW, aux=citing(b",".join(b"k%d" % place for place in range(size + 1))), options={"min_crossrefs": 20},
-              database=lines(b"@misc{k%d,crossref={p}}" % place for place in many) + b"@misc{p,title={P}}@misc{k%d,title={}}" % size)
+    for least in sorted({20, max(size, 1), size + 1, 2**31 - 1}):
+        yield Job(f"{size} children, {least} at least", SHOW, aux=citing(b",".join(b"k%d" % place for place in range(size + 1))), options={"min_crossrefs": least},
+                  database=lines(b"@misc{k%d,crossref={p}}" % place for place in many) + b"@misc{p,title={P}}@misc{k%d,title={}}" % size)
     yield Job(f"{size} parts and strings", SHOW, database=lines(b"@string{s%d=%s{%d }}" % (place, b"s%d # " % (place - 1) if place else b"", place) for place in range(min(size, 100)))
               + b"@misc{k,title=" + b" # ".join([b'"x"', *(b"s%d" % place for place in range(min(size, 100)))]) + b"}")
     yield Job(f"{size} preambles", b"EXECUTE {preamble$} FUNCTION {g} {preamble$ write$ newline$} EXECUTE {g}", database=b"".join(b'@preamble{"p%d " # {q}}' % place for place in many))
@@ -449,48 +492,24 @@ def short_lines():
 
 
 def all_short():
-    yield from short_aux_files()
-    yield from cited_in_turn()
-    yield from short_databases()
-    yield from spaces_in_values()
-    yield from short_styles()
-    yield from short_bodies()
-    yield from short_strings()
-    yield from short_names()
-    yield from short_formats()
-    yield from short_lines()
+    return jobs_of(
+        short_aux_files, cited_in_turn, short_databases, spaces_in_values, short_styles, short_bodies, short_strings,
+        short_names, short_formats, short_lines)
 
 
 def all_jobs():
     for size in SIZES:
         yield from sizes_of_strings(size)
+        yield from sizes_of_formats(size)
         yield from sizes_of_jobs(size)
-    yield from parents()
-    yield from children_of_one()
-    yield from all_short()
-    yield from all_texts()
-    yield from files_cut_short()
-    yield from behind_mistakes()
-    yield from entries_and_commands()
-    yield from bytes_of_aux()
-    yield from bytes_of_databases()
-    yield from bytes_of_styles()
-    yield from bytes_of_strings()
-    yield from bytes_of_lines()
+    yield from jobs_of(
+        parents, children_of_one, all_short, all_texts, files_cut_short, behind_mistakes, entries_and_commands,
+        bytes_of_aux, bytes_of_databases, bytes_of_styles, bytes_of_strings, bytes_of_lines, bytes_that_are_made)
     yield from operands("with operands", KINDS, b"ITERATE")
     yield from operands("without an entry", KINDS[:3], b"EXECUTE")
-    yield from commands_early()
-    yield from names_twice()
-    yield from names_of_lists()
-    yield from capitals()
-    yield from marks_before_files()
-    yield from white_at_ends()
-    yield from databases_in_turn()
-    yield from commands_in_turn()
-    yield from files_in_turn()
-    yield from names_that_are_shown()
-    yield from widths()
-    yield from all_turns()
+    yield from jobs_of(
+        commands_early, names_twice, names_of_lists, capitals, marks_before_files, white_at_ends, databases_in_turn,
+        commands_in_turn, files_in_turn, names_that_are_shown, widths, all_turns, all_readings, all_mixed)
 
 
 def systematic_jobs():
