@@ -157,21 +157,26 @@ impl<'a> Names<'a> {
 #[cfg(test)]
 mod tests {
     use super::*;
+    use crate::text::marked;
+
+    /// Each line with a `^` where its error is met, and the error.
+    const PLACES: &str = r#"\citation{k,^ j} | White space in argument
+\citation{k^   | No "}"
+\citation{k^} x | Stuff after "}"
+\bibdata^{f} | Illegal, another \bibdata command
+\citation{k,K^} | Case mismatch error between cite keys k and K
+\@input{nosuch.aux^} | I couldn't open auxiliary file nosuch.aux
+\@input{x^} | x has a wrong extension
+\bibdata{d,e^} | I couldn't open database file e.bib
+\bibdata{d,e} | I couldn't open database file f.bib
+\relax | No "}"
+\citation {k | No "}""#;
 
     #[test]
     fn errors_have_a_place_in_their_line() {
-        let place = |line: &[u8], error: &[u8]| place_of_error(line, error, 0);
-        assert_eq!(place(b"\\citation{k, j}", b"White space in argument"), Some(12));
-        assert_eq!(place(b"\\citation{k  ", b"No \"}\""), Some(11));
-        assert_eq!(place(b"\\citation{k} x", b"Stuff after \"}\""), Some(11));
-        assert_eq!(place(b"\\bibdata{f}", b"Illegal, another \\bibdata command"), Some(8));
-        assert_eq!(place(b"\\citation{k,K}", b"Case mismatch error between cite keys k and K"), Some(13));
-        assert_eq!(place(b"\\@input{nosuch.aux}", b"I couldn't open auxiliary file nosuch.aux"), Some(18));
-        assert_eq!(place(b"\\@input{x}", b"x has a wrong extension"), Some(9));
-        assert_eq!(place(b"\\bibdata{d,e}", b"I couldn't open database file e.bib"), Some(12));
-        assert_eq!(place(b"\\bibdata{d,e}", b"I couldn't open database file f.bib"), None);
-        assert_eq!(place(b"\\relax", b"No \"}\""), None);
-        assert_eq!(place(b"\\citation {k", b"No \"}\""), None);
+        for (line, error, place) in marked(PLACES) {
+            assert_eq!(place_of_error(&line, error, 0), place, "{}", line.escape_ascii());
+        }
     }
 
     #[test]

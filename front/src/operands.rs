@@ -99,36 +99,22 @@ mod tests {
     const STYLE: &str = "ENTRY {year}{n}{label}\nSTRINGS {s}\nFUNCTION {f.g} {}\nFUNCTION {h}\n{ n 'label :=\n\"a\" 'n :=\n year #0 =\n s n =\n\
         year f.g \"x\" write$ *\n year f.g *\n 's 'f.g :=\n s label := }\n";
 
-    fn said(line: usize, text: &[u8], by: fn(CodePlace<'_, '_>) -> Option<Said>) -> (String, String) {
-        by(Code::new(STYLE.as_bytes()).place_in(line, text, None).unwrap()).unwrap_or_default()
-    }
+    /// Rows of a line of the style, its function, what is said, and how the advice begins.
+    const SAID: &str = "\
+5 | := | `label` is a string of each entry (ENTRY), and `n` is an integer | write `int.to.str$` before `'label`
+6 | := | `n` is an integer of each entry (ENTRY), and `\"a\"` is a string | assign it to a variable that is declared as a string
+7 | = | a string and an integer are never equal: `year` is a field, and `#0` is a number | ask by `year empty$`
+8 | = | a string and an integer are never equal: `s` is a string, and `n` is a number | compare two
+11 | := | `f.g` is a function, and no variable | assign to a name
+";
 
     #[test]
     fn kinds_are_said() {
-        let rows = [
-            (
-                said(5, b":=", assigned),
-                "`label` is a string of each entry (ENTRY), and `n` is an integer",
-                "write `int.to.str$` before `'label`",
-            ),
-            (
-                said(6, b":=", assigned),
-                "`n` is an integer of each entry (ENTRY), and `\"a\"` is a string",
-                "assign it to a variable that is declared as a string",
-            ),
-            (
-                said(7, b"=", compared),
-                "a string and an integer are never equal: `year` is a field, and `#0` is a number",
-                "ask by `year empty$`",
-            ),
-            (
-                said(8, b"=", compared),
-                "a string and an integer are never equal: `s` is a string, and `n` is a number",
-                "compare two",
-            ),
-            (said(11, b":=", assigned), "`f.g` is a function, and no variable", "assign to a name"),
-        ];
-        for ((what, advice), wanted, begin) in rows {
+        let code = Code::new(STYLE.as_bytes());
+        for row in SAID.lines() {
+            let [line, function, wanted, begin] = row.splitn(4, " | ").collect::<Vec<_>>()[..] else { panic!("{row}") };
+            let place = code.place_in(line.parse().unwrap(), function.as_bytes(), None).unwrap();
+            let (what, advice) = if function == "=" { compared(place) } else { assigned(place) }.unwrap_or_default();
             assert_eq!(what, wanted);
             assert!(advice.starts_with(begin), "{advice}");
         }

@@ -381,6 +381,7 @@ fn name_of<'a>(line: &'a [u8], token: &Token) -> &'a [u8] {
 #[cfg(test)]
 mod tests {
     use super::*;
+    use crate::text::marked;
 
     fn kinds(text: &[u8]) -> Vec<Kind> {
         Tokens::new(text).map(|token| token.kind).collect()
@@ -464,17 +465,22 @@ mod tests {
         assert_eq!(shown(b"FUNCTION {f} { x\n read 'y :=\n sort.key$ }\n"), [command("FUNCTION", Some("f"), 0)]);
     }
 
+    /// Each line with a `^` before the token at which its error is met, and the error.
+    const PLACES: &str = r##" "nosuch" ^nosuch } | nosuch is an unknown function
+{ ^'nosuch } | nosuch is an unknown function
+EXECUTE {^nosuch} | nosuch is an unknown function
+#1 ^#x pop$ | Illegal integer
+"a"^b | Illegal text after a literal
+#1 ^"a b | No " to end string literal
+ ^ENTRIES{} | ENTRIES isn't a command
+x | I was expecting a {"##;
+
     #[test]
     fn errors_have_a_place_in_their_line() {
-        let start = |line: &[u8], error: &[u8]| place_of_error(line, error, 0).map(|token| token.start);
-        assert_eq!(start(b" \"nosuch\" nosuch }", b"nosuch is an unknown function"), Some(10));
-        assert_eq!(start(b"{ 'nosuch }", b"nosuch is an unknown function"), Some(2));
-        assert_eq!(start(b"EXECUTE {nosuch}", b"nosuch is an unknown function"), Some(9));
-        assert_eq!(start(b"#1 #x pop$", b"Illegal integer"), Some(3));
-        assert_eq!(start(b"\"a\"b", b"Illegal text after a literal"), Some(3));
-        assert_eq!(start(b"#1 \"a b", b"No \" to end string literal"), Some(3));
-        assert_eq!(start(b" ENTRIES{}", b"ENTRIES isn't a command"), Some(1));
-        assert_eq!(start(b"x", b"I was expecting a {"), None);
+        for (line, error, place) in marked(PLACES) {
+            let start = place_of_error(&line, error, 0).map(|token| token.start);
+            assert_eq!(start, place, "{}", line.escape_ascii());
+        }
         let again =
             place_of_error(b"f \"f\" f f", b"f is an unknown function", 1).map(|token| (token.start, token.end));
         assert_eq!(again, Some((6, 7)));

@@ -101,6 +101,15 @@ pub fn is_white(byte: u8) -> bool {
     matches!(byte, b' ' | b'\t' | b'\r')
 }
 
+/// Rows of a test: on each line a line of a file, in which a `^` marks the place of an error, and the error. Gives the line without the mark, the error and the place.
+#[cfg(test)]
+pub fn marked(rows: &str) -> impl Iterator<Item = (Vec<u8>, &[u8], Option<usize>)> {
+    rows.lines().map(|row| {
+        let (line, error) = row.split_once(" | ").unwrap_or((row, ""));
+        (line.replacen('^', "", 1).into_bytes(), error.as_bytes(), line.find('^'))
+    })
+}
+
 #[cfg(test)]
 mod tests {
     use super::*;

@@ -89,46 +89,33 @@ const OWN: [Row; 11] = [
     ("dir", Choice::Folder, true),
 ];
 
-/// The options of bibtex8 and bibtexu. Its letters count only as they are.
-const EIGHT: [Row; 28] = [
-    ("M", Choice::MinCrossrefs, true),
-    ("min_crossrefs", Choice::MinCrossrefs, true),
-    ("?", Choice::Help, false),
-    ("7", Choice::Ignored, false),
-    ("8", Choice::Ignored, false),
-    ("B", Choice::Ignored, false),
-    ("H", Choice::Ignored, false),
-    ("W", Choice::Ignored, false),
-    ("c", Choice::Ignored, true),
-    ("d", Choice::Ignored, true),
-    ("s", Choice::Ignored, false),
-    ("traditional", Choice::Ignored, false),
-    ("8bit", Choice::Ignored, false),
-    ("csfile", Choice::Ignored, true),
-    ("debug", Choice::Ignored, true),
-    ("statistics", Choice::Ignored, false),
-    ("trace", Choice::Ignored, false),
-    ("big", Choice::Ignored, false),
-    ("huge", Choice::Ignored, false),
-    ("wolfgang", Choice::Ignored, false),
-    ("mcites", Choice::Ignored, true),
-    ("mentints", Choice::Ignored, true),
-    ("mentstrs", Choice::Ignored, true),
-    ("mfields", Choice::Ignored, true),
-    ("mpool", Choice::Ignored, true),
-    ("mstrings", Choice::Ignored, true),
-    ("mwizfuns", Choice::Ignored, true),
-    ("language", Choice::Ignored, true),
+/// The options of bibtex8 and bibtexu that ask for something. Their letters count only as they are.
+const EIGHT: [Row; 3] =
+    [("M", Choice::MinCrossrefs, true), ("min_crossrefs", Choice::MinCrossrefs, true), ("?", Choice::Help, false)];
+
+/// Their other options, without a value and with one.
+const IGNORED: [&str; 13] =
+    ["7", "8", "B", "H", "W", "s", "traditional", "8bit", "statistics", "trace", "big", "huge", "wolfgang"];
+const IGNORED_WITH_VALUE: [&str; 12] = [
+    "c", "d", "csfile", "debug", "mcites", "mentints", "mentstrs", "mfields", "mpool", "mstrings", "mwizfuns",
+    "language",
 ];
+
+/// All options of bibtex8 and bibtexu.
+fn all_of_eight() -> impl Iterator<Item = Row> {
+    let ignored = IGNORED.into_iter().map(|name| (name, Choice::Ignored, false));
+    let with_value = IGNORED_WITH_VALUE.into_iter().map(|name| (name, Choice::Ignored, true));
+    EIGHT.into_iter().chain(ignored).chain(with_value)
+}
 
 /// The option that a name means: one that has this name, or else the only one of the original's that begins so, or else the only one of ours,
 /// or of bibtex8's. The error is what is wrong with the name.
 fn option_named(name: &[u8]) -> Result<Row, &'static str> {
-    let all = || ORIGINAL.iter().chain(&OWN).chain(&EIGHT);
-    if let Some(row) = all().find(|(option, ..)| option.as_bytes() == name) {
+    let all = [ORIGINAL.to_vec(), OWN.to_vec(), all_of_eight().collect()];
+    if let Some(row) = all.iter().flatten().find(|(option, ..)| option.as_bytes() == name) {
         return Ok(*row);
     }
-    for rows in [&ORIGINAL[..], &OWN, &EIGHT] {
+    for rows in &all {
         let mut beginning = rows.iter().filter(|(option, ..)| option.as_bytes().starts_with(name));
         match (beginning.next(), beginning.next()) {
             (Some(row), None) => return Ok(*row),
