@@ -118,6 +118,19 @@ void free_outcome(outcome *one) {
     free(one->log);
 }
 
+void ask(asked *found, int count, char **words, int between, const char *taken) {
+    int first = 3 + between;
+    must(count >= first, "%s", taken);
+    find_job(&found->its, words[1], words[2]);
+    found->options = read_options(words + first, count - first);
+    found->whole = run_whole(&found->its, &found->options);
+}
+
+void free_asked(asked *found) {
+    free_outcome(&found->whole);
+    free_job(&found->its);
+}
+
 int begins(const unsigned char *whole, size_t whole_len, const unsigned char *front, size_t front_len) {
     return front_len <= whole_len && !memcmp(whole, front, front_len);
 }

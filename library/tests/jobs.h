@@ -40,6 +40,18 @@ outcome run_in(const job *its, const btx_options *options, size_t list_room, siz
 outcome run_whole(const job *its, const btx_options *options);
 void free_outcome(outcome *one);
 
+/* What the words of a test ask for: a job of a folder with its options, and its whole run. */
+typedef struct {
+    job its;
+    btx_options options;
+    outcome whole;
+} asked;
+
+/* Reads the words FOLDER JOB .. OPTION.., of which so many stand between the job and the options, and runs the job. Where there are too few, the test ends with
+   a line that says which words it takes. */
+void ask(asked *found, int count, char **words, int between, const char *taken);
+void free_asked(asked *found);
+
 /* One text begins with the other. */
 int begins(const unsigned char *whole, size_t whole_len, const unsigned char *front, size_t front_len);
 /* All these bytes are as run_in left them. */

@@ -41,15 +41,12 @@ static void check_choice(const job *its, const btx_options *options, const outco
 }
 
 int main(int count, char **words) {
-    job its;
-    must(count >= 3, "needs FOLDER JOB OPTION..");
-    find_job(&its, words[1], words[2]);
-    btx_options options = read_options(words + 3, count - 3);
-    outcome whole = run_whole(&its, &options);
-    must(its.count <= 10, "the job has too many files");
-    for (size_t choice = 0; choice < (size_t)1 << its.count; choice++) check_choice(&its, &options, &whole, choice);
-    printf("%zu choices\n", (size_t)1 << its.count);
-    free_outcome(&whole);
-    free_job(&its);
+    asked test;
+    ask(&test, count, words, 0, "needs FOLDER JOB OPTION..");
+    must(test.its.count <= 10, "the job has too many files");
+    size_t choices = (size_t)1 << test.its.count;
+    for (size_t choice = 0; choice < choices; choice++) check_choice(&test.its, &test.options, &test.whole, choice);
+    printf("%zu choices\n", choices);
+    free_asked(&test);
     return 0;
 }

@@ -81,24 +81,20 @@ static int check_where(const job *its, const btx_options *options, long number) 
 }
 
 int main(int count, char **words) {
-    job its;
-    must(count >= 4, "refused FOLDER JOB STEP OPTION..");
-    find_job(&its, words[1], words[2]);
+    asked test;
+    ask(&test, count, words, 1, "refused FOLDER JOB STEP OPTION..");
     long step = atol(words[3]), spared = 0, tried = 0;
-    btx_options options = read_options(words + 4, count - 4);
-    outcome whole = run_whole(&its, &options);
-    outcome first = run_refusing(&its, &options, 0, &whole);
+    outcome first = run_refusing(&test.its, &test.options, 0, &test.whole);
     long all = requests;
-    must(whole.answer == BTX_DONE && is_same(&whole, &first), "two runs differ");
-    for (long number = 1; number <= all; number += step, tried++) check_run(&its, &options, &whole, number, &spared);
+    must(test.whole.answer == BTX_DONE && is_same(&test.whole, &first), "two runs differ");
+    for (long number = 1; number <= all; number += step, tried++) check_run(&test.its, &test.options, &test.whole, number, &spared);
     printf("%ld of %ld requests of btx_run refused, %ld of which it could spare\n", tried, all, spared);
-    for (size_t known = 0; known <= its.count; known++) {
+    for (size_t known = 0; known <= test.its.count; known++) {
         long number = 1;
-        while (check_needs(&its, known, number)) number += step;
+        while (check_needs(&test.its, known, number)) number += step;
     }
-    for (long number = 1; check_where(&its, &options, number);) number += step;
-    free_outcome(&whole);
+    for (long number = 1; check_where(&test.its, &test.options, number);) number += step;
     free_outcome(&first);
-    free_job(&its);
+    free_asked(&test);
     return 0;
 }

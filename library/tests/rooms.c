@@ -12,9 +12,10 @@ static void check_room(const char *what, const unsigned char *room, size_t size,
     must(is_untouched(room + len, size - len), "the %s goes on behind its end in a room of %zu", what, size);
 }
 
-static void check_rooms(const job *its, const btx_options *options, const outcome *whole, size_t list_room, size_t log_room) {
+static void check_rooms(const asked *test, size_t list_room, size_t log_room) {
+    const outcome *whole = &test->whole;
     const btx_report *all = &whole->report;
-    outcome one = run_in(its, options, list_room, log_room);
+    outcome one = run_in(&test->its, &test->options, list_room, log_room);
     if (list_room >= all->list_len && log_room >= all->log_len) {
         must(is_same(&one, whole), "rooms of %zu and %zu aren't enough", list_room, log_room);
     } else {
@@ -63,19 +64,15 @@ static void check_names(const job *its) {
 }
 
 int main(int count, char **words) {
-    job its;
-    must(count >= 3, "rooms FOLDER JOB OPTION..");
-    find_job(&its, words[1], words[2]);
-    btx_options options = read_options(words + 3, count - 3);
-    outcome whole = run_whole(&its, &options);
-    size_t list = whole.report.list_len, log = whole.report.log_len, most = list > log ? list : log;
-    for (size_t room = 0; room <= list + 1; room++) check_rooms(&its, &options, &whole, room, log);
-    for (size_t room = 0; room <= log + 1; room++) check_rooms(&its, &options, &whole, list, room);
-    for (size_t room = 0; room <= most + 1; room++) check_rooms(&its, &options, &whole, room, room);
-    check_refused(&its);
-    check_names(&its);
+    asked test;
+    ask(&test, count, words, 0, "rooms FOLDER JOB OPTION..");
+    size_t list = test.whole.report.list_len, log = test.whole.report.log_len, most = list > log ? list : log;
+    for (size_t room = 0; room <= list + 1; room++) check_rooms(&test, room, log);
+    for (size_t room = 0; room <= log + 1; room++) check_rooms(&test, list, room);
+    for (size_t room = 0; room <= most + 1; room++) check_rooms(&test, room, room);
+    check_refused(&test.its);
+    check_names(&test.its);
     printf("%zu rooms\n", list + log + most + 6);
-    free_outcome(&whole);
-    free_job(&its);
+    free_asked(&test);
     return 0;
 }
