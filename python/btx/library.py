@@ -37,24 +37,16 @@ class File(ctypes.Structure):
 class Asked(ctypes.Structure):
     _fields_ = [
         ("budget", ctypes.c_uint64),
-        ("min_crossrefs", ctypes.c_uint32),
-        ("line", ctypes.c_uint32),
-        ("entry_max", ctypes.c_uint32),
-        ("global_max", ctypes.c_uint32),
+        *((name, ctypes.c_uint32) for name in ("min_crossrefs", "line", "entry_max", "global_max")),
         ("utf8", ctypes.c_bool),
     ]
 
 
 class Answered(ctypes.Structure):
     _fields_ = [
-        ("status", ctypes.c_uint32),
-        ("end", ctypes.c_uint32),
-        ("steps", ctypes.c_uint64),
-        ("deepest", ctypes.c_uint64),
-        ("warnings", ctypes.c_uint64),
-        ("errors", ctypes.c_uint64),
-        ("list_len", ctypes.c_size_t),
-        ("log_len", ctypes.c_size_t),
+        *((name, ctypes.c_uint32) for name in ("status", "end")),
+        *((name, ctypes.c_uint64) for name in ("steps", "deepest", "warnings", "errors")),
+        *((name, ctypes.c_size_t) for name in ("list_len", "log_len")),
     ]
 
 

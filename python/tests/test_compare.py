@@ -44,6 +44,16 @@ def command_lines():
     return lines
 
 
+def is_gone(words):
+    """Whether no process of this machine has these words, ten seconds from now at the latest: one that is killed ends a little later."""
+    last = time.monotonic() + 10
+    while words in command_lines():
+        if time.monotonic() > last:
+            return False
+        time.sleep(0.1)
+    return True
+
+
 class Causes(unittest.TestCase):
     def test_each(self):
         one, two = b"\\bibitem{a}\nOne\n\n", b"\\bibitem{b}\nTwo\n\n"
@@ -234,21 +244,28 @@ class Comparisons(InFolder):
 
 
 class Programs(InFolder):
+    """A job `one`, whose list a program writes."""
+
+    def setUp(self):
+        super().setUp()
+        self.one = self.job("one", b"other\n")
+
+    def outcome_by(self, text, *words):
+        """The outcome of the job by a program of this text, and its reason."""
+        return self.outcomes("--with", self.program(text), *words)["one"]
+
     def test_with(self):
-        self.job("one", b"other\n")
-        self.assertEqual(self.outcomes("--with", self.program('echo "k: T" >"$1.bbl"'))["one"], ("equal", ""))
-        self.assertEqual(self.outcomes("--with", self.program('echo "k: U" >"$1.bbl"'))["one"][0], "different")
+        self.assertEqual(self.outcome_by('echo "k: T" >"$1.bbl"'), ("equal", ""))
+        self.assertEqual(self.outcome_by('echo "k: U" >"$1.bbl"')[0], "different")
 
     def test_it_gets_the_files(self):
-        self.job("one", b"")
-        self.assertEqual(self.outcomes("--with", self.program('cat s.bst d.bib job.aux >/dev/null && echo "k: T" >"$1.bbl"'))["one"], ("equal", ""))
+        self.assertEqual(self.outcome_by('cat s.bst d.bib job.aux >/dev/null && echo "k: T" >"$1.bbl"'), ("equal", ""))
 
     def test_programs_that_fail(self):
-        self.job("one", b"")
         rows = [("kill -SEGV $$", "was ended by signal 11"), ("exit 3", "wrote no list (status 3)"), ("sleep 30", "took longer than 1 second")]
         for text, reason in rows:
             with self.subTest(text=text):
-                outcome, said = self.outcomes("--with", self.program(text), "--time-limit", 1)["one"]
+                outcome, said = self.outcome_by(text, "--time-limit", 1)
                 self.assertEqual(outcome, "not run")
                 self.assertIn(reason, said)
 
@@ -256,12 +273,11 @@ class Programs(InFolder):
         self.assertEqual(self.compare("--with", "no-such-program")[0], 1)
 
     def test_a_program_of_the_present_folder(self):
-        self.job("one", b"")
         path = os.path.relpath(self.program('echo "k: T" >"$1.bbl"'))
         self.assertEqual(self.outcomes("--with", path)["one"], ("equal", ""))
 
     def test_it_gets_files_of_folders_above(self):
-        folder = self.job("one", b"", **{"job.aux": AUX.replace(b"{d}", b"{../../d,a/../../e}").replace(b"{s}", b"{sub/s}")})
+        folder = self.job("above", b"", **{"job.aux": AUX.replace(b"{d}", b"{../../d,a/../../e}").replace(b"{s}", b"{sub/s}")})
         inner = folder / "two" / "three"
         inner.mkdir(parents=True)
         (inner / "sub").mkdir()
@@ -273,16 +289,14 @@ class Programs(InFolder):
         self.assertEqual(self.outcomes("--with", self.program(script))["three"], ("equal", ""))
 
     def test_it_gets_files_found_along_a_path(self):
-        folder = self.job("one", b"")
-        (folder / "in").mkdir()
-        (folder / "d.bib").rename(folder / "in" / "d.bib")
+        (self.one / "in").mkdir()
+        (self.one / "d.bib").rename(self.one / "in" / "d.bib")
         script = 'case $BIBINPUTS in .:in:*) cat d.bib >/dev/null && echo "k: T" >"$1.bbl";; esac'
         with mock.patch.dict(os.environ, {"BIBINPUTS": "in:"}):
-            self.assertEqual(self.outcomes("--with", self.program(script))["one"], ("equal", ""))
+            self.assertEqual(self.outcome_by(script), ("equal", ""))
 
     def test_names_that_lead_too_far(self):
         self.job("up", b"", **{"job.aux": AUX.replace(b"{d}", b"{%sd}" % (b"../" * 1200)), "s.bst": b""})
-        self.job("one", b"")
         root = os.fsencode(self.folder)[1:]
         (self.folder / "up" / "job.aux").write_bytes(AUX.replace(b"{d}", b"{%s%s/one/d}" % (b"../" * 1200, root)))
         outcomes = self.outcomes("--with", self.program('echo "k: T" >"$1.bbl"'))
@@ -290,20 +304,18 @@ class Programs(InFolder):
         self.assertNotIn("process", outcomes["up"][1])
 
     def test_a_job_whose_name_looks_like_an_option(self):
-        folder = self.job("one", b"")
         for ending in (".aux", ".bbl"):
-            (folder / f"job{ending}").rename(folder / f"-job{ending}")
-        self.assertEqual(self.outcomes("--with", self.program('echo "k: T" >"$1.bbl"; [ "$1" = ./-job ]'))["one"], ("equal", ""))
+            (self.one / f"job{ending}").rename(self.one / f"-job{ending}")
+        self.assertEqual(self.outcome_by('echo "k: T" >"$1.bbl"; [ "$1" = ./-job ]'), ("equal", ""))
 
     def test_one_that_floods_and_one_that_leaves_children(self):
-        self.job("one", b"")
         rows = [('yes & child=$!; sleep 1; kill $child; echo "k: T" >"$1.bbl"', "equal"), ('sleep 61.5 & echo "k: T" >"$1.bbl"', "equal"), ("trap '' TERM INT; sleep 61.5 & sleep 61.5", "not run")]
         for text, outcome in rows:
             with self.subTest(text=text):
                 began = time.monotonic()
-                self.assertEqual(self.outcomes("--with", self.program(text), "--time-limit", 3)["one"][0], outcome)
+                self.assertEqual(self.outcome_by(text, "--time-limit", 3)[0], outcome)
                 self.assertLess(time.monotonic() - began, 20)
-                self.assertFalse([words for words in command_lines() if words == ["sleep", "61.5"]])
+                self.assertTrue(is_gone(["sleep", "61.5"]))
 
 
 class Reports(InFolder):
