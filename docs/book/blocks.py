@@ -1,6 +1,47 @@
-"""A chapter of the book's own words, block by block: what each block is, whatever form of the book it is woven into."""
+"""What is the same in all forms of the book: the parts of a section, and the blocks of a chapter of the book's own words."""
 
 from typing import Callable, NamedTuple
+
+import chapters
+import glossary
+import layout
+import manuals
+import rules
+
+
+class Sections(NamedTuple):
+    """How a form of the book writes each part of a section, and of the lists behind the core's sections."""
+    opening: Callable
+    example: Callable
+    functions: Callable
+    intros: Callable
+    definition: Callable
+    named: Callable
+    listed: Callable
+    text: Callable = str
+
+    def woven(self, section, book, known):
+        """A section's heading, rules and examples; then its definitions, those of each module behind what its files say at their front. The words of examples
+        become known."""
+        anchors = rules.headings()
+        of_manuals = f" The manuals: {manuals.sentence(section)}." if manuals.followed_by(section) else ""
+        out = self.opening(section, [(rule, anchors[rule]) for rule in section.rules if rule in anchors], of_manuals)
+        for name in section.examples:
+            if name in book.examples:
+                example = book.examples[name]
+                out.append(self.example(example, layout.caption(section, name, example), known))
+        out += [self.functions(book.by_id)] * (section.table == "functions")
+        for module, found in section.parts:
+            out += [self.intros(chapters.files_of(module, found)), *map(self.definition, found)]
+        return "\n".join(out)
+
+    def core_lists(self, chapter):
+        """What the core names of the chapters behind it and of the library, each with its sentence, so that it can be read alone; none for another chapter."""
+        if not layout.is_core(chapter):
+            return []
+        names = [self.named(it) + ": " + self.text(layout.sentence_of(it)) for it in layout.names_elsewhere(chapter)]
+        words = [self.text(glossary.headed(word, meaning)) for word, meaning in glossary.words_of(chapter.definitions)]
+        return [self.listed("core-names", layout.NAMES_ELSEWHERE, names), self.listed("core-words", layout.WORDS_USED, words)]
 
 
 class Blocks(NamedTuple):

@@ -233,6 +233,15 @@ def uses_elsewhere(definition):
     return sorted((it for it in definition.uses if it.place and it.module != definition.module), key=lambda it: it.place)
 
 
+def foot_of(definition, references, text=str):
+    """What stands below a definition, part by part: its bytes, the names that its file alone has, what it uses and what uses it. A form of the book has its own
+    `references` to definitions, and its own `text` of prose."""
+    uses, users, compared = uses_elsewhere(definition), users_of(definition), bytes_in(definition)
+    foot = [text(", ".join(compared))] * bool(compared)
+    foot += [text(f"`{written}` is {what}") + references([target]) for written, what, target in renamed_in(definition)]
+    return foot + [f"uses {references(uses, 99)}"] * bool(uses) + [f"used in {references(users)}"] * bool(users)
+
+
 def is_core(chapter):
     """Whether a chapter is the core: the first one."""
     return chapter.number == 1

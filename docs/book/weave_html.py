@@ -6,7 +6,6 @@ import pathlib
 import re
 
 import bibtex_names
-import chapters
 import differences
 import functions
 import glossary
@@ -14,7 +13,7 @@ import layout
 import links
 import manuals
 import rules
-from blocks import Blocks
+from blocks import Blocks, Sections
 from definitions import KEYWORDS, TOKEN, Word
 
 STYLE = pathlib.Path(__file__).with_name("book.css")
@@ -107,10 +106,7 @@ def definition_html(it):
     """A definition: its number and comment, its text, its margin, and the links to what it uses and what uses it."""
     margin = f"{it.crate} · {layout.what_it_is(it)}"
     comment = text(layout.prose(it.comment)) or "<em>(no comment)</em>"
-    uses, users = layout.uses_elsewhere(it), layout.users_of(it)
-    foot = [text(", ".join(layout.bytes_in(it)))] * bool(layout.bytes_in(it))
-    foot += [text(f"`{written}` is {what}") + references([target]) for written, what, target in layout.renamed_in(it)]
-    foot += [f"uses {references(uses, 99)}"] * bool(uses) + [f"used in {references(users)}"] * bool(users)
+    foot = layout.foot_of(it, references, text)
     heading = f"<h4>{text(it.heading[0].upper() + it.heading[1:])}</h4>" if it.heading else ""
     return (f'{heading}<section id="{it.id}" class="{layout.reach_of(it)}"><p><a class="number" href="#{it.id}">{it.number}</a> {comment}</p>{differences.sign_html(it.id)}{code(it)}'
             f'<footer>{" · ".join(foot)}</footer><aside>{margin}</aside></section>')
@@ -132,39 +128,38 @@ def functions_html(by_id):
             f'<div class="wide"><table><tr><th></th><th>function</th><th>operands</th><th>what it does, and errors of its own</th><th>default</th><th>example</th></tr>{rows}</table></div></div>')
 
 
-def section_html(section, examples, known, by_id):
-    anchors = rules.headings()
-    linked_rules = ", ".join(f'<a href="#{anchors[rule]}">{html.escape(rule)}</a>' for rule in section.rules if rule in anchors)
-    out = [f'<h3 id="s{section.number}">{section.number} {text(section.title)}</h3>']
-    if linked_rules:
-        of_manuals = f" The manuals: {manuals.sentence(section)}." if manuals.followed_by(section) else ""
-        out.append(f'<p class="rule">The rule in words: {linked_rules}.{of_manuals}</p>')
-    for name, example in ((name, examples[name]) for name in section.examples if name in examples):
-        out.append(example_html(example, layout.caption(section, name, example), known))
-    out += [functions_html(by_id)] * (section.table == "functions")
-    for module, found in section.parts:
-        intros = "".join(f'<p>{text(layout.prose(intro))} <span class="file">{file}</span></p>' for file, intro in chapters.files_of(module, found))
-        out.append(f'<div class="intro">{intros}</div>')
-        out += [definition_html(it) for it in found]
-    return "\n".join(out)
+def opening_html(section, linked, of_manuals):
+    """A section's heading, and the rules that it is about, each with its anchor."""
+    rules_ = ", ".join(f'<a href="#{anchor}">{html.escape(rule)}</a>' for rule, anchor in linked)
+    heading = f'<h3 id="s{section.number}">{section.number} {text(section.title)}</h3>'
+    return [heading] + [f'<p class="rule">The rule in words: {rules_}.{of_manuals}</p>'] * bool(linked)
+
+
+def intros_html(files):
+    """What files say at their front."""
+    intros = "".join(f'<p>{text(layout.prose(intro))} <span class="file">{file}</span></p>' for file, intro in files)
+    return f'<div class="intro">{intros}</div>'
+
+
+def named_html(it):
+    return f'<a href="#{it.id}"><code>{html.escape(it.name)}</code></a> {it.number}'
+
+
+def listed_html(anchor, title, items):
+    return f'<h3 id="{anchor}">{title}</h3><ul class="names">' + "".join(f"<li>{item}</li>" for item in items) + "</ul>"
+
+
+SECTIONS = Sections(opening_html, example_html, functions_html, intros_html, definition_html, named_html, listed_html, text)
 
 
 def chapter_html(chapter, book):
     """A chapter; one that has to be believed is dense on paper, and the core has with it all that its reader needs."""
     opening, known = text(links.linked(" ".join(chapter.opening), book.by_id)), set()
     part = f'<p class="part">{text(chapter.part)}</p>' if chapter.part else ""
-    sections = "\n".join(section_html(section, book.examples, known, book.by_id) for section in chapter.sections)
-    signs_, names = (notation_html(book.signs, book, 3), names_html(chapter)) if layout.is_core(chapter) else ("", "")
+    sections = "\n".join(SECTIONS.woven(section, book, known) for section in chapter.sections)
+    signs_, names = notation_html(book.signs, book, 3) if layout.is_core(chapter) else "", "".join(SECTIONS.core_lists(chapter))
     made = f'<h2 id="ch{chapter.number}">{chapter.number}. {text(chapter.title)}</h2><p class="opening">{opening}</p>{signs_}{sections}{names}'
     return part + (f'<div class="dense">{made}</div>' if chapter.is_believed else made)
-
-
-def names_html(chapter):
-    """What the core names of the chapters behind it and of the library, each with its sentence, so that it can be read alone."""
-    rows = "".join(f'<li><a href="#{it.id}"><code>{html.escape(it.name)}</code></a> {it.number}: {text(layout.sentence_of(it))}</li>' for it in layout.names_elsewhere(chapter))
-    words = "".join(f"<li>{text(glossary.headed(word, meaning))}</li>" for word, meaning in glossary.words_of(chapter.definitions))
-    return (f'<h3 id="core-names">{layout.NAMES_ELSEWHERE}</h3><ul class="names">{rows}</ul>'
-            f'<h3 id="core-words">{layout.WORDS_USED}</h3><ul class="names">{words}</ul>')
 
 
 def contents_html(book):

@@ -4,7 +4,6 @@ import re
 import textwrap
 
 import bibtex_names
-import chapters
 import differences
 import functions
 import glossary
@@ -12,7 +11,7 @@ import layout
 import links
 import manuals
 import rules
-from blocks import Blocks
+from blocks import Blocks, Sections
 
 HEAD = """---
 title: "BibTeX, proved: the book of definitions"
@@ -64,11 +63,7 @@ def code(definition):
 
 
 def definition_markdown(it):
-    uses, users = layout.uses_elsewhere(it), layout.users_of(it)
-    foot = [f"{it.crate}, {layout.what_it_is(it)}"]
-    foot += [", ".join(layout.bytes_in(it))] * bool(layout.bytes_in(it))
-    foot += [f"`{written}` is {what}{references([target])}" for written, what, target in layout.renamed_in(it)]
-    foot += [f"uses {references(uses, 99)}"] * bool(uses) + [f"used in {references(users)}"] * bool(users)
+    foot = [f"{it.crate}, {layout.what_it_is(it)}", *layout.foot_of(it, references)]
     heading = f"#### {it.heading[0].upper() + it.heading[1:]}\n\n" if it.heading else ""
     return f"{heading}[]{{#{anchor(it)}}}**{it.number}** {layout.prose(it.comment) or '*(no comment)*'}\n\n{differences.sign_markdown(it.id)}{code(it)}\n\n*{'; '.join(foot)}*\n"
 
@@ -79,39 +74,42 @@ def functions_markdown(by_id):
     return f"| | function | operands | what it does, and errors of its own | default | example |\n|---|---|---|---|---|---|\n{rows}"
 
 
-def section_markdown(section, examples, known, by_id):
-    anchors = rules.headings()
-    linked_rules = ", ".join(f"[{rule}](#{anchors[rule]})" for rule in section.rules if rule in anchors)
-    of_manuals = f" The manuals: {manuals.sentence(section)}." if manuals.followed_by(section) else ""
-    out = [f"## {section.number} {section.title} {{#s{section.number} .unnumbered}}\n"] + [f"The rule in words: {linked_rules}.{of_manuals}\n"] * bool(linked_rules)
-    for name, example in ((name, examples[name]) for name in section.examples if name in examples):
-        said = layout.caption(section, name, example)
-        caption = f". {said}" if said else "."
-        words = "".join(f"- {word}\n" for word in layout.words_of(example, known))
-        out.append(f"**Example**{caption}\n\n{code(example.row)}\n\n{words}\n*{example.shown}, which is checked*\n")
-    out += [functions_markdown(by_id)] * (section.table == "functions")
-    for module, found in section.parts:
-        intros = " ".join(f"{layout.prose(intro)} (`{file}`)" for file, intro in chapters.files_of(module, found))
-        out.append(f"{intros}\n")
-        out += [definition_markdown(it) for it in found]
-    return "\n".join(out)
+def opening_markdown(section, linked, of_manuals):
+    """A section's heading, and the rules that it is about, each with its anchor."""
+    rules_ = ", ".join(f"[{rule}](#{anchor})" for rule, anchor in linked)
+    heading = f"## {section.number} {section.title} {{#s{section.number} .unnumbered}}\n"
+    return [heading] + [f"The rule in words: {rules_}.{of_manuals}\n"] * bool(linked)
+
+
+def example_markdown(example, said, known):
+    caption = f". {said}" if said else "."
+    words = "".join(f"- {word}\n" for word in layout.words_of(example, known))
+    return f"**Example**{caption}\n\n{code(example.row)}\n\n{words}\n*{example.shown}, which is checked*\n"
+
+
+def intros_markdown(files):
+    """What files say at their front."""
+    return " ".join(f"{layout.prose(intro)} (`{file}`)" for file, intro in files) + "\n"
+
+
+def named_markdown(it):
+    return references([it])
+
+
+def listed_markdown(anchor, title, items):
+    return f"## {title} {{#{anchor} .unnumbered}}\n\n" + "\n".join(f"- {item}" for item in items) + "\n"
+
+
+SECTIONS = Sections(opening_markdown, example_markdown, functions_markdown, intros_markdown, definition_markdown, named_markdown, listed_markdown)
 
 
 def chapter_markdown(chapter, book):
     known = set()
-    sections = "\n".join(section_markdown(section, book.examples, known, book.by_id) for section in chapter.sections)
+    sections = "\n".join(SECTIONS.woven(section, book, known) for section in chapter.sections)
     part = f"# {chapter.part} {{.unnumbered}}\n\n" if chapter.part else ""
-    signs, names = (notation_markdown(book.signs, book, 2), names_markdown(chapter)) if layout.is_core(chapter) else ("", "")
+    signs, names = notation_markdown(book.signs, book, 2) if layout.is_core(chapter) else "", "\n".join(SECTIONS.core_lists(chapter))
     opening = links.linked(" ".join(chapter.opening), book.by_id, True)
     return f"{part}# {chapter.number}. {chapter.title} {{#ch{chapter.number} .unnumbered}}\n\n{opening}\n\n{signs}\n{sections}\n{names}"
-
-
-def names_markdown(chapter):
-    """What the core names of the chapters behind it and of the library, each with its sentence, so that it can be read alone."""
-    rows = "\n".join(f"- {references([it])}: {layout.sentence_of(it)}" for it in layout.names_elsewhere(chapter))
-    words = "\n".join(f"- {glossary.headed(word, meaning)}" for word, meaning in glossary.words_of(chapter.definitions))
-    return (f"## {layout.NAMES_ELSEWHERE} {{#core-names .unnumbered}}\n\n{rows}\n\n"
-            f"## {layout.WORDS_USED} {{#core-words .unnumbered}}\n\n{words}\n")
 
 
 def words_markdown(found):

@@ -85,13 +85,17 @@ def iterates(body):
     return HEAD + b"FUNCTION {f} {" + body + b"} ITERATE {f}\n"
 
 
+def last_error(message, line, file, errors=1):
+    """What is expected where all errors have one message: so many of them, of which the last names this line of this file."""
+    return Expected(errors=errors, log={b"Error--%s--line %d of file %s" % (message, line, file): 1})
+
+
 # ---- `.aux` files ----
 
 
 @hostile()
 def an_aux_file_names_itself(size):
-    line = b"Error--Already encountered file job.aux--line 1 of file job.aux"
-    return {"job.aux": b"\\@input{job.aux}\n" + AUX}, Expected(errors=1, log={line: 1})
+    return {"job.aux": b"\\@input{job.aux}\n" + AUX}, last_error(b"Already encountered file job.aux", 1, b"job.aux")
 
 
 @hostile()
@@ -165,15 +169,13 @@ def one_key_cited_again_and_again(size):
 
 @hostile(size=1_100_000, small=100)
 def citations_that_are_all_wrong(size):
-    line = b"Error--White space in argument--line %d of file job.aux" % size
-    return {"job.aux": b"\\citation{a b}\n" * size + AUX}, Expected(errors=size, log={line: 1})
+    return {"job.aux": b"\\citation{a b}\n" * size + AUX}, last_error(b"White space in argument", size, b"job.aux", size)
 
 
 @hostile(size=1_500, small=1_500)
 def an_aux_file_of_a_long_name(size):
     name = b"x" * (size - 4) + b".aux"
-    return ({"job.aux": AUX + b"\\@input{%s}\n" % name},
-            Expected(errors=1, log={b"Error--I couldn't open auxiliary file %s--line 4 of file job.aux" % name: 1}))
+    return {"job.aux": AUX + b"\\@input{%s}\n" % name}, last_error(b"I couldn't open auxiliary file " + name, 4, b"job.aux")
 
 
 @hostile(size=1_100, small=1_100)
@@ -215,8 +217,7 @@ def strings_that_double(size):
 
 @hostile(size=100_000, small=200)
 def entries_of_one_key(size):
-    line = b"Error--Repeated entry--line %d of file d.bib" % size
-    return {"d.bib": b"@misc{k}\n" * size}, Expected(errors=size - 1, log={line: 1})
+    return {"d.bib": b"@misc{k}\n" * size}, last_error(b"Repeated entry", size, b"d.bib", size - 1)
 
 
 @hostile(size=100_000, small=200)
@@ -290,14 +291,12 @@ def a_field_of_braces(size):
 
 @hostile(size=100_000, small=200)
 def an_item_that_is_wrong_on_each_line(size):
-    line = b"Error--I was expecting a name--line %d of file d.bib" % size
-    return {"d.bib": b"@{\n" * size + DATABASE}, Expected(errors=size, log={line: 1})
+    return {"d.bib": b"@{\n" * size + DATABASE}, last_error(b"I was expecting a name", size, b"d.bib", size)
 
 
 @hostile(size=1_000_000, small=1_000)
 def a_database_of_at_signs(size):
-    line = b"Error--Illegal end of database file--line 2 of file d.bib"
-    return {"d.bib": DATABASE + b"@" * size}, Expected(errors=1, log={line: 1})
+    return {"d.bib": DATABASE + b"@" * size}, last_error(b"Illegal end of database file", 2, b"d.bib")
 
 
 @hostile(size=100_000, small=200)
@@ -468,8 +467,7 @@ def a_style_of_functions(size):
 
 @hostile(size=100_000, small=500)
 def a_style_of_mistakes(size):
-    line = b"Error--nonsense isn't a command--line 4 of file s.bst"
-    return {"s.bst": WRITES_A + b"\nnonsense\n" * size}, Expected(errors=size, log={line: 1})
+    return {"s.bst": WRITES_A + b"\nnonsense\n" * size}, last_error(b"nonsense isn't a command", 4, b"s.bst", size)
 
 
 @hostile(size=600_000, small=500)

@@ -18,7 +18,7 @@ import sys
 import tempfile
 from typing import Callable, NamedTuple
 
-from measure import PROGRAM, Bars, compile_once, named_in
+from measure import PROGRAM, Bars, named_in, room_with_once
 
 HERE = pathlib.Path(__file__).resolve().parent
 RULES = HERE.parents[1] / "docs/RULES.md"
@@ -361,9 +361,7 @@ def main():
     for name in said.keys() - COSTS.keys():
         bars.missed += 1
         print(f"NOT MET   RULES names {name}, and there is no such job")
-    with tempfile.TemporaryDirectory() as room:
-        room = pathlib.Path(room)
-        compile_once(room)
+    with room_with_once() as room:
         for cost in chosen:
             judge(arguments.program.resolve(), cost, said, room, bars)
             sys.stdout.flush()

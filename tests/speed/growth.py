@@ -10,9 +10,8 @@ shapes in two sizes, and the bars; `--original` adds rows of the original `bibte
 import argparse
 import pathlib
 import sys
-import tempfile
 
-from measure import MOST_GROWTH, PROGRAM, Bars, compile_once, exponent, find_tools, has_commands, measure, millions, named_in, row
+from measure import MOST_GROWTH, PROGRAM, Bars, exponent, find_tools, has_commands, measure, millions, named_in, room_with_once, row
 from shapes import SHAPES, START
 
 # No shape leaves anything to chance.
@@ -95,9 +94,7 @@ def main():
     if not has_commands():
         return 0
     bars = Bars()
-    with tempfile.TemporaryDirectory() as room:
-        room = pathlib.Path(room)
-        compile_once(room)
+    with room_with_once() as room:
         tools = [tool for tool in find_tools(arguments, room, LONGEST_RUN) if arguments.original or not tool.is_original]
         start, measured = measure_all(arguments.only, tools, arguments.runs, room) if tools else ({}, [])
     if "program" in start:

@@ -8,6 +8,7 @@ PROGRAM is BIBTEX_PROGRAM, or else crates/bibtex/out/bibtex, if none is given. I
 'N bars met, M not'; the exit status is 0 only where M is 0."""
 
 import argparse
+import contextlib
 import math
 import os
 import pathlib
@@ -345,17 +346,20 @@ def has_commands():
     return not missing
 
 
-def compile_once(room):
-    subprocess.run(["gcc", "-O2", "-Wall", "-Werror", "-o", room / "once", HERE / "once.c"], check=True)
+@contextlib.contextmanager
+def room_with_once():
+    """A folder for what is measured, with the program of once.c in it."""
+    with tempfile.TemporaryDirectory() as room:
+        room = pathlib.Path(room)
+        subprocess.run(["gcc", "-O2", "-Wall", "-Werror", "-o", room / "once", HERE / "once.c"], check=True)
+        yield room
 
 
 def main():
     if not has_commands():
         return 0
     arguments = read_arguments()
-    with tempfile.TemporaryDirectory() as room:
-        room = pathlib.Path(room)
-        compile_once(room)
+    with room_with_once() as room:
         tools = find_tools(arguments, room)
         measured = measure_all(tools, arguments, room)
     bars = Bars()
