@@ -1,7 +1,6 @@
 pub mod GrammarLemmas
 pub mod ValueLemmas
 pub mod TextLemmas
-pub mod LoweringLemmas
 pub mod JoinedNameLemmas
 pub mod TableNameLemmas
 pub mod FillingLemmas

@@ -1,5 +1,5 @@
 -- Keys that are the same without case, and lists that have each key once.
-use Rattle.std.proofs.Common.{◌≡◌, ℕ, suc, Bool, true, false, ◌||◌, if◌then◌else◌, List, [], ◌∷◌, ◌++◌, map, fold, Option, None, Some, refl, sym, ap, ◌∙◌}
+use Rattle.std.proofs.Common.{◌≡◌, ℕ, suc, Bool, true, false, ◌||◌, cond, if◌then◌else◌, List, [], ◌∷◌, ◌++◌, map, fold, Option, None, Some, refl, sym, ap, subst, ◌∙◌}
 use Rattle.std.specs.Str.{bytes_eq}
 use Rattle.std.specs.Option.{option_map}
 use Rattle.std.specs.List.{find, list_any, AllByRecursion, IsDistinct}
@@ -26,6 +26,12 @@ same_key_equiv = record {
 
 pub folded-same : (key other : List ℕ) → is_same_key key other ≡ true → folded key ≡ folded other
 folded-same key other same = (bytes_eq-Decides (folded key) (folded other)).0 same
+
+-- what a search by its key finds has that key, if what is found behind the first one has it
+pub found-first : {T : Type 0} (key_in : T → List ℕ) (key : List ℕ) (y x : T) (later : Option T) (b : Bool) → is_same_key key (key_in y) ≡ b
+    → cond b (Some y) later ≡ Some x → (later ≡ Some x → is_same_key key (key_in x) ≡ true) → is_same_key key (key_in x) ≡ true
+found-first {T} key_in key y x later true same h behind = let is : y ≡ x = cc in subst (λ (z : T). is_same_key key (key_in z) ≡ true) is same
+found-first key_in key y x later false differs h behind = behind h
 
 pub is_any_key-same : (keys : List (List ℕ)) (key other : List ℕ) → is_same_key key other ≡ true → is_any_key keys key ≡ is_any_key keys other
 is_any_key-same keys key other same = ap (λ (f : List ℕ). list_any (λ (k : List ℕ). bytes_eq f (folded k)) keys) (folded-same key other same)

@@ -1,6 +1,6 @@
 -- Where no reference is asked for, each parent that has an entry stays.
 use Rattle.std.proofs.Common.{◌≡◌, ℕ, nat_le, arith, Bool, true, false, ◌||◌, ◌&&◌, cond, List, [], ◌∷◌, ◌++◌, map, Option, None, Some, is_some, refl, sym, ap}
-use Rattle.std.proofs.Common.{subst, ◌∙◌}
+use Rattle.std.proofs.Common.{◌∙◌}
 use Rattle.std.specs.Prelude.{count_by}
 use Rattle.std.specs.Option.{option_map, option_or, unwrap_or}
 use Rattle.std.specs.List.{filter, find}
@@ -12,7 +12,7 @@ use Rattle.btx_bib.specs.language.Stored.{entry_with_key, parents_in, references
 use Rattle.btx_bib.specs.language.Listing.{first_cited, added, last_cited, list_keys}
 use Rattle.btx_bib.specs.laws.Laws.{keeps_entry, stored_by}
 use Rattle.btx_bib.specs.laws.Parents.{NoParentLeaves}
-use Rattle.btx_bib.proofs.ListedKeyLemmas.{same_key_equiv, entry_of-same, is_any_key-append, is_any_key-fold}
+use Rattle.btx_bib.proofs.ListedKeyLemmas.{same_key_equiv, found-first, entry_of-same, is_any_key-append, is_any_key-fold}
 use Rattle.btx_bib.proofs.StayingLemmas.{list-is-kept}
 use Rattle.btx_bib.specs.laws.Listing.{spelled, stays}
 use Rattle.btx_bib.specs.laws.Stored.{is_any_key, keys_in}
@@ -57,11 +57,8 @@ on-list wanted stored parent named has =
 found-same : {T : Type 0} (key_in : T → List ℕ) (xs : List T) (key : List ℕ) (x : T) → find (λ (y : T). is_same_key key (key_in y)) xs ≡ Some x
     → is_same_key key (key_in x) ≡ true
 found-same key_in [] key x h = cc
-found-same {T} key_in (y ∷ xs) key x h = by_test (is_same_key key (key_in y)) refl h (found-same key_in xs key x) where
-  by_test : (b : Bool) → is_same_key key (key_in y) ≡ b → cond b (Some y) (find (λ (y : T). is_same_key key (key_in y)) xs) ≡ Some x
-      → (find (λ (y : T). is_same_key key (key_in y)) xs ≡ Some x → is_same_key key (key_in x) ≡ true) → is_same_key key (key_in x) ≡ true
-  by_test true same h later = let is : y ≡ x = cc in subst (λ (z : T). is_same_key key (key_in z) ≡ true) is same
-  by_test false differs h later = later h
+found-same {T} key_in (y ∷ xs) key x h =
+    found-first key_in key y x (find (λ (y : T). is_same_key key (key_in y)) xs) (is_same_key key (key_in y)) refl h (found-same key_in xs key x)
 
 spelled-same : (wanted : Request) (stored : List Given) (key : List ℕ) → is_same_key key (spelled wanted stored key) ≡ true
 spelled-same wanted stored key = by_cited (listed_as wanted.cited key) refl where

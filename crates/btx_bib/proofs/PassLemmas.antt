@@ -16,7 +16,7 @@ use Rattle.btx_bib.specs.refinement.Steps.{lower_keys, messages_by, slot_by}
 use Rattle.btx_bib.specs.declared.slots.Body.{Body}
 use Rattle.btx_bib.proofs.ValueLemmas.{inherited-same}
 use Rattle.std.proofs.lemmas.Bool.Decides.{nat_tests}
-use Rattle.btx_bib.proofs.ListedKeyLemmas.{folded-same}
+use Rattle.btx_bib.proofs.ListedKeyLemmas.{folded-same, found-first}
 
 pub changed_at-agree : (xs : List Slot) (p : ℕ) (x : Slot) (f g : Slot → Slot) → slice_get xs p ≡ Some x → f x ≡ g x → changed_at p f xs ≡ changed_at p g xs
 changed_at-agree [] p x f g at same = refl
@@ -97,6 +97,19 @@ pub messages-is : (slots : List Slot) (slot : Slot) (key : List ℕ) (o : Option
 unfolding check_messages
 messages-is slots slot key o some is = ap (λ (o : Option (List ℕ)). check_messages_by o slots slot) some
     ∙ ap (λ (o : Option Slot). parent_messages slot.key key o) is
+
+-- the same where the parent was found by its name in lower case
+pub checked-found : (slots : List Slot) (names : List (List ℕ)) (slot : Slot) (key : List ℕ) (o : Option Slot) (stays : Bool) → names ≡ lower_keys slots
+    → parent_at slot ≡ Some key → o ≡ slot_by slots (first_place (bytes_eq (folded key)) names) → is_parent o ≡ stays
+    → checked slots slot ≡ (if stays then slot else without_crossref slot)
+checked-found slots names slot key o stays are some found is = checked-is slots slot key o some (slot_at-by slots names key o are found)
+    ∙ ap (λ (b : Bool). if b then slot else without_crossref slot) is
+
+pub messages-found : (slots : List Slot) (names : List (List ℕ)) (place : ℕ) (slot : Slot) (key : List ℕ) (o : Option Slot) → names ≡ lower_keys slots
+    → slice_get slots place ≡ Some slot → parent_at slot ≡ Some key → o ≡ slot_by slots (first_place (bytes_eq (folded key)) names)
+    → parent_messages slot.key key o ≡ messages_by slots (slice_get slots place)
+messages-found slots names place slot key o are there some found = sym (messages-is slots slot key o some (slot_at-by slots names key o are found))
+    ∙ ap (messages_by slots) (sym there)
 
 key-checked_by : (o : Option (List ℕ)) (slots : List Slot) (slot : Slot) → (checked_by o slots slot).key ≡ slot.key
 key-checked_by None slots slot = refl
@@ -282,11 +295,8 @@ past-none (s ∷ slots) (suc place) past = past-none slots place (omega arith)
 
 pub slot_at-same : (slots : List Slot) (key : List ℕ) (slot : Slot) → slot_at slots key ≡ Some slot → is_same_key key slot.key ≡ true
 slot_at-same [] key slot h = cc
-slot_at-same (s ∷ slots) key slot h = by_test (is_same_key key s.key) refl h (slot_at-same slots key slot) where
-  by_test : (b : Bool) → is_same_key key s.key ≡ b → cond b (Some s) (slot_at slots key) ≡ Some slot
-      → (slot_at slots key ≡ Some slot → is_same_key key slot.key ≡ true) → is_same_key key slot.key ≡ true
-  by_test true same h rest = let is : s ≡ slot = cc in subst (λ (x : Slot). is_same_key key x.key ≡ true) is same
-  by_test false differs h rest = rest h
+slot_at-same (s ∷ slots) key slot h =
+    found-first (λ (x : Slot). x.key) key s slot (slot_at slots key) (is_same_key key s.key) refl h (slot_at-same slots key slot)
 
 length-folded : (key : List ℕ) → length (folded key) ≡ length key
 length-folded [] = refl

@@ -1,10 +1,11 @@
 -- What is kept of the list after the stored entries is what these entries come to.
 use Rattle.std.proofs.Common.{◌≡◌, ℕ, zero, suc, arith, ◌+◌, Bool, true, false, ◌||◌, cond, if◌then◌else◌, List, [], ◌∷◌, ◌++◌, map, fold, Option, None, Some}
-use Rattle.std.proofs.Common.{is_some, refl, sym, ap, subst, ◌∙◌, append_assoc, append-nil, take, drop}
+use Rattle.std.proofs.Common.{is_some, refl, sym, ap, ◌∙◌, append_assoc, append-nil, take, drop}
 use Rattle.std.specs.Prelude.{count_by, slice_get, option_to_list}
 use Rattle.std.specs.Str.{bytes_eq}
 use Rattle.std.specs.Option.{option_map}
 use Rattle.std.specs.List.{find, list_any, flat_map, IsDistinct}
+use Rattle.std.proofs.lemmas.Bool.{or_parts}
 use Rattle.std.proofs.lemmas.Grind.{fold-append}
 use Rattle.btx_text.specs.language.Keys.{folded}
 use Rattle.btx_aux.specs.language.Names.{is_same_key, listed_as, with_key}
@@ -23,7 +24,7 @@ use Rattle.btx_bib.specs.refinement.Drafts.{new_standing, put_at, referred_at, r
 use Rattle.btx_bib.specs.refinement.Steps.{lower_keys}
 use Rattle.btx_bib.proofs.PlaceLemmas.{place_of-none}
 use Rattle.btx_bib.proofs.ListedKeyLemmas.{same_key_equiv, folded-same, is_any_key-same, entry_of-same, is_any_key-append, is_any_key-fold, distinct-fold}
-use Rattle.btx_bib.proofs.ListedKeyLemmas.{distinct-none, changed_key, unchanged, none_same, changed_at-key}
+use Rattle.btx_bib.proofs.ListedKeyLemmas.{found-first, distinct-none, changed_key, unchanged, none_same, changed_at-key}
 use Rattle.btx_bib.proofs.SlotLemmas.{slot_by, with_entry-slot, once_more-slot, settled-slot, entry_of-new, count_by-push}
 use Rattle.btx_bib.specs.refinement.Entries.{parent_of}
 use Rattle.btx_bib.specs.laws.Stored.{is_any_key}
@@ -91,14 +92,6 @@ true_or : (a b : Bool) → a ≡ true → (a || b) ≡ true
 true_or true b h = refl
 true_or false b h = cc
 
-or_left : (a b : Bool) → (a || b) ≡ false → a ≡ false
-or_left true b h = cc
-or_left false b h = refl
-
-or_right : (a b : Bool) → (a || b) ≡ false → b ≡ false
-or_right true b h = cc
-or_right false b h = h
-
 none_if : {T : Type 0} (o : Option T) (b : Bool) → (is_some o ≡ true → b ≡ true) → b ≡ false → o ≡ None
 none_if None b h f = refl
 none_if (Some x) b h f = let t = h refl in cc
@@ -112,10 +105,10 @@ count-none ks key h = none ks 0 h where
   none : (xs : List (List ℕ)) (n : ℕ) → is_any_key xs key ≡ false → fold (λ (m : ℕ) (k : List ℕ). m + cond (is_same_key key k) 1 0) n xs ≡ n
   none [] n h = refl
   none (x ∷ xs) n h =
-      let here : is_same_key key x ≡ false = or_left (is_same_key key x) (is_any_key xs key) h in
+      let here : is_same_key key x ≡ false = (or_parts (is_same_key key x) (is_any_key xs key) h).0 in
       ap (λ (b : Bool). fold (λ (m : ℕ) (k : List ℕ). m + cond (is_same_key key k) 1 0) (n + cond b 1 0) xs) here
       ∙ ap (λ (m : ℕ). fold (λ (m : ℕ) (k : List ℕ). m + cond (is_same_key key k) 1 0) m xs) (omega arith)
-      ∙ none xs n (or_right (is_same_key key x) (is_any_key xs key) h)
+      ∙ none xs n (or_parts (is_same_key key x) (is_any_key xs key) h).1
 
 module _ (wanted : Request) where
   -- ---- the keys of the list
@@ -278,10 +271,10 @@ module _ (wanted : Request) where
           let apart = sym (is_any_key-append wanted.cited (references wanted stored) parent) ∙ ap (λ (ks : List (List ℕ)). is_any_key ks parent) (sym parts)
           ∙ unasked in
           let uncited : listed_as wanted.cited parent ≡ None =
-          find-none (is_same_key parent) wanted.cited (or_left (is_any_key wanted.cited parent) (is_any_key (references wanted stored) parent) apart) in
+          find-none (is_same_key parent) wanted.cited (or_parts (is_any_key wanted.cited parent) (is_any_key (references wanted stored) parent) apart).0 in
           let unreferred : count_by (is_same_key parent) (references wanted stored) ≡ 0 =
           count-none (references wanted stored) parent
-          (or_right (is_any_key wanted.cited parent) (is_any_key (references wanted stored) parent) apart) in
+          (or_parts (is_any_key wanted.cited parent) (is_any_key (references wanted stored) parent) apart).1 in
           let once : count_by (is_same_key parent) more ≡ 1 =
           count_by-push (references wanted stored) parent parent
           ∙ ap (λ (b : Bool). if b then count_by (is_same_key parent) (references wanted stored) + 1 else count_by (is_same_key parent)
@@ -482,8 +475,8 @@ module _ (wanted : Request) where
   listed_as-first : (done : List (List ℕ)) (key : List ℕ) (rest : List (List ℕ)) → is_any_key done key ≡ false → listed_as (done ++ key ∷ rest) key ≡ Some key
   listed_as-first [] key rest none = ap (λ (b : Bool). cond b (Some key) (listed_as rest key)) (same_key_equiv.refl key)
   listed_as-first (k ∷ done) key rest none =
-      ap (λ (b : Bool). cond b (Some k) (listed_as (done ++ key ∷ rest) key)) (or_left (is_same_key key k) (is_any_key done key) none)
-      ∙ listed_as-first done key rest (or_right (is_same_key key k) (is_any_key done key) none)
+      ap (λ (b : Bool). cond b (Some k) (listed_as (done ++ key ∷ rest) key)) (or_parts (is_same_key key k) (is_any_key done key) none).0
+      ∙ listed_as-first done key rest (or_parts (is_same_key key k) (is_any_key done key) none).1
 
   -- the list with these keys, where no reference counts
   abbrev pub listing : List Given → List (List ℕ) → Draft
@@ -550,19 +543,13 @@ module _ (wanted : Request) where
 
   found-same : (ks : List (List ℕ)) (key other : List ℕ) → listed_as ks key ≡ Some other → is_same_key key other ≡ true
   found-same [] key other h = cc
-  found-same (k ∷ ks) key other h = by_test (is_same_key key k) refl h (found-same ks key other) where
-    by_test : (b : Bool) → is_same_key key k ≡ b → cond b (Some k) (listed_as ks key) ≡ Some other
-        → (listed_as ks key ≡ Some other → is_same_key key other ≡ true) → is_same_key key other ≡ true
-    by_test true same h rest = let is : k ≡ other = cc in subst (λ (x : List ℕ). is_same_key key x ≡ true) is same
-    by_test false differs h rest = rest h
+  found-same (k ∷ ks) key other h =
+      found-first (λ (x : List ℕ). x) key k other (listed_as ks key) (is_same_key key k) refl h (found-same ks key other)
 
   entry-same : (entries : List Given) (key : List ℕ) (entry : Given) → entry_with_key entries key ≡ Some entry → is_same_key key entry.key ≡ true
   entry-same [] key entry h = cc
-  entry-same (e ∷ entries) key entry h = by_test (is_same_key key e.key) refl h (entry-same entries key entry) where
-    by_test : (b : Bool) → is_same_key key e.key ≡ b → cond b (Some e) (entry_with_key entries key) ≡ Some entry
-        → (entry_with_key entries key ≡ Some entry → is_same_key key entry.key ≡ true) → is_same_key key entry.key ≡ true
-    by_test true same h rest = let is : e ≡ entry = cc in subst (λ (x : Given). is_same_key key x.key ≡ true) is same
-    by_test false differs h rest = rest h
+  entry-same (e ∷ entries) key entry h =
+      found-first (λ (x : Given). x.key) key e entry (entry_with_key entries key) (is_same_key key e.key) refl h (entry-same entries key entry)
 
   slot-key : (stored : List Given) (key : List ℕ) → folded key ≡ folded (slot stored key).key
   slot-key stored key = by_case (listed_as wanted.cited key) refl (entry_with_key stored key) refl where

@@ -3,14 +3,13 @@ use crate::draft_slots::{DraftSlot, DraftSlots};
 use crate::end::End;
 use crate::entry::Entry;
 use crate::library::Library;
-use crate::lowering::in_lower_case;
 use crate::message::Messages;
 use crate::names::Names;
 use crate::passes::entries_of;
 use crate::request::Request;
 use crate::slots::Body;
 use crate::spelling::{Spelling, Word};
-use btx_text::Text;
+use btx_text::{Lowered, Text};
 use std::alloc::{AllocError, Global};
 
 /// The keys of the list in lower case, and its places.
@@ -113,7 +112,7 @@ impl<'a> Draft<'a> {
     ) -> Result<(), AllocError>
         ensures { OnOk result (self.new ≡ cited_at (wanted request.now) key.entry.now self.old (place_in self.old key.entry.now)) }
     {
-        let lowered = in_lower_case(alloc, key)?;
+        let lowered = Lowered::of(alloc, key)?;
         if let Some(_) = self.names.position(lowered.as_bytes()) {
             return Ok(());
         }
@@ -136,7 +135,7 @@ impl<'a> Draft<'a> {
     ) -> Result<Standing, AllocError>
         ensures { IfOk result (λ standing. standing ≡ standing_at (wanted request.now) self.now (place_in self.now key.now)) }
     {
-        let lowered = in_lower_case(alloc, key)?;
+        let lowered = Lowered::of(alloc, key)?;
         let Some(place) = self.names.position(lowered.as_bytes()) else {
             return Ok(request.standing_of_new());
         };
@@ -150,7 +149,7 @@ impl<'a> Draft<'a> {
     pub fn has_entry(&self, alloc: Global, key: &[u8]) -> Result<bool, AllocError>
         ensures { IfOk result (λ stored. stored ≡ has_entry self.now (place_in self.now key.now)) }
     {
-        let lowered = in_lower_case(alloc, key)?;
+        let lowered = Lowered::of(alloc, key)?;
         match self.names.position(lowered.as_bytes()) {
             Some(place) => Ok(self.slots.has_body(place)),
             None => Ok(false),
@@ -183,7 +182,7 @@ impl<'a> Draft<'a> {
     ) -> Result<(), AllocError>
         ensures { OnOk result (self.new ≡ put_at (wanted request.now) key.now body.entry self.old (place_in self.old key.now)) }
     {
-        let lowered = in_lower_case(alloc, key.as_bytes())?;
+        let lowered = Lowered::of(alloc, key.as_bytes())?;
         if let Some(place) = self.names.position(lowered.as_bytes()) {
             let key = Spelling::of_file(key.as_bytes());
             self.slots.fill(place, key, body);
@@ -221,7 +220,7 @@ impl<'a> Draft<'a> {
     ) -> Result<(), AllocError>
         ensures { OnOk result (self.new ≡ referred_at (wanted request.now) key.entry self.old (place_in self.old key.entry)) }
     {
-        let lowered = in_lower_case(alloc, key.as_bytes())?;
+        let lowered = Lowered::of(alloc, key.as_bytes())?;
         if let Some(place) = self.names.position(lowered.as_bytes()) {
             self.slots.refer(place);
             return Ok(());

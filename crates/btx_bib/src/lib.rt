@@ -11,7 +11,6 @@ mod gathering;
 pub mod grammar;
 pub mod laws;
 pub mod library;
-mod lowering;
 pub mod message;
 mod message_texts;
 mod names;

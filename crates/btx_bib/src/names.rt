@@ -5,8 +5,8 @@ ghost use Rattle.std.specs.List.{list_any};
 ghost use Rattle.btx_text.specs.language.Keys.{folded};
 ghost use Rattle.btx_bib.specs.refinement.Finding.{first_place};
 
-use crate::lowering::Lowered;
 use btx_aux::AuxJob;
+use btx_text::Lowered;
 use indexmap::IndexSet;
 use std::alloc::{AllocError, Global};
 use std::marker::Model;

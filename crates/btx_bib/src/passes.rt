@@ -7,12 +7,11 @@ ghost use Rattle.btx_bib.specs.refinement.Steps.{lower_keys, messages_by};
 ghost use Rattle.btx_bib.specs.refinement.Passes.{absence_messages};
 
 use crate::entry::Entry;
-use crate::lowering::in_lower_case;
 use crate::message::{Message, Messages};
 use crate::names::Names;
 use crate::slots::{Body, Slot, Slots};
 use crate::spelling::Spelling;
-use btx_text::Text;
+use btx_text::{Lowered, Text};
 use std::alloc::{AllocError, Global};
 
 // The first pass, at one place.
@@ -31,7 +30,7 @@ fn inherit_at(
     let Some(key) = slot.parent(alloc)? else {
         return Ok(());
     };
-    let lowered = in_lower_case(alloc, key.as_bytes())?;
+    let lowered = Lowered::of(alloc, key.as_bytes())?;
     let Some(parent) = names.position(lowered.as_bytes()) else {
         return Ok(());
     };

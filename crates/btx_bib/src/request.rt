@@ -1,8 +1,8 @@
 //! What is asked of the databases.
-use crate::lowering::in_lower_case;
 use crate::style_fields::StyleFields;
 use btx_aux::AuxJob;
 use btx_bst::Style;
+use btx_text::Lowered;
 use std::alloc::{AllocError, Global};
 
 /// What a job and its style ask of the databases.
@@ -85,7 +85,7 @@ impl<'r, 'a> Request<'r, 'a> {
     pub fn kind(&self, alloc: Global, name: &[u8]) -> Result<Option<u32>, AllocError>
         ensures { IfOk result (λ number. number ≡ (wanted self.now).kind (folded name.now)) }
     {
-        let lowered = in_lower_case(alloc, name)?;
+        let lowered = Lowered::of(alloc, name)?;
         Ok(self.style.style().type_function(lowered.as_bytes()))
     }
 

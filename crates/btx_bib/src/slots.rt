@@ -1,9 +1,8 @@
 //! The places of the list, once all databases are read.
-use crate::lowering::in_lower_case;
 use crate::names::Names;
 use crate::spelling::Spelling;
 use crate::values::Values;
-use btx_text::Text;
+use btx_text::{Lowered, Text};
 use std::alloc::{AllocError, Global};
 use std::marker::Model;
 
@@ -101,7 +100,7 @@ impl<'a> Slots<'a> {
     ) -> Result<Option<&Slot<'a>>, AllocError>
         ensures { IfOk result (λ found. option_copied found ≡ slot_by self.now (first_place (bytes_eq (folded key.now)) names.now)) }
     {
-        let lowered = in_lower_case(alloc, key)?;
+        let lowered = Lowered::of(alloc, key)?;
         Ok(self.by_name(names, lowered.as_bytes()))
     }
 

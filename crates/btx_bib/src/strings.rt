@@ -4,8 +4,7 @@ ghost use Rattle.btx_bib.specs.refinement.Grammar.Squeezing.{is_squeezed};
 ghost use Rattle.btx_bib.specs.language.Strings.{defined};
 
 use crate::grammar::value_texts::Strings;
-use crate::lowering::in_lower_case;
-use btx_text::{Text, same_key};
+use btx_text::{Lowered, Text, same_key};
 use indexmap::IndexMap;
 use std::alloc::{AllocError, Global};
 use std::marker::Model;
@@ -42,7 +41,7 @@ impl<'a> StringTable<'a> {
         requires { is_squeezed false value ≡ true }
         ensures { OnOk result (self.new ≡ defined self.old name.now value.entry) }
     {
-        let lowered = in_lower_case(alloc, name)?;
+        let lowered = Lowered::of(alloc, name)?;
         let bytes = lowered.into_bytes(alloc)?;
         self.table.insert(bytes, value)?;
         Ok(())
@@ -55,7 +54,7 @@ impl<'a> Strings<'a> for StringTable<'a> {
     ghost values = { string_value };
 
     fn value_of(&self, alloc: Global, name: &[u8]) -> Result<Option<&Text<'a>>, AllocError> {
-        let lowered = in_lower_case(alloc, name)?;
+        let lowered = Lowered::of(alloc, name)?;
         Ok(self.table.get(lowered.as_bytes()))
     }
 }

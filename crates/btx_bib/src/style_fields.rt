@@ -3,8 +3,8 @@ ghost use Rattle.std.specs.Prelude.{◌≡◌, Some, IfOk, IfSome, OnOk};
 ghost use Rattle.btx_text.specs.language.Keys.{folded};
 ghost use Rattle.btx_bst.specs.language.Style.{field_of};
 
-use crate::lowering::in_lower_case;
 use btx_bst::{Callee, Style};
+use btx_text::Lowered;
 use std::alloc::{AllocError, Global};
 use std::marker::Model;
 
@@ -88,7 +88,7 @@ impl<'r, 'a> StyleFields<'r, 'a> {
     fn looked_up(&self, alloc: Global, name: &[u8]) -> Result<Option<usize>, AllocError>
         ensures { IfOk result (λ number. number ≡ field_of self.now (folded name.now)) }
     {
-        let lowered = in_lower_case(alloc, name)?;
+        let lowered = Lowered::of(alloc, name)?;
         match self.style.field(lowered.as_bytes()) {
             Some(number) => Ok(Some(number as usize)),
             None => Ok(None),

@@ -1,25 +1,19 @@
 -- The names before a style keep their numbers.
-use Rattle.std.proofs.Common.{◌≡◌, ℕ, zero, suc, List, [], ◌∷◌, ◌++◌, Option, None, Some}
+use Rattle.std.proofs.Common.{◌≡◌, ℕ, zero, suc, List, [], ◌∷◌, ◌++◌, Some}
 use Rattle.std.specs.Prelude.{slice_get, codes}
 use Rattle.btx_text.specs.language.Keys.{folded}
-use Rattle.btx_bst.specs.declared.callee.Callee.{Callee}
 use Rattle.btx_bst.specs.declared.callee.Kind.{Kind}
 use Rattle.btx_bst.specs.declared.callee.Kind.TheVariants as kind
-use Rattle.btx_bst.specs.language.Places.{Place, size}
-use Rattle.btx_bst.specs.language.Reads.{Read, Took, Slip}
-use Rattle.btx_bst.specs.language.Names.{Names, named, with_name}
+use Rattle.btx_bst.specs.language.Names.{Names, with_name}
 use Rattle.btx_bst.specs.language.Style.{Style}
-use Rattle.btx_bst.specs.language.Turns.{Turn}
-use Rattle.btx_bst.specs.language.Lists.{opening, closing, next_name, Listing, listing, Listed, name_turn, list_turn_in, list_turn, list_end, list_read}
+use Rattle.btx_bst.specs.language.Lists.{opening}
 use Rattle.btx_bst.specs.language.BodyText.{BodyEnd, Whole, Broken, body_end}
 use Rattle.btx_bst.specs.language.Commands.{function_ended, inside_at}
 use Rattle.btx_bst.specs.language.Predefined.{predefined}
 use Rattle.btx_bst.specs.language.StyleText.{style_of}
 use Rattle.btx_bst.specs.laws.FirstNames.{FirstNamesLaw}
-use Rattle.btx_bst.proofs.TurnLemmas.{OnTurn, turns-keep}
-use Rattle.btx_bst.proofs.KeepLemmas.{Keeps, kept-style}
+use Rattle.btx_bst.proofs.KeepLemmas.{Keeps, kept-style, kept_list}
 use Rattle.btx_bst.proofs.MeaningLemmas.{clear-style}
-use Rattle.btx_bst.specs.refinement.Lists.{unlisted, with_new}
 
 -- these names stand first in their lists
 pub record StandFirst (a : Names) : Type 0 where
@@ -58,31 +52,6 @@ first_named kind.GlobalInteger name a h =
     }
 first_named kind.GlobalString name a h = record { parent = h.parent; sort_key = h.sort_key; entry_limit = h.entry_limit; global_limit = h.global_limit }
 
-abbrev FirstTurn : Turn Listing Listed → Type 0
-FirstTurn t = OnTurn (λ s. StandFirst s.names) (λ r. StandFirst r.listing.names) t
-
-first_new : (k : Kind) (a : Names) (name : List ℕ) (p : Place) (o : Option Callee) → StandFirst a → FirstTurn (with_new k a name p o)
-first_new k a name p None h = first_named k (folded name) a h
-first_new k a name p (Some other) h = h
-
-first_read : (k : Kind) (a : Names) (r : Read (List ℕ)) → StandFirst a → FirstTurn (name_turn k a r)
-first_read k a (Slip c p) h = h
-first_read k a (Took name p) h = first_new k a name p (named a name) h
-
-first_turn : (k : Kind) (a : Names) (r : Read (Unit {0})) → StandFirst a → FirstTurn (list_turn_in k a r)
-first_turn k a (Took x p) h = h
-first_turn k a (Slip c p) h = first_read k a (next_name p) h
-
-first_end : (k : Kind) (s : Listing) → StandFirst s.names → StandFirst (list_end k s).listing.names
-unfolding list_end list_turn
-first_end k s h =
-    turns-keep (λ u. StandFirst u.names) (λ r. StandFirst r.listing.names) (list_turn k) unlisted
-    (λ u f. first_turn k u.names (closing u.place) f) (λ u f. f) (suc (size s.place)) s h
-
-first_list : (k : Kind) (a : Names) (r : Read (Unit {0})) → StandFirst a → StandFirst (list_read k a r).listing.names
-first_list k a (Slip c p) h = h
-first_list k a (Took x p) h = first_end k (listing a p) h
-
 abbrev IsFirstIn : Style → Type 0
 IsFirstIn s = StandFirst s.names
 
@@ -93,7 +62,7 @@ first_ended s name (Whole i) h = record { parent = h.parent; sort_key = h.sort_k
 first_keeps : Keeps IsFirstIn
 first_keeps = record {
   on_message = λ c line s h. h;
-  on_names = λ s k p h. first_list k s.names (opening p) h;
+  on_names = λ s k p h. kept_list StandFirst (λ k a name new h. first_named k (folded name) a h) k s.names (opening p) h;
   on_entry = λ s e h. h;
   on_read = λ s e f h. h;
   on_function = λ s name p e h. first_ended s (folded name) (body_end s.names (inside_at s p)) h;

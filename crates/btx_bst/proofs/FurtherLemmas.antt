@@ -248,3 +248,6 @@ pad-keeps names more es table p m = table m ∙ sym (named-padded names more m p
 pub padded-length : (n : ℕ) (functions : List (Option (List ℕ))) → length functions ≤ n → length (padded n functions) ≡ n
 padded-length n functions h =
     omega (arith, length-append functions (replicate (n - length functions) None), length-replicate {A = Option (List ℕ)} (n - length functions) None)
+
+pub padded-len : (n : ℕ) (functions : List (Option (List ℕ))) (name : List ℕ) → length functions ≤ n → length (padded n functions ++ Some name ∷ []) ≡ suc n
+padded-len n functions name h = omega (arith, length-append (padded n functions) (Some name ∷ []), padded-length n functions h)

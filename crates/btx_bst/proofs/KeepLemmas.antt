@@ -11,10 +11,12 @@ use Rattle.btx_bst.specs.language.Complaints.{Complaint, Another, BeforeEntry, B
 use Rattle.btx_bst.specs.language.Reads.{Read, Took, Slip}
 use Rattle.btx_bst.specs.language.Items.{Item}
 use Rattle.btx_bst.specs.language.Items as item
-use Rattle.btx_bst.specs.language.Names.{named}
+use Rattle.btx_bst.specs.language.Names.{Names, named, with_name}
 use Rattle.btx_bst.specs.language.Style.{Style}
 use Rattle.btx_bst.specs.language.BodyText.{body_end}
-use Rattle.btx_bst.specs.language.Lists.{opening, closing, next_name, quoted_at, letters_at, list_at}
+use Rattle.btx_bst.specs.language.Turns.{Turn}
+use Rattle.btx_bst.specs.language.Lists.{opening, closing, next_name, quoted_at, letters_at, list_at, Listing, listing, Listed, name_turn, list_turn_in, list_turn, list_end}
+use Rattle.btx_bst.specs.language.Lists.{list_read}
 use Rattle.btx_bst.specs.language.Outcomes.{CommandOutcome, outcome, after_read, with_item}
 use Rattle.btx_bst.specs.language.Commands.{after_list, entry_command, function_command, function_ended, has_read, read_command, run_command, run_of}
 use Rattle.btx_bst.specs.language.Commands.{sort_command, declare, macro_command, function_in, command_at, command_named, after_listed, inside_at}
@@ -23,6 +25,7 @@ use Rattle.btx_bst.specs.language.Predefined.{predefined}
 use Rattle.btx_bst.proofs.TurnLemmas.{OnTurn, turns-keep}
 use Rattle.btx_bst.specs.refinement.Commands.{entry_lists, run_name, macro_name, function_of, macro_of}
 use Rattle.btx_bst.specs.refinement.StyleText.{style_so_far, word_outcome}
+use Rattle.btx_bst.specs.refinement.Lists.{unlisted, with_new}
 use Rattle.btx_bst.specs.laws.StyleText.{unread_style}
 use Rattle.btx_bst.specs.laws.Names.{macro_lower}
 use Rattle.btx_bst.specs.laws.Places.{beginning}
@@ -181,3 +184,36 @@ kept-style P keeps file text h =
     let s : StyleState = style_state (unread_style file predefined) (beginning text) in
     turns-keep (λ (t : StyleState). P t.style) P item_turn style_so_far (λ t k. kept_item P keeps t.style (ink t.place) (ink t.place).line k) (λ t k. k)
     (suc (size s.place)) s h
+
+-- ---- lists of names
+
+abbrev KeptTurn : (Names → Type 0) → Turn Listing Listed → Type 0
+KeptTurn P t = OnTurn (λ s. P s.names) (λ r. P r.listing.names) t
+
+-- what each new name keeps
+abbrev pub KeepsNames : (Names → Type 0) → Type 0
+KeepsNames P = (k : Kind) (a : Names) (name : List ℕ) → named a name ≡ None → P a → P (with_name k (folded name) a)
+
+names_new : (P : Names → Type 0) → KeepsNames P → (k : Kind) (a : Names) (name : List ℕ) (p : Place) (o : Option Callee) → named a name ≡ o → P a
+    → KeptTurn P (with_new k a name p o)
+names_new P each k a name p None new h = each k a name new h
+names_new P each k a name p (Some other) new h = h
+
+names_read : (P : Names → Type 0) → KeepsNames P → (k : Kind) (a : Names) (r : Read (List ℕ)) → P a → KeptTurn P (name_turn k a r)
+names_read P each k a (Slip c p) h = h
+names_read P each k a (Took name p) h = names_new P each k a name p (named a name) refl h
+
+names_turn : (P : Names → Type 0) → KeepsNames P → (k : Kind) (a : Names) (r : Read (Unit {0})) → P a → KeptTurn P (list_turn_in k a r)
+names_turn P each k a (Took x p) h = h
+names_turn P each k a (Slip c p) h = names_read P each k a (next_name p) h
+
+names_end : (P : Names → Type 0) → KeepsNames P → (k : Kind) (s : Listing) → P s.names → P (list_end k s).listing.names
+unfolding list_end list_turn
+names_end P each k s h =
+    turns-keep (λ u. P u.names) (λ r. P r.listing.names) (list_turn k) unlisted
+    (λ u f. names_turn P each k u.names (closing u.place) f) (λ u f. f) (suc (size s.place)) s h
+
+-- the list keeps
+pub kept_list : (P : Names → Type 0) → KeepsNames P → (k : Kind) (a : Names) (r : Read (Unit {0})) → P a → P (list_read k a r).listing.names
+kept_list P each k a (Slip c p) h = h
+kept_list P each k a (Took x p) h = names_end P each k (listing a p) h

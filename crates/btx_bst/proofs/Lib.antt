@@ -2,7 +2,6 @@ pub mod TurnLemmas
 pub mod PlaceLemmas
 pub mod SizeLemmas
 pub mod FrontLemmas
-pub mod SpelledLemmas
 pub mod TableLemmas
 pub mod FurtherLemmas
 pub mod PaddingLemmas

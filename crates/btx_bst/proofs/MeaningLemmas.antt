@@ -18,27 +18,22 @@ use Rattle.btx_bst.specs.declared.callee.Callee.TheVariants.{User, Field, EntryI
 use Rattle.btx_bst.specs.declared.callee.Callee.TheVariants as callee
 use Rattle.btx_bst.specs.declared.callee.Kind.{Kind}
 use Rattle.btx_bst.specs.declared.callee.Kind.TheVariants as kind
-use Rattle.btx_bst.specs.language.Places.{Place, size}
-use Rattle.btx_bst.specs.language.Reads.{Read, Took, Slip}
 use Rattle.btx_bst.specs.language.BuiltIns.{built_ins, built_in_of, built_in_name}
-use Rattle.btx_bst.specs.language.Names.{Names, named, named_lower, name_of, with_name, with_function}
+use Rattle.btx_bst.specs.language.Names.{Names, named_lower, name_of, with_name, with_function}
 use Rattle.btx_bst.specs.language.Style.{Style}
-use Rattle.btx_bst.specs.language.Turns.{Turn}
-use Rattle.btx_bst.specs.language.Lists.{opening, closing, next_name, Listing, listing, Listed, name_turn, list_turn_in, list_turn, list_end, list_read}
+use Rattle.btx_bst.specs.language.Lists.{opening}
 use Rattle.btx_bst.specs.language.BodyText.{BodyEnd, Whole, Broken, body_end}
 use Rattle.btx_bst.specs.language.Commands.{function_ended, inside_at}
 use Rattle.btx_bst.specs.language.Predefined.{predefined}
 use Rattle.btx_bst.specs.language.StyleText.{style_of}
 use Rattle.btx_bst.specs.laws.Meanings.{HasName, MeaningsLaw, OneMeaningLaw}
-use Rattle.btx_bst.proofs.TurnLemmas.{OnTurn, turns-keep}
 use Rattle.btx_bst.proofs.TableLemmas.{IsFurther}
 use Rattle.btx_bst.proofs.FurtherLemmas.{further-function, further-field, further-entry_integer, further-entry_string, further-global_integer}
 use Rattle.btx_bst.proofs.FurtherLemmas.{further-global_string, named-pad, padded-length}
 use Rattle.btx_bst.proofs.ItemLemmas.{push_cases}
-use Rattle.btx_bst.proofs.KeepLemmas.{Keeps, kept-style}
+use Rattle.btx_bst.proofs.KeepLemmas.{Keeps, kept-style, kept_list}
 use Rattle.btx_bst.proofs.ReferenceLemmas.{FineEnd, FineStyle, fine_keeps, fine_start, fine_function_body}
 use Rattle.btx_bst.specs.refinement.Names.{padded}
-use Rattle.btx_bst.specs.refinement.Lists.{unlisted, with_new}
 
 -- ---- lists of names
 
@@ -208,33 +203,6 @@ found_function a n name l none t =
     found_after (record a { functions = padded n a.functions }) n name (sym (padded-length n a.functions l)) (named-pad a (n - length a.functions) name ∙ none)
     (found_padded a n t)
 
--- ---- lists of names that are read
-
-abbrev FoundTurn : Turn Listing Listed → Type 0
-FoundTurn t = OnTurn (λ s. AllFound s.names) (λ r. AllFound r.listing.names) t
-
-found_new : (k : Kind) (a : Names) (name : List ℕ) (p : Place) (o : Option Callee) → named a name ≡ o → AllFound a → FoundTurn (with_new k a name p o)
-found_new k a name p None e t = found_name a k (folded name) e t
-found_new k a name p (Some other) e t = t
-
-found_read : (k : Kind) (a : Names) (r : Read (List ℕ)) → AllFound a → FoundTurn (name_turn k a r)
-found_read k a (Slip c p) t = t
-found_read k a (Took name p) t = found_new k a name p (named a name) refl t
-
-found_turn : (k : Kind) (a : Names) (r : Read (Unit {0})) → AllFound a → FoundTurn (list_turn_in k a r)
-found_turn k a (Took x p) t = t
-found_turn k a (Slip c p) t = found_read k a (next_name p) t
-
-found_end : (k : Kind) (s : Listing) → AllFound s.names → AllFound (list_end k s).listing.names
-unfolding list_end list_turn
-found_end k s t =
-    turns-keep (λ u. AllFound u.names) (λ r. AllFound r.listing.names) (list_turn k) unlisted
-    (λ u f. found_turn k u.names (closing u.place) f) (λ u f. f) (suc (size s.place)) s t
-
-found_list : (k : Kind) (a : Names) (r : Read (Unit {0})) → AllFound a → AllFound (list_read k a r).listing.names
-found_list k a (Slip c p) t = t
-found_list k a (Took x p) t = found_end k (listing a p) t
-
 -- ---- styles
 
 abbrev pub Clear : Style → Type 0
@@ -251,7 +219,7 @@ clear_ended s name (Whole i) none h f =
 clear_keeps : Keeps Clear
 clear_keeps = record {
   on_message = λ c line s h. (fine_keeps.on_message c line s h.0, h.1);
-  on_names = λ s k p h. (fine_keeps.on_names s k p h.0, found_list k s.names (opening p) h.1);
+  on_names = λ s k p h. (fine_keeps.on_names s k p h.0, kept_list AllFound (λ k a name new t. found_name a k (folded name) new t) k s.names (opening p) h.1);
   on_entry = λ s e h. (fine_keeps.on_entry s e h.0, h.1);
   on_read = λ s e g h. (fine_keeps.on_read s e g h.0, h.1);
   on_function = λ s name p e h. (

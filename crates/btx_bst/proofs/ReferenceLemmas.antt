@@ -1,9 +1,9 @@
 -- Bodies and commands refer to what is defined before.
 use Rattle.std.proofs.Common.{◌≡◌, ℕ, zero, suc, ◌+◌, ◌-◌, ◌<◌, ◌≤◌, Bool, true, false, cond, List, [], ◌∷◌, ◌++◌, length, refl, sym, arith, Option, None, Some}
-use Rattle.std.specs.Prelude.{slice_get, slice_index_or, position, replicate, nat_lt}
+use Rattle.std.specs.Prelude.{slice_get, slice_index_or, position, nat_lt}
 use Rattle.std.specs.Option.{option_map, option_or}
 use Rattle.std.specs.Str.{bytes_eq}
-use Rattle.std.proofs.lemmas.List.{length-append, length-replicate}
+use Rattle.std.proofs.lemmas.List.{length-append}
 use Rattle.std.proofs.lemmas.List.Quantifiers.{position-Some}
 use Rattle.btx_text.specs.language.Keys.{folded}
 use Rattle.btx_bst.specs.declared.callee.Callee.{Callee}
@@ -33,8 +33,9 @@ use Rattle.btx_bst.specs.language.Predefined.{predefined}
 use Rattle.btx_bst.specs.language.StyleText.{style_of}
 use Rattle.btx_bst.specs.laws.References.{IsKnown, IsFunction, Refers, IsKnownItem, RefersWithin, ReferencesLaw, ItemsLaw}
 use Rattle.btx_bst.proofs.TurnLemmas.{OnTurn, turns-keep}
+use Rattle.btx_bst.proofs.FurtherLemmas.{padded-len}
 use Rattle.btx_bst.proofs.KeepLemmas.{Keeps, kept-style}
-use Rattle.btx_bst.specs.refinement.Names.{number_in, padded, has_name}
+use Rattle.btx_bst.specs.refinement.Names.{number_in, has_name}
 use Rattle.btx_bst.specs.laws.StyleText.{unread_style}
 use Rattle.btx_bst.specs.refinement.Lists.{unlisted, with_new}
 use Rattle.btx_bst.specs.refinement.Bodies.{FunctionBody}
@@ -391,15 +392,6 @@ fine_names s k p f =
       earlier = earlier_more s.names _ (length s.texts) (length s.texts) 0 s.bodies h.0 (omega arith) f.earlier;
       items_known = f.items_known;
     }
-
-padded-len : (n : ℕ) (functions : List (Option (List ℕ))) (name : List ℕ) → length functions ≤ n → length (padded n functions ++ Some name ∷ []) ≡ suc n
-padded-len n functions name h =
-    omega (
-      arith,
-      length-append (padded n functions) (Some name ∷ []),
-      length-append functions (replicate (n - length functions) None),
-      length-replicate {A = Option (List ℕ)} (n - length functions) None,
-    )
 
 fine_ended : (s : Style) (name : List ℕ) (r : BodyEnd) → FineStyle s → FineEnd s.names (length s.bodies) r → FineStyle (function_ended s name r).style
 fine_ended s name (Broken c i) h f = record { no_later = h.no_later; earlier = h.earlier; items_known = f.items_known }

@@ -1,8 +1,8 @@
 -- Styles, item by item.
 use Rattle.std.proofs.Common.{◌≡◌, ℕ, zero, suc, ◌+◌, ◌-◌, ◌<◌, ◌≤◌, Bool, true, false, cond, List, [], ◌∷◌, ◌++◌, length, take, drop, refl, ap, arith, Option}
 use Rattle.std.proofs.Common.{Some, None}
-use Rattle.std.specs.Prelude.{is_some, replicate}
-use Rattle.std.proofs.lemmas.List.{length-drop, length-append, take-append-le, length-replicate}
+use Rattle.std.specs.Prelude.{is_some}
+use Rattle.std.proofs.lemmas.List.{length-drop, length-append, take-append-le}
 use Rattle.btx_text.specs.language.Keys.{folded}
 use Rattle.btx_bst.specs.declared.callee.Callee.{Callee}
 use Rattle.btx_bst.specs.declared.callee.Kind.{Kind}
@@ -27,11 +27,11 @@ use Rattle.btx_bst.specs.language.Commands.{declare, macro_command, function_in,
 use Rattle.btx_bst.specs.language.StyleText.{StyleState, item_in, item_turn, style_from, resumed}
 use Rattle.btx_bst.specs.refinement.Weights.{names_weight, weight, HasRoom}
 use Rattle.btx_bst.proofs.TurnLemmas.{OnTurn, turns-next, turns-keep}
+use Rattle.btx_bst.proofs.FurtherLemmas.{padded-len}
 use Rattle.btx_bst.proofs.SizeLemmas.{ink-size, skipped-size}
 use Rattle.btx_bst.proofs.ListLemmas.{Sized, closing-size, opening-size, name_at-size, quoted_at-size, list_turn-size, ListTurn, list_at-weight}
 use Rattle.btx_bst.proofs.BodyTurnLemmas.{place_of, body_turn-size, BodyTurn, body_end-weight, inside_of}
 use Rattle.btx_bst.specs.refinement.Commands.{entry_lists, run_name, macro_name, function_of, macro_of}
-use Rattle.btx_bst.specs.refinement.Names.{padded}
 use Rattle.btx_bst.specs.refinement.StyleText.{style_so_far, resumed_after, word_outcome}
 use Rattle.btx_bst.specs.refinement.Lists.{unlisted}
 use Rattle.btx_bst.specs.refinement.Fronts.{letters_len}
@@ -183,15 +183,6 @@ entry-within style p f = at style.has_entry where
       after_list-within style kind.Field p _ (size p) (weight style p) (omega arith) (omega arith) f (λ d q h w g.
       after_list-within d kind.EntryInteger q _ (size p) (weight style p) h w g (λ d q h w g.
       after_list-within d kind.EntryString q _ (size p) (weight style p) h w g (λ d q h w g. (h, omega arith, g))))
-
-padded-len : (n : ℕ) (functions : List (Option (List ℕ))) (name : List ℕ) → length functions ≤ n → length (padded n functions ++ Some name ∷ []) ≡ suc n
-padded-len n functions name h =
-    omega (
-      arith,
-      length-append (padded n functions) (Some name ∷ []),
-      length-append functions (replicate (n - length functions) None),
-      length-replicate {A = Option (List ℕ)} (n - length functions) None,
-    )
 
 function_ended-within : (style : Style) (name : List ℕ) (s : Inside) (n m : ℕ) → size s.place < n → Base n m style → s.bodies ≡ style.bodies
     → s.texts ≡ style.texts → Within n m (function_ended style name (body_end style.names s))

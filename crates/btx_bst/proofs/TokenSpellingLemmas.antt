@@ -36,24 +36,19 @@ pub upto_drop : (t : ℕ → Bool) (text line rest : List ℕ) → IsUpTo t text
 upto_drop t text line rest h =
     ap (λ (n : ℕ). drop n line) (upto_len t text line rest h) ∙ ap (drop (length text)) h.joined ∙ drop-append_seam text rest
 
-none_front : (t : ℕ → Bool) (line : List ℕ) → NoneIn t (take (len_till t line) line)
+front_back : (t : ℕ → Bool) (line : List ℕ) → NoneIn t (take (len_till t line) line) × EndsBefore t (drop (len_till t line) line)
 unfolding len_till
-none_front t [] = tt
-none_front t (b ∷ bs) = at (t b) refl (none_front t bs) where
-  at : (x : Bool) → t b ≡ x → NoneIn t (take (len_till t bs) bs) → NoneIn t (take (cond x 0 (suc (len_till t bs))) (b ∷ bs))
-  at true e h = tt
-  at false e h = (e, h)
-
-ends_back : (t : ℕ → Bool) (line : List ℕ) → EndsBefore t (drop (len_till t line) line)
-unfolding len_till
-ends_back t [] = tt
-ends_back t (b ∷ bs) = at (t b) refl (ends_back t bs) where
-  at : (x : Bool) → t b ≡ x → EndsBefore t (drop (len_till t bs) bs) → EndsBefore t (drop (cond x 0 (suc (len_till t bs))) (b ∷ bs))
-  at true e h = e
-  at false e h = h
+front_back t [] = (tt, tt)
+front_back t (b ∷ bs) = at (t b) refl (front_back t bs) where
+  at : (x : Bool) → t b ≡ x → NoneIn t (take (len_till t bs) bs) × EndsBefore t (drop (len_till t bs) bs)
+      → NoneIn t (take (cond x 0 (suc (len_till t bs))) (b ∷ bs)) × EndsBefore t (drop (cond x 0 (suc (len_till t bs))) (b ∷ bs))
+  at true e h = (tt, e)
+  at false e h = ((e, h.0), h.1)
 
 pub upto_met : (t : ℕ → Bool) (line : List ℕ) → IsUpTo t (take (len_till t line) line) line (drop (len_till t line) line)
-upto_met t line = record { joined = sym (take-append-drop (len_till t line) line); none = none_front t line; ends = ends_back t line }
+upto_met t line =
+    let parts = front_back t line in
+    record { joined = sym (take-append-drop (len_till t line) line); none = parts.0; ends = parts.1 }
 
 -- ---- whitespace and comments
 
@@ -176,9 +171,8 @@ name_met p (b ∷ bs) e = at (is_ascii_digit b) (is_name_byte b) refl refl where
         drop k bs,
         record {
           joined = e ∙ ap (λ (xs : List ℕ). b ∷ xs) (sym (take-append-drop k bs));
-          none = (rw g refl, none_front ends_name bs);
-          ends =
-              ends_back ends_name bs;
+          none = (rw g refl, (front_back ends_name bs).0);
+          ends = (front_back ends_name bs).1;
         },
         rw (f, g) refl,
         refl,
@@ -261,7 +255,7 @@ front_some t [] n e f = absurd (cc)
 front_some t (b ∷ bs) n e f = absurd (cc)
 
 letters_met : (p : Place) (n : ℕ) → letters_len p.line ≡ n → LettersHere p (front_of NoCommand p p.line n)
-letters_met p zero e = (refl, refl, rw e at (ends_back is_no_letter p.line))
+letters_met p zero e = (refl, refl, rw e at ((front_back is_no_letter p.line).1))
 letters_met p (suc n) e = (
   drop (suc n) p.line,
   let u : IsUpTo is_no_letter (take (suc n) p.line) p.line (drop (suc n) p.line) = rw e at (upto_met is_no_letter p.line) in u,

@@ -1,5 +1,3 @@
-pub mod Spelled
-pub mod KeptNames
 pub mod Names
 pub mod NameTables
 pub mod Ranges

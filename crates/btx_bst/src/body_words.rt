@@ -13,12 +13,12 @@ use crate::complaint::Complaint;
 use crate::cursor::Cursor;
 use crate::item::Item;
 use crate::message::logged;
-use crate::name::Name;
 use crate::names::Names;
 use crate::open::Open;
 use crate::token::Token;
 use crate::turn::Turn;
 use crate::word::Word;
+use btx_text::Lowered;
 use std::alloc::{AllocError, Global};
 
 /// Takes the words of a body up to its end.
@@ -48,7 +48,7 @@ pub fn body<'a>(
 pub fn find(alloc: Global, names: &Names<'_>, name: &[u8]) -> Result<Option<Callee>, AllocError>
     ensures { IfOk result (λ callee. callee ≡ named names.now name.now) }
 {
-    let lowered = Name::of(alloc, name)?;
+    let lowered = Lowered::of(alloc, name)?;
     Ok(names.find(lowered.as_bytes()))
 }
 

@@ -20,9 +20,9 @@ use crate::cursor::Cursor;
 use crate::item::Item;
 use crate::lists::list;
 use crate::macros::Macros;
-use crate::name::Name;
 use crate::names::Names;
 use crate::open::Open;
+use btx_text::Lowered;
 use std::alloc::{AllocError, Global};
 
 /// A style as far as it has been read.
@@ -225,7 +225,7 @@ impl<'a> Draft<'a> {
             Ok(name) => name,
             Err(complaint) => return Ok(Some(complaint)),
         };
-        let lowered = Name::of(alloc, name)?;
+        let lowered = Lowered::of(alloc, name)?;
         if self.macros.text(lowered.as_bytes()).is_some() {
             return Ok(Some(Complaint::Defined(name)));
         }
@@ -264,7 +264,7 @@ impl<'a> Draft<'a> {
             Ok(name) => name,
             Err(complaint) => return Ok(Some(complaint)),
         };
-        let lowered = Name::of(alloc, name)?;
+        let lowered = Lowered::of(alloc, name)?;
         if self.names.find(lowered.as_bytes()).is_some() {
             return Ok(Some(Complaint::Defined(name)));
         }
@@ -282,7 +282,7 @@ impl<'a> Draft<'a> {
         &mut self,
         alloc: Global,
         cursor: &mut Cursor<'a>,
-        lowered: Name<'a>,
+        lowered: Lowered<'a>,
     ) -> Result<Option<Complaint<'a>>, AllocError>
         requires new { named_lower (draft_view self.old).names lowered ≡ None }
         requires room { HasRoom (draft_view self.old) cursor.old }

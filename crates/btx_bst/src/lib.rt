@@ -17,7 +17,6 @@ pub mod laws;
 mod lists;
 pub mod macros;
 pub mod message;
-mod name;
 mod name_table;
 mod names;
 mod open;

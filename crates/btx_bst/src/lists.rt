@@ -8,9 +8,9 @@ ghost use Rattle.btx_bst.specs.refinement.Views.{listed_view, list_turn_view};
 use crate::callee::Kind;
 use crate::complaint::Complaint;
 use crate::cursor::Cursor;
-use crate::name::Name;
 use crate::names::Names;
 use crate::turn::Turn;
+use btx_text::Lowered;
 use std::alloc::{AllocError, Global};
 
 /// Takes a list of names in braces, of a kind.
@@ -67,7 +67,7 @@ fn turn<'a>(
         Ok(name) => name,
         Err(complaint) => return Ok(Turn::Broken(complaint)),
     };
-    let lowered = Name::of(alloc, name)?;
+    let lowered = Lowered::of(alloc, name)?;
     if names.find(lowered.as_bytes()).is_some() {
         return Ok(Turn::Broken(Complaint::Defined(name)));
     }

@@ -3,7 +3,7 @@ ghost use Rattle.std.specs.Prelude.{◌≡◌, [], ◌∷◌, ◌++◌, None, If
 ghost use Rattle.btx_bst.specs.refinement.NameTables.{macro_pair};
 ghost use Rattle.btx_bst.specs.laws.Names.{macro_lower};
 
-use crate::name::Name;
+use btx_text::Lowered;
 use indexmap::IndexMap;
 use std::alloc::{AllocError, Global};
 use std::marker::Model;
@@ -66,7 +66,7 @@ impl<'a> Macros<'a> {
     pub(crate) fn add(
         &mut self,
         alloc: Global,
-        name: &Name<'a>,
+        name: &Lowered<'a>,
         text: &'a [u8],
     ) -> Result<(), AllocError>
         requires { macro_lower self.old name.now ≡ None }

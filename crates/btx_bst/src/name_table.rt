@@ -6,7 +6,7 @@ ghost use Rattle.btx_bst.specs.refinement.Names.{padded};
 
 use crate::built_in::{BUILT_INS, BuiltIn};
 use crate::callee::Callee;
-use crate::name::Name;
+use btx_text::Lowered;
 use indexmap::IndexMap;
 use std::alloc::{AllocError, Global};
 
@@ -70,7 +70,7 @@ pub fn put<T: Drop>(
 
 /// Adds nameless functions, up to this count of functions. Where memory is refused some of them may have been added.
 #[tactic(auto, using(crate::proofs::PaddingLemmas::pad_steps))]
-pub fn pad<'a>(functions: &mut Vec<Option<Name<'a>>>, count: usize) -> Result<(), AllocError>
+pub fn pad<'a>(functions: &mut Vec<Option<Lowered<'a>>>, count: usize) -> Result<(), AllocError>
     ensures ok { OnOk result (functions.new.items ≡ padded count functions.old.items) }
     ensures padded { IsPadded functions.old.items functions.new.items }
 {

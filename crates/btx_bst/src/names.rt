@@ -6,8 +6,8 @@ ghost use Rattle.btx_bst.specs.refinement.Names.{names_of_kind};
 ghost use Rattle.btx_bst.specs.declared.callee.Kind.TheVariants as kind;
 
 use crate::callee::{Callee, Kind};
-use crate::name::Name;
 use crate::name_table::{built_in_table, pad, put};
+use btx_text::Lowered;
 use indexmap::IndexMap;
 use std::alloc::{AllocError, Global};
 use std::marker::Model;
@@ -16,12 +16,12 @@ use std::marker::Model;
 #[derive(Drop)]
 pub struct Names<'a> {
     table: IndexMap<Vec<u8>, Callee>,
-    functions: Vec<Option<Name<'a>>>,
-    fields: Vec<Name<'a>>,
-    entry_integers: Vec<Name<'a>>,
-    entry_strings: Vec<Name<'a>>,
-    global_integers: Vec<Name<'a>>,
-    global_strings: Vec<Name<'a>>,
+    functions: Vec<Option<Lowered<'a>>>,
+    fields: Vec<Lowered<'a>>,
+    entry_integers: Vec<Lowered<'a>>,
+    entry_strings: Vec<Lowered<'a>>,
+    global_integers: Vec<Lowered<'a>>,
+    global_strings: Vec<Lowered<'a>>,
 }
 
 impl<'a> Model for Names<'a> {
@@ -88,7 +88,7 @@ impl<'a> Names<'a> {
     }
 
     /// Adds a name of a kind that isn't known.
-    pub fn add(&mut self, alloc: Global, kind: Kind, name: Name<'a>) -> Result<(), AllocError>
+    pub fn add(&mut self, alloc: Global, kind: Kind, name: Lowered<'a>) -> Result<(), AllocError>
         requires new { named_lower self.old name ≡ None }
         requires room { length (names_of_kind kind self.old) < 2 ^ 32 }
         ensures { OnOk result (self.new ≡ with_name kind name.entry self.old) }
@@ -129,7 +129,7 @@ impl<'a> Names<'a> {
         &mut self,
         alloc: Global,
         number: u32,
-        name: Name<'a>,
+        name: Lowered<'a>,
     ) -> Result<(), AllocError>
         requires new { named_lower self.old name ≡ None }
         requires further { length self.old.functions ≤ number }
@@ -148,7 +148,7 @@ impl<'a> Names<'a> {
 }
 
 // The name of a number.
-fn name_at<'n>(names: &'n [Name<'_>], number: u32) -> &'n [u8]
+fn name_at<'n>(names: &'n [Lowered<'_>], number: u32) -> &'n [u8]
     ensures { result.now ≡ slice_index_or names.now number [] }
 {
     match names.get(number as usize) {
@@ -158,7 +158,7 @@ fn name_at<'n>(names: &'n [Name<'_>], number: u32) -> &'n [u8]
 }
 
 // The name that is shown of the function of a number.
-fn shown_name<'n>(functions: &'n [Option<Name<'_>>], number: u32) -> &'n [u8]
+fn shown_name<'n>(functions: &'n [Option<Lowered<'_>>], number: u32) -> &'n [u8]
     ensures { result.now ≡ unwrap_or (slice_index_or functions.now number None) (codes "{}") }
 {
     match functions.get(number as usize) {

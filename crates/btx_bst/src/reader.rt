@@ -14,7 +14,7 @@ use crate::complaint::Complaint;
 use crate::cursor::Cursor;
 use crate::draft::Draft;
 use crate::message::logged;
-use crate::name::Name;
+use btx_text::Lowered;
 use std::alloc::{AllocError, Global};
 
 /// Takes all items that are left.
@@ -65,7 +65,7 @@ fn command<'a>(
         Ok(word) => word,
         Err(complaint) => return Ok(Some(complaint)),
     };
-    let lowered = Name::of(alloc, word)?;
+    let lowered = Lowered::of(alloc, word)?;
     match command_named(lowered.as_bytes()) {
         None => Ok(Some(Complaint::NotCommand(word))),
         Some(command) => draft.command(alloc, cursor, command),

@@ -15,12 +15,11 @@ use crate::cursor::Cursor;
 use crate::draft::Draft;
 use crate::item::Item;
 use crate::macros::Macros;
-use crate::name::Name;
 use crate::names::Names;
 use crate::reader::items;
 use crate::token::Token;
-use btx_text::Fault;
 use btx_text::limits::GREATEST_FILE;
+use btx_text::{Fault, Lowered};
 use std::alloc::{AllocError, Global};
 use std::marker::Model;
 
@@ -88,10 +87,18 @@ fn add_predefined(alloc: Global, names: &mut Names<'_>) -> Result<(), AllocError
     requires { names.old ≡ no_names }
     ensures { OnOk result (names.new ≡ predefined) }
 {
-    names.add(alloc, Kind::Field, Name::of(alloc, b"crossref")?)?;
-    names.add(alloc, Kind::EntryString, Name::of(alloc, b"sort.key$")?)?;
-    names.add(alloc, Kind::GlobalInteger, Name::of(alloc, b"entry.max$")?)?;
-    names.add(alloc, Kind::GlobalInteger, Name::of(alloc, b"global.max$")?)
+    names.add(alloc, Kind::Field, Lowered::of(alloc, b"crossref")?)?;
+    names.add(alloc, Kind::EntryString, Lowered::of(alloc, b"sort.key$")?)?;
+    names.add(
+        alloc,
+        Kind::GlobalInteger,
+        Lowered::of(alloc, b"entry.max$")?,
+    )?;
+    names.add(
+        alloc,
+        Kind::GlobalInteger,
+        Lowered::of(alloc, b"global.max$")?,
+    )
 }
 
 impl<'a> Style<'a> {

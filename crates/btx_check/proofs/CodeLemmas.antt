@@ -22,6 +22,7 @@ use Rattle.btx_check.specs.States.{Abstract, slot, putting, pushing, pushing_new
 use Rattle.btx_check.specs.Names.{IsName, NeedsEntry, kind_of, IsIntegerOf, IsStringOf}
 use Rattle.btx_check.specs.Bounds.{Narrows, SumIs, Matches}
 use Rattle.btx_check.specs.Inclusion.{Into}
+use Rattle.btx_check.specs.Running.{RuleNow}
 use Rattle.btx_check.specs.Answers.{Ruled, Added, TopIs, TwoAre, Stepped, Comparable, TopsFit, Pushed}
 use Rattle.btx_check.proofs.AddLemmas.{sub_then, into_sub}
 use Rattle.btx_check.proofs.RunLemmas.{rest_into, ruled}
@@ -120,7 +121,7 @@ found_at b b' i d d' r r' old new e f g h =
     ∙ (ap (λ (x : Value). pushing_new r' (knowing i x b)) f ∙ ap (λ (x : Value). pushing_new x (knowing i d b)) g)) h
 
 -- a literal, where two numbers are known better
-pub tested_at : (b b' : Abstract) (j i : ℕ) (d c r r' : Value) (old new : List Abstract) → b' ≡ b → r' ≡ r
+tested_at : (b b' : Abstract) (j i : ℕ) (d c r r' : Value) (old new : List Abstract) → b' ≡ b → r' ≡ r
     → Added (pushing_new r' (knowing j d (knowing i c b'))) old new → Added (pushing_new r (knowing j d (knowing i c b))) old new
 tested_at b b' j i d c r r' old new e g h =
     added_at _ _ old new (ap (λ (x : Abstract). pushing_new r' (knowing j d (knowing i c x))) e
@@ -133,43 +134,45 @@ new_at b b' r r' old new e g h = added_at _ _ old new (ap (λ (x : Abstract). pu
 pub text_at : (m n : Mask) → m ≡ n → value.Text m ≡ value.Text n
 text_at m n e = ap value.Text e
 
+-- both outcomes of a test were added, and the rule of its function takes both
+both_added : (f : Callee) (a b : Abstract) (so other : Abstract → Abstract) (old mid new : List Abstract) → b ≡ with_stack b.stack a → Added (so b) old mid
+    → Added (other b) mid new → (Into (so (with_stack b.stack a)) new → Into (other (with_stack b.stack a)) new → RuleNow f a new) → Ruled f a old new
+both_added f a b so other old mid new rest x y rule =
+    ruled f a old new (rule (rest_into a b so new rest (into_sub (so b) mid new x.into y.sub)) (rest_into a b other new rest y.into))
+    (sub_then old mid new x.sub y.sub)
+
 pub code_empty : (a b : Abstract) (i : ℕ) (m : Mask) (old mid new : List Abstract) → TopIs a i (value.Text m) b
     → Added (pushing_new (exactly (pos 1)) (knowing i (value.Text (blank m)) b)) old mid
     → Added (pushing_new (exactly (pos 0)) (knowing i (value.Text (filled m)) b)) mid new → Ruled (callee.BuiltIn built_in.Empty) a old new
-code_empty a b i m old mid new t x y = ruled _ _ _ _
-    (rule_empty a i b.stack m new t.stack t.known t.room
-    (rest_into a b (λ x. pushing_new (exactly (pos 1)) (knowing i (value.Text (blank m)) x)) new t.rest (into_sub _ mid new x.into y.sub))
-    (rest_into a b (λ x. pushing_new (exactly (pos 0)) (knowing i (value.Text (filled m)) x)) new t.rest y.into))
-    (sub_then old mid new x.sub y.sub)
+code_empty a b i m old mid new t x y =
+    both_added _ a b (λ z. pushing_new (exactly (pos 1)) (knowing i (value.Text (blank m)) z))
+    (λ z. pushing_new (exactly (pos 0)) (knowing i (value.Text (filled m)) z)) old mid new t.rest x y
+    (λ p q. rule_empty a i b.stack m new t.stack t.known t.room p q)
 
 pub code_missing : (a b : Abstract) (i : ℕ) (m : Mask) (old mid new : List Abstract) → a.entry ≡ true → TopIs a i (value.Text m) b
     → Added (pushing_new (exactly (pos 1)) (knowing i (value.Text (gone m)) b)) old mid
     → Added (pushing_new (exactly (pos 0)) (knowing i (value.Text (present m)) b)) mid new → Ruled (callee.BuiltIn built_in.Missing) a old new
-code_missing a b i m old mid new en t x y = ruled _ _ _ _
-    (rule_missing a i b.stack m new t.stack t.known (room_one a b i (value.Text m) t)
-    (rest_into a b (λ x. pushing_new (exactly (pos 1)) (knowing i (value.Text (gone m)) x)) new t.rest (into_sub _ mid new x.into y.sub))
-    (rest_into a b (λ x. pushing_new (exactly (pos 0)) (knowing i (value.Text (present m)) x)) new t.rest y.into) en)
-    (sub_then old mid new x.sub y.sub)
+code_missing a b i m old mid new en t x y =
+    both_added _ a b (λ z. pushing_new (exactly (pos 1)) (knowing i (value.Text (gone m)) z))
+    (λ z. pushing_new (exactly (pos 0)) (knowing i (value.Text (present m)) z)) old mid new t.rest x y
+    (λ p q. rule_missing a i b.stack m new t.stack t.known (room_one a b i (value.Text m) t) p q en)
 
 pub code_num_names : (a b : Abstract) (i : ℕ) (m : Mask) (old mid new : List Abstract) → TopIs a i (value.Text m) b → m.missing ≡ false
     → Added (pushing_new (exactly (pos 0)) (knowing i (value.Text (nothing m)) b)) old mid
     → Added (pushing_new (value.Integer (Some (pos 1)) open_end) (knowing i (value.Text (something m)) b)) mid new
     → Ruled (callee.BuiltIn built_in.NumNames) a old new
-code_num_names a b i m old mid new t there x y = ruled _ _ _ _
-    (rule_num_names_known a i b.stack m new t.stack (room_one a b i (value.Text m) t) t.known there
-    (rest_into a b (λ x. pushing_new (exactly (pos 0)) (knowing i (value.Text (nothing m)) x)) new t.rest (into_sub _ mid new x.into y.sub))
-    (rest_into a b (λ x. pushing_new (value.Integer (Some (pos 1)) open_end) (knowing i (value.Text (something m)) x)) new t.rest y.into))
-    (sub_then old mid new x.sub y.sub)
+code_num_names a b i m old mid new t there x y =
+    both_added _ a b (λ z. pushing_new (exactly (pos 0)) (knowing i (value.Text (nothing m)) z))
+    (λ z. pushing_new (value.Integer (Some (pos 1)) open_end) (knowing i (value.Text (something m)) z)) old mid new t.rest x y
+    (λ p q. rule_num_names_known a i b.stack m new t.stack (room_one a b i (value.Text m) t) t.known there p q)
 
 pub code_equals : (a b : Abstract) (j i : ℕ) (d c : Value) (old mid new : List Abstract) → TwoAre a j i d c b → Comparable d c
     → Added (pushing_new (exactly (pos 1)) b) old mid → Added (pushing_new (exactly (pos 0)) b) mid new
     → Ruled (callee.BuiltIn built_in.Equals) a old new
-code_equals a b j i d c old mid new t k x y = ruled _ _ _ _
-    (rule_equals a j i b.stack new t.stack (room_two a b j i d c t)
-    (rest_into a b (λ x. pushing_new (exactly (pos 1)) x) new t.rest (into_sub _ mid new x.into y.sub))
-    (rest_into a b (λ x. pushing_new (exactly (pos 0)) x) new t.rest y.into)
+code_equals a b j i d c old mid new t k x y =
+    both_added _ a b (λ z. pushing_new (exactly (pos 1)) z) (λ z. pushing_new (exactly (pos 0)) z) old mid new t.rest x y
+    (λ p q. rule_equals a j i b.stack new t.stack (room_two a b j i d c t) p q
     (subst (λ (e : Value). Comparable e (get_or a.values i value.Any)) (sym t.first) (subst (λ (e : Value). Comparable d e) (sym t.second) k)))
-    (sub_then old mid new x.sub y.sub)
 
 int_eq_is : (x y : ℤ) → int_eq x y ≡ true → x ≡ y
 int_eq_is x y e = (Decides-int_eq x y).0 e
@@ -177,17 +180,6 @@ int_eq_is x y e = (Decides-int_eq x y).0 e
 int_eq_back : (x y : ℤ) → int_eq x y ≡ false → int_eq y x ≡ false
 int_eq_back x y e = same_from_decides (int_eq y x) (int_eq x y) (Decides-like (int_eq y x) (λ q. sym q) (λ q. sym q) (Decides-int_eq y x)) (Decides-int_eq x y)
     ∙ e
-
-pub code_equals_integers : (a b : Abstract) (j i : ℕ) (lo : Option ℤ) (hi : Upper) (lo2 : Option ℤ) (hi2 : Upper) (c d c' d' : Value)
-    (old mid new : List Abstract) → TwoAre a j i (value.Integer lo hi) (value.Integer lo2 hi2) b
-    → Matches true (value.Integer lo2 hi2) (value.Integer lo hi) c d → Matches false (value.Integer lo2 hi2) (value.Integer lo hi) c' d'
-    → Added (pushing_new (exactly (pos 1)) (knowing j d (knowing i c b))) old mid
-    → Added (pushing_new (exactly (pos 0)) (knowing j d' (knowing i c' b))) mid new → Ruled (callee.BuiltIn built_in.Equals) a old new
-code_equals_integers a b j i lo hi lo2 hi2 c d c' d' old mid new t same other x y = ruled _ _ _ _
-    (rule_equals_integers a j i b.stack lo hi lo2 hi2 c d c' d' new t.stack (room_two a b j i (value.Integer lo hi) (value.Integer lo2 hi2) t) t.first t.second
-    (rest_into a b (λ x. pushing_new (exactly (pos 1)) (knowing j d (knowing i c x))) new t.rest (into_sub _ mid new x.into y.sub))
-    (rest_into a b (λ x. pushing_new (exactly (pos 0)) (knowing j d' (knowing i c' x))) new t.rest y.into) same other)
-    (sub_then old mid new x.sub y.sub)
 
 -- both are what both say
 pub matches_same : (c d r : Value) → ((left : ℕ) (n : ℤ) → Is left c (Integer n) → Is left d (Integer n) → Is left r (Integer n)) → Matches true c d r r
@@ -202,36 +194,64 @@ pub matches_other : (c d c' d' : Value) → ((left : ℕ) (x y : ℤ) → Is lef
     → Matches false c d c' d'
 matches_other c d c' d' f g left x y o p e = (f left x y o p e, g left y x p o (int_eq_back x y e))
 
-pub code_greater : (a b : Abstract) (j i : ℕ) (lo : Option ℤ) (hi : Upper) (lo2 : Option ℤ) (hi2 : Upper) (c d c' d' : Value) (old mid new : List Abstract)
-    → TwoAre a j i (value.Integer lo hi) (value.Integer lo2 hi2) b
-    → Narrows true (value.Integer lo2 hi2) (value.Integer lo hi) c d → Narrows false (value.Integer lo2 hi2) (value.Integer lo hi) c' d'
-    → Added (pushing_new (exactly (pos 1)) (knowing j d (knowing i c b))) old mid
-    → Added (pushing_new (exactly (pos 0)) (knowing j d' (knowing i c' b))) mid new → Ruled (callee.BuiltIn built_in.Greater) a old new
-code_greater a b j i lo hi lo2 hi2 c d c' d' old mid new t up down x y = ruled _ _ _ _
-    (rule_greater_known a j i b.stack lo hi lo2 hi2 c d c' d' new t.stack (room_two a b j i (value.Integer lo hi) (value.Integer lo2 hi2) t) t.first t.second
-    (rest_into a b (λ x. pushing_new (exactly (pos 1)) (knowing j d (knowing i c x))) new t.rest (into_sub _ mid new x.into y.sub))
-    (rest_into a b (λ x. pushing_new (exactly (pos 0)) (knowing j d' (knowing i c' x))) new t.rest y.into) up down)
-    (sub_then old mid new x.sub y.sub)
+-- the two integers on top were compared, and what each answer says of them was added
+pub record Compared (a b : Abstract) (j i : ℕ) (p q c d c' d' : Value) (old new : List Abstract) : Type 0 where
+  pub two : TwoAre a j i p q b
+  pub mid : List Abstract
+  pub so : Added (pushing_new (exactly (pos 1)) (knowing j d (knowing i c b))) old mid
+  pub other : Added (pushing_new (exactly (pos 0)) (knowing j d' (knowing i c' b))) mid new
 
-pub code_less : (a b : Abstract) (j i : ℕ) (lo : Option ℤ) (hi : Upper) (lo2 : Option ℤ) (hi2 : Upper) (c d c' d' : Value) (old mid new : List Abstract)
-    → TwoAre a j i (value.Integer lo hi) (value.Integer lo2 hi2) b
-    → Narrows true (value.Integer lo hi) (value.Integer lo2 hi2) d c → Narrows false (value.Integer lo hi) (value.Integer lo2 hi2) d' c'
-    → Added (pushing_new (exactly (pos 1)) (knowing j d (knowing i c b))) old mid
-    → Added (pushing_new (exactly (pos 0)) (knowing j d' (knowing i c' b))) mid new → Ruled (callee.BuiltIn built_in.Less) a old new
-code_less a b j i lo hi lo2 hi2 c d c' d' old mid new t up down x y = ruled _ _ _ _
-    (rule_less_known a j i b.stack lo hi lo2 hi2 c d c' d' new t.stack (room_two a b j i (value.Integer lo hi) (value.Integer lo2 hi2) t) t.first t.second
-    (rest_into a b (λ x. pushing_new (exactly (pos 1)) (knowing j d (knowing i c x))) new t.rest (into_sub _ mid new x.into y.sub))
-    (rest_into a b (λ x. pushing_new (exactly (pos 0)) (knowing j d' (knowing i c' x))) new t.rest y.into) up down)
-    (sub_then old mid new x.sub y.sub)
+pub compared_at : (a b copied : Abstract) (j i : ℕ) (first second p q c d c' d' r r' : Value) (old mid new : List Abstract)
+    → TwoAre a j i first second b → first ≡ p → second ≡ q → copied ≡ b → r ≡ exactly (pos 1) → r' ≡ exactly (pos 0)
+    → Added (pushing_new r (knowing j d (knowing i c copied))) old mid → Added (pushing_new r' (knowing j d' (knowing i c' b))) mid new
+    → Compared a b j i p q c d c' d' old new
+compared_at a b copied j i first second p q c d c' d' r r' old mid new w e f g k l x y =
+    record {
+      two = two_at a b j i first second p q w e f;
+      mid = mid;
+      so = tested_at b copied j i d c (exactly (pos 1)) r old mid g k x;
+      other = tested_at b b j i d' c' (exactly (pos 0)) r' mid new refl l y;
+    }
 
-pub code_plus : (a b : Abstract) (j i : ℕ) (lo : Option ℤ) (hi : Upper) (lo2 : Option ℤ) (hi2 : Upper) (r : Value) (old new : List Abstract)
-    → TwoAre a j i (value.Integer lo hi) (value.Integer lo2 hi2) b
-    → SumIs (λ x y. x +ℤ y) (value.Integer lo2 hi2) (value.Integer lo hi) r → Added (pushing_new r b) old new → Ruled (callee.BuiltIn built_in.Plus) a old new
-code_plus a b j i lo hi lo2 hi2 r old new t sum x = record {
-  rule = rule_plus_known a j i b.stack lo hi lo2 hi2 r new t.stack (room_two a b j i (value.Integer lo hi) (value.Integer lo2 hi2) t) t.first t.second
-      (rest_into a b (λ x. pushing_new r x) new t.rest x.into) sum;
-  sub = x.sub;
-}
+module _ (a b : Abstract) (j i : ℕ) (lo : Option ℤ) (hi : Upper) (lo2 : Option ℤ) (hi2 : Upper) (c d c' d' : Value) (old new : List Abstract)
+    (k : Compared a b j i (value.Integer lo hi) (value.Integer lo2 hi2) c d c' d' old new) where
+  compared : (f : Callee) → (Into (pushing_new (exactly (pos 1)) (knowing j d (knowing i c (with_stack b.stack a)))) new
+      → Into (pushing_new (exactly (pos 0)) (knowing j d' (knowing i c' (with_stack b.stack a)))) new → RuleNow f a new) → Ruled f a old new
+  compared f rule = both_added f a b (λ z. pushing_new (exactly (pos 1)) (knowing j d (knowing i c z)))
+      (λ z. pushing_new (exactly (pos 0)) (knowing j d' (knowing i c' z))) old k.mid new k.two.rest k.so k.other rule
+
+  two_room : length b.stack < 1000
+  two_room = room_two a b j i (value.Integer lo hi) (value.Integer lo2 hi2) k.two
+
+  pub code_greater : Narrows true (value.Integer lo2 hi2) (value.Integer lo hi) c d → Narrows false (value.Integer lo2 hi2) (value.Integer lo hi) c' d'
+      → Ruled (callee.BuiltIn built_in.Greater) a old new
+  code_greater up down = compared _
+      (λ p q. rule_greater_known a j i b.stack lo hi lo2 hi2 c d c' d' new k.two.stack two_room k.two.first k.two.second p q up down)
+
+  pub code_less : Narrows true (value.Integer lo hi) (value.Integer lo2 hi2) d c → Narrows false (value.Integer lo hi) (value.Integer lo2 hi2) d' c'
+      → Ruled (callee.BuiltIn built_in.Less) a old new
+  code_less up down = compared _
+      (λ p q. rule_less_known a j i b.stack lo hi lo2 hi2 c d c' d' new k.two.stack two_room k.two.first k.two.second p q up down)
+
+  pub code_equals_integers : Matches true (value.Integer lo2 hi2) (value.Integer lo hi) c d
+      → Matches false (value.Integer lo2 hi2) (value.Integer lo hi) c' d' → Ruled (callee.BuiltIn built_in.Equals) a old new
+  code_equals_integers same other = compared _
+      (λ p q. rule_equals_integers a j i b.stack lo hi lo2 hi2 c d c' d' new k.two.stack two_room k.two.first k.two.second p q same other)
+
+-- a sum or a difference of the two integers on top was added
+module _ (a b : Abstract) (j i : ℕ) (lo : Option ℤ) (hi : Upper) (lo2 : Option ℤ) (hi2 : Upper) (r : Value) (old new : List Abstract)
+    (t : TwoAre a j i (value.Integer lo hi) (value.Integer lo2 hi2) b) (x : Added (pushing_new r b) old new) where
+  sum_room : length b.stack < 1000
+  sum_room = room_two a b j i (value.Integer lo hi) (value.Integer lo2 hi2) t
+
+  sum_into : Into (pushing_new r (with_stack b.stack a)) new
+  sum_into = rest_into a b (λ z. pushing_new r z) new t.rest x.into
+
+  pub code_plus : SumIs (λ x y. x +ℤ y) (value.Integer lo2 hi2) (value.Integer lo hi) r → Ruled (callee.BuiltIn built_in.Plus) a old new
+  code_plus sum = record { rule = rule_plus_known a j i b.stack lo hi lo2 hi2 r new t.stack sum_room t.first t.second sum_into sum; sub = x.sub }
+
+  pub code_minus : SumIs (λ x y. x -ℤ y) (value.Integer lo2 hi2) (value.Integer lo hi) r → Ruled (callee.BuiltIn built_in.Minus) a old new
+  code_minus sum = record { rule = rule_minus_known a j i b.stack lo hi lo2 hi2 r new t.stack sum_room t.first t.second sum_into sum; sub = x.sub }
 
 pub code_concatenate : (a b : Abstract) (j i : ℕ) (m n : Mask) (r : Value) (old new : List Abstract) → TwoAre a j i (value.Text m) (value.Text n) b
     → m.missing ≡ false → n.missing ≡ false → r ≡ value.Text (followed n m) → Added (pushing_new r b) old new
@@ -240,15 +260,6 @@ code_concatenate a b j i m n r old new t mj ni e x = ruled _ _ _ _
     (rule_concatenate_known a j i b.stack m n new t.stack (room_two a b j i (value.Text m) (value.Text n) t) t.first t.second mj ni
     (rest_into a b (λ x. pushing_new (value.Text (followed n m)) x) new t.rest (subst (λ (c : Value). Into (pushing_new c b) new) e x.into)))
     x.sub
-
-pub code_minus : (a b : Abstract) (j i : ℕ) (lo : Option ℤ) (hi : Upper) (lo2 : Option ℤ) (hi2 : Upper) (r : Value) (old new : List Abstract)
-    → TwoAre a j i (value.Integer lo hi) (value.Integer lo2 hi2) b
-    → SumIs (λ x y. x -ℤ y) (value.Integer lo2 hi2) (value.Integer lo hi) r → Added (pushing_new r b) old new → Ruled (callee.BuiltIn built_in.Minus) a old new
-code_minus a b j i lo hi lo2 hi2 r old new t sum x = record {
-  rule = rule_minus_known a j i b.stack lo hi lo2 hi2 r new t.stack (room_two a b j i (value.Integer lo hi) (value.Integer lo2 hi2) t) t.first t.second
-      (rest_into a b (λ x. pushing_new r x) new t.rest x.into) sum;
-  sub = x.sub;
-}
 
 -- ---- `:=`
 

@@ -1,28 +1,29 @@
 -- Any row of the table, on operands that certainly fit: and with it, in a line or two each, the rows whose results are any string or any integer.
-use Rattle.std.proofs.Common.{◌≡◌, ℕ, ◌<◌, List, [], ◌∷◌, ◌++◌, length, drop, Option, None, Some, Bool, true, false, cond, get_or, refl, sym, subst, arith}
+use Rattle.std.proofs.Common.{◌≡◌, ℕ, ◌<◌, List, [], ◌∷◌, ◌++◌, length, drop, Option, Bool, true, false, cond, refl, sym, subst, arith}
 use Rattle.std.specs.List.{list_all}
 use Rattle.btx_text.specs.language.Class.{is_white}
 use Rattle.btx_bst.specs.declared.built_in.BuiltIn.{BuiltIn}
 use Rattle.btx_bst.specs.declared.callee.Callee.TheVariants as callee
 use Rattle.btx_stack.specs.declared.literal.Literal.{Literal}
-use Rattle.btx_stack.specs.declared.literal.Literal.TheVariants.{Integer, Text, Function, Missing}
+use Rattle.btx_stack.specs.declared.literal.Literal.TheVariants.{Text}
 use Rattle.btx_step.specs.declared.literal.Wanted.TheVariants as wanted
 use Rattle.btx_step.specs.declared.said.Said.{Said}
 use Rattle.btx_step.specs.language.Jobs.{Job}
 use Rattle.btx_step.specs.language.Stores.{Store}
 use Rattle.btx_step.specs.language.Answers.{Answer, with_literals, pushes, pushes_text, says}
-use Rattle.btx_step.specs.language.Operands.{Operand, Any, Of, Value as Operated, Does, applied, absent, wrong, or_else, or_default, on_operands}
+use Rattle.btx_step.specs.language.Operands.{Operand, Any, Value as Operated, Does, absent, wrong, or_else, or_default, on_operands}
 use Rattle.btx_step.specs.language.Table.{row}
 use Rattle.btx_step.specs.language.Steps.{built_in_run, function_run}
 use Rattle.btx_check.specs.declared.description.Value.{Value}
 use Rattle.btx_check.specs.declared.description.Value.TheVariants as value
 use Rattle.btx_check.specs.Promise.{Calm}
 use Rattle.btx_check.specs.Descriptions.{White, Full, allows, Is, any_text}
-use Rattle.btx_check.specs.States.{Abstract, values_in, Fits, Stack, In, pushing_new, with_stack}
+use Rattle.btx_check.specs.States.{Abstract, values_in, In, pushing_new, with_stack}
 use Rattle.btx_check.specs.Inclusion.{Into}
 use Rattle.btx_check.specs.Running.{Leads}
-use Rattle.btx_check.specs.Answers.{OpFits, TopsFit}
-use Rattle.btx_check.proofs.Holding.{fits-at, stack-length, restack, fresh}
+use Rattle.btx_check.specs.Answers.{TopsFit}
+use Rattle.btx_check.proofs.Holding.{stack-length, restack, fresh}
+use Rattle.btx_check.proofs.Known.{OnKnown, fitted}
 use Rattle.btx_check.proofs.RowLemmas.{pushes_leads, pushes_text_leads}
 
 -- so it is of the function on all values of its operands
@@ -30,43 +31,12 @@ abbrev pub OnAll : ((Store → Answer) → Type 0) → (operands : List Operand)
 OnAll P [] does = P does
 OnAll P (operand ∷ more) does = (v : Operated operand) → OnAll P more (does v)
 
-record Fitted (P : (Store → Answer) → Type 0) (operands : List Operand) (does : Does operands) (v : List Literal) (below : List ℕ) (xs : List Literal) : Type
-    0 where
-  go : Store → Answer
-  applies : applied operands does xs ≡ Some go
-  so : P go
-  rest : Stack v below (drop (length operands) xs)
-
-one_fits : (left : ℕ) (P : (Store → Answer) → Type 0) (v : List Literal) (below : List ℕ) (operand : Operand) (more : List Operand)
-    (does : Does (operand ∷ more)) (d : Value) (x : Literal) (xs : List Literal) → OpFits operand d → Is left d x
-    → ((w : Operated operand) → Fitted P more (does w) v below xs) → Fitted P (operand ∷ more) does v below (x ∷ xs)
-one_fits left P v below Any more does d x xs o p h = let r = h x in record { go = r.go; applies = r.applies; so = r.so; rest = r.rest }
-one_fits left P v below (Of wanted.Integer) more does (value.Integer lo hi) (Integer n) xs o p h = let r = h n in
-    record { go = r.go; applies = r.applies; so = r.so; rest = r.rest }
-one_fits left P v below (Of wanted.Text) more does (value.Text m) (Text t) xs o p h = let r = h t in
-    record { go = r.go; applies = r.applies; so = r.so; rest = r.rest }
-one_fits left P v below (Of wanted.Text) more does (value.Text m) Missing xs o p h = absurd (cc)
-one_fits left P v below (Of wanted.Function) more does (value.Function f) (Function g) xs o p h = let r = h g in
-    record { go = r.go; applies = r.applies; so = r.so; rest = r.rest }
-one_fits left P v below (Of wanted.TextOrMissing) more does (value.Text m) (Text t) xs o p h = let r = h (Some t) in
-    record { go = r.go; applies = r.applies; so = r.so; rest = r.rest }
-one_fits left P v below (Of wanted.TextOrMissing) more does (value.Text m) Missing xs o p h = let r = h None in
-    record { go = r.go; applies = r.applies; so = r.so; rest = r.rest }
-one_fits left P v below (Of wanted.Integer) more does (value.Integer lo hi) _ xs o p h = absurd p
-one_fits left P v below (Of wanted.Text) more does (value.Text m) _ xs o p h = absurd p
-one_fits left P v below (Of wanted.Function) more does (value.Function f) _ xs o p h = absurd p
-one_fits left P v below (Of wanted.TextOrMissing) more does (value.Text m) _ xs o p h = absurd p
-one_fits left P v below (Of _) more does _ x xs o p h = absurd o
-
-fitted : (left : ℕ) (P : (Store → Answer) → Type 0) (ds : List Value) (v : List Literal) (below : List ℕ) → Fits left ds v
-    → (operands : List Operand) (does : Does operands) (is : List ℕ) (xs : List Literal) → TopsFit ds operands is below → Stack v is xs
-    → OnAll P operands does → Fitted P operands does v below xs
-fitted left P ds v below f [] does is xs t k h = record { go = does; applies = refl; so = h; rest = subst (λ (b : List ℕ). Stack v b xs) t k }
-fitted left P ds v below f (operand ∷ more) does [] xs t k h = absurd t
-fitted left P ds v below f (operand ∷ more) does (i ∷ is) [] t k h = absurd k
-fitted left P ds v below f (operand ∷ more) does (i ∷ is) (x ∷ xs) t k h =
-    one_fits left P v below operand more does (get_or ds i value.Any) x xs t.0 (fits-at left ds v i x f k.0)
-    (λ w. fitted left P ds v below f more (does w) is xs t.1 k.1 (h w))
+-- what is so on all values is so on those that are known
+all_known : (left : ℕ) (P : (Store → Answer) → Type 0) (v : List Literal) (ds : List Value) (operands : List Operand) (is : List ℕ) (does : Does operands)
+    → OnAll P operands does → OnKnown left P v ds operands is does
+all_known left P v ds [] is does h = h
+all_known left P v ds (operand ∷ more) [] does h = tt
+all_known left P v ds (operand ∷ more) (i ∷ is) does h = λ w stands described. all_known left P v ds more is (does w) (h w)
 
 -- what a row has to do from the states below its operands
 abbrev pub Onward : Job → ℕ → Abstract → List ℕ → List Abstract → (Store → Answer) → Type 0
@@ -79,7 +49,8 @@ pub row_leads : (job : Job) (left : ℕ) (f : BuiltIn) (a : Abstract) (below : L
     → Leads job left to s (function_run job (callee.BuiltIn f) s)
 unfolding function_run
 row_leads job left f a below to s b t h i =
-    let r = fitted left (Onward job left a below to) a.values i.0 below i.1.values (row f).operands ((row f).does job) a.stack s.literals t i.1.stack h in
+    let r = fitted left (Onward job left a below to) a.values i.0 below i.1.values (row f).operands ((row f).does job) a.stack s.literals t i.1.stack
+    (all_known left (Onward job left a below to) i.0 a.values (row f).operands a.stack ((row f).does job) h) in
     let notes = or_else (absent (row f).operands s.literals) (wrong (row f).operands s.literals) in
     let under = drop (length (row f).operands) s.literals in
     let l = r.so (with_literals under s) (i.0, restack job left a (values_in s) i.0 below s.literals under r.rest i.1) in

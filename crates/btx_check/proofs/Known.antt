@@ -27,12 +27,12 @@ OnKnown left P v ds (operand ∷ more) [] does = Unit {0}
 OnKnown left P v ds (operand ∷ more) (i ∷ is) does = (w : Operated operand) → at v i ≡ Some (operand_literal operand w)
     → Is left (get_or ds i value.Any) (operand_literal operand w) → OnKnown left P v ds more is (does w)
 
-record Fitted (P : (Store → Answer) → Type 0) (operands : List Operand) (does : Does operands) (v : List Literal) (below : List ℕ) (xs : List Literal) : Type
+pub record Fitted (P : (Store → Answer) → Type 0) (operands : List Operand) (does : Does operands) (v : List Literal) (below : List ℕ) (xs : List Literal) : Type
     0 where
-  go : Store → Answer
-  applies : applied operands does xs ≡ Some go
-  so : P go
-  rest : Stack v below (drop (length operands) xs)
+  pub go : Store → Answer
+  pub applies : applied operands does xs ≡ Some go
+  pub so : P go
+  pub rest : Stack v below (drop (length operands) xs)
 
 one_fits : (left : ℕ) (P : (Store → Answer) → Type 0) (v : List Literal) (below : List ℕ) (operand : Operand) (more : List Operand)
     (does : Does (operand ∷ more)) (d : Value) (x : Literal) (xs : List Literal) → OpFits operand d → Is left d x
@@ -55,7 +55,7 @@ one_fits left P v below (Of wanted.Function) more does (value.Function f) _ xs o
 one_fits left P v below (Of wanted.TextOrMissing) more does (value.Text m) _ xs o p h = absurd p
 one_fits left P v below (Of _) more does _ x xs o p h = absurd o
 
-fitted : (left : ℕ) (P : (Store → Answer) → Type 0) (ds : List Value) (v : List Literal) (below : List ℕ) → Fits left ds v
+pub fitted : (left : ℕ) (P : (Store → Answer) → Type 0) (ds : List Value) (v : List Literal) (below : List ℕ) → Fits left ds v
     → (operands : List Operand) (does : Does operands) (is : List ℕ) (xs : List Literal) → TopsFit ds operands is below → Stack v is xs
     → OnKnown left P v ds operands is does → Fitted P operands does v below xs
 fitted left P ds v below f [] does is xs t k h = record { go = does; applies = refl; so = h; rest = subst (λ (b : List ℕ). Stack v b xs) t k }

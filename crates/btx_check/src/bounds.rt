@@ -102,17 +102,18 @@ pub fn sum_low(a: Option<i32>, b: Option<i32>) -> Option<i32>
     }
 }
 
-/// Whether an integer is at most 1.
-pub fn is_one(high: Upper) -> bool
-    ensures { IsTrue result → (left : ℕ) (x : ℤ) → Below left high x → x ≤ℤ pos 1 }
+/// Whether an integer of this upper bound is at most a number.
+pub fn is_at_most(high: Upper, most: i32) -> bool
+    ensures { IsTrue result → (left : ℕ) (x : ℤ) → Below left high x → x ≤ℤ most }
 {
-    match high {
-        Upper::Counter => false,
-        Upper::Number(h) => match h {
-            None => false,
-            Some(n) => n <= 1,
-        },
-    }
+    matches!(high, Upper::Number(Some(n)) if n <= most)
+}
+
+/// Whether an integer of this lower bound is at least a number.
+pub fn is_at_least(low: Option<i32>, least: i32) -> bool
+    ensures { IsTrue result → (x : ℤ) → Above low x → least ≤ℤ x }
+{
+    matches!(low, Some(n) if least <= n)
 }
 
 // An upper bound of a sum of integers below two numbers.
@@ -133,7 +134,7 @@ fn counter_sum(b: Upper) -> Upper
     ensures first { (left : ℕ) (x y : ℤ) → Below (suc left) upper.Counter x → Below (suc left) b y → Below left result (x +ℤ y) }
     ensures second { (left : ℕ) (x y : ℤ) → Below (suc left) b x → Below (suc left) upper.Counter y → Below left result (x +ℤ y) }
 {
-    if is_one(b) {
+    if is_at_most(b, 1) {
         return Upper::Counter;
     }
     Upper::Number(None)

@@ -28,17 +28,13 @@ pub fn top_of(a: State) -> Option<Top>
         return None;
     }
     let mut below = a;
-    match below.pop() {
-        None => None,
-        Some(number) => {
-            let value = below.value(number);
-            Some(Top {
-                number,
-                value,
-                below,
-            })
-        }
-    }
+    let number = below.pop()?;
+    let value = below.value(number);
+    Some(Top {
+        number,
+        value,
+        below,
+    })
 }
 
 /// The two numbers on top, what is known of them, and what is below them.
@@ -56,19 +52,15 @@ pub struct Pair {
 pub fn pair_of(a: State) -> Option<Pair>
     ensures { IfSome result (λ t. TwoAre a t.first t.second t.first_value t.second_value t.below) }
 {
-    match top_of(a) {
-        None => None,
-        Some(t) => match top_of(t.below) {
-            None => None,
-            Some(u) => Some(Pair {
-                first: t.number,
-                first_value: t.value,
-                second: u.number,
-                second_value: u.value,
-                below: u.below,
-            }),
-        },
-    }
+    let t = top_of(a)?;
+    let u = top_of(t.below)?;
+    Some(Pair {
+        first: t.number,
+        first_value: t.value,
+        second: u.number,
+        second_value: u.value,
+        below: u.below,
+    })
 }
 
 /// The three numbers on top, what is known of them, and what is below them.
@@ -88,21 +80,17 @@ pub struct Triple {
 pub fn triple_of(a: State) -> Option<Triple>
     ensures { IfSome result (λ t. ThreeAre a t.first t.second t.third t.first_value t.second_value t.third_value t.below) }
 {
-    match pair_of(a) {
-        None => None,
-        Some(p) => match top_of(p.below) {
-            None => None,
-            Some(t) => Some(Triple {
-                first: p.first,
-                first_value: p.first_value,
-                second: p.second,
-                second_value: p.second_value,
-                third: t.number,
-                third_value: t.value,
-                below: t.below,
-            }),
-        },
-    }
+    let p = pair_of(a)?;
+    let t = top_of(p.below)?;
+    Some(Triple {
+        first: p.first,
+        first_value: p.first_value,
+        second: p.second,
+        second_value: p.second_value,
+        third: t.number,
+        third_value: t.value,
+        below: t.below,
+    })
 }
 
 /// Whether an operand that wants this gets it from each literal that is described so.
@@ -134,54 +122,36 @@ pub fn take_none(a: State) -> Option<State>
 pub fn take_one(a: State, wanted: Wanted) -> Option<State>
     ensures { IfSome result (λ b. Taken (Of wanted ∷ []) a b) }
 {
-    match top_of(a) {
-        None => None,
-        Some(t) => {
-            if !is_fit(t.value, wanted) {
-                return None;
-            }
-            Some(t.below)
-        }
+    let t = top_of(a)?;
+    if !is_fit(t.value, wanted) {
+        return None;
     }
+    Some(t.below)
 }
 
 /// Takes two operands, the first from the top.
 pub fn take_two(a: State, first: Wanted, second: Wanted) -> Option<State>
     ensures { IfSome result (λ b. Taken (Of first ∷ Of second ∷ []) a b) }
 {
-    match pair_of(a) {
-        None => None,
-        Some(t) => {
-            if !is_fit(t.first_value, first) {
-                return None;
-            }
-            if !is_fit(t.second_value, second) {
-                return None;
-            }
-            Some(t.below)
-        }
+    let t = pair_of(a)?;
+    if !is_fit(t.first_value, first) || !is_fit(t.second_value, second) {
+        return None;
     }
+    Some(t.below)
 }
 
 /// Takes three operands, the first from the top.
 pub fn take_three(a: State, first: Wanted, second: Wanted, third: Wanted) -> Option<State>
     ensures { IfSome result (λ b. Taken (Of first ∷ Of second ∷ Of third ∷ []) a b) }
 {
-    match triple_of(a) {
-        None => None,
-        Some(t) => {
-            if !is_fit(t.first_value, first) {
-                return None;
-            }
-            if !is_fit(t.second_value, second) {
-                return None;
-            }
-            if !is_fit(t.third_value, third) {
-                return None;
-            }
-            Some(t.below)
-        }
+    let t = triple_of(a)?;
+    if !is_fit(t.first_value, first)
+        || !is_fit(t.second_value, second)
+        || !is_fit(t.third_value, third)
+    {
+        return None;
     }
+    Some(t.below)
 }
 
 /// Adds what is left below operands, with a literal of which this is known. False if they weren't taken.

@@ -1,5 +1,5 @@
 //! What is known of sums and differences.
-ghost use Rattle.std.specs.Prelude.{◌≡◌, ℕ, suc, ◌≤◌, ℤ, pos, negsuc, ◌≤ℤ◌, ◌+ℤ◌, ◌-ℤ◌, true, false, Option, IsTrue, cond};
+ghost use Rattle.std.specs.Prelude.{◌≡◌, ℕ, suc, ◌≤◌, ℤ, pos, ◌≤ℤ◌, ◌+ℤ◌, ◌-ℤ◌, true, false, Option, IsTrue, cond};
 ghost use Rattle.btx_stack.specs.declared.literal.Literal.TheVariants.{Integer};
 ghost use Rattle.btx_step.specs.language.Arithmetic.{fits};
 ghost use Rattle.btx_check.specs.declared.description.Value.TheVariants as value;
@@ -7,31 +7,8 @@ ghost use Rattle.btx_check.specs.Promise.{most_steps};
 ghost use Rattle.btx_check.specs.Descriptions.{Above, Below, Is};
 ghost use Rattle.btx_check.specs.Bounds.{SumIs};
 
-use crate::bounds::{difference_high, difference_low, sum_high, sum_low};
+use crate::bounds::{difference_high, difference_low, is_at_least, is_at_most, sum_high, sum_low};
 use crate::description::{Upper, Value};
-
-/// Whether a lower bound is so great that sums and differences fit 32 bits.
-pub fn is_small_low(low: Option<i32>) -> bool
-    ensures { IsTrue result → (x : ℤ) → Above low x → negsuc 999999999 ≤ℤ x }
-{
-    match low {
-        None => false,
-        Some(n) => -1_000_000_000 <= n,
-    }
-}
-
-/// Whether an upper bound is so small that sums and differences fit 32 bits.
-pub fn is_small_high(high: Upper) -> bool
-    ensures { IsTrue result → (left : ℕ) (x : ℤ) → Below left high x → x ≤ℤ pos 1000000000 }
-{
-    match high {
-        Upper::Counter => false,
-        Upper::Number(h) => match h {
-            None => false,
-            Some(n) => n <= 1_000_000_000,
-        },
-    }
-}
 
 /// Whether an upper bound is so small that a sum with an integer of at most 100,000,000 fits 32 bits.
 pub fn is_counted(high: Upper) -> bool
@@ -39,33 +16,7 @@ pub fn is_counted(high: Upper) -> bool
 {
     match high {
         Upper::Counter => true,
-        Upper::Number(h) => match h {
-            None => false,
-            Some(n) => n <= 2_000_000_000,
-        },
-    }
-}
-
-/// Whether an integer is at most 100,000,000.
-pub fn is_little(high: Upper) -> bool
-    ensures { IsTrue result → (left : ℕ) (x : ℤ) → Below left high x → x ≤ℤ pos 100000000 }
-{
-    match high {
-        Upper::Counter => false,
-        Upper::Number(h) => match h {
-            None => false,
-            Some(n) => n <= 100_000_000,
-        },
-    }
-}
-
-/// Whether an integer is at least -100,000,000.
-pub fn is_little_low(low: Option<i32>) -> bool
-    ensures { IsTrue result → (x : ℤ) → Above low x → negsuc 99999999 ≤ℤ x }
-{
-    match low {
-        None => false,
-        Some(n) => -100_000_000 <= n,
+        Upper::Number(_) => is_at_most(high, 2_000_000_000),
     }
 }
 
@@ -73,56 +24,33 @@ pub fn is_little_low(low: Option<i32>) -> bool
 pub fn is_low_sum(high: Upper, high2: Upper) -> bool
     ensures { IsTrue result → (left : ℕ) (x y : ℤ) → Below left high x → Below left high2 y → (x +ℤ y) ≤ℤ pos 2100000000 }
 {
-    if is_small_high(high) && is_small_high(high2) {
+    if is_at_most(high, 1_000_000_000) && is_at_most(high2, 1_000_000_000) {
         return true;
     }
-    if is_counted(high) && is_little(high2) {
+    if is_counted(high) && is_at_most(high2, 100_000_000) {
         return true;
     }
-    is_little(high) && is_counted(high2)
+    is_at_most(high, 100_000_000) && is_counted(high2)
 }
 
 /// Whether a difference of integers of these bounds is at most 2,100,000,000.
 pub fn is_low_difference(high: Upper, low2: Option<i32>) -> bool
     ensures { IsTrue result → (left : ℕ) (x y : ℤ) → Below left high x → Above low2 y → (x -ℤ y) ≤ℤ pos 2100000000 }
 {
-    if is_small_high(high) && is_small_low(low2) {
+    if is_at_most(high, 1_000_000_000) && is_at_least(low2, -1_000_000_000) {
         return true;
     }
-    is_counted(high) && is_little_low(low2)
-}
-
-/// Whether a lower bound is 0 or more.
-pub fn is_from_zero(low: Option<i32>) -> bool
-    ensures { IsTrue result → (n : ℤ) → Above low n → pos 0 ≤ℤ n }
-{
-    match low {
-        None => false,
-        Some(n) => 0 <= n,
-    }
-}
-
-/// Whether an upper bound is 0 or less.
-pub fn is_to_zero(high: Upper) -> bool
-    ensures { IsTrue result → (left : ℕ) (n : ℤ) → Below left high n → n ≤ℤ pos 0 }
-{
-    match high {
-        Upper::Counter => false,
-        Upper::Number(h) => match h {
-            None => false,
-            Some(n) => n <= 0,
-        },
-    }
+    is_counted(high) && is_at_least(low2, -100_000_000)
 }
 
 // What is known of a result within these bounds, which is 0 where it doesn't fit.
 fn unfit(least: Option<i32>, most: Upper) -> Value
     ensures { (left : ℕ) (z : ℤ) → Above least z → Below left most z → Is left result (Integer (cond (fits z) z (pos 0))) }
 {
-    if is_from_zero(least) {
+    if is_at_least(least, 0) {
         return Value::any_count();
     }
-    if is_to_zero(most) {
+    if is_at_most(most, 0) {
         return Value::Integer(None, Upper::Number(Some(0)));
     }
     Value::any_integer()
@@ -134,10 +62,10 @@ pub fn sum_of(low: Option<i32>, high: Upper, low2: Option<i32>, high2: Upper) ->
 {
     let least = sum_low(low, low2);
     let most = sum_high(high, high2);
-    if !is_small_low(low) {
+    if !is_at_least(low, -1_000_000_000) {
         return unfit(least, most);
     }
-    if !is_small_low(low2) {
+    if !is_at_least(low2, -1_000_000_000) {
         return unfit(least, most);
     }
     if !is_low_sum(high, high2) {
@@ -152,10 +80,10 @@ pub fn difference_of(low: Option<i32>, high: Upper, low2: Option<i32>, high2: Up
 {
     let least = difference_low(low, high2);
     let most = difference_high(high, low2);
-    if !is_small_low(low) {
+    if !is_at_least(low, -1_000_000_000) {
         return unfit(least, most);
     }
-    if !is_small_high(high2) {
+    if !is_at_most(high2, 1_000_000_000) {
         return unfit(least, most);
     }
     if !is_low_difference(high, low2) {

@@ -83,11 +83,7 @@ pub fn stack_maps(numbers: &[usize], a: &[usize], b: &[usize]) -> bool
         return false;
     }
     for k in 0..b.len() {
-        let j = b[k];
-        if j >= numbers.len() {
-            return false;
-        }
-        if numbers[j] != a[k] {
+        if !name_maps(numbers, Some(a[k]), Some(b[k])) {
             return false;
         }
     }

@@ -157,19 +157,18 @@ braces_lower xs ys same =
 behind_lower : (before xs ys : List ℕ) → in_lower_case xs ≡ in_lower_case ys → in_lower_case (before ++ xs) ≡ in_lower_case (before ++ ys)
 behind_lower before xs ys same = lower_append before xs ∙ ap (λ zs. in_lower_case before ++ zs) same ∙ sym (lower_append before ys)
 
+-- the piece of a group whose first letter names a part
+abbrev piece_of_letter : List ℕ → ℕ → List ℕ → PartName → FormatPiece
+piece_of_letter before letter rest part =
+    let behind = behind_letters letter rest in
+    record { before = before; part = part; is_full = is_doubled letter rest; between = between_of behind; after = behind_between behind }
+
 piece_written : (before : List ℕ) (letter : ℕ) (rest : List ℕ) (part : PartName) → part_named letter ≡ Some part → fold depth_after 0 (letter ∷ rest) ≡ 0 →
     IsWritten (piece_item before letter rest part) (in_braces (before ++ letter ∷ rest))
 unfolding piece_item
 piece_written before letter rest part is low = at (has_no_letter (behind_between (behind_letters letter rest))) where
   piece : FormatPiece
-  piece = record {
-    before = before;
-    part = part;
-    is_full = is_doubled letter rest;
-    between = between_of (behind_letters letter rest);
-    after =
-        behind_between (behind_letters letter rest);
-  }
+  piece = piece_of_letter before letter rest part
 
   lower : to_ascii_lowercase letter ≡ letter_of part
   lower = named letter part is
@@ -349,15 +348,7 @@ lettered_copies_nothing : (before : List ℕ) (letter : ℕ) (rest : List ℕ) (
 unfolding piece_item
 lettered_copies_nothing before letter rest None = refl
 lettered_copies_nothing before letter rest (Some part) =
-    at (has_no_letter (behind_between (behind_letters letter rest)))
-    (record {
-      before = before;
-      part = part;
-      is_full = is_doubled letter rest;
-      between = between_of (behind_letters letter rest);
-      after =
-          behind_between (behind_letters letter rest);
-    }) where
+    at (has_no_letter (behind_between (behind_letters letter rest))) (piece_of_letter before letter rest part) where
       at : (t : Bool) (piece : FormatPiece) → literal_bytes (cond t (Name piece) Illegal) ≡ []
       at true piece = refl
       at false piece = refl

@@ -1,8 +1,10 @@
 -- Worked names, by computation.
-use Rattle.std.specs.Prelude.{◌≡◌, pos, true, [], ◌∷◌, ◌++◌, length, codes, refl}
+use Rattle.std.specs.Prelude.{◌≡◌, ℕ, ℤ, pos, true, List, [], ◌∷◌, ◌++◌, length, map, codes, refl}
+use Rattle.btx_text.specs.declared.element_kind.TextMode.{TextMode}
 use Rattle.btx_text.specs.declared.element_kind.TextMode.TheVariants.{Bytes, Utf8}
 use Rattle.btx_text.specs.language.Elements.{kind_at, group_len, elements_from, elements_of}
 use Rattle.btx_text.specs.language.Sequences.{sequence_size, second_fits, is_sequence, begins_sequence}
+use Rattle.btx_strings.specs.declared.answers.Complaints.{Complaints}
 use Rattle.btx_strings.specs.language.Answers.{no_complaints}
 use Rattle.btx_names.specs.language.NameLists.{is_separator, pieces_from, names_of}
 use Rattle.btx_names.specs.language.Runs.{run_len}
@@ -36,143 +38,77 @@ no_white : names_of (codes "and b") ≡ codes "and b" ∷ []
 unfolding names_of pieces_from is_separator
 no_white = refl
 
-poussin : format_name_text Bytes (codes "Charles Louis Xavier Joseph de la Vall{\\'e}e Poussin") (pos 1) (codes "{vv~}{ll}{, jj}{, f}?")
-    ≡ codes "de~la Vall{\\'e}e~Poussin, C. L. X.~J?"
-unfolding kind_at group_len elements_from elements_of is_separator pieces_from names_of run_len tokens_from tokens_of letters_of is_lower_special first_is_lower
-    is_von split_at_comma sections_of ends_in_comma before_final up_to_last before_first part_named piece_item inside_item group_item items_from items_of
-    initial_of between_text with_tokens finished piece_text names_before nth_name one_name_text one_name_complaints
-poussin = refl
+-- ---- names in formats
 
-hyphen : format_name_text Bytes (codes "Jean-Paul Sartre") (pos 1) (codes "{f.~}{ll}") ≡ codes "J.-P. Sartre"
-unfolding kind_at group_len elements_from elements_of is_separator pieces_from names_of run_len tokens_from tokens_of letters_of is_lower_special first_is_lower
-    is_von split_at_comma sections_of ends_in_comma before_final up_to_last before_first part_named piece_item inside_item group_item items_from items_of
-    initial_of between_text with_tokens finished piece_text names_before nth_name one_name_text one_name_complaints
-hyphen = refl
+-- a name of some names, by its number, and a format
+record Asked : Type 0 where
+  names : List ℕ
+  number : ℤ
+  format : List ℕ
 
-short_first : format_name_text Bytes (codes "D. Knuth") (pos 1) (codes "{f.~}{ll}") ≡ codes "D.~Knuth"
-unfolding kind_at group_len elements_from elements_of is_separator pieces_from names_of run_len tokens_from tokens_of letters_of is_lower_special first_is_lower
-    is_von split_at_comma sections_of ends_in_comma before_final up_to_last before_first part_named piece_item inside_item group_item items_from items_of
-    initial_of between_text with_tokens finished piece_text names_before nth_name one_name_text one_name_complaints
-short_first = refl
+-- what is asked, with the text that it gives
+record Formatted : Type 0 where
+  mode : TextMode
+  asked : Asked
+  text : List ℕ
 
-two_commas : format_name_text Bytes (codes "Smith, Jr, John") (pos 1) (codes "{ff }{vv }{ll}{, jj}") ≡ codes "John Smith, Jr"
-unfolding kind_at group_len elements_from elements_of is_separator pieces_from names_of run_len tokens_from tokens_of letters_of is_lower_special first_is_lower
-    is_von split_at_comma sections_of ends_in_comma before_final up_to_last before_first part_named piece_item inside_item group_item items_from items_of
-    initial_of between_text with_tokens finished piece_text names_before nth_name one_name_text one_name_complaints
-two_commas = refl
+-- names, the number of one of them and a format, and the text that it has in it
+abbrev formatted : TextMode → List ℕ → ℤ → List ℕ → List ℕ → Formatted
+formatted mode names number format text = record { mode = mode; asked = record { names = names; number = number; format = format }; text = text }
 
--- abbreviations with nothing between pass over tokens without a letter
-nothing_between : format_name_text Bytes (codes "1 Donald 2 E. 3 Knuth") (pos 1) (codes "{f{}}") ≡ codes "DE"
-unfolding kind_at group_len elements_from elements_of is_separator pieces_from names_of run_len tokens_from tokens_of letters_of is_lower_special first_is_lower
-    is_von split_at_comma sections_of ends_in_comma before_final up_to_last before_first part_named piece_item inside_item group_item items_from items_of
-    initial_of between_text with_tokens finished piece_text names_before nth_name one_name_text one_name_complaints
-nothing_between = refl
+abbrev formatted_names : List Formatted
+formatted_names =
+    formatted Bytes (codes "Charles Louis Xavier Joseph de la Vall{\\'e}e Poussin") (pos 1) (codes "{vv~}{ll}{, jj}{, f}?") (codes "de~la Vall{\\'e}e~Poussin, C. L. X.~J?")
+    ∷ formatted Bytes (codes "Jean-Paul Sartre") (pos 1) (codes "{f.~}{ll}") (codes "J.-P. Sartre")
+    ∷ formatted Bytes (codes "D. Knuth") (pos 1) (codes "{f.~}{ll}") (codes "D.~Knuth")
+    ∷ formatted Bytes (codes "Smith, Jr, John") (pos 1) (codes "{ff }{vv }{ll}{, jj}") (codes "John Smith, Jr")
+    -- abbreviations with nothing between pass over tokens without a letter
+    ∷ formatted Bytes (codes "1 Donald 2 E. 3 Knuth") (pos 1) (codes "{f{}}") (codes "DE")
+    -- the letters of a format stand in either case
+    ∷ formatted Bytes (codes "Smith, Jr, John") (pos 1) (codes "{FF }{VV }{LL}{, JJ}") (codes "John Smith, Jr")
+    ∷ formatted Bytes (codes "de la Smith, Jr, John") (pos 1) (codes "{F.}{V.}{L.}{J.}") (codes "J.d.~l.S.J.")
+    ∷ formatted Bytes (codes "jean de la fontaine") (pos 1) (codes "{f. }{vv }{ll}") (codes "jean de~la fontaine")
+    ∷ formatted Bytes (codes "{{\\'E}x} Y") (pos 1) (codes "{f.}") (codes "{\\'E}.")
+    ∷ formatted Bytes (codes "A {\\'\\i}b C") (pos 1) (codes "{vv}") (codes "{\\'\\i}b")
+    ∷ formatted Bytes (codes "A") (pos 2) (codes "{ll}") []
+    ∷ formatted Bytes (codes "A") (pos 1) (codes "{lll}") []
+    ∷ formatted Bytes (codes "Knuth, Donald,") (pos 1) (codes "{ll}") (codes "Knuth")
+    ∷ formatted Bytes (codes "A") (pos 1) (codes "{...~}{~}{ll~~~}") (codes "... ~A~~")
+    ∷ formatted Utf8 (codes "Cartan, " ++ 0xC3 ∷ 0x89 ∷ codes "lie") (pos 1) (codes "{f. }{ll}") (0xC3 ∷ 0x89 ∷ codes ". Cartan")
+    ∷ formatted Bytes (codes "Cartan, " ++ 0xC3 ∷ 0x89 ∷ codes "lie") (pos 1) (codes "{f. }{ll}") (0xC3 ∷ codes ". Cartan")
+    ∷ formatted Utf8 (0xC3 ∷ 0x89 ∷ codes "lie Cartan") (pos 1) (codes "{f. }{ll}") (codes "Cartan")
+    ∷ []
 
--- the letters of a format stand in either case
-capital_letters : format_name_text Bytes (codes "Smith, Jr, John") (pos 1) (codes "{FF }{VV }{LL}{, JJ}") ≡ codes "John Smith, Jr"
-unfolding kind_at group_len elements_from elements_of is_separator pieces_from names_of run_len tokens_from tokens_of letters_of is_lower_special first_is_lower
-    is_von split_at_comma sections_of ends_in_comma before_final up_to_last before_first part_named piece_item inside_item group_item items_from items_of
-    initial_of between_text with_tokens finished piece_text names_before nth_name one_name_text one_name_complaints
-capital_letters = refl
-
-capital_letters_once : format_name_text Bytes (codes "de la Smith, Jr, John") (pos 1) (codes "{F.}{V.}{L.}{J.}") ≡ codes "J.d.~l.S.J."
-unfolding kind_at group_len elements_from elements_of is_separator pieces_from names_of run_len tokens_from tokens_of letters_of is_lower_special first_is_lower
-    is_von split_at_comma sections_of ends_in_comma before_final up_to_last before_first part_named piece_item inside_item group_item items_from items_of
-    initial_of between_text with_tokens finished piece_text names_before nth_name one_name_text one_name_complaints
-capital_letters_once = refl
-
-last_is_never_von : format_name_text Bytes (codes "jean de la fontaine") (pos 1) (codes "{f. }{vv }{ll}") ≡ codes "jean de~la fontaine"
-unfolding kind_at group_len elements_from elements_of is_separator pieces_from names_of run_len tokens_from tokens_of letters_of is_lower_special first_is_lower
-    is_von split_at_comma sections_of ends_in_comma before_final up_to_last before_first part_named piece_item inside_item group_item items_from items_of
-    initial_of between_text with_tokens finished piece_text names_before nth_name one_name_text one_name_complaints
-last_is_never_von = refl
-
-inner_special : format_name_text Bytes (codes "{{\\'E}x} Y") (pos 1) (codes "{f.}") ≡ codes "{\\'E}."
-unfolding kind_at group_len elements_from elements_of is_separator pieces_from names_of run_len tokens_from tokens_of letters_of is_lower_special first_is_lower
-    is_von split_at_comma sections_of ends_in_comma before_final up_to_last before_first part_named piece_item inside_item group_item items_from items_of
-    initial_of between_text with_tokens finished piece_text names_before nth_name one_name_text one_name_complaints
-inner_special = refl
-
-special_von : format_name_text Bytes (codes "A {\\'\\i}b C") (pos 1) (codes "{vv}") ≡ codes "{\\'\\i}b"
-unfolding kind_at group_len elements_from elements_of is_separator pieces_from names_of run_len tokens_from tokens_of letters_of is_lower_special first_is_lower
-    is_von split_at_comma sections_of ends_in_comma before_final up_to_last before_first part_named piece_item inside_item group_item items_from items_of
-    initial_of between_text with_tokens finished piece_text names_before nth_name one_name_text one_name_complaints
-special_von = refl
-
-no_such_name : format_name_text Bytes (codes "A") (pos 2) (codes "{ll}") ≡ []
-unfolding kind_at group_len elements_from elements_of is_separator pieces_from names_of run_len tokens_from tokens_of letters_of is_lower_special first_is_lower
-    is_von split_at_comma sections_of ends_in_comma before_final up_to_last before_first part_named piece_item inside_item group_item items_from items_of
-    initial_of between_text with_tokens finished piece_text names_before nth_name one_name_text one_name_complaints
-no_such_name = refl
-
-illegal : format_name_text Bytes (codes "A") (pos 1) (codes "{lll}") ≡ []
-unfolding kind_at group_len elements_from elements_of is_separator pieces_from names_of run_len tokens_from tokens_of letters_of is_lower_special first_is_lower
-    is_von split_at_comma sections_of ends_in_comma before_final up_to_last before_first part_named piece_item inside_item group_item items_from items_of
-    initial_of between_text with_tokens finished piece_text names_before nth_name one_name_text one_name_complaints
-illegal = refl
-
-comma_at_the_end : format_name_text Bytes (codes "Knuth, Donald,") (pos 1) (codes "{ll}") ≡ codes "Knuth"
-unfolding kind_at group_len elements_from elements_of is_separator pieces_from names_of run_len tokens_from tokens_of letters_of is_lower_special first_is_lower
-    is_von split_at_comma sections_of ends_in_comma before_final up_to_last before_first part_named piece_item inside_item group_item items_from items_of
-    initial_of between_text with_tokens finished piece_text names_before nth_name one_name_text one_name_complaints
-comma_at_the_end = refl
-
-group_without_letter : format_name_text Bytes (codes "A") (pos 1) (codes "{...~}{~}{ll~~~}") ≡ codes "... ~A~~"
-unfolding kind_at group_len elements_from elements_of is_separator pieces_from names_of run_len tokens_from tokens_of letters_of is_lower_special first_is_lower
-    is_von split_at_comma sections_of ends_in_comma before_final up_to_last before_first part_named piece_item inside_item group_item items_from items_of
-    initial_of between_text with_tokens finished piece_text names_before nth_name one_name_text one_name_complaints
-group_without_letter = refl
-
-initial_in_utf8 : format_name_text Utf8 (codes "Cartan, " ++ 0xC3 ∷ 0x89 ∷ codes "lie") (pos 1) (codes "{f. }{ll}") ≡ 0xC3 ∷ 0x89 ∷ codes ". Cartan"
+formatted-worked : map (λ row. format_name_text row.mode row.asked.names row.asked.number row.asked.format) formatted_names ≡ map (λ row. row.text) formatted_names
 unfolding kind_at group_len elements_from elements_of is_separator pieces_from names_of run_len tokens_from tokens_of letters_of is_lower_special first_is_lower
     is_von split_at_comma sections_of ends_in_comma before_final up_to_last before_first part_named piece_item inside_item group_item items_from items_of
     initial_of between_text with_tokens finished piece_text names_before nth_name one_name_text one_name_complaints sequence_size second_fits is_sequence
     begins_sequence
-initial_in_utf8 = refl
+formatted-worked = refl
 
-initial_in_bytes : format_name_text Bytes (codes "Cartan, " ++ 0xC3 ∷ 0x89 ∷ codes "lie") (pos 1) (codes "{f. }{ll}") ≡ 0xC3 ∷ codes ". Cartan"
+-- what is asked, with what is wrong
+record Complained : Type 0 where
+  asked : Asked
+  wrong : Complaints
+
+-- names, the number of one of them and a format, and what is wrong with them
+abbrev complained : List ℕ → ℤ → List ℕ → Complaints → Complained
+complained names number format wrong = record { asked = record { names = names; number = number; format = format }; wrong = wrong }
+
+abbrev complained_names : List Complained
+complained_names =
+    complained (codes "A") (pos 2) (codes "{lll}") (record no_complaints { no_such_name = true })
+    ∷ complained (codes "Knuth, Donald,") (pos 1) (codes "{ll}") (record no_complaints { comma_at_end = true })
+    ∷ complained (codes "a, b, c, d") (pos 1) (codes "{ll}") (record no_complaints { too_many_commas = true })
+    ∷ complained (codes "A") (pos 1) (codes "{lll}") (record no_complaints { illegal_format = true })
+    ∷ complained (codes "a, b, c, d,") (pos 1) (codes "{ll}}") (record no_complaints { comma_at_end = true; too_many_commas = true; illegal_format = true })
+    ∷ []
+
+complained-worked : map (λ row. format_name_complaints row.asked.names row.asked.number row.asked.format) complained_names ≡ map (λ row. row.wrong) complained_names
 unfolding kind_at group_len elements_from elements_of is_separator pieces_from names_of run_len tokens_from tokens_of letters_of is_lower_special first_is_lower
     is_von split_at_comma sections_of ends_in_comma before_final up_to_last before_first part_named piece_item inside_item group_item items_from items_of
     initial_of between_text with_tokens finished piece_text names_before nth_name one_name_text one_name_complaints
-initial_in_bytes = refl
-
-von_in_utf8 : format_name_text Utf8 (0xC3 ∷ 0x89 ∷ codes "lie Cartan") (pos 1) (codes "{f. }{ll}") ≡ codes "Cartan"
-unfolding kind_at group_len elements_from elements_of is_separator pieces_from names_of run_len tokens_from tokens_of letters_of is_lower_special first_is_lower
-    is_von split_at_comma sections_of ends_in_comma before_final up_to_last before_first part_named piece_item inside_item group_item items_from items_of
-    initial_of between_text with_tokens finished piece_text names_before nth_name one_name_text one_name_complaints sequence_size second_fits is_sequence
-    begins_sequence
-von_in_utf8 = refl
-
-wrong_no_such_name : format_name_complaints (codes "A") (pos 2) (codes "{lll}") ≡ record no_complaints { no_such_name = true }
-unfolding kind_at group_len elements_from elements_of is_separator pieces_from names_of run_len tokens_from tokens_of letters_of is_lower_special first_is_lower
-    is_von split_at_comma sections_of ends_in_comma before_final up_to_last before_first part_named piece_item inside_item group_item items_from items_of
-    initial_of between_text with_tokens finished piece_text names_before nth_name one_name_text one_name_complaints
-wrong_no_such_name = refl
-
-wrong_comma_at_the_end : format_name_complaints (codes "Knuth, Donald,") (pos 1) (codes "{ll}") ≡ record no_complaints { comma_at_end = true }
-unfolding kind_at group_len elements_from elements_of is_separator pieces_from names_of run_len tokens_from tokens_of letters_of is_lower_special first_is_lower
-    is_von split_at_comma sections_of ends_in_comma before_final up_to_last before_first part_named piece_item inside_item group_item items_from items_of
-    initial_of between_text with_tokens finished piece_text names_before nth_name one_name_text one_name_complaints
-wrong_comma_at_the_end = refl
-
-wrong_third_comma : format_name_complaints (codes "a, b, c, d") (pos 1) (codes "{ll}") ≡ record no_complaints { too_many_commas = true }
-unfolding kind_at group_len elements_from elements_of is_separator pieces_from names_of run_len tokens_from tokens_of letters_of is_lower_special first_is_lower
-    is_von split_at_comma sections_of ends_in_comma before_final up_to_last before_first part_named piece_item inside_item group_item items_from items_of
-    initial_of between_text with_tokens finished piece_text names_before nth_name one_name_text one_name_complaints
-wrong_third_comma = refl
-
-wrong_format : format_name_complaints (codes "A") (pos 1) (codes "{lll}") ≡ record no_complaints { illegal_format = true }
-unfolding kind_at group_len elements_from elements_of is_separator pieces_from names_of run_len tokens_from tokens_of letters_of is_lower_special first_is_lower
-    is_von split_at_comma sections_of ends_in_comma before_final up_to_last before_first part_named piece_item inside_item group_item items_from items_of
-    initial_of between_text with_tokens finished piece_text names_before nth_name one_name_text one_name_complaints
-wrong_format = refl
-
-wrong_in_three_ways : format_name_complaints (codes "a, b, c, d,") (pos 1) (codes "{ll}}")
-    ≡ record no_complaints { comma_at_end = true; too_many_commas = true; illegal_format = true }
-unfolding kind_at group_len elements_from elements_of is_separator pieces_from names_of run_len tokens_from tokens_of letters_of is_lower_special first_is_lower
-    is_von split_at_comma sections_of ends_in_comma before_final up_to_last before_first part_named piece_item inside_item group_item items_from items_of
-    initial_of between_text with_tokens finished piece_text names_before nth_name one_name_text one_name_complaints
-wrong_in_three_ways = refl
+complained-worked = refl
 
 -- a comma inside braces doesn't count, nor one that no token follows
 commas_counted : commas_of (codes "a, {b, c}, d,-") ≡ 1 ∷ 9 ∷ []

@@ -46,6 +46,14 @@ pub struct KeptName {
     ghost third: { has_third_comma ≡ spec.has_third_comma (spec.sections_of (bytes_at names.items place)) },
 }
 
+// A name of a list of which it is known where it begins.
+#[derive(Clone, Copy)]
+struct Known {
+    // How many names of the list precede it.
+    before: usize,
+    from: usize,
+}
+
 impl KeptName {
     ghost use Rattle.btx_names.specs.refinement.Answered.{complaints_with};
     ghost use Rattle.btx_names.specs.language.FormattedNames.{tokens_of_part};
@@ -88,14 +96,13 @@ impl KeptName {
             return KeptName::find_in_kept(self.names, self.list, before, found);
         }
         match start_behind(&self.names, self.place) {
-            Some(next) => KeptName::find_from(
-                self.names,
-                self.list,
-                self.before + 1,
-                next,
-                before,
-                found,
-            ),
+            Some(next) => {
+                let known = Known {
+                    before: self.before + 1,
+                    from: next,
+                };
+                KeptName::find_from(self.names, self.list, known, before, found)
+            }
             None => {
                 *found = None;
                 Ok(())
@@ -134,25 +141,25 @@ impl KeptName {
             *found = None;
             return Ok(());
         }
-        KeptName::find_from(names, list, 0, 0, before, found)
+        let first = Known { before: 0, from: 0 };
+        KeptName::find_from(names, list, first, before, found)
     }
 
-    // The same. The name that `known` others precede is known to begin at `from`.
+    // The same. It is found from the name on that is known.
     #[tactic(auto, using(crate::proofs::KeptLemmas::find_steps))]
     fn find_from(
         names: Vec<u8>,
         list: TokenList,
-        known: usize,
-        from: usize,
+        known: Known,
         before: usize,
         found: &mut Option<KeptName>,
     ) -> Result<(), AllocError>
-        requires inside { from ≤ length names.items }
-        requires onwards { drop known (names_of names.items) ≡ names_from names.items from }
-        requires earlier { known ≤ before }
+        requires inside { known.from ≤ length names.items }
+        requires onwards { drop known.before (names_of names.items) ≡ names_from names.items known.from }
+        requires earlier { known.before ≤ before }
         ensures { OnOk result (IsFound names.items before found.new) }
     {
-        let Some(from) = name_start(&names, from, before - known) else {
+        let Some(from) = name_start(&names, known.from, before - known.before) else {
             *found = None;
             return Ok(());
         };

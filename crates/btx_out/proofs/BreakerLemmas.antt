@@ -51,21 +51,17 @@ puts_part line_length state old text bytes before after view range held begins =
 
 -- ---- the end of the line
 
-pub ends_all : (line_length : ℕ) (state : Left) (old : Held) (text : List ℕ) (before after : Option (List ℕ)) → holding line_length state ≡ old →
-    old.pending ≡ Some (left old.line_length text) → Appends before after (end_written state)
-    → AppendsRest before after (sure old.line_length text) (wrap old.line_length text)
-ends_all line_length state old text before after view held received =
-    let state_is = holds_left line_length state old text view held in
-    let received' = rw state_is at received in
-    rw (← view) (record { written = end_written (left line_length text); joined = sym (wrap_is line_length text); received = received' })
+module _ (line_length : ℕ) (state : Left) (old : Held) (text : List ℕ) (before after : Option (List ℕ)) (view : holding line_length state ≡ old)
+    (held : old.pending ≡ Some (left old.line_length text)) where
+  pub ends_all : Appends before after (end_written state) → AppendsRest before after (sure old.line_length text) (wrap old.line_length text)
+  ends_all received =
+      let received' = rw (holds_left line_length state old text view held) at received in
+      rw (← view) (record { written = end_written (left line_length text); joined = sym (wrap_is line_length text); received = received' })
 
-pub ends_part : (line_length : ℕ) (state : Left) (old : Held) (text : List ℕ) (before after : Option (List ℕ)) → holding line_length state ≡ old →
-    old.pending ≡ Some (left old.line_length text) → AppendsPrefix before after (end_written state)
-    → AppendsPartOfRest before after (sure old.line_length text) (wrap old.line_length text)
-ends_part line_length state old text before after view held begins =
-    let state_is = holds_left line_length state old text view held in
-    let begins' = rw state_is at begins in
-    rw (← view) (record { written = end_written (left line_length text); joined = sym (wrap_is line_length text); received = begins' })
+  pub ends_part : AppendsPrefix before after (end_written state) → AppendsPartOfRest before after (sure old.line_length text) (wrap old.line_length text)
+  ends_part begins =
+      let begins' = rw (holds_left line_length state old text view held) at begins in
+      rw (← view) (record { written = end_written (left line_length text); joined = sym (wrap_is line_length text); received = begins' })
 
 -- ---- a text of which nothing is left is empty
 

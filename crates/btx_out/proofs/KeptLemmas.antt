@@ -135,14 +135,17 @@ carried text moved at some inside is len = carried_from (at - 1) (omega arith) (
 
 -- ---- the first whitespace byte
 
--- the front without whitespace is what stands before the first whitespace byte, and the rest what stands from it on
-ink_within : (bytes : List ℕ) → length (take_while is_not_white bytes) ≤ length bytes
-ink_within [] = omega arith
-ink_within (b ∷ bs) = rw (take_while-cons is_not_white b bs) (at (is_white b) (ink_within bs)) where
-  at : (white : Bool) → length (take_while is_not_white bs) ≤ length bs → length (cond (not white) (b ∷ take_while is_not_white bs) []) ≤ suc (length bs)
-  at true h = omega arith
-  at false h = omega (arith, h)
+-- what passes a test at the front is no longer than the whole
+pub front_within : (passes : ℕ → Bool) (bytes : List ℕ) (n : ℕ) → n ≡ length (take_while passes bytes) → n ≤ length bytes
+front_within passes bytes n is = rw is (within bytes) where
+  within : (bytes : List ℕ) → length (take_while passes bytes) ≤ length bytes
+  within [] = omega arith
+  within (b ∷ bs) = rw (take_while-cons passes b bs) (at (passes b) (within bs)) where
+    at : (t : Bool) → length (take_while passes bs) ≤ length bs → length (cond t (b ∷ take_while passes bs) []) ≤ suc (length bs)
+    at true h = omega (arith, h)
+    at false h = omega arith
 
+-- the front without whitespace is what stands before the first whitespace byte, and the rest what stands from it on
 ink_front : (bytes : List ℕ) → take (length (take_while is_not_white bytes)) bytes ≡ till_white bytes
 unfolding till_white
 ink_front [] = refl
@@ -161,9 +164,6 @@ ink_rest (b ∷ bs) = rw (take_while-cons is_not_white b bs) (at (is_white b) (i
   at true h = refl
   at false h = h
 
-pub split_within : (bytes : List ℕ) (n : ℕ) → n ≡ length (take_while is_not_white bytes) → n ≤ length bytes
-split_within bytes n is = rw is (ink_within bytes)
-
 pub split_front : (bytes : List ℕ) (n : ℕ) → n ≡ length (take_while is_not_white bytes) → take n bytes ≡ till_white bytes
 split_front bytes n is = rw is (ink_front bytes)
 
@@ -171,13 +171,6 @@ pub split_rest : (bytes : List ℕ) (n : ℕ) → n ≡ length (take_while is_no
 split_rest bytes n is = rw is (ink_rest bytes)
 
 -- ---- the whitespace at the front
-
-white_within : (bytes : List ℕ) → length (take_while is_white bytes) ≤ length bytes
-white_within [] = omega arith
-white_within (b ∷ bs) = rw (take_while-cons is_white b bs) (at (is_white b) (white_within bs)) where
-  at : (white : Bool) → length (take_while is_white bs) ≤ length bs → length (cond white (b ∷ take_while is_white bs) []) ≤ suc (length bs)
-  at true h = omega (arith, h)
-  at false h = omega arith
 
 white_rest : (bytes : List ℕ) → drop (length (take_while is_white bytes)) bytes ≡ skip_white bytes
 unfolding skip_white
@@ -187,9 +180,6 @@ white_rest (b ∷ bs) = rw (take_while-cons is_white b bs) (at (is_white b) (whi
       drop (length (cond white (b ∷ take_while is_white bs) [])) (b ∷ bs) ≡ (if white then skip_white bs else b ∷ bs)
   at true h = h
   at false h = refl
-
-pub skip_within : (bytes : List ℕ) (n : ℕ) → n ≡ length (take_while is_white bytes) → n ≤ length bytes
-skip_within bytes n is = rw is (white_within bytes)
 
 pub skip_rest : (bytes : List ℕ) (n : ℕ) → n ≡ length (take_while is_white bytes) → drop n bytes ≡ skip_white bytes
 skip_rest bytes n is = rw is (white_rest bytes)

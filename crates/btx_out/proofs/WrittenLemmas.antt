@@ -64,40 +64,31 @@ one_more line_length lines text =
     sym (append-nil (flat_map (wrap line_length) (lines ++ text ∷ [])) ∙ flat_map-append (wrap line_length) lines (text ∷ [])
     ∙ ap (λ xs. flat_map (wrap line_length) lines ++ xs) (append-nil (wrap line_length text)))
 
-pub written_of-newline : (line_length : ℕ) (lines : List (List ℕ)) (text : List ℕ) (old : Held) (start before after : Option (List ℕ))
-    → old ≡ holding line_length (left line_length text) →
-    Appends start before (written_of line_length lines text) → Ends old before after → Appends start after (written_of line_length (lines ++ text ∷ []) [])
-written_of-newline line_length lines text old start before after held so_far ends =
-    let ends' : Ends (holding line_length (left line_length text)) before after = rw held at ends in
-    subst (Appends start after) (one_more line_length lines text)
-    (rest_written start before after (flat_map (wrap line_length) lines) (sure line_length text) (wrap line_length text) so_far (ends' text refl))
+module _ (line_length : ℕ) (lines : List (List ℕ)) (text : List ℕ) (old : Held) (start before after : Option (List ℕ))
+    (held : old ≡ holding line_length (left line_length text)) (so_far : Appends start before (written_of line_length lines text)) where
+  pub written_of-newline : Ends old before after → Appends start after (written_of line_length (lines ++ text ∷ []) [])
+  written_of-newline ends =
+      let ends' : Ends (holding line_length (left line_length text)) before after = rw held at ends in
+      subst (Appends start after) (one_more line_length lines text)
+      (rest_written start before after (flat_map (wrap line_length) lines) (sure line_length text) (wrap line_length text) so_far (ends' text refl))
 
-pub begins-newline : (line_length : ℕ) (lines : List (List ℕ)) (text : List ℕ) (old : Held) (start before after : Option (List ℕ))
-    → old ≡ holding line_length (left line_length text) →
-    Appends start before (written_of line_length lines text) → EndsPart old before after
-    → AppendsPrefix start after (written_of line_length (lines ++ text ∷ []) [])
-begins-newline line_length lines text old start before after held so_far ends =
-    let ends' : EndsPart (holding line_length (left line_length text)) before after = rw held at ends in
-    subst (AppendsPrefix start after) (one_more line_length lines text)
-    (part_written start before after (flat_map (wrap line_length) lines) (sure line_length text) (wrap line_length text) so_far (ends' text refl))
+  pub begins-newline : EndsPart old before after → AppendsPrefix start after (written_of line_length (lines ++ text ∷ []) [])
+  begins-newline ends =
+      let ends' : EndsPart (holding line_length (left line_length text)) before after = rw held at ends in
+      subst (AppendsPrefix start after) (one_more line_length lines text)
+      (part_written start before after (flat_map (wrap line_length) lines) (sure line_length text) (wrap line_length text) so_far (ends' text refl))
 
--- ---- the very end
+  -- ---- the very end
 
-pub written_of-finish : (line_length : ℕ) (lines : List (List ℕ)) (text : List ℕ) (old : Held) (start before after : Option (List ℕ))
-    → old ≡ holding line_length (left line_length text) →
-    Appends start before (written_of line_length lines text) → Finishes old before after
-    → Appends start after (flat_map (wrap line_length) lines ++ written_at_end line_length text)
-written_of-finish line_length lines text old start before after held so_far ends =
-    let ends' : Finishes (holding line_length (left line_length text)) before after = rw held at ends in
-    rest_written start before after (flat_map (wrap line_length) lines) (sure line_length text) (written_at_end line_length text) so_far (ends' text refl)
+  pub written_of-finish : Finishes old before after → Appends start after (flat_map (wrap line_length) lines ++ written_at_end line_length text)
+  written_of-finish ends =
+      let ends' : Finishes (holding line_length (left line_length text)) before after = rw held at ends in
+      rest_written start before after (flat_map (wrap line_length) lines) (sure line_length text) (written_at_end line_length text) so_far (ends' text refl)
 
-pub begins-finish : (line_length : ℕ) (lines : List (List ℕ)) (text : List ℕ) (old : Held) (start before after : Option (List ℕ))
-    → old ≡ holding line_length (left line_length text) →
-    Appends start before (written_of line_length lines text) → FinishesPart old before after
-    → AppendsPrefix start after (flat_map (wrap line_length) lines ++ written_at_end line_length text)
-begins-finish line_length lines text old start before after held so_far ends =
-    let ends' : FinishesPart (holding line_length (left line_length text)) before after = rw held at ends in
-    part_written start before after (flat_map (wrap line_length) lines) (sure line_length text) (written_at_end line_length text) so_far (ends' text refl)
+  pub begins-finish : FinishesPart old before after → AppendsPrefix start after (flat_map (wrap line_length) lines ++ written_at_end line_length text)
+  begins-finish ends =
+      let ends' : FinishesPart (holding line_length (left line_length text)) before after = rw held at ends in
+      part_written start before after (flat_map (wrap line_length) lines) (sure line_length text) (written_at_end line_length text) so_far (ends' text refl)
 
 -- ---- what was written begins what more of the same lines writes
 

@@ -135,12 +135,9 @@ integers_stand slots top a b v pool s l e f ka kb g h =
 
 -- two strings
 text_shown : (k : Kind) (v : Slot) (made : List ℕ) → is_text_kind k ≡ true → content_as k v made ≡ content.Text (text_as k v made)
-text_shown kind.Integer v made e = cc
-text_shown kind.Function v made e = cc
-text_shown kind.Missing v made e = cc
 text_shown kind.Lent v made e = refl
 text_shown kind.Made v made e = refl
-text_shown kind.Large v made e = cc
+text_shown k v made e = cc
 
 pub texts_compared : (slots : List Slot) (top : ℕ) (a b v : Slot) (pool : List ℕ) (old : List Content) (r : Bool) (n : ℤ) → contents_of (drop top slots) pool
     ≡ old → Stand (drop top slots) (length pool) → top + 1 < length slots → a ≡ get_or slots top a → b ≡ get_or slots (top + 1) b → is_text_kind a.kind ≡ true

@@ -96,12 +96,8 @@ pub depth_text : (slots : List Slot) (top : ℕ) (b : Slot) (pool text : List �
 depth_text slots top b pool text end old d o s l e f g = (at_depth slots top b pool end old d o s l e f).shown ∙ ap (λ x. x ∷ drop (d + 1) old) (sym g)
 
 text_as : (k : Kind) (v : Slot) (made : List ℕ) → is_text (content_as k v made) ≡ is_text_kind k
-text_as kind.Integer v made = refl
-text_as kind.Function v made = refl
-text_as kind.Missing v made = refl
 text_as kind.Lent v made = refl
-text_as kind.Made v made = refl
-text_as kind.Large v made = refl
+text_as k v made = refl
 
 pub depth_kind : (slots : List Slot) (top : ℕ) (b : Slot) (pool : List ℕ) (old : List Content) (d : ℕ) → contents_of (drop top slots) pool ≡ old
     → Stand (drop top slots) (length pool) → top + d < length slots → b ≡ get_or slots (top + d) b → is_text_kind b.kind ≡ has_text (drop d old)
@@ -149,11 +145,7 @@ integer_kind k v made xs e = ap (λ j. integer_on (content_as j v made ∷ xs)) 
 
 no_integer_kind : (k : Kind) (v : Slot) (made : List ℕ) (xs : List Content) → (k ≡ kind.Integer → ⊥) → integer_on (content_as k v made ∷ xs) ≡ None
 no_integer_kind kind.Integer v made xs n = absurd (n refl)
-no_integer_kind kind.Function v made xs n = refl
-no_integer_kind kind.Missing v made xs n = refl
-no_integer_kind kind.Lent v made xs n = refl
-no_integer_kind kind.Made v made xs n = refl
-no_integer_kind kind.Large v made xs n = refl
+no_integer_kind k v made xs n = refl
 
 pub depth_integer : (slots : List Slot) (top : ℕ) (b : Slot) (pool : List ℕ) (old : List Content) (d : ℕ) → contents_of (drop top slots) pool ≡ old
     → Stand (drop top slots) (length pool) → top + d < length slots → b ≡ get_or slots (top + d) b → b.kind ≡ kind.Integer
@@ -174,12 +166,8 @@ function_kind : (k : Kind) (v : Slot) (made : List ℕ) (xs : List Content) → 
 function_kind k v made xs e = ap (λ j. has_function (content_as j v made ∷ xs)) e
 
 no_function_kind : (k : Kind) (v : Slot) (made : List ℕ) (xs : List Content) → (k ≡ kind.Function → ⊥) → has_function (content_as k v made ∷ xs) ≡ false
-no_function_kind kind.Integer v made xs n = refl
 no_function_kind kind.Function v made xs n = absurd (n refl)
-no_function_kind kind.Missing v made xs n = refl
-no_function_kind kind.Lent v made xs n = refl
-no_function_kind kind.Made v made xs n = refl
-no_function_kind kind.Large v made xs n = refl
+no_function_kind k v made xs n = refl
 
 pub depth_has_function : (slots : List Slot) (top : ℕ) (b : Slot) (pool : List ℕ) (old : List Content) (d : ℕ) → contents_of (drop top slots) pool ≡ old
     → Stand (drop top slots) (length pool) → top + d < length slots → b ≡ get_or slots (top + d) b → b.kind ≡ kind.Function → true ≡ has_function (drop d old)
@@ -199,12 +187,8 @@ missing_kind : (k : Kind) (v : Slot) (made : List ℕ) (xs : List Content) → k
 missing_kind k v made xs e = ap (λ j. has_missing (content_as j v made ∷ xs)) e
 
 no_missing_kind : (k : Kind) (v : Slot) (made : List ℕ) (xs : List Content) → (k ≡ kind.Missing → ⊥) → has_missing (content_as k v made ∷ xs) ≡ false
-no_missing_kind kind.Integer v made xs n = refl
-no_missing_kind kind.Function v made xs n = refl
 no_missing_kind kind.Missing v made xs n = absurd (n refl)
-no_missing_kind kind.Lent v made xs n = refl
-no_missing_kind kind.Made v made xs n = refl
-no_missing_kind kind.Large v made xs n = refl
+no_missing_kind k v made xs n = refl
 
 pub depth_missing : (slots : List Slot) (top : ℕ) (b : Slot) (pool : List ℕ) (old : List Content) (d : ℕ) → contents_of (drop top slots) pool ≡ old
     → Stand (drop top slots) (length pool) → top + d < length slots → b ≡ get_or slots (top + d) b → b.kind ≡ kind.Missing → true ≡ has_missing (drop d old)

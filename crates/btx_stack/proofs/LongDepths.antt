@@ -87,47 +87,30 @@ deep_none old large was d e f o w =
     let u = under old large d w in
     no_text (drop d old) (take u.count large) (drop d was) e f (sym (sym (ap (drop d) o) ∙ u.shown))
 
-integer_filled : (xs : List Content) (large : List (List ℕ)) → steps.integer_on xs ≡ stacks.integer_on (filled xs large)
-integer_filled [] large = refl
-integer_filled (content.Integer n ∷ xs) large = refl
-integer_filled (content.Text t ∷ xs) large = refl
-integer_filled (content.Function f ∷ xs) large = refl
-integer_filled (content.Missing ∷ xs) large = refl
-integer_filled (content.Large i ∷ xs) large = refl
+-- what is asked of the contents is so of the literals that they show
+abbrev AreAsked : List Content → List Literal → Type 0
+AreAsked xs shown =
+    (steps.integer_on xs ≡ stacks.integer_on shown) × (steps.has_function xs ≡ stacks.has_function shown) × (steps.has_missing xs ≡ stacks.has_missing shown)
 
-pub deep_integer : (old : List Content) (large : List (List ℕ)) (was : List Literal) (d : ℕ) → filled old large ≡ was → Owns old (length large)
-    → steps.integer_on (drop d old) ≡ stacks.integer_on (drop d was)
-deep_integer old large was d o w =
-    let u = under old large d w in
-    integer_filled (drop d old) (take u.count large) ∙ ap stacks.integer_on (sym (sym (ap (drop d) o) ∙ u.shown))
+are_asked : (xs : List Content) (large : List (List ℕ)) → AreAsked xs (filled xs large)
+are_asked [] large = (refl, refl, refl)
+are_asked (content.Large i ∷ xs) large = (refl, refl, refl)
+are_asked (x ∷ xs) large = (refl, refl, refl)
 
-has_function_filled : (xs : List Content) (large : List (List ℕ)) → steps.has_function xs ≡ stacks.has_function (filled xs large)
-has_function_filled [] large = refl
-has_function_filled (content.Integer n ∷ xs) large = refl
-has_function_filled (content.Text t ∷ xs) large = refl
-has_function_filled (content.Function f ∷ xs) large = refl
-has_function_filled (content.Missing ∷ xs) large = refl
-has_function_filled (content.Large i ∷ xs) large = refl
+module _ (old : List Content) (large : List (List ℕ)) (was : List Literal) (d : ℕ) (o : filled old large ≡ was) (w : Owns old (length large)) where
+  deep_asked : AreAsked (drop d old) (drop d was)
+  deep_asked =
+      let u = under old large d w in
+      subst (AreAsked (drop d old)) (sym (sym (ap (drop d) o) ∙ u.shown)) (are_asked (drop d old) (take u.count large))
 
-pub deep_has_function : (old : List Content) (large : List (List ℕ)) (was : List Literal) (d : ℕ) → filled old large ≡ was → Owns old (length large)
-    → steps.has_function (drop d old) ≡ stacks.has_function (drop d was)
-deep_has_function old large was d o w =
-    let u = under old large d w in
-    has_function_filled (drop d old) (take u.count large) ∙ ap stacks.has_function (sym (sym (ap (drop d) o) ∙ u.shown))
+  pub deep_integer : steps.integer_on (drop d old) ≡ stacks.integer_on (drop d was)
+  deep_integer = deep_asked.0
 
-missing_filled : (xs : List Content) (large : List (List ℕ)) → steps.has_missing xs ≡ stacks.has_missing (filled xs large)
-missing_filled [] large = refl
-missing_filled (content.Integer n ∷ xs) large = refl
-missing_filled (content.Text t ∷ xs) large = refl
-missing_filled (content.Function f ∷ xs) large = refl
-missing_filled (content.Missing ∷ xs) large = refl
-missing_filled (content.Large i ∷ xs) large = refl
+  pub deep_has_function : steps.has_function (drop d old) ≡ stacks.has_function (drop d was)
+  deep_has_function = deep_asked.1
 
-pub deep_missing : (old : List Content) (large : List (List ℕ)) (was : List Literal) (d : ℕ) → filled old large ≡ was → Owns old (length large)
-    → steps.has_missing (drop d old) ≡ stacks.has_missing (drop d was)
-deep_missing old large was d o w =
-    let u = under old large d w in
-    missing_filled (drop d old) (take u.count large) ∙ ap stacks.has_missing (sym (sym (ap (drop d) o) ∙ u.shown))
+  pub deep_missing : steps.has_missing (drop d old) ≡ stacks.has_missing (drop d was)
+  deep_missing = deep_asked.2
 
 pub deep_function : (old : List Content) (large : List (List ℕ)) (was : List Literal) (d : ℕ) (f : Callee) → drop d old ≡ content.Function f ∷ drop (d + 1) old
     → filled old large ≡ was → Owns old (length large) → drop d was ≡ literal.Function f ∷ drop (d + 1) was

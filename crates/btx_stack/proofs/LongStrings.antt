@@ -21,32 +21,20 @@ length_filled (x ∷ xs) large = ap suc (length_filled xs (before x large))
 
 -- what is none of the long strings
 plain_shown : (x : Content) (large : List (List ℕ)) → is_large x ≡ false → shown_literal x large ≡ shown_literal x []
-plain_shown (content.Integer n) large p = refl
-plain_shown (content.Text t) large p = refl
-plain_shown (content.Function f) large p = refl
-plain_shown content.Missing large p = refl
 plain_shown (content.Large i) large p = cc
+plain_shown x large p = refl
 
 pub plain_before : (x : Content) (large : List (List ℕ)) → is_large x ≡ false → before x large ≡ large
-plain_before (content.Integer n) large p = refl
-plain_before (content.Text t) large p = refl
-plain_before (content.Function f) large p = refl
-plain_before content.Missing large p = refl
 plain_before (content.Large i) large p = cc
+plain_before x large p = refl
 
 owns_put : (x : Content) (xs : List Content) (n : ℕ) → is_large x ≡ false → Owns xs n → Owns (x ∷ xs) n
-owns_put (content.Integer m) xs n p o = o
-owns_put (content.Text t) xs n p o = o
-owns_put (content.Function f) xs n p o = o
-owns_put content.Missing xs n p o = o
 owns_put (content.Large i) xs n p o = cc
+owns_put x xs n p o = o
 
 pub owns_off : (x : Content) (xs : List Content) (n : ℕ) → is_large x ≡ false → Owns (x ∷ xs) n → Owns xs n
-owns_off (content.Integer m) xs n p o = o
-owns_off (content.Text t) xs n p o = o
-owns_off (content.Function f) xs n p o = o
-owns_off content.Missing xs n p o = o
 owns_off (content.Large i) xs n p o = cc
+owns_off x xs n p o = o
 
 filled_plain : (x : Content) (xs : List Content) (large : List (List ℕ)) → is_large x ≡ false → filled (x ∷ xs) large ≡ shown_literal x [] ∷ filled xs large
 filled_plain x xs large p = ap (λ y. y ∷ filled xs (before x large)) (plain_shown x large p)
@@ -113,11 +101,8 @@ push_owns false x old new n p e o = subst (λ xs. Owns xs n) (sym e.0) o
 -- how many long strings
 pub few_owned : (xs : List Content) (n : ℕ) → Owns xs n → n ≤ length xs
 few_owned [] n o = omega (arith, o)
-few_owned (content.Integer m ∷ xs) n o = omega (arith, few_owned xs n o)
-few_owned (content.Text t ∷ xs) n o = omega (arith, few_owned xs n o)
-few_owned (content.Function f ∷ xs) n o = omega (arith, few_owned xs n o)
-few_owned (content.Missing ∷ xs) n o = omega (arith, few_owned xs n o)
 few_owned (content.Large i ∷ xs) n o = omega (arith, o.0, few_owned xs i o.1)
+few_owned (x ∷ xs) n o = omega (arith, few_owned xs n o)
 
 pub large_small : (xs : List Content) (n : ℕ) → Owns xs n → length xs ≤ 1000 → n < 2 ^ 32
 large_small xs n o l = omega (arith, few_owned xs n o)
@@ -167,27 +152,18 @@ pushes_with_room false x old new p l = absurd (omega (arith, p.1))
 -- the top literal comes off
 pub plain_top : (old : List Content) (large : List (List ℕ)) → large_on old ≡ None → plain_on old ≡ top (filled old large)
 plain_top [] large e = refl
-plain_top (content.Integer m ∷ xs) large e = refl
-plain_top (content.Text t ∷ xs) large e = refl
-plain_top (content.Function f ∷ xs) large e = refl
-plain_top (content.Missing ∷ xs) large e = refl
 plain_top (content.Large i ∷ xs) large e = cc
+plain_top (x ∷ xs) large e = refl
 
 pub plain_below : (old : List Content) (large : List (List ℕ)) → large_on old ≡ None → filled (plain_off old) large ≡ below_top (filled old large)
 plain_below [] large e = refl
-plain_below (content.Integer m ∷ xs) large e = refl
-plain_below (content.Text t ∷ xs) large e = refl
-plain_below (content.Function f ∷ xs) large e = refl
-plain_below (content.Missing ∷ xs) large e = refl
 plain_below (content.Large i ∷ xs) large e = cc
+plain_below (x ∷ xs) large e = refl
 
 pub plain_owns : (old : List Content) (n : ℕ) → large_on old ≡ None → Owns old n → Owns (plain_off old) n
 plain_owns [] n e o = o
-plain_owns (content.Integer m ∷ xs) n e o = o
-plain_owns (content.Text t ∷ xs) n e o = o
-plain_owns (content.Function f ∷ xs) n e o = o
-plain_owns (content.Missing ∷ xs) n e o = o
 plain_owns (content.Large i ∷ xs) n e o = cc
+plain_owns (x ∷ xs) n e o = o
 
 -- a long string comes off
 pub record LargeOff (old : List Content) (large rest : List (List ℕ)) (text : List ℕ) : Type 0 where
@@ -197,16 +173,13 @@ pub record LargeOff (old : List Content) (large rest : List (List ℕ)) (text : 
 pub large_off : (old : List Content) (large rest : List (List ℕ)) (text : List ℕ) (i : ℕ) → large_on old ≡ Some i → Owns old (length large)
     → large ≡ rest ++ text ∷ [] → LargeOff old large rest text
 large_off [] large rest text i e o l = cc
-large_off (content.Integer m ∷ xs) large rest text i e o l = cc
-large_off (content.Text t ∷ xs) large rest text i e o l = cc
-large_off (content.Function f ∷ xs) large rest text i e o l = cc
-large_off (content.Missing ∷ xs) large rest text i e o l = cc
 large_off (content.Large j ∷ xs) large rest text i e o l =
     let at : j ≡ length rest = omega (arith, o.0, ap length l, length-append rest (text ∷ [])) in
     record {
       shown = ap (filled (content.Large j ∷ xs)) l ∙ (ap (λ k. filled (content.Large k ∷ xs) (rest ++ text ∷ [])) at ∙ filled_large xs rest text);
       owns = subst (λ k. Owns xs k) at o.1;
     }
+large_off (x ∷ xs) large rest text i e o l = cc
 
 pub large_top : (old : List Content) (large rest : List (List ℕ)) (text : List ℕ) (i : ℕ) → large_on old ≡ Some i → Owns old (length large)
     → large ≡ rest ++ text ∷ [] → Some (literal.Text text) ≡ top (filled old large)
@@ -226,11 +199,8 @@ large_stands (x ∷ xs) i e = omega arith
 
 pub large_some : (old : List Content) (n i : ℕ) → large_on old ≡ Some i → Owns old n → n ≡ 0 → ⊥
 large_some [] n i e o z = cc
-large_some (content.Integer m ∷ xs) n i e o z = cc
-large_some (content.Text t ∷ xs) n i e o z = cc
-large_some (content.Function f ∷ xs) n i e o z = cc
-large_some (content.Missing ∷ xs) n i e o z = cc
 large_some (content.Large j ∷ xs) n i e o z = omega (arith, o.0)
+large_some (x ∷ xs) n i e o z = cc
 
 below_fewer : (old : List Content) → 0 < length old → length (steps.below_top old) < length old
 below_fewer [] l = absurd (omega arith)
@@ -246,19 +216,26 @@ pub step_left : (r : Bool) (old new : List Content) (outcome : Option (List Cont
 step_left false old new outcome large was e t o = ap (λ xs. filled xs large) e.0 ∙ o
 step_left true old new outcome large was e t o = cc
 
+-- a step that was done comes to the same with the long strings, if it does without them
+step_done : (f : List Content → Option (List Content)) (g : List Literal → Option (List Literal)) →
+    ((old new : List Content) (large : List (List ℕ)) → f old ≡ Some new → g (filled old large) ≡ Some (filled new large)) →
+    (r : Bool) (old new : List Content) (large : List (List ℕ)) (was : List Literal) → Steps r old (f old) new → r ≡ true → filled old large ≡ was →
+    g was ≡ Some (filled new large)
+step_done f g is true old new large was e t o = sym (ap g o) ∙ is old new large e
+step_done f g is false old new large was e t o = cc
+
+-- the long strings are still owned after a step, if they are after it was done
+step_owned : (f : List Content → Option (List Content)) → ((old new : List Content) (n : ℕ) → f old ≡ Some new → Owns old n → Owns new n) →
+    (r : Bool) (old new : List Content) (n : ℕ) → Steps r old (f old) new → Owns old n → Owns new n
+step_owned f owns true old new n e o = owns old new n e o
+step_owned f owns false old new n e o = subst (λ xs. Owns xs n) (sym e.0) o
+
 -- `*`
 by_length : (n : ℕ) (xs new : List Content) (ys : List Literal) (large : List (List ℕ)) → cond (nat_le n 1024) (Some xs) None ≡ Some new → filled xs large ≡ ys
     → cond (nat_le n 1000000) (Some ys) None ≡ Some (filled new large)
 by_length n xs new ys large e f =
     let was = passed (nat_le n 1024) xs new e in
     ap (λ b. cond b (Some ys) None) (longer n was.test) ∙ ap Some (sym f ∙ ap (λ vs. filled vs large) was.same)
-
-joined_is : (old new : List Content) (large : List (List ℕ)) → top_joined old ≡ Some new → stacks.top_joined (filled old large) ≡ Some (filled new large)
-joined_is [] new large e = cc
-joined_is (x ∷ []) new large e = cc
-joined_is (content.Text b ∷ content.Text a ∷ xs) new large e =
-    by_length (length (a ++ b)) (content.Text (a ++ b) ∷ xs) new (literal.Text (a ++ b) ∷ filled xs large) large e refl
-joined_is (x ∷ y ∷ xs) new large e = cc
 
 joined_owns : (old new : List Content) (n : ℕ) → top_joined old ≡ Some new → Owns old n → Owns new n
 joined_owns [] new n e o = cc
@@ -267,41 +244,43 @@ joined_owns (content.Text b ∷ content.Text a ∷ xs) new n e o =
     subst (λ vs. Owns vs n) (passed (nat_le (length (a ++ b)) 1024) (content.Text (a ++ b) ∷ xs) new e).same o
 joined_owns (x ∷ y ∷ xs) new n e o = cc
 
+pub join_owns : (r : Bool) (old new : List Content) (n : ℕ) → Steps r old (top_joined old) new → Owns old n → Owns new n
+join_owns r old new n e o = step_owned top_joined joined_owns r old new n e o
+
+joined_is : (old new : List Content) (large : List (List ℕ)) → top_joined old ≡ Some new → stacks.top_joined (filled old large) ≡ Some (filled new large)
+joined_is [] new large e = cc
+joined_is (x ∷ []) new large e = cc
+joined_is (content.Text b ∷ content.Text a ∷ xs) new large e =
+    by_length (length (a ++ b)) (content.Text (a ++ b) ∷ xs) new (literal.Text (a ++ b) ∷ filled xs large) large e refl
+joined_is (x ∷ y ∷ xs) new large e = cc
+
 pub join_done : (r : Bool) (old new : List Content) (large : List (List ℕ)) (was : List Literal) → Steps r old (top_joined old) new → r ≡ true
     → filled old large ≡ was → stacks.top_joined was ≡ Some (filled new large)
-join_done true old new large was e t o = sym (ap stacks.top_joined o) ∙ joined_is old new large e
-join_done false old new large was e t o = cc
-
-pub join_owns : (r : Bool) (old new : List Content) (n : ℕ) → Steps r old (top_joined old) new → Owns old n → Owns new n
-join_owns true old new n e o = joined_owns old new n e o
-join_owns false old new n e o = subst (λ xs. Owns xs n) (sym e.0) o
+join_done r old new large was e t o = step_done top_joined stacks.top_joined joined_is r old new large was e t o
 
 -- `swap$`
 turned : (x y : Content) (xs : List Content) (large : List (List ℕ)) → are_large x y ≡ false → stacks.swapped (filled (x ∷ y ∷ xs) large)
     ≡ Some (filled (y ∷ x ∷ xs) large)
-turned (content.Integer n) y xs large p = refl
-turned (content.Text t) y xs large p = refl
-turned (content.Function f) y xs large p = refl
-turned content.Missing y xs large p = refl
-turned (content.Large i) (content.Integer n) xs large p = refl
-turned (content.Large i) (content.Text t) xs large p = refl
-turned (content.Large i) (content.Function f) xs large p = refl
-turned (content.Large i) content.Missing xs large p = refl
 turned (content.Large i) (content.Large j) xs large p = cc
+turned x y xs large p = refl
 
 owns_under : (x y : Content) (xs : List Content) (n : ℕ) → is_large x ≡ false → Owns (y ∷ xs) n → Owns (y ∷ x ∷ xs) n
-owns_under x (content.Integer m) xs n p o = owns_put x xs n p o
-owns_under x (content.Text t) xs n p o = owns_put x xs n p o
-owns_under x (content.Function f) xs n p o = owns_put x xs n p o
-owns_under x content.Missing xs n p o = owns_put x xs n p o
 owns_under x (content.Large j) xs n p o = (o.0, owns_put x xs j p o.1)
+owns_under x y xs n p o = owns_put x xs n p o
 
 turned_owns : (x y : Content) (xs : List Content) (n : ℕ) → are_large x y ≡ false → Owns (x ∷ y ∷ xs) n → Owns (y ∷ x ∷ xs) n
-turned_owns (content.Integer m) y xs n p o = owns_under (content.Integer m) y xs n refl o
-turned_owns (content.Text t) y xs n p o = owns_under (content.Text t) y xs n refl o
-turned_owns (content.Function f) y xs n p o = owns_under (content.Function f) y xs n refl o
-turned_owns content.Missing y xs n p o = owns_under content.Missing y xs n refl o
 turned_owns (content.Large i) y xs n p o = owns_put y (content.Large i ∷ xs) n p (o.0, owns_off y xs i p o.1)
+turned_owns x y xs n p o = owns_under x y xs n refl o
+
+swapped_owns : (old new : List Content) (n : ℕ) → swapped old ≡ Some new → Owns old n → Owns new n
+swapped_owns [] new n e o = cc
+swapped_owns (x ∷ []) new n e o = cc
+swapped_owns (x ∷ y ∷ xs) new n e o =
+    let was = not_passed (are_large x y) (y ∷ x ∷ xs) new e in
+    subst (λ vs. Owns vs n) was.same (turned_owns x y xs n was.test o)
+
+pub swap_owns : (r : Bool) (old new : List Content) (n : ℕ) → Steps r old (swapped old) new → Owns old n → Owns new n
+swap_owns r old new n e o = step_owned swapped swapped_owns r old new n e o
 
 swapped_is : (old new : List Content) (large : List (List ℕ)) → swapped old ≡ Some new → stacks.swapped (filled old large) ≡ Some (filled new large)
 swapped_is [] new large e = cc
@@ -312,16 +291,7 @@ swapped_is (x ∷ y ∷ xs) new large e =
 
 pub swap_done : (r : Bool) (old new : List Content) (large : List (List ℕ)) (was : List Literal) → Steps r old (swapped old) new → r ≡ true
     → filled old large ≡ was → stacks.swapped was ≡ Some (filled new large)
-swap_done true old new large was e t o = sym (ap stacks.swapped o) ∙ swapped_is old new large e
-swap_done false old new large was e t o = cc
-
-pub swap_owns : (r : Bool) (old new : List Content) (n : ℕ) → Steps r old (swapped old) new → Owns old n → Owns new n
-swap_owns false old new n e o = subst (λ xs. Owns xs n) (sym e.0) o
-swap_owns true [] new n e o = cc
-swap_owns true (x ∷ []) new n e o = cc
-swap_owns true (x ∷ y ∷ xs) new n e o =
-    let was = not_passed (are_large x y) (y ∷ x ∷ xs) new e in
-    subst (λ vs. Owns vs n) was.same (turned_owns x y xs n was.test o)
+swap_done r old new large was e t o = step_done swapped stacks.swapped swapped_is r old new large was e t o
 
 -- `duplicate$`
 pub record Doubled (x : Content) (xs new : List Content) : Type 0 where
@@ -334,6 +304,15 @@ doubled true x xs new p e = cc
 doubled false x xs new p e =
     let was = passed (nat_lt (length (x ∷ xs)) 1000) (x ∷ x ∷ xs) new e in
     record { plain = p; room = below_limit (length (x ∷ xs)) was.test; same = was.same }
+
+duplicated_owns : (old new : List Content) (n : ℕ) → duplicated old ≡ Some new → Owns old n → Owns new n
+duplicated_owns [] new n e o = cc
+duplicated_owns (x ∷ xs) new n e o =
+    let was = doubled (is_large x) x xs new refl e in
+    subst (λ vs. Owns vs n) was.same (owns_put x (x ∷ xs) n was.plain o)
+
+pub duplicate_owns : (r : Bool) (old new : List Content) (n : ℕ) → Steps r old (duplicated old) new → Owns old n → Owns new n
+duplicate_owns r old new n e o = step_owned duplicated duplicated_owns r old new n e o
 
 duplicated_is : (old new : List Content) (large : List (List ℕ)) → duplicated old ≡ Some new → stacks.duplicated (filled old large) ≡ Some (filled new large)
 duplicated_is [] new large e = cc
@@ -348,15 +327,7 @@ duplicated_is (x ∷ xs) new large e =
 
 pub duplicate_done : (r : Bool) (old new : List Content) (large : List (List ℕ)) (was : List Literal) → Steps r old (duplicated old) new → r ≡ true
     → filled old large ≡ was → stacks.duplicated was ≡ Some (filled new large)
-duplicate_done true old new large was e t o = sym (ap stacks.duplicated o) ∙ duplicated_is old new large e
-duplicate_done false old new large was e t o = cc
-
-pub duplicate_owns : (r : Bool) (old new : List Content) (n : ℕ) → Steps r old (duplicated old) new → Owns old n → Owns new n
-duplicate_owns false old new n e o = subst (λ xs. Owns xs n) (sym e.0) o
-duplicate_owns true [] new n e o = cc
-duplicate_owns true (x ∷ xs) new n e o =
-    let was = doubled (is_large x) x xs new refl e in
-    subst (λ vs. Owns vs n) was.same (owns_put x (x ∷ xs) n was.plain o)
+duplicate_done r old new large was e t o = step_done duplicated stacks.duplicated duplicated_is r old new large was e t o
 
 -- a variable takes the string on top
 gives_off : (old new : List Content) (large : List (List ℕ)) (text : List ℕ) → old ≡ content.Text text ∷ new → filled old large ≡ literal.Text text
@@ -383,30 +354,21 @@ give_owns false most n old new before after g o = subst (λ xs. Owns xs n) (sym 
 -- what is none of the long strings comes off
 pub off_shown : (old : List Content) (large : List (List ℕ)) → large_on old ≡ None → filled (steps.below_top old) large ≡ below_top (filled old large)
 off_shown [] large e = refl
-off_shown (content.Integer m ∷ xs) large e = refl
-off_shown (content.Text t ∷ xs) large e = refl
-off_shown (content.Function f ∷ xs) large e = refl
-off_shown (content.Missing ∷ xs) large e = refl
 off_shown (content.Large i ∷ xs) large e = cc
+off_shown (x ∷ xs) large e = refl
 
 pub off_owns : (old : List Content) (n : ℕ) → large_on old ≡ None → Owns old n → Owns (steps.below_top old) n
 off_owns [] n e o = o
-off_owns (content.Integer m ∷ xs) n e o = o
-off_owns (content.Text t ∷ xs) n e o = o
-off_owns (content.Function f ∷ xs) n e o = o
-off_owns (content.Missing ∷ xs) n e o = o
 off_owns (content.Large i ∷ xs) n e o = cc
+off_owns (x ∷ xs) n e o = o
 
 pub off_stands : (old : List Content) (large : List (List ℕ)) (was : List Literal) → filled old large ≡ was → 0 < length was → 0 < length old
 off_stands old large was o l = omega (arith, ap length o, length_filled old large)
 
 pub large_within : (old : List Content) (n i : ℕ) → large_on old ≡ Some i → Owns old n → i < n
 large_within [] n i e o = cc
-large_within (content.Integer m ∷ xs) n i e o = cc
-large_within (content.Text t ∷ xs) n i e o = cc
-large_within (content.Function f ∷ xs) n i e o = cc
-large_within (content.Missing ∷ xs) n i e o = cc
 large_within (content.Large j ∷ xs) n i e o = let s : j ≡ i = cc in omega (arith, o.0, s)
+large_within (x ∷ xs) n i e o = cc
 
 pub no_text : (old : List Content) (large : List (List ℕ)) (was : List Literal) → steps.has_text old ≡ false → large_on old ≡ None → filled old large ≡ was
     → has_text was ≡ false

@@ -19,20 +19,12 @@ two_here slots at a b l e f =
     from_here slots at a (omega arith) e ∙ ap (λ xs. a ∷ xs) (from_here slots (at + 1) b l f ∙ ap (λ n. b ∷ drop n slots) (omega arith))
 
 pub large_as : (k : Kind) (v : Slot) (made : List ℕ) → is_large (content_as k v made) ≡ is_large_kind k
-large_as kind.Integer v made = refl
-large_as kind.Function v made = refl
-large_as kind.Missing v made = refl
-large_as kind.Lent v made = refl
-large_as kind.Made v made = refl
 large_as kind.Large v made = refl
+large_as k v made = refl
 
 pub no_large_kind : (k : Kind) (v : Slot) (made : List ℕ) (xs : List Content) → (k ≡ kind.Large → ⊥) → large_on (content_as k v made ∷ xs) ≡ None
-no_large_kind kind.Integer v made xs n = refl
-no_large_kind kind.Function v made xs n = refl
-no_large_kind kind.Missing v made xs n = refl
-no_large_kind kind.Lent v made xs n = refl
-no_large_kind kind.Made v made xs n = refl
 no_large_kind kind.Large v made xs n = absurd (n refl)
+no_large_kind k v made xs n = refl
 
 pub no_large : (slots : List Slot) (top : ℕ) (a : Slot) (pool : List ℕ) (old : List Content) → contents_of (drop top slots) pool ≡ old → top < length slots
     → a ≡ get_or slots top a → (a.kind ≡ kind.Large → ⊥) → None ≡ large_on old

@@ -17,19 +17,11 @@ moved v start = record v { start = start }
 
 content_moved : (k : Kind) (v : Slot) (start : ℕ) (made : List ℕ) → content_as k (moved v start) made ≡ content_as k v made
 content_moved kind.Integer v start made = refl
-content_moved kind.Function v start made = refl
-content_moved kind.Missing v start made = refl
-content_moved kind.Lent v start made = refl
-content_moved kind.Made v start made = refl
-content_moved kind.Large v start made = refl
+content_moved k v start made = refl
 
 bytes_moved : (k : Kind) (v : Slot) (start n : ℕ) → HasBytes k v n → HasBytes k (moved v start) n
 bytes_moved kind.Integer v start n h = h
-bytes_moved kind.Function v start n h = h
-bytes_moved kind.Missing v start n h = h
-bytes_moved kind.Lent v start n h = h
-bytes_moved kind.Made v start n h = h
-bytes_moved kind.Large v start n h = h
+bytes_moved k v start n h = h
 
 -- a value with as many bytes elsewhere
 fits_moved : (v : Slot) (size start now : ℕ) → SlotFits v size → start ≤ now → size - v.start ≡ now - start → SlotFits (moved v start) now

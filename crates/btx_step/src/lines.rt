@@ -101,63 +101,46 @@ fn push_three(
     text.extend_from_slice(third)
 }
 
-// Appends a piece, the number of a name, and three more pieces.
+// Appends the number of a name, and three pieces.
 #[tactic(auto, using(btx_text::proofs::JoinLemmas::joins))]
-fn push_name(
+fn push_numbered(
     text: &mut Vec<u8>,
-    before: &[u8],
     number: i32,
     between: &[u8],
-    names: &[u8],
+    names: &Text<'_>,
     after: &[u8],
 ) -> Result<(), AllocError>
-    ensures { OnOk result (text.new.items ≡ text.old.items ++ (before.now ++ signed_decimal number ++ between.now ++ names.now ++ after.now)) }
+    ensures { OnOk result (text.new.items ≡ text.old.items ++ (signed_decimal number ++ between.now ++ names.now ++ after.now)) }
 {
-    text.extend_from_slice(before)?;
     push_integer(text, number)?;
-    push_three(text, between, names, after)
+    push_three(text, between, names.as_bytes(), after)
 }
 
 // Appends that a list of names has no name of this number.
+#[tactic(auto, using(btx_text::proofs::JoinLemmas::joins))]
 fn push_no_such_name(text: &mut Vec<u8>, number: i32, names: &Text<'_>) -> Result<(), AllocError>
     ensures { OnOk result (text.new.items ≡ text.old.items ++ (codes "There is no name number " ++ signed_decimal number ++ codes " in \"" ++ names.now ++ codes "\"")) }
 {
-    push_name(
-        text,
-        b"There is no name number ",
-        number,
-        b" in \"",
-        names.as_bytes(),
-        b"\"",
-    )
+    text.extend_from_slice(b"There is no name number ")?;
+    push_numbered(text, number, b" in \"", names, b"\"")
 }
 
 // Appends that the name of this number has a comma at its end.
+#[tactic(auto, using(btx_text::proofs::JoinLemmas::joins))]
 fn push_final_comma(text: &mut Vec<u8>, number: i32, names: &Text<'_>) -> Result<(), AllocError>
     ensures { OnOk result (text.new.items ≡ text.old.items ++ (codes "Name " ++ signed_decimal number ++ codes " in \"" ++ names.now ++ codes "\" has a comma at the end")) }
 {
-    push_name(
-        text,
-        b"Name ",
-        number,
-        b" in \"",
-        names.as_bytes(),
-        b"\" has a comma at the end",
-    )
+    text.extend_from_slice(b"Name ")?;
+    push_numbered(text, number, b" in \"", names, b"\" has a comma at the end")
 }
 
 // Appends that the name of this number has more than two commas.
+#[tactic(auto, using(btx_text::proofs::JoinLemmas::joins))]
 fn push_too_many_commas(text: &mut Vec<u8>, number: i32, names: &Text<'_>) -> Result<(), AllocError>
     ensures { OnOk result (text.new.items ≡ text.old.items ++ (codes "Too many commas in name " ++ signed_decimal number ++ codes " of \"" ++ names.now ++ codes "\"")) }
 {
-    push_name(
-        text,
-        b"Too many commas in name ",
-        number,
-        b" of \"",
-        names.as_bytes(),
-        b"\"",
-    )
+    text.extend_from_slice(b"Too many commas in name ")?;
+    push_numbered(text, number, b" of \"", names, b"\"")
 }
 
 // Appends a string behind a quotation mark, and a piece, which begins with the other mark.

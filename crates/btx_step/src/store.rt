@@ -28,7 +28,7 @@ mod variables;
 use crate::calculation::Calculation;
 use crate::job::Job;
 use crate::literal::{Literal, Wanted};
-use crate::next::Next;
+use crate::next::{Next, Stepped};
 use crate::said::{Note, Notes, Said};
 use crate::stand_in::StandIn;
 use crate::values::EntryValues;
@@ -73,12 +73,7 @@ impl<'a> Model for Store<'a> {
 impl<'a> Store<'a> {
     /// Executes a token, and answers what follows. What is to be written or logged goes into `said`, which is empty before.
     #[tactic(auto, unfolding(crate::specs::language::Steps::step_of))]
-    pub fn step(
-        &mut self,
-        job: &Job<'a>,
-        token: Token,
-        said: &mut Said<'a>,
-    ) -> Result<Next, AllocError>
+    pub fn step(&mut self, job: &Job<'a>, token: Token, said: &mut Said<'a>) -> Stepped
         requires { said.old ≡ silence }
         ensures { IfOk result (λ next. answer next said.new self.new ≡ step_of job.now token self.old) }
     {
@@ -92,12 +87,7 @@ impl<'a> Store<'a> {
 
     /// Executes a function, a field or a variable, and answers what follows. `said` is as for `step`.
     #[tactic(auto, unfolding(crate::specs::language::Steps::function_run))]
-    pub fn run(
-        &mut self,
-        job: &Job<'a>,
-        function: Callee,
-        said: &mut Said<'a>,
-    ) -> Result<Next, AllocError>
+    pub fn run(&mut self, job: &Job<'a>, function: Callee, said: &mut Said<'a>) -> Stepped
         requires { said.old ≡ silence }
         ensures { IfOk result (λ next. answer next said.new self.new ≡ function_run job.now function self.old) }
     {
@@ -113,12 +103,7 @@ impl<'a> Store<'a> {
     }
 
     #[tactic(auto, unfolding(crate::specs::language::Steps::built_in_run))]
-    fn run_built_in(
-        &mut self,
-        job: &Job<'a>,
-        function: BuiltIn,
-        said: &mut Said<'a>,
-    ) -> Result<Next, AllocError>
+    fn run_built_in(&mut self, job: &Job<'a>, function: BuiltIn, said: &mut Said<'a>) -> Stepped
         requires { said.old ≡ silence }
         ensures { IfOk result (λ next. answer next said.new self.new ≡ built_in_run job.now function self.old) }
     {
@@ -220,7 +205,7 @@ impl<'a> Store<'a> {
 
     // One more literal, if there is room.
     #[tactic(auto, using(crate::proofs::QuickLemmas::push_answer))]
-    fn push(&mut self, value: Literal<'a>) -> Result<Next, AllocError>
+    fn push(&mut self, value: Literal<'a>) -> Stepped
         ensures quiet { IfOk result (λ next. quiet next self.new ≡ pushed value.entry self.old) }
         ensures aloud { IfOk result (λ next. (saying : Words) → answer next saying self.new ≡ pushes saying value.entry self.old) }
     {
@@ -285,12 +270,7 @@ impl<'a> Store<'a> {
 
     // A line of the log, and what stands in for a result.
     #[cold]
-    fn complain(
-        &mut self,
-        note: Note<'a>,
-        instead: StandIn,
-        said: &mut Said<'a>,
-    ) -> Result<Next, AllocError>
+    fn complain(&mut self, note: Note<'a>, instead: StandIn, said: &mut Said<'a>) -> Stepped
         ensures { IfOk result (λ next. answer next said.new self.new ≡ complains note.entry instead self.old) }
     {
         let notes = Notes::one(self.alloc, note)?;
@@ -299,12 +279,7 @@ impl<'a> Store<'a> {
 
     // The stack was empty `missing` times.
     #[cold]
-    fn lack(
-        &mut self,
-        missing: usize,
-        instead: StandIn,
-        said: &mut Said<'a>,
-    ) -> Result<Next, AllocError>
+    fn lack(&mut self, missing: usize, instead: StandIn, said: &mut Said<'a>) -> Stepped
         requires { self.old.literals ≡ [] }
         ensures { IfOk result (λ next. answer next said.new self.new ≡ lacks missing instead self.old) }
     {
@@ -320,14 +295,14 @@ impl<'a> Store<'a> {
         wanted: Wanted,
         instead: StandIn,
         said: &mut Said<'a>,
-    ) -> Result<Next, AllocError>
+    ) -> Stepped
         ensures { IfOk result (λ next. answer next said.new self.new ≡ refuses value.entry wanted instead self.old) }
     {
         self.complain(Note::WrongKind(value, wanted), instead, said)
     }
 
     // There is no current entry.
-    fn miss_entry(&mut self, said: &mut Said<'a>) -> Result<Next, AllocError>
+    fn miss_entry(&mut self, said: &mut Said<'a>) -> Stepped
         ensures { IfOk result (λ next. answer next said.new self.new ≡ outside self.old) }
     {
         self.complain(Note::NoEntry, StandIn::Nothing, said)

@@ -1,6 +1,7 @@
 -- Worked strings, by computation.
-use Rattle.std.proofs.Common.{◌≡◌, ◌+◌, pos, negsuc, [], ◌∷◌, refl}
+use Rattle.std.proofs.Common.{◌≡◌, ℕ, ◌+◌, ℤ, pos, negsuc, List, [], ◌∷◌, map, refl}
 use Rattle.std.specs.Prelude.{codes}
+use Rattle.btx_text.specs.declared.element_kind.TextMode.{TextMode}
 use Rattle.btx_text.specs.declared.element_kind.TextMode.TheVariants.{Bytes, Utf8}
 use Rattle.btx_text.specs.language.Class.{class_of}
 use Rattle.btx_text.specs.language.Sequences.{sequence_size, second_fits, is_sequence, begins_sequence}
@@ -42,97 +43,91 @@ period_after_parenthesis = refl
 
 -- ---- characters of text
 
-pub prefix : text_prefix_of Bytes (codes "{\\\"O}zg{ab}c") (pos 4) ≡ codes "{\\\"O}zg{a}"
-unfolding elements_of elements_from kind_at group_len take_characters
-prefix = refl
+-- what a function takes, and what it gives
+record Worked (A B : Type 0) : Type 0 where
+  taken : A
+  given : B
 
-pub length_with_special : text_length_of Bytes (codes "{\\\"O}zg{ab}c") ≡ 6
-unfolding elements_of elements_from kind_at group_len
-length_with_special = refl
+-- a function gives what a table says
+abbrev AreWorked : {A B : Type 0} → (A → B) → List (Worked A B) → Type 0
+AreWorked f rows = map (λ row. f row.taken) rows ≡ map (λ row. row.given) rows
 
-pub length_in_braces : text_length_of Bytes (codes "a{b}") ≡ 2
-unfolding elements_of elements_from kind_at group_len
-length_in_braces = refl
+-- a string, how many characters of text are taken from it, and these
+abbrev prefixed : TextMode → List ℕ → ℤ → List ℕ → Worked (TextMode × List ℕ × ℤ) (List ℕ)
+prefixed mode string number text = record { taken = (mode, string, number); given = text }
 
-pub wide_length : text_length_of Utf8 (0xC3 ∷ 0x89 ∷ 0x61 ∷ []) ≡ 2
-unfolding elements_of elements_from kind_at group_len sequence_size second_fits is_sequence begins_sequence
-wide_length = refl
+abbrev prefixes : List (Worked (TextMode × List ℕ × ℤ) (List ℕ))
+prefixes =
+    prefixed Bytes (codes "{\\\"O}zg{ab}c") (pos 4) (codes "{\\\"O}zg{a}")
+    ∷ prefixed Utf8 (0xC3 ∷ 0x89 ∷ 0x61 ∷ []) (pos 1) (0xC3 ∷ 0x89 ∷ [])
+    ∷ prefixed Bytes (0xC3 ∷ 0x89 ∷ 0x61 ∷ []) (pos 1) (0xC3 ∷ [])
+    ∷ []
 
-pub byte_length : text_length_of Bytes (0xC3 ∷ 0x89 ∷ 0x61 ∷ []) ≡ 3
-unfolding elements_of elements_from kind_at group_len
-byte_length = refl
-
-pub wide_prefix : text_prefix_of Utf8 (0xC3 ∷ 0x89 ∷ 0x61 ∷ []) (pos 1) ≡ 0xC3 ∷ 0x89 ∷ []
+pub prefixes-worked : AreWorked (λ taken. text_prefix_of taken.0 taken.1 taken.2) prefixes
 unfolding elements_of elements_from kind_at group_len take_characters sequence_size second_fits is_sequence begins_sequence
-wide_prefix = refl
+prefixes-worked = refl
 
-pub byte_prefix : text_prefix_of Bytes (0xC3 ∷ 0x89 ∷ 0x61 ∷ []) (pos 1) ≡ 0xC3 ∷ []
-unfolding elements_of elements_from kind_at group_len take_characters
-byte_prefix = refl
+-- a string, and how many characters of text it has
+abbrev counted : TextMode → List ℕ → ℕ → Worked (TextMode × List ℕ) ℕ
+counted mode string number = record { taken = (mode, string); given = number }
 
--- an overlong form and a surrogate are no sequences
-pub overlong_length : text_length_of Utf8 (0xC0 ∷ 0xAF ∷ []) ≡ 2
+abbrev lengths : List (Worked (TextMode × List ℕ) ℕ)
+lengths =
+    counted Bytes (codes "{\\\"O}zg{ab}c") 6
+    ∷ counted Bytes (codes "a{b}") 2
+    ∷ counted Utf8 (0xC3 ∷ 0x89 ∷ 0x61 ∷ []) 2
+    ∷ counted Bytes (0xC3 ∷ 0x89 ∷ 0x61 ∷ []) 3
+    -- an overlong form and a surrogate are no sequences
+    ∷ counted Utf8 (0xC0 ∷ 0xAF ∷ []) 2
+    ∷ counted Bytes (0xC0 ∷ 0xAF ∷ []) 2
+    ∷ counted Utf8 (0xED ∷ 0xA0 ∷ 0x80 ∷ []) 3
+    ∷ counted Bytes (0xED ∷ 0xA0 ∷ 0x80 ∷ []) 3
+    ∷ []
+
+pub lengths-worked : AreWorked (λ taken. text_length_of taken.0 taken.1) lengths
 unfolding elements_of elements_from kind_at group_len sequence_size second_fits is_sequence begins_sequence
-overlong_length = refl
-
-pub overlong_bytes : text_length_of Bytes (0xC0 ∷ 0xAF ∷ []) ≡ 2
-unfolding elements_of elements_from kind_at group_len
-overlong_bytes = refl
-
-pub surrogate_length : text_length_of Utf8 (0xED ∷ 0xA0 ∷ 0x80 ∷ []) ≡ 3
-unfolding elements_of elements_from kind_at group_len sequence_size second_fits is_sequence begins_sequence
-surrogate_length = refl
-
-pub surrogate_bytes : text_length_of Bytes (0xED ∷ 0xA0 ∷ 0x80 ∷ []) ≡ 3
-unfolding elements_of elements_from kind_at group_len
-surrogate_bytes = refl
+lengths-worked = refl
 
 -- ---- purified forms
 
-pub purified : purify_of (codes "{\\\"o}sterreich--{\\oe}uvre~1") ≡ codes "osterreich  oeuvre 1"
-unfolding elements_of elements_from kind_at group_len class_of control_name glyphs_from glyphs_of letters_of
-purified = refl
+-- a string, and its purified form
+abbrev purified : List ℕ → List ℕ → Worked (List ℕ) (List ℕ)
+purified string text = record { taken = string; given = text }
 
-pub purified_unknown : purify_of (codes "{\\'e}-{\\relax x}") ≡ codes "e x"
-unfolding elements_of elements_from kind_at group_len class_of control_name glyphs_from glyphs_of letters_of
-purified_unknown = refl
+abbrev purified_strings : List (Worked (List ℕ) (List ℕ))
+purified_strings =
+    purified (codes "{\\\"o}sterreich--{\\oe}uvre~1") (codes "osterreich  oeuvre 1")
+    ∷ purified (codes "{\\'e}-{\\relax x}") (codes "e x")
+    -- a foreign control sequence becomes its two letters, if it is one of `oe OE ae AE ss`, and else its first
+    ∷ purified (codes "{\\i\\j\\o\\oe\\ae\\aa\\l\\ss\\O\\OE\\AE\\AA\\L}") (codes "ijooeaealssOOEAEAL")
+    ∷ []
 
--- a foreign control sequence becomes its two letters, if it is one of `oe OE ae AE ss`, and else its first
-pub purified_foreign : purify_of (codes "{\\i\\j\\o\\oe\\ae\\aa\\l\\ss\\O\\OE\\AE\\AA\\L}") ≡ codes "ijooeaealssOOEAEAL"
+pub purified-worked : AreWorked purify_of purified_strings
 unfolding elements_of elements_from kind_at group_len class_of control_name glyphs_from glyphs_of letters_of
-purified_foreign = refl
+purified-worked = refl
 
 -- ---- case
 
--- the foreign control sequences that are lowered; all others stay
-pub lowered_foreign : change_case_of (codes "{\\O\\OE\\AE\\AA\\L} {\\i\\ss\\relax\\RELAX}") (codes "l") ≡ codes "{\\o\\oe\\ae\\aa\\l} {\\i\\ss\\relax\\RELAX}"
-unfolding elements_of elements_from kind_at group_len control_name glyphs_from glyphs_of without_white cased_parts cased_control
-lowered_foreign = refl
+-- a string, a conversion, and the string in that case
+abbrev cased : List ℕ → List ℕ → List ℕ → Worked (List ℕ × List ℕ) (List ℕ)
+cased string conversion text = record { taken = (string, conversion); given = text }
 
--- those that are raised, and those that become letters; all others stay
-pub raised_foreign : change_case_of (codes "{\\o\\oe\\ae\\aa\\l} {\\i\\j\\ss} {\\O\\relax}") (codes "u") ≡ codes "{\\O\\OE\\AE\\AA\\L} {IJSS} {\\O\\relax}"
-unfolding elements_of elements_from kind_at group_len control_name glyphs_from glyphs_of without_white cased_parts cased_control
-raised_foreign = refl
+abbrev cased_strings : List (Worked (List ℕ × List ℕ) (List ℕ))
+cased_strings =
+    -- the foreign control sequences that are lowered; all others stay
+    cased (codes "{\\O\\OE\\AE\\AA\\L} {\\i\\ss\\relax\\RELAX}") (codes "l") (codes "{\\o\\oe\\ae\\aa\\l} {\\i\\ss\\relax\\RELAX}")
+    -- those that are raised, and those that become letters; all others stay
+    ∷ cased (codes "{\\o\\oe\\ae\\aa\\l} {\\i\\j\\ss} {\\O\\relax}") (codes "u") (codes "{\\O\\OE\\AE\\AA\\L} {IJSS} {\\O\\relax}")
+    ∷ cased (codes "The {TeX}book: A {\\AE}ON") (codes "t") (codes "The {TeX}book: A {\\ae}on")
+    ∷ cased (codes "{\\ss}a") (codes "u") (codes "{SS}A")
+    ∷ cased (codes "{\\i  x\\oe y}") (codes "U") (codes "{IX\\OE Y}")
+    ∷ cased (codes "A:B") (codes "t") (codes "A:b")
+    ∷ cased (codes "A: {\\'E} B") (codes "t") (codes "A: {\\'E} b")
+    ∷ []
 
-pub titled : change_case_of (codes "The {TeX}book: A {\\AE}ON") (codes "t") ≡ codes "The {TeX}book: A {\\ae}on"
+pub cased-worked : AreWorked (λ taken. change_case_of taken.0 taken.1) cased_strings
 unfolding elements_of elements_from kind_at group_len control_name glyphs_from glyphs_of without_white cased_parts cased_control
-titled = refl
-
-pub raised : change_case_of (codes "{\\ss}a") (codes "u") ≡ codes "{SS}A"
-unfolding elements_of elements_from kind_at group_len control_name glyphs_from glyphs_of without_white cased_parts cased_control
-raised = refl
-
-pub raised_without_white : change_case_of (codes "{\\i  x\\oe y}") (codes "U") ≡ codes "{IX\\OE Y}"
-unfolding elements_of elements_from kind_at group_len control_name glyphs_from glyphs_of without_white cased_parts cased_control
-raised_without_white = refl
-
-pub colon_without_white : change_case_of (codes "A:B") (codes "t") ≡ codes "A:b"
-unfolding elements_of elements_from kind_at group_len control_name glyphs_from glyphs_of without_white cased_parts cased_control
-colon_without_white = refl
-
-pub colon_and_white : change_case_of (codes "A: {\\'E} B") (codes "t") ≡ codes "A: {\\'E} b"
-unfolding elements_of elements_from kind_at group_len control_name glyphs_from glyphs_of without_white cased_parts cased_control
-colon_and_white = refl
+cased-worked = refl
 
 pub no_conversion : change_case_of (codes "Ab") (codes "x") ≡ codes "Ab"
 no_conversion = refl
@@ -145,28 +140,21 @@ conversion_no_complaint = refl
 
 -- ---- widths
 
-pub letters_width : width_of (codes "AB") ≡ 1458
-unfolding elements_of elements_from kind_at group_len
-letters_width = refl
+-- a string, and its width in hundredths of a point
+abbrev measured : List ℕ → ℕ → Worked (List ℕ) ℕ
+measured string width = record { taken = string; given = width }
 
-pub braces_width : width_of (codes "{B}") ≡ 1708
-unfolding elements_of elements_from kind_at group_len
-braces_width = refl
+abbrev widths : List (Worked (List ℕ) ℕ)
+widths =
+    measured (codes "AB") 1458
+    ∷ measured (codes "{B}") 1708
+    ∷ measured (codes "{\\oe}") 778
+    -- five foreign control sequences have widths of their own, and each other one has that of its first letter
+    ∷ measured (codes "{\\i\\j\\o\\oe\\ae\\aa\\l\\ss\\O\\OE\\AE\\AA\\L}") (278 + 306 + 500 + 778 + 722 + 500 + 278 + 500 + 778 + 1014 + 903 + 750 + 625)
+    ∷ measured (codes "{\\'e}") 444
+    ∷ measured [] 0
+    ∷ []
 
-pub foreign_width : width_of (codes "{\\oe}") ≡ 778
-unfolding elements_of elements_from kind_at group_len control_name glyphs_from glyphs_of without_white control_width
-foreign_width = refl
-
--- five foreign control sequences have widths of their own, and each other one has that of its first letter
-pub foreign_widths : width_of (codes "{\\i\\j\\o\\oe\\ae\\aa\\l\\ss\\O\\OE\\AE\\AA\\L}") ≡ 278 + 306 + 500 + 778 + 722 + 500 + 278 + 500 + 778 + 1014 + 903 +
-    750 + 625
-unfolding elements_of elements_from kind_at group_len control_name glyphs_from glyphs_of letters_of without_white control_width
-foreign_widths = refl
-
-pub accented_width : width_of (codes "{\\'e}") ≡ 444
-unfolding elements_of elements_from kind_at group_len control_name glyphs_from glyphs_of letters_of without_white control_width
-accented_width = refl
-
-pub empty_width : width_of [] ≡ 0
-unfolding elements_of elements_from
-empty_width = refl
+pub widths-worked : AreWorked width_of widths
+unfolding elements_of elements_from kind_at group_len control_name glyphs_from glyphs_of without_white control_width letters_of
+widths-worked = refl

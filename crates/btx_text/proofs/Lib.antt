@@ -6,3 +6,4 @@ pub mod DivisionLemmas
 pub mod WorkedElements
 pub mod EncodingLemmas
 pub mod JoinLemmas
+pub mod LoweredLemmas

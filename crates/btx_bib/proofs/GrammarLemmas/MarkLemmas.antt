@@ -125,11 +125,12 @@ pub word-depth : (d b : ℕ) → is_word_byte b ≡ true → depth_after d b ≡
 word-depth d b h = rw (no-word b 123 refl h, no-word b 125 refl h) refl
 
 -- a byte that doesn't end what is enclosed is passed over
-pub enclosed-on : (e : Enclosure) (d after : ℕ) (s : List ℕ) (i n : ℕ) → i < length s → (eqb d 0 && ends_enclosed e (get_or s i 0)) ≡ false
-    → after ≡ depth_after d (get_or s i 0) →
-    i + enclosed_len e d (drop i s) ≡ n → i + 1 + enclosed_len e after (drop (i + 1) s) ≡ n
-enclosed-on e d after s i n lt goes is h = rw is (omega (arith, enclosed_next e d s i lt goes, h))
+pub enclosed-on : (e : Enclosure) (d after : ℕ) (s : List ℕ) (i n b : ℕ) → i < length s → b ≡ get_or s i 0 → (eqb d 0 && ends_enclosed e b) ≡ false
+    → after ≡ depth_after d b → i + enclosed_len e d (drop i s) ≡ n → i + 1 + enclosed_len e after (drop (i + 1) s) ≡ n
+enclosed-on e d after s i n b lt at goes deep h =
+    let next = enclosed_next e d s i lt (rw (sym at) goes) in
+    rw (deep, at) (omega (arith, next, h))
 
-pub enclosed-ends : (e : Enclosure) (d : ℕ) (s : List ℕ) (i n : ℕ) → i < length s → (eqb d 0 && ends_enclosed e (get_or s i 0)) ≡ true
+pub enclosed-ends : (e : Enclosure) (d : ℕ) (s : List ℕ) (i n b : ℕ) → i < length s → b ≡ get_or s i 0 → (eqb d 0 && ends_enclosed e b) ≡ true
     → i + enclosed_len e d (drop i s) ≡ n → i ≡ n
-enclosed-ends e d s i n lt ends h = omega (arith, enclosed_here e d s i lt ends, h)
+enclosed-ends e d s i n b lt at ends h = omega (arith, enclosed_here e d s i lt (rw (sym at) ends), h)

@@ -148,6 +148,6 @@ unmarked-on e s zero i d total room unmarked so = let none : i + 0 ≡ i = omega
 unmarked-on e s (suc n) i d total room unmarked so =
     let b = get_or s i 0 in
     let stays = no-mark e d b (unmarked i (omega arith) (omega arith)) in
-    let next = enclosed-on e d d s i total (omega arith) (rw stays.0 (and-false (eqb d 0))) (sym stays.1) so in
+    let next = enclosed-on e d d s i total (get_or s i 0) (omega arith) refl (rw stays.0 (and-false (eqb d 0))) (sym stays.1) so in
     let sum : i + suc n ≡ i + 1 + n = omega arith in
     rw sum (unmarked-on e s n (i + 1) d total (omega arith) (λ k from to. unmarked k (omega arith) (omega arith)) next)

@@ -76,7 +76,7 @@ behind-next s i b is =
 pub read-on : (e : Enclosure) (s : List ℕ) (i d after b : ℕ) → i < length s → get_or s i 0 ≡ b → (eqb d 0 && ends_enclosed e b) ≡ false →
     stays_squeezed (is_behind_white s i) b ≡ true → after ≡ depth_after d b → IsReadTo e s i d → IsReadTo e s (i + 1) after
 read-on e s i d after b lt is goes stays deep so = record {
-  ended = enclosed-on e d after s i _ lt (rw is goes) (rw is deep) so.ended;
+  ended = enclosed-on e d after s i _ b lt (sym is) goes deep so.ended;
   squeezed = rw (behind-next s i b is) (squeezed-further s i (is_behind_white s i) b lt is so.squeezed stays);
 }
 

@@ -10,7 +10,7 @@ ghost use Rattle.btx_step.specs.language.Table.{runs};
 use super::Store;
 use super::operands::{fitting, popped};
 use crate::literal::{Literal, Wanted};
-use crate::next::Next;
+use crate::next::{Next, Stepped};
 use crate::said::{Note, Notes, Said};
 use crate::stand_in::StandIn;
 use std::alloc::AllocError;
@@ -18,7 +18,7 @@ use std::alloc::AllocError;
 impl<'a> Store<'a> {
     // `if$`
     #[tactic(auto, using(crate::proofs::QuickLemmas::choice_lacks))]
-    pub(super) fn choose(&mut self, said: &mut Said<'a>) -> Result<Next, AllocError>
+    pub(super) fn choose(&mut self, said: &mut Said<'a>) -> Stepped
         requires { said.old ≡ silence }
         ensures { IfOk result (λ next. answer next said.new self.new ≡ runs built_in.If kept_spec.chooses self.old) }
     {
@@ -32,7 +32,7 @@ impl<'a> Store<'a> {
     }
 
     // `while$`
-    pub(super) fn start_loop(&mut self, said: &mut Said<'a>) -> Result<Next, AllocError>
+    pub(super) fn start_loop(&mut self, said: &mut Said<'a>) -> Stepped
         requires { said.old ≡ silence }
         ensures { IfOk result (λ next. answer next said.new self.new ≡ runs built_in.While kept_spec.loops self.old) }
     {

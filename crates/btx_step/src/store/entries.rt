@@ -11,20 +11,14 @@ ghost use Rattle.btx_step.specs.refinement.Table.{misses_entry};
 use super::Store;
 use crate::job::Job;
 use crate::literal::{Literal, Wanted};
-use crate::next::Next;
+use crate::next::{Next, Stepped};
 use crate::said::{Note, Notes, Said};
 use crate::stand_in::StandIn;
 use btx_bst::Callee;
-use std::alloc::AllocError;
 
 impl<'a> Store<'a> {
     // A field.
-    pub(super) fn push_field(
-        &mut self,
-        job: &Job<'a>,
-        field: u32,
-        said: &mut Said<'a>,
-    ) -> Result<Next, AllocError>
+    pub(super) fn push_field(&mut self, job: &Job<'a>, field: u32, said: &mut Said<'a>) -> Stepped
         requires { said.old ≡ silence }
         ensures { IfOk result (λ next. answer next said.new self.new ≡ kept_spec.field_pushed job.now field self.old.current self.old) }
     {
@@ -38,7 +32,7 @@ impl<'a> Store<'a> {
     }
 
     // `cite$`
-    pub(super) fn cite(&mut self, job: &Job<'a>, said: &mut Said<'a>) -> Result<Next, AllocError>
+    pub(super) fn cite(&mut self, job: &Job<'a>, said: &mut Said<'a>) -> Stepped
         requires { said.old ≡ silence }
         ensures { IfOk result (λ next. answer next said.new self.new ≡ kept_spec.cites job.now self.old.current self.old) }
     {
@@ -49,11 +43,7 @@ impl<'a> Store<'a> {
     }
 
     // `type$`
-    pub(super) fn push_type(
-        &mut self,
-        job: &Job<'a>,
-        said: &mut Said<'a>,
-    ) -> Result<Next, AllocError>
+    pub(super) fn push_type(&mut self, job: &Job<'a>, said: &mut Said<'a>) -> Stepped
         requires { said.old ≡ silence }
         ensures { IfOk result (λ next. answer next said.new self.new ≡ kept_spec.gives_type job.now self.old.current self.old) }
     {
@@ -64,11 +54,7 @@ impl<'a> Store<'a> {
     }
 
     // `call.type$`
-    pub(super) fn call_type(
-        &mut self,
-        job: &Job<'a>,
-        said: &mut Said<'a>,
-    ) -> Result<Next, AllocError>
+    pub(super) fn call_type(&mut self, job: &Job<'a>, said: &mut Said<'a>) -> Stepped
         requires { said.old ≡ silence }
         ensures { IfOk result (λ next. answer next said.new self.new ≡ kept_spec.calls_type job.now self.old.current self.old) }
     {
@@ -82,7 +68,7 @@ impl<'a> Store<'a> {
     }
 
     // `missing$`
-    pub(super) fn find_missing(&mut self, said: &mut Said<'a>) -> Result<Next, AllocError>
+    pub(super) fn find_missing(&mut self, said: &mut Said<'a>) -> Stepped
         requires { said.old ≡ silence }
         ensures { IfOk result (λ next. answer next said.new self.new ≡ runs_missing self.old.current self.old) }
     {
@@ -92,7 +78,7 @@ impl<'a> Store<'a> {
         }
     }
 
-    fn find_missing_inside(&mut self, said: &mut Said<'a>) -> Result<Next, AllocError>
+    fn find_missing_inside(&mut self, said: &mut Said<'a>) -> Stepped
         requires { said.old ≡ silence }
         ensures { IfOk result (λ next. answer next said.new self.new ≡ runs built_in.Missing spec.finds_missing self.old) }
     {
@@ -104,7 +90,7 @@ impl<'a> Store<'a> {
         }
     }
 
-    fn find_missing_outside(&mut self, said: &mut Said<'a>) -> Result<Next, AllocError>
+    fn find_missing_outside(&mut self, said: &mut Said<'a>) -> Stepped
         requires { said.old ≡ silence }
         ensures { IfOk result (λ next. answer next said.new self.new ≡ misses_entry self.old.literals self.old) }
     {

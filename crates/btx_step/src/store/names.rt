@@ -9,19 +9,27 @@ ghost use Rattle.btx_step.specs.language.Table.{runs};
 ghost use Rattle.btx_text.specs.language.Lists.{only_if};
 
 use super::Store;
-use super::operands::{fitting, popped};
+use super::operands::{fitting, made, popped};
 use crate::job::Job;
 use crate::literal::{Literal, Wanted};
-use crate::next::Next;
+use crate::next::{Next, Stepped};
 use crate::said::{Note, Notes, Said};
 use crate::stand_in::StandIn;
 use btx_strings::Complaints;
 use btx_text::{Fault, Limit, Text};
 use std::alloc::{AllocError, Global};
 
+// What `format.name$` is asked for: a list of names, the number of a name in it, and the format of that name.
+#[derive(Drop)]
+struct Asked<'a> {
+    names: Text<'a>,
+    number: i32,
+    format: Text<'a>,
+}
+
 impl<'a> Store<'a> {
     // `num.names$`
-    pub(super) fn count_names(&mut self, said: &mut Said<'a>) -> Result<Next, AllocError>
+    pub(super) fn count_names(&mut self, said: &mut Said<'a>) -> Stepped
         requires { said.old ≡ silence }
         ensures { IfOk result (λ next. answer next said.new self.new ≡ runs built_in.NumNames kept_spec.counts_names self.old) }
     {
@@ -33,11 +41,7 @@ impl<'a> Store<'a> {
 
     // `format.name$`
     #[tactic(auto, using(crate::proofs::QuickLemmas::name_lacks))]
-    pub(super) fn format_name(
-        &mut self,
-        job: &Job<'a>,
-        said: &mut Said<'a>,
-    ) -> Result<Next, AllocError>
+    pub(super) fn format_name(&mut self, job: &Job<'a>, said: &mut Said<'a>) -> Stepped
         requires { said.old ≡ silence }
         ensures { IfOk result (λ next. answer next said.new self.new ≡ runs built_in.FormatName (spec.formats_name job.now) self.old) }
     {
@@ -47,33 +51,29 @@ impl<'a> Store<'a> {
         let format = fitting!(self, format, Text, Empty, said);
         let number = fitting!(self, number, Integer, Empty, said);
         let names = fitting!(self, names, Text, Empty, said);
-        self.push_name(job, names, number, format, said)
+        let asked = Asked {
+            names,
+            number,
+            format,
+        };
+        self.push_name(job, asked, said)
     }
 
     // A name of this number in a format.
-    fn push_name(
-        &mut self,
-        job: &Job<'a>,
-        names: Text<'a>,
-        number: i32,
-        format: Text<'a>,
-        said: &mut Said<'a>,
-    ) -> Result<Next, AllocError>
+    fn push_name(&mut self, job: &Job<'a>, asked: Asked<'a>, said: &mut Said<'a>) -> Stepped
         requires { said.old ≡ silence }
-        ensures { IfOk result (λ next. answer next said.new self.new ≡ spec.formats_name job.now format.entry number names.entry self.old) }
+        ensures { IfOk result (λ next. answer next said.new self.new ≡ spec.formats_name job.now asked.entry.format asked.entry.number asked.entry.names self.old) }
     {
-        match self
-            .names
-            .format(names.as_bytes(), number, format.as_bytes(), job.mode())
-        {
-            Ok(answer) => {
-                *said = name_said(self.alloc, answer.complaints, names, number, format)?;
-                self.push(Literal::Text(Text::owned(answer.text)))
-            }
-            Err(Fault::StringLimit) => Ok(Next::End(Limit::String)),
-            Err(Fault::Memory) => Err(AllocError),
-            Err(Fault::Device | Fault::FileLimit) => unreachable!(),
-        }
+        let answer = made!(
+            self.names.format(
+                asked.names.as_bytes(),
+                asked.number,
+                asked.format.as_bytes(),
+                job.mode()
+            )
+        );
+        *said = name_said(self.alloc, answer.complaints, asked)?;
+        self.push(Literal::Text(Text::owned(answer.text)))
     }
 }
 
@@ -81,11 +81,9 @@ impl<'a> Store<'a> {
 fn name_said<'a>(
     alloc: Global,
     complaints: Complaints,
-    names: Text<'a>,
-    number: i32,
-    format: Text<'a>,
+    asked: Asked<'a>,
 ) -> Result<Said<'a>, AllocError>
-    ensures { IfOk result (λ said. said ≡ kept_spec.name_said complaints names.entry number format.entry) }
+    ensures { IfOk result (λ said. said ≡ kept_spec.name_said complaints asked.entry.names asked.entry.number asked.entry.format) }
 {
     if !(complaints.no_such_name
         || complaints.comma_at_end
@@ -94,6 +92,11 @@ fn name_said<'a>(
     {
         return Ok(Said::Nothing);
     }
+    let Asked {
+        names,
+        number,
+        format,
+    } = asked;
     let names = names.share()?;
     let mut notes = Notes::new(alloc);
     push_if(

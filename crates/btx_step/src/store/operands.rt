@@ -21,5 +21,18 @@ macro_rules! fitting {
     };
 }
 
+// A string that was made, with what was wrong. Where the string is too long, or memory is refused, the function that calls this is left at once.
+macro_rules! made {
+    ($answer:expr) => {
+        match $answer {
+            Ok(answer) => answer,
+            Err(Fault::StringLimit) => return Ok(Next::End(Limit::String)),
+            Err(Fault::Memory) => return Err(AllocError),
+            Err(Fault::Device | Fault::FileLimit) => unreachable!(),
+        }
+    };
+}
+
 pub(super) use fitting;
+pub(super) use made;
 pub(super) use popped;

@@ -9,7 +9,7 @@ ghost use Rattle.btx_step.specs.language.Table.{runs};
 
 use super::Store;
 use crate::literal::{Literal, Wanted};
-use crate::next::Next;
+use crate::next::{Next, Stepped};
 use crate::said::{Note, Notes, Said};
 use crate::stand_in::StandIn;
 use btx_stack::Literals;
@@ -17,7 +17,7 @@ use std::alloc::{AllocError, Global};
 
 impl<'a> Store<'a> {
     // `duplicate$`
-    pub(super) fn duplicate(&mut self, said: &mut Said<'a>) -> Result<Next, AllocError>
+    pub(super) fn duplicate(&mut self, said: &mut Said<'a>) -> Stepped
         requires { said.old ≡ silence }
         ensures { IfOk result (λ next. answer next said.new self.new ≡ runs built_in.Duplicate spec.duplicates self.old) }
     {
@@ -33,7 +33,7 @@ impl<'a> Store<'a> {
     }
 
     // `swap$`
-    pub(super) fn swap(&mut self, said: &mut Said<'a>) -> Result<Next, AllocError>
+    pub(super) fn swap(&mut self, said: &mut Said<'a>) -> Stepped
         requires { said.old ≡ silence }
         ensures { IfOk result (λ next. answer next said.new self.new ≡ runs built_in.Swap spec.swaps self.old) }
     {
@@ -50,7 +50,7 @@ impl<'a> Store<'a> {
     }
 
     // `pop$`
-    pub(super) fn drop_top(&mut self, said: &mut Said<'a>) -> Result<Next, AllocError>
+    pub(super) fn drop_top(&mut self, said: &mut Said<'a>) -> Stepped
         requires { said.old ≡ silence }
         ensures { IfOk result (λ next. answer next said.new self.new ≡ runs built_in.Pop (λ value. done) self.old) }
     {
@@ -62,7 +62,7 @@ impl<'a> Store<'a> {
 
     // `top$`
     #[inline(always)]
-    pub(super) fn show_top(&mut self, said: &mut Said<'a>) -> Result<Next, AllocError>
+    pub(super) fn show_top(&mut self, said: &mut Said<'a>) -> Stepped
         requires { said.old ≡ silence }
         ensures { IfOk result (λ next. answer next said.new self.new ≡ runs built_in.Top spec.shows_top self.old) }
     {
@@ -73,7 +73,7 @@ impl<'a> Store<'a> {
     }
 
     // `stack$`
-    pub(super) fn show_stack(&mut self, said: &mut Said<'a>) -> Result<Next, AllocError>
+    pub(super) fn show_stack(&mut self, said: &mut Said<'a>) -> Stepped
         requires { said.old ≡ silence }
         ensures { IfOk result (λ next. answer next said.new self.new ≡ spec.shows_stack self.old) }
     {
@@ -83,7 +83,7 @@ impl<'a> Store<'a> {
 
     // `warning$`
     #[inline(always)]
-    pub(super) fn warn(&mut self, said: &mut Said<'a>) -> Result<Next, AllocError>
+    pub(super) fn warn(&mut self, said: &mut Said<'a>) -> Stepped
         requires { said.old ≡ silence }
         ensures { IfOk result (λ next. answer next said.new self.new ≡ runs built_in.Warning spec.warns self.old) }
     {
@@ -95,7 +95,7 @@ impl<'a> Store<'a> {
     }
 
     // `write$`
-    pub(super) fn write(&mut self, said: &mut Said<'a>) -> Result<Next, AllocError>
+    pub(super) fn write(&mut self, said: &mut Said<'a>) -> Stepped
         requires { said.old ≡ silence }
         ensures { IfOk result (λ next. answer next said.new self.new ≡ runs built_in.Write spec.writes self.old) }
     {

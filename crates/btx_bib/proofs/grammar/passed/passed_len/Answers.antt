@@ -1,4 +1,4 @@
-use Rattle.std.proofs.Common.{◌≡◌, ◌∙◌, ◌<◌, ◌+◌, ◌&&◌, eqb, true, false, sym, get_or, length, arith}
+use Rattle.std.proofs.Common.{◌≡◌, ◌∙◌, ◌+◌, ◌&&◌, eqb, true, false, sym, arith}
 use Rattle.btx_bib.specs.language.Grammar.ByteSets.{enclosed_len, ends_enclosed}
 use Rattle.btx_bib.proofs.GrammarLemmas.MarkLemmas.{depth_after-le, enclosed-ends, enclosed-on}
 use Rattle.btx_bib.proofs.GrammarLemmas.PassedLemmas.{unmarked-on}
@@ -15,24 +15,18 @@ loop-byte-init c =
 
 pub returns-then-ends_enclosed-clause-value : goal.returns-then-ends_enclosed-clause-value
 returns-then-ends_enclosed-clause-value c =
-    let text = c.args.text.now in
-    let place = c.loop-byte.place in
-    let inside : place < length text = c.in-Some.ensures.lookup.3.0 in
-    let here : get_or text place 0 ≡ c.in-Some.field-0.now = sym (c.in-Some.ensures.lookup.4 (omega arith) 0) in
-    let ends : (eqb c.loop-byte.depth 0 && ends_enclosed c.args.enclosure (get_or text place 0)) ≡ true =
-    rw here (sym c.ends_enclosed.ensures ∙ c.if-ends_enclosed.true) in
-    enclosed-ends c.args.enclosure c.loop-byte.depth text place _ inside ends c.loop-byte.invariant.0
+    let found = c.in-Some.ensures.lookup in
+    enclosed-ends c.args.enclosure c.loop-byte.depth c.args.text.now c.loop-byte.place _ c.in-Some.field-0.now found.3.0 (found.4 (omega arith) 0)
+    (sym c.ends_enclosed.ensures ∙ c.if-ends_enclosed.true) c.loop-byte.invariant.0
 
 pub loop-byte-preserved : goal.loop-byte-preserved
 loop-byte-preserved c =
     let text = c.args.text.now in
     let place = c.loop-byte.place in
     let byte = c.in-Some.field-0.now in
-    let inside : place < length text = c.in-Some.ensures.lookup.3.0 in
-    let here : get_or text place 0 ≡ byte = sym (c.in-Some.ensures.lookup.4 (omega arith) 0) in
-    let goes_on : (eqb c.loop-byte.depth 0 && ends_enclosed c.args.enclosure (get_or text place 0)) ≡ false =
-    rw here (sym c.ends_enclosed.ensures ∙ c.if-ends_enclosed.false) in
-    let further = enclosed-on c.args.enclosure c.loop-byte.depth _ text place _ inside goes_on (rw here c.depth_after-depth.ensures) c.loop-byte.invariant.0 in
+    let goes_on : (eqb c.loop-byte.depth 0 && ends_enclosed c.args.enclosure byte) ≡ false = sym c.ends_enclosed.ensures ∙ c.if-ends_enclosed.false in
+    let further = enclosed-on c.args.enclosure c.loop-byte.depth _ text place _ byte c.in-Some.ensures.lookup.3.0 (c.in-Some.ensures.lookup.4 (omega arith) 0)
+    goes_on c.depth_after-depth.ensures c.loop-byte.invariant.0 in
     let bound = c.unmarked_len-place-in-Some.ensures.bound in (
       unmarked-on c.args.enclosure text c.unmarked_len-place-in-Some.result (place + 1) _ _ bound c.unmarked_len-place-in-Some.ensures.unmarked further,
       (let le = depth_after-le c.loop-byte.depth byte in omega (arith, c.depth_after-depth.ensures, c.loop-byte.invariant.1)),

@@ -10,13 +10,12 @@ loop-byte-init c = (read-none c.args.enclosure c.args.text.now, omega arith, ome
 
 pub returns-then-ends_enclosed-clause-value : goal.returns-then-ends_enclosed-clause-value
 returns-then-ends_enclosed-clause-value c =
-    let text = c.args.text.now in
-    let place = c.loop-byte.place in
-    let inside : place < length text = c.in-Some.ensures.lookup.3.0 in
-    let here : get_or text place 0 ≡ c.in-Some.field-0.now = sym (c.in-Some.ensures.lookup.4 (omega arith) 0) in
-    let ends : (eqb c.loop-byte.depth 0 && ends_enclosed c.args.enclosure (get_or text place 0)) ≡ true =
-    rw here (sym c.ends_enclosed.ensures ∙ c.if-ends_enclosed.true) in
-    (enclosed-ends c.args.enclosure c.loop-byte.depth text place _ inside ends c.loop-byte.invariant.0.ended, c.loop-byte.invariant.0.squeezed.squeezed)
+    let found = c.in-Some.ensures.lookup in
+    let read = c.loop-byte.invariant.0 in (
+      enclosed-ends c.args.enclosure c.loop-byte.depth c.args.text.now c.loop-byte.place _ c.in-Some.field-0.now found.3.0 (found.4 (omega arith) 0)
+          (sym c.ends_enclosed.ensures ∙ c.if-ends_enclosed.true) read.ended,
+      read.squeezed.squeezed,
+    )
 
 pub loop-byte-preserved : goal.loop-byte-preserved
 loop-byte-preserved c =

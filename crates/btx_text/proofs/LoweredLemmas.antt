@@ -8,7 +8,7 @@ use Rattle.std.specs.Char.{to_ascii_lowercase, IsNotAsciiUppercase}
 use Rattle.std.proofs.lemmas.List.{at_drop_more, length-map}
 use Rattle.std.proofs.lemmas.Bool.Decides.{nat_tests}
 use Rattle.btx_text.specs.language.Keys.{folded}
-use Rattle.btx_bib.specs.refinement.Spellings.{AreLower}
+use Rattle.btx_text.specs.refinement.Lowered.{AreLower}
 
 pub lower-same : (b : ℕ) → IsNotAsciiUppercase b → to_ascii_lowercase b ≡ b
 lower-same b h = grind (arith, nat_tests)

@@ -1,9 +1,9 @@
 //! Keys and names in lower case.
 ghost use Rattle.std.specs.Prelude.{◌≡◌, ◌+◌, ◌≤◌, false, length, IfOk};
 ghost use Rattle.btx_text.specs.language.Keys.{folded};
-ghost use Rattle.btx_bib.specs.refinement.Spellings.{AreLower};
+ghost use Rattle.btx_text.specs.refinement.Lowered.{AreLower};
 
-use btx_text::fold_key;
+use crate::keys::fold_key;
 use std::alloc::{AllocError, Global};
 use std::marker::Model;
 use std::simd::prelude::*;
@@ -17,7 +17,7 @@ enum Kept<'t> {
     Made(Vec<u8>),
 }
 
-/// A key or a name with its letters `A-Z` in lower case. One without such a letter isn't copied.
+/// A key or a name with its letters `A-Z` in lower case, seen as its bytes.
 #[derive(Drop)]
 pub struct Lowered<'t> {
     kept: Kept<'t>,
@@ -28,12 +28,28 @@ impl<'t> Model for Lowered<'t> {
 
     ghost Value = { List ℕ };
 
-    ghost use Rattle.btx_bib.specs.refinement.Spellings.{lowered_in};
+    ghost use Rattle.btx_text.specs.refinement.Lowered.{lowered_in};
 
     ghost view = { λ lowered. lowered_in lowered.kept };
 }
 
 impl<'t> Lowered<'t> {
+    /// A key or a name in lower case. It is copied only where it has a capital letter.
+    pub fn of(alloc: Global, text: &'t [u8]) -> Result<Self, AllocError>
+        ensures { IfOk result (λ lowered. lowered ≡ folded text.now) }
+    {
+        if !has_capital(text) {
+            return Ok(Lowered {
+                kept: Kept::Lent(text),
+            });
+        }
+        let mut bytes = Vec::from_slice(alloc, text)?;
+        fold_key(bytes.as_mut_slice());
+        Ok(Lowered {
+            kept: Kept::Made(bytes),
+        })
+    }
+
     /// The bytes.
     pub fn as_bytes(&self) -> &[u8]
         ensures { result.now ≡ self.now }
@@ -97,20 +113,4 @@ fn has_capital(text: &[u8]) -> bool
         place += BLOCK;
     }
     has_capital_in_block(text, last)
-}
-
-/// A key or a name in lower case.
-pub fn in_lower_case(alloc: Global, text: &[u8]) -> Result<Lowered<'_>, AllocError>
-    ensures { IfOk result (λ lowered. lowered ≡ folded text.now) }
-{
-    if !has_capital(text) {
-        return Ok(Lowered {
-            kept: Kept::Lent(text),
-        });
-    }
-    let mut bytes = Vec::from_slice(alloc, text)?;
-    fold_key(bytes.as_mut_slice());
-    Ok(Lowered {
-        kept: Kept::Made(bytes),
-    })
 }
