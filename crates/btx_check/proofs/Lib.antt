@@ -23,3 +23,4 @@ pub mod TypeLemmas
 pub mod PlainLemmas
 pub mod Kept
 pub mod EntryLemmas
+pub mod MemoLemmas

@@ -7,4 +7,5 @@ pub mod Bounds
 pub mod Running
 pub mod Between
 pub mod Answers
+pub mod Memos
 pub mod Verdicts

@@ -1,6 +1,6 @@
 //! Which descriptions are joined, and what is proposed for both: guesses, which `State::is_within` tests.
 use crate::description::{Upper, Value};
-use crate::likeness::{Likeness, mark_of_kind, mark_of_shape, mixed};
+use crate::likeness::{Likeness, mark_of_kind, mark_of_shape, mark_of_value, mixed, mixed_names};
 use crate::state::State;
 use crate::work::Work;
 use btx_bst::Callee;
@@ -48,6 +48,24 @@ impl State {
             fine = mixed(fine, mark_of_flag(flag_of(self, *flag)));
         }
         Likeness { fine, coarse }
+    }
+
+    /// A mark of this description and a function of the style: that of an equal one is the same.
+    pub fn mark_with(&self, function: u32) -> u64 {
+        let mut mark = mixed(function as u64, if self.entry { 1 } else { 2 });
+        mark = mixed(mark, self.stack.len() as u64);
+        for number in self.stack.iter() {
+            mark = mixed(mark, *number as u64);
+        }
+        for value in self.values.iter() {
+            mark = mixed(mark, mark_of_value(*value));
+        }
+        mark = mixed_names(mark, &self.global_integers);
+        mark = mixed_names(mark, &self.global_strings);
+        mark = mixed_names(mark, &self.entry_integers);
+        mark = mixed_names(mark, &self.entry_strings);
+        mark = mixed_names(mark, &self.fields);
+        mark ^ (mark >> 29)
     }
 
     // Whether a flag is known to be one thing here and another thing there.

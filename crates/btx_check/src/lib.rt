@@ -11,6 +11,7 @@ mod known_rules;
 mod lasting;
 mod likeness;
 mod loops;
+mod memo;
 mod name_rules;
 mod operands;
 mod plain_rules;

@@ -1,5 +1,5 @@
 //! Marks by which descriptions that aren't alike are told apart without a look at each literal. No proof rests on them.
-use crate::description::Value;
+use crate::description::{Upper, Value};
 use crate::joining::{Sign, sign_of};
 use btx_bst::Callee;
 
@@ -68,5 +68,51 @@ pub fn mark_of_kind(value: Value) -> u64 {
             Callee::User(i) => mixed(i as u64, 8),
             _ => 7,
         },
+    }
+}
+
+/// A mark, and behind it those of the numbers of names.
+pub fn mixed_names(mark: u64, numbers: &[Option<usize>]) -> u64 {
+    let mut mark = mark;
+    for number in numbers {
+        mark = mixed(mark, mark_of_number(*number));
+    }
+    mark
+}
+
+fn mark_of_number(number: Option<usize>) -> u64 {
+    match number {
+        None => 0,
+        Some(n) => (n as u64).wrapping_add(1),
+    }
+}
+
+/// What tells apart whatever may be known of a literal.
+pub fn mark_of_value(value: Value) -> u64 {
+    match value {
+        Value::Any => 1,
+        Value::Integer(low, high) => mixed(mixed(2, mark_of_bound(low)), mark_of_upper(high)),
+        Value::Text(m) => {
+            let mut mark: u64 = 3;
+            mark = mixed(mark, if m.missing { 1 } else { 0 });
+            mark = mixed(mark, if m.empty { 1 } else { 0 });
+            mark = mixed(mark, if m.white { 1 } else { 0 });
+            mixed(mark, if m.full { 1 } else { 0 })
+        }
+        Value::Function(_) => mark_of_kind(value),
+    }
+}
+
+fn mark_of_bound(bound: Option<i32>) -> u64 {
+    match bound {
+        None => 1,
+        Some(n) => mixed(n.unsigned_abs() as u64, if n < 0 { 2 } else { 3 }),
+    }
+}
+
+fn mark_of_upper(bound: Upper) -> u64 {
+    match bound {
+        Upper::Counter => 4,
+        Upper::Number(n) => mark_of_bound(n),
     }
 }

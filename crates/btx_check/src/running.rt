@@ -4,12 +4,16 @@ ghost use Rattle.std.specs.Result.{IfOk};
 ghost use Rattle.btx_bst.specs.declared.built_in.BuiltIn.TheVariants as built_in;
 ghost use Rattle.btx_bst.specs.declared.callee.Callee.TheVariants as callee;
 ghost use Rattle.btx_bst.specs.declared.token.Token.TheVariants as token;
+ghost use Rattle.std.specs.Option.{IfSome};
+ghost use Rattle.btx_check.specs.Running.{RunsFrom};
 ghost use Rattle.btx_check.specs.Answers.{Ruled, Stepped, Looped, TypesStepped};
+ghost use Rattle.btx_check.specs.Memos.{Remembers};
 
 use crate::adding::add_sure;
 use crate::bounds::{not_positive, positive};
 use crate::description::Value;
 use crate::loops::{add_all, all_in, copies_of, is_in, proposed, turn_all};
+use crate::memo::{LEAST_TOKENS, Memo, Remembered};
 use crate::name_rules::assign;
 use crate::operands::{pair_of, triple_of};
 use crate::rules::{one_step, push_token};
@@ -23,6 +27,7 @@ use std::mem;
 #[cycle(search)]
 pub fn run_where(
     work: &mut Work,
+    memo: &mut Memo,
     style: &Style,
     allowed: &[u32],
     room: Room,
@@ -31,12 +36,13 @@ pub fn run_where(
     f: Callee,
     out: &mut Vec<State>,
 ) -> Result<bool, AllocError>
-    ensures { IfOk result (λ ok. IsTrue ok → Stepped style.now allowed.now (token.Run f) (a ∷ []) room.deep room.loops out.old.items out.new.items) }
+    requires { Remembers style.now allowed.now memo.old }
+    ensures { IfOk result (λ ok. IsTrue ok → Stepped style.now allowed.now (token.Run f) (a ∷ []) room.deep room.loops out.old.items out.new.items × Remembers style.now allowed.now memo.new) }
 {
     if a.is_impossible_at(number) {
         return Ok(true);
     }
-    run_sure(work, style, allowed, room, a, f, out)
+    run_sure(work, memo, style, allowed, room, a, f, out)
 }
 
 /// A function, from a description: what it leads to is added to the others. False if something may go wrong, or the room doesn't suffice.
@@ -44,6 +50,7 @@ pub fn run_where(
 #[inline(never)]
 pub fn run_sure(
     work: &mut Work,
+    memo: &mut Memo,
     style: &Style,
     allowed: &[u32],
     room: Room,
@@ -51,7 +58,8 @@ pub fn run_sure(
     f: Callee,
     out: &mut Vec<State>,
 ) -> Result<bool, AllocError>
-    ensures { IfOk result (λ ok. IsTrue ok → Stepped style.now allowed.now (token.Run f) (a ∷ []) room.deep room.loops out.old.items out.new.items) }
+    requires { Remembers style.now allowed.now memo.old }
+    ensures { IfOk result (λ ok. IsTrue ok → Stepped style.now allowed.now (token.Run f) (a ∷ []) room.deep room.loops out.old.items out.new.items × Remembers style.now allowed.now memo.new) }
 {
     if room.fuel == 0 {
         work.gave_up = true;
@@ -67,11 +75,11 @@ pub fn run_sure(
         loops: room.loops,
     };
     match f {
-        Callee::BuiltIn(BuiltIn::If) => run_if(work, style, allowed, room, a, out),
-        Callee::BuiltIn(BuiltIn::While) => run_while(work, style, allowed, room, a, out),
-        Callee::BuiltIn(BuiltIn::CallType) => run_types(work, style, allowed, room, a, out),
+        Callee::BuiltIn(BuiltIn::If) => run_if(work, memo, style, allowed, room, a, out),
+        Callee::BuiltIn(BuiltIn::While) => run_while(work, memo, style, allowed, room, a, out),
+        Callee::BuiltIn(BuiltIn::CallType) => run_types(work, memo, style, allowed, room, a, out),
         Callee::BuiltIn(BuiltIn::Assign) => run_assign(work, style, allowed, room, a, out),
-        Callee::User(i) => run_user(work, style, allowed, room, a, i, out),
+        Callee::User(i) => run_user(work, memo, style, allowed, room, a, i, out),
         _ => run_one(work, a, f, out),
     }
 }
@@ -115,6 +123,7 @@ fn run_assign(
 #[cycle(search)]
 pub fn run_token(
     work: &mut Work,
+    memo: &mut Memo,
     style: &Style,
     allowed: &[u32],
     room: Room,
@@ -122,10 +131,11 @@ pub fn run_token(
     t: Token,
     out: &mut Vec<State>,
 ) -> Result<bool, AllocError>
-    ensures { IfOk result (λ ok. IsTrue ok → Stepped style.now allowed.now t (a ∷ []) room.deep room.loops out.old.items out.new.items) }
+    requires { Remembers style.now allowed.now memo.old }
+    ensures { IfOk result (λ ok. IsTrue ok → Stepped style.now allowed.now t (a ∷ []) room.deep room.loops out.old.items out.new.items × Remembers style.now allowed.now memo.new) }
 {
     match t {
-        Token::Run(f) => run_sure(work, style, allowed, room, a, f, out),
+        Token::Run(f) => run_sure(work, memo, style, allowed, room, a, f, out),
         _ => push_token(work, style, a, t, out),
     }
 }
@@ -135,6 +145,7 @@ pub fn run_token(
 #[inline(never)]
 pub fn run_all(
     work: &mut Work,
+    memo: &mut Memo,
     style: &Style,
     allowed: &[u32],
     room: Room,
@@ -142,10 +153,11 @@ pub fn run_all(
     t: Token,
     out: &mut Vec<State>,
 ) -> Result<bool, AllocError>
-    ensures { IfOk result (λ ok. IsTrue ok → Stepped style.now allowed.now t states.items room.deep room.loops out.old.items out.new.items) }
+    requires { Remembers style.now allowed.now memo.old }
+    ensures { IfOk result (λ ok. IsTrue ok → Stepped style.now allowed.now t states.items room.deep room.loops out.old.items out.new.items × Remembers style.now allowed.now memo.new) }
 {
     for a in states {
-        if !run_token(work, style, allowed, room, a, t, out)? {
+        if !run_token(work, memo, style, allowed, room, a, t, out)? {
             return Ok(false);
         }
     }
@@ -157,31 +169,34 @@ pub fn run_all(
 #[inline(never)]
 pub fn run_next(
     work: &mut Work,
+    memo: &mut Memo,
     style: &Style,
     allowed: &[u32],
     room: Room,
     t: Token,
     states: &mut Vec<State>,
 ) -> Result<bool, AllocError>
-    ensures { IfOk result (λ ok. IsTrue ok → Stepped style.now allowed.now t states.old.items room.deep room.loops [] states.new.items) }
+    requires { Remembers style.now allowed.now memo.old }
+    ensures { IfOk result (λ ok. IsTrue ok → Stepped style.now allowed.now t states.old.items room.deep room.loops [] states.new.items × Remembers style.now allowed.now memo.new) }
 {
     if states.len() == 1 {
         // Mostly there is one: its place is used again.
         match states.pop() {
             None => Ok(false),
-            Some(a) => run_token(work, style, allowed, room, a, t, states),
+            Some(a) => run_token(work, memo, style, allowed, room, a, t, states),
         }
     } else {
         let before = mem::replace(states, Vec::new(work.alloc));
-        run_all(work, style, allowed, room, before, t, states)
+        run_all(work, memo, style, allowed, room, before, t, states)
     }
 }
 
-/// The body of a function of the style.
+/// A function of the style. What it led to from an equal description is found again, if that was kept.
 #[cycle(search)]
 #[inline(never)]
 pub fn run_user(
     work: &mut Work,
+    memo: &mut Memo,
     style: &Style,
     allowed: &[u32],
     room: Room,
@@ -189,14 +204,116 @@ pub fn run_user(
     i: u32,
     out: &mut Vec<State>,
 ) -> Result<bool, AllocError>
-    ensures { IfOk result (λ ok. IsTrue ok → Stepped style.now allowed.now (token.Run (callee.User i)) (a ∷ []) room.deep room.loops out.old.items out.new.items) }
+    requires { Remembers style.now allowed.now memo.old }
+    ensures { IfOk result (λ ok. IsTrue ok → Stepped style.now allowed.now (token.Run (callee.User i)) (a ∷ []) room.deep room.loops out.old.items out.new.items × Remembers style.now allowed.now memo.new) }
+{
+    if i as usize >= style.functions() {
+        return Ok(false);
+    }
+    if style.body(i as usize).len() < LEAST_TOKENS {
+        return run_plainly(work, memo, style, allowed, room, a, i, out);
+    }
+    let mark = a.mark_with(i);
+    match memo.recall(work, room, &a, i, mark)? {
+        Some(recalled) => {
+            if !work.again(recalled.notes) {
+                return Ok(false);
+            }
+            add_all(work, recalled.states, out)?;
+            Ok(true)
+        }
+        None => run_anew(work, memo, style, allowed, room, a, i, mark, out),
+    }
+}
+
+/// A function of the style, of which nothing is remembered.
+#[cycle(search)]
+#[inline(never)]
+pub fn run_plainly(
+    work: &mut Work,
+    memo: &mut Memo,
+    style: &Style,
+    allowed: &[u32],
+    room: Room,
+    a: State,
+    i: u32,
+    out: &mut Vec<State>,
+) -> Result<bool, AllocError>
+    requires { Remembers style.now allowed.now memo.old }
+    ensures { IfOk result (λ ok. IsTrue ok → Stepped style.now allowed.now (token.Run (callee.User i)) (a ∷ []) room.deep room.loops out.old.items out.new.items × Remembers style.now allowed.now memo.new) }
+{
+    let led_to = run_body(work, memo, style, allowed, room, a, i)?;
+    match led_to {
+        None => Ok(false),
+        Some(states) => {
+            add_all(work, states, out)?;
+            Ok(true)
+        }
+    }
+}
+
+/// A function of the style, from a description of which nothing is remembered. What it leads to is remembered.
+#[cycle(search)]
+#[inline(never)]
+pub fn run_anew(
+    work: &mut Work,
+    memo: &mut Memo,
+    style: &Style,
+    allowed: &[u32],
+    room: Room,
+    a: State,
+    i: u32,
+    mark: u64,
+    out: &mut Vec<State>,
+) -> Result<bool, AllocError>
+    requires { Remembers style.now allowed.now memo.old }
+    ensures { IfOk result (λ ok. IsTrue ok → Stepped style.now allowed.now (token.Run (callee.User i)) (a ∷ []) room.deep room.loops out.old.items out.new.items × Remembers style.now allowed.now memo.new) }
+{
+    let from = a.copy()?;
+    let before = work.begin_part();
+    let led_to = run_body(work, memo, style, allowed, room, a, i)?;
+    match led_to {
+        None => Ok(false),
+        Some(states) => {
+            let notes = work.end_part(before);
+            let to = copies_of(work, &states)?;
+            memo.keep(Remembered {
+                mark,
+                function: i,
+                deep: room.deep,
+                loops: room.loops,
+                fuel: room.fuel,
+                from,
+                to,
+                notes,
+            })?;
+            add_all(work, states, out)?;
+            Ok(true)
+        }
+    }
+}
+
+/// The body of a function of the style: what it leads to.
+#[cycle(search)]
+#[inline(never)]
+pub fn run_body(
+    work: &mut Work,
+    memo: &mut Memo,
+    style: &Style,
+    allowed: &[u32],
+    room: Room,
+    a: State,
+    i: u32,
+) -> Result<Option<Vec<State>>, AllocError>
+    requires { Remembers style.now allowed.now memo.old }
+    ensures { IfOk result (λ o. IfSome o (λ states. RunsFrom style.now allowed.now (token.Run (callee.User i)) (a ∷ []) room.deep room.loops states.items × Remembers style.now allowed.now memo.new)) }
 {
     if room.deep == 0 {
         work.gave_up = true;
-        return Ok(false);
+        return Ok(None);
     }
     if i as usize >= style.functions() {
-        return Ok(false);
+        return Ok(None);
     }
     let inside = Room {
         fuel: room.fuel,
@@ -208,14 +325,13 @@ pub fn run_user(
     let mut states: Vec<State> = Vec::new(work.alloc);
     states.push(a)?;
     for t in body {
-        if !run_next(work, style, allowed, inside, *t, &mut states)? {
-            return Ok(false);
+        if !run_next(work, memo, style, allowed, inside, *t, &mut states)? {
+            return Ok(None);
         }
         work.advance();
     }
     work.leave();
-    add_all(work, states, out)?;
-    Ok(true)
+    Ok(Some(states))
 }
 
 /// `if$`.
@@ -223,13 +339,15 @@ pub fn run_user(
 #[inline(never)]
 pub fn run_if(
     work: &mut Work,
+    memo: &mut Memo,
     style: &Style,
     allowed: &[u32],
     room: Room,
     a: State,
     out: &mut Vec<State>,
 ) -> Result<bool, AllocError>
-    ensures { IfOk result (λ ok. IsTrue ok → Stepped style.now allowed.now (token.Run (callee.BuiltIn built_in.If)) (a ∷ []) room.deep room.loops out.old.items out.new.items) }
+    requires { Remembers style.now allowed.now memo.old }
+    ensures { IfOk result (λ ok. IsTrue ok → Stepped style.now allowed.now (token.Run (callee.BuiltIn built_in.If)) (a ∷ []) room.deep room.loops out.old.items out.new.items × Remembers style.now allowed.now memo.new) }
 {
     let missing = missing_field(&a);
     match triple_of(a) {
@@ -243,10 +361,10 @@ pub fn run_if(
                 yes.know(t.third, positive(low, high));
                 let mut no = t.below;
                 no.know(t.third, not_positive(low, high));
-                if !run_where(work, style, allowed, room, yes, t.third, f, out)? {
+                if !run_where(work, memo, style, allowed, room, yes, t.third, f, out)? {
                     return Ok(false);
                 }
-                run_where(work, style, allowed, room, no, t.third, g, out)
+                run_where(work, memo, style, allowed, room, no, t.third, g, out)
             }
             _ => {
                 work.warn(Callee::BuiltIn(BuiltIn::If), missing)?;
@@ -261,13 +379,15 @@ pub fn run_if(
 #[inline(never)]
 pub fn run_while(
     work: &mut Work,
+    memo: &mut Memo,
     style: &Style,
     allowed: &[u32],
     room: Room,
     a: State,
     out: &mut Vec<State>,
 ) -> Result<bool, AllocError>
-    ensures { IfOk result (λ ok. IsTrue ok → Stepped style.now allowed.now (token.Run (callee.BuiltIn built_in.While)) (a ∷ []) room.deep room.loops out.old.items out.new.items) }
+    requires { Remembers style.now allowed.now memo.old }
+    ensures { IfOk result (λ ok. IsTrue ok → Stepped style.now allowed.now (token.Run (callee.BuiltIn built_in.While)) (a ∷ []) room.deep room.loops out.old.items out.new.items × Remembers style.now allowed.now memo.new) }
 {
     if room.loops == 0 {
         work.gave_up = true;
@@ -286,7 +406,7 @@ pub fn run_while(
         }
         Some(t) => match (t.first_value, t.second_value) {
             (Value::Function(g), Value::Function(f)) => run_loop(
-                work, style, allowed, inside, &t.below, f, g, out,
+                work, memo, style, allowed, inside, &t.below, f, g, out,
             ),
             _ => {
                 work.warn(Callee::BuiltIn(BuiltIn::While), missing)?;
@@ -301,6 +421,7 @@ pub fn run_while(
 #[inline(never)]
 pub fn run_loop(
     work: &mut Work,
+    memo: &mut Memo,
     style: &Style,
     allowed: &[u32],
     room: Room,
@@ -309,7 +430,8 @@ pub fn run_loop(
     g: Callee,
     out: &mut Vec<State>,
 ) -> Result<bool, AllocError>
-    ensures { IfOk result (λ ok. IsTrue ok → Looped style.now allowed.now b.now f g room.deep room.loops out.old.items out.new.items) }
+    requires { Remembers style.now allowed.now memo.old }
+    ensures { IfOk result (λ ok. IsTrue ok → Looped style.now allowed.now b.now f g room.deep room.loops out.old.items out.new.items × Remembers style.now allowed.now memo.new) }
 {
     let first = b.copy()?;
     let mut heads: Vec<State> = Vec::new(work.alloc);
@@ -319,6 +441,7 @@ pub fn run_loop(
         let mut tests: Vec<State> = Vec::new(work.alloc);
         if !run_all(
             work,
+            memo,
             style,
             allowed,
             room,
@@ -337,6 +460,7 @@ pub fn run_loop(
         let mut bodies: Vec<State> = Vec::new(work.alloc);
         if !run_all(
             work,
+            memo,
             style,
             allowed,
             room,
@@ -361,13 +485,15 @@ pub fn run_loop(
 #[inline(never)]
 pub fn run_types(
     work: &mut Work,
+    memo: &mut Memo,
     style: &Style,
     allowed: &[u32],
     room: Room,
     a: State,
     out: &mut Vec<State>,
 ) -> Result<bool, AllocError>
-    ensures { IfOk result (λ ok. IsTrue ok → Stepped style.now allowed.now (token.Run (callee.BuiltIn built_in.CallType)) (a ∷ []) room.deep room.loops out.old.items out.new.items) }
+    requires { Remembers style.now allowed.now memo.old }
+    ensures { IfOk result (λ ok. IsTrue ok → Stepped style.now allowed.now (token.Run (callee.BuiltIn built_in.CallType)) (a ∷ []) room.deep room.loops out.old.items out.new.items × Remembers style.now allowed.now memo.new) }
 {
     if !a.has_entry() {
         work.warn(Callee::BuiltIn(BuiltIn::CallType), missing_field(&a))?;
@@ -376,6 +502,7 @@ pub fn run_types(
     for number in allowed {
         if !run_sure(
             work,
+            memo,
             style,
             allowed,
             room,
@@ -391,6 +518,15 @@ pub fn run_types(
             add_sure(work, out, a)?;
             Ok(true)
         }
-        Some(number) => run_sure(work, style, allowed, room, a, Callee::User(number), out),
+        Some(number) => run_sure(
+            work,
+            memo,
+            style,
+            allowed,
+            room,
+            a,
+            Callee::User(number),
+            out,
+        ),
     }
 }

@@ -361,6 +361,17 @@ impl State {
         values_map(numbers, &self.values, &other.values)
     }
 
+    /// Whether this says no less than the other one, number for number: a test for those that are equal.
+    pub fn is_same(&self, alloc: Global, other: &State) -> Result<bool, AllocError>
+        ensures { IfOk result (λ ok. IsTrue ok → Within self.now other.now) }
+    {
+        let mut numbers: Vec<usize> = Vec::with_capacity(alloc, self.values.len())?;
+        for k in 0..self.values.len() {
+            numbers.push(k)?;
+        }
+        Ok(self.is_within(other, &numbers))
+    }
+
     // Whether many numbers are neither a name's nor on the stack. They are counted at some lengths alone.
     fn is_loose(&self) -> bool {
         if self.values.len() < SPARE_NUMBERS || self.values.len() % 8 != 0 {

@@ -11,6 +11,7 @@ ghost use Rattle.btx_check.specs.Verdicts.{IsRight};
 use crate::entries::{Known, entries_of, starts_of, unknown_entries};
 use crate::lasting::{all_within, globals_of, lasting};
 use crate::loops::all_in;
+use crate::memo::Memo;
 use crate::running::run_all;
 use crate::state::State;
 use crate::types::{MOST_BODIES, constants, likely_depth, meant_types};
@@ -71,7 +72,17 @@ fn visit(
         deep: deepest,
         loops: MOST_LOOPS,
     };
-    if !run_all(work, style, allowed, room, starts, Token::Run(f), out)? {
+    let mut memo = Memo::new(work.alloc)?;
+    if !run_all(
+        work,
+        &mut memo,
+        style,
+        allowed,
+        room,
+        starts,
+        Token::Run(f),
+        out,
+    )? {
         return Ok(false);
     }
     if !all_empty(out) {

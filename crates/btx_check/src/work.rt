@@ -52,6 +52,28 @@ pub struct Work {
     pub warning: Option<Warning>,
 }
 
+/// What a part of the search noted: how many steps it took, how many more bodies could always be opened, and the greatest number of literals.
+#[derive(Clone, Copy)]
+pub struct Notes {
+    /// How many steps.
+    pub steps: u64,
+    /// How many more bodies could always be opened.
+    pub spare_bodies: usize,
+    /// The greatest number of literals on the stack.
+    pub most_literals: usize,
+}
+
+impl Notes {
+    /// The same where so many more bodies could be opened.
+    pub fn with_room(self, bodies: usize) -> Notes {
+        Notes {
+            steps: self.steps,
+            spare_bodies: self.spare_bodies.saturating_add(bodies),
+            most_literals: self.most_literals,
+        }
+    }
+}
+
 /// How many descriptions are kept for one place before they are distinguished by what is on top alone.
 pub const MANY: usize = 48;
 
@@ -146,6 +168,51 @@ impl Work {
         if self.most_literals < literals {
             self.most_literals = literals;
         }
+    }
+
+    /// Begins a part of the search, whose notes are its own. What was noted before is answered.
+    pub fn begin_part(&mut self) -> Notes {
+        let before = Notes {
+            steps: self.steps,
+            spare_bodies: self.spare_bodies,
+            most_literals: self.most_literals,
+        };
+        self.spare_bodies = usize::MAX;
+        self.most_literals = 0;
+        before
+    }
+
+    /// Ends a part of the search: its notes, which are added to what was noted before.
+    pub fn end_part(&mut self, before: Notes) -> Notes {
+        let part = Notes {
+            steps: before.steps.saturating_sub(self.steps),
+            spare_bodies: self.spare_bodies,
+            most_literals: self.most_literals,
+        };
+        self.spare_bodies = before.spare_bodies;
+        self.most_literals = before.most_literals;
+        self.note(part);
+        part
+    }
+
+    // Adds the notes of a part of the search.
+    fn note(&mut self, part: Notes) {
+        if part.spare_bodies < self.spare_bodies {
+            self.spare_bodies = part.spare_bodies;
+        }
+        self.met(part.most_literals);
+    }
+
+    /// Notes a part of the search once more, and takes as many steps as it took, if they are left.
+    pub fn again(&mut self, part: Notes) -> bool {
+        if self.steps.saturating_sub(self.floor) < part.steps {
+            self.gave_up = true;
+            self.steps = self.floor;
+            return false;
+        }
+        self.steps -= part.steps;
+        self.note(part);
+        true
     }
 
     /// Notes what was executed where something may go wrong, and the field that may be missing there.
