@@ -33,7 +33,7 @@ changed_at-none [] p f at = refl
 changed_at-none (y ∷ xs) zero f at = cc
 changed_at-none (y ∷ xs) (suc p) f at = ap (λ (rest : List Slot). y ∷ rest) (changed_at-none xs p f at)
 
-pub names_of-changed : (xs : List Slot) (p : ℕ) (f : Slot → Slot) → ((x : Slot) → (f x).key ≡ x.key) → lower_keys (changed_at p f xs) ≡ lower_keys xs
+names_of-changed : (xs : List Slot) (p : ℕ) (f : Slot → Slot) → ((x : Slot) → (f x).key ≡ x.key) → lower_keys (changed_at p f xs) ≡ lower_keys xs
 names_of-changed [] p f keeps = refl
 names_of-changed (x ∷ xs) zero f keeps = ap (λ (key : List ℕ). folded key ∷ lower_keys xs) (keeps x)
 names_of-changed (x ∷ xs) (suc p) f keeps = ap (λ (rest : List (List ℕ)). folded x.key ∷ rest) (names_of-changed xs p f keeps)
@@ -142,13 +142,13 @@ drop-changed [] p f = refl
 drop-changed (y ∷ xs) zero f = refl
 drop-changed (y ∷ xs) (suc p) f = drop-changed xs p f
 
-pub length-changed : (xs : List Slot) (p : ℕ) (f : Slot → Slot) → length (changed_at p f xs) ≡ length xs
+length-changed : (xs : List Slot) (p : ℕ) (f : Slot → Slot) → length (changed_at p f xs) ≡ length xs
 length-changed [] p f = refl
 length-changed (x ∷ xs) zero f = refl
 length-changed (x ∷ xs) (suc p) f = ap suc (length-changed xs p f)
 
 module _ (judge : List Slot → Slot → Slot) where
-  pub passed-next : (slots after : List Slot) (p : ℕ) → p < length slots → after ≡ changed_at p (judge slots) slots
+  passed-next : (slots after : List Slot) (p : ℕ) → p < length slots → after ≡ changed_at p (judge slots) slots
       → passed judge (take (p + 1) after) (drop (p + 1) after) ≡ passed judge (take p slots) (drop p slots)
   passed-next slots after p within is =
       let s = split slots p within in
@@ -158,6 +158,16 @@ module _ (judge : List Slot → Slot → Slot) where
       ∙ ap (λ (xs : List Slot). passed judge (take p slots ++ judge slots s.0 ∷ []) xs) (drop-changed slots p (judge slots))
       ∙ ap (λ (xs : List Slot). passed judge (take p slots ++ judge xs s.0 ∷ []) (drop (suc p) slots)) (sym s.1.1.1)
       ∙ ap (λ (xs : List Slot). passed judge (take p slots) xs) (sym s.1.1.0)
+
+  -- a place that is passed keeps the names of the list, its length, and what the pass comes to
+  pub place_passed : ((slots : List Slot) (slot : Slot) → (judge slots slot).key ≡ slot.key) → (slots after : List Slot) (p : ℕ) → p < length slots
+      → after ≡ changed_at p (judge slots) slots → (lower_keys after ≡ lower_keys slots) × (length after ≡ length slots)
+      × (passed judge (take (p + 1) after) (drop (p + 1) after) ≡ passed judge (take p slots) (drop p slots))
+  place_passed keeps slots after p within is = (
+    ap lower_keys is ∙ names_of-changed slots p (judge slots) (keeps slots),
+    ap (λ (xs : List Slot). length xs) is ∙ length-changed slots p (judge slots),
+    passed-next slots after p within is,
+  )
 
   -- what is logged at a place
   abbrev pub messages_here : (List Slot → Slot → List Message) → List Slot → Option Slot → List Message

@@ -7,7 +7,7 @@ ghost use Rattle.btx_bib.specs.refinement.Messages.{is_own, type_messages};
 
 use crate::grammar::parts::Part;
 use crate::grammar::value_texts::Strings;
-use crate::grammar::values::Value;
+use crate::grammar::values::{Parts, Value};
 use crate::message::{Message, Messages};
 use crate::request::Request;
 use crate::site::Site;
@@ -69,21 +69,21 @@ impl<'r, 'a> Reading<'r, 'a> {
         ensures { OnOk result (self.new ≡ reported self.old (spec.value_messages (database_read self.old) strings.now (option_copied own.entry) value.now)) }
     {
         let Some(part) = value.lone_part() else {
-            return self.report_parts(value, strings, own);
+            return self.report_parts(value.parts(), strings, own);
         };
         self.report_part(part, strings, own)
     }
 
-    // The same of a value, part by part.
+    // The same of the parts of a value, one by one.
     fn report_parts(
         &mut self,
-        value: &Value<'a>,
+        parts: Parts<'a>,
         strings: &StringTable<'a>,
         own: Option<&[u8]>,
     ) -> Result<(), AllocError>
-        ensures { OnOk result (self.new ≡ reported self.old (spec.value_messages (database_read self.old) strings.now (option_copied own.entry) value.now)) }
+        ensures { OnOk result (self.new ≡ reported self.old (spec.value_messages (database_read self.old) strings.now (option_copied own.entry) parts.entry)) }
     {
-        for part in value.parts() {
+        for part in parts {
             self.report_part(part, strings, own)?;
         }
         Ok(())

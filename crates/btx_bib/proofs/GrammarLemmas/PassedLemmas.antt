@@ -43,17 +43,11 @@ block-lanes block long =
 brace-lanes : (block : List ℕ) → length block ≡ 16 → brace_lanes block ≡ map brace_lane block
 brace-lanes block long = zip2_of_maps bit_or (λ b. same b 123) (λ b. same b 125) block (zip2_splat same block 16 123 long) (zip2_splat same block 16 125 long)
 
-lane-braceless : (b : ℕ) → b < 256 → top 7 (brace_lane b) ≡ false → is_mark Group b ≡ false
-lane-braceless b fits none = at (top 7 (brace_lane b)) (is_mark Group b) none
-    (agree_below_at (λ b. top 7 (brace_lane b) || not (is_mark Group b)) (λ _. true) 256 b refl fits) where
-      at : (t m : Bool) → t ≡ false → (t || not m) ≡ true → m ≡ false
-      at false false none h = refl
-      at false true none h = sym h
-      at true m none h = cc
-
-lane-unmarked : (b : ℕ) → b < 256 → top 7 (lane b) ≡ false → is_mark Quotes b ≡ false
-lane-unmarked b fits none = at (top 7 (lane b)) (is_mark Quotes b) none
-    (agree_below_at (λ b. top 7 (lane b) || not (is_mark Quotes b)) (λ _. true) 256 b refl fits) where
+-- a byte whose lane is clear is no mark, where that was computed of all bytes
+lane-clear : (f : ℕ → ℕ) (enclosure : Enclosure) → agree_below (λ b. top 7 (f b) || not (is_mark enclosure b)) (λ _. true) 256 ≡ true →
+    (b : ℕ) → b < 256 → top 7 (f b) ≡ false → is_mark enclosure b ≡ false
+lane-clear f enclosure computed b fits none = at (top 7 (f b)) (is_mark enclosure b) none
+    (agree_below_at (λ b. top 7 (f b) || not (is_mark enclosure b)) (λ _. true) 256 b computed fits) where
       at : (t m : Bool) → t ≡ false → (t || not m) ≡ true → m ≡ false
       at false false none h = refl
       at false true none h = sym h
@@ -95,14 +89,14 @@ pub unmarked-in-block : (s : List ℕ) (i r : ℕ) → i + 16 ≤ length s → (
     AreUnmarked Quotes s i (i + r) × (r ≤ 16)
 unmarked-in-block s i r room fits found =
     block-clear s i r (lanes (chunk i 16 s)) lane (λ b. is_mark Quotes b ≡ false) room fits found (block-lanes (chunk i 16 s) (length-chunk i 16 s room))
-    lane-unmarked
+    (lane-clear lane Quotes refl)
 
 pub braceless-in-block : (s : List ℕ) (i r : ℕ) → i + 16 ≤ length s → ((k : ℕ) → Fits w8 (get_or s k 0))
     → r ≡ lanes_before (mask_l (map (top 7) (brace_lanes (chunk i 16 s))) % 2 ^ 64) →
     AreUnmarked Group s i (i + r) × (r ≤ 16)
 braceless-in-block s i r room fits found =
     block-clear s i r (brace_lanes (chunk i 16 s)) brace_lane (λ b. is_mark Group b ≡ false) room fits found
-    (brace-lanes (chunk i 16 s) (length-chunk i 16 s room)) lane-braceless
+    (brace-lanes (chunk i 16 s) (length-chunk i 16 s room)) (lane-clear brace_lane Group refl)
 
 -- ---- the letters with which a name begins
 

@@ -7,4 +7,4 @@ use Rattle.btx_bib.proofs.reading.Reading.report_parts.Given as goal
 abbrev pub invariant-loop-part : goal.invariant-loop-part
 invariant-loop-part l =
     reported l.self (value_messages (database_read l.self) l.strings (option_copied l.own) l.part-iterator)
-    ≡ reported l.initial.self (value_messages (database_read l.initial.self) l.strings (option_copied l.own) l.value)
+    ≡ reported l.initial.self (value_messages (database_read l.initial.self) l.strings (option_copied l.own) l.initial.part-iterator)
