@@ -42,26 +42,30 @@ abbrev pub PutsPart : Held → List ℕ → Option (List ℕ) → Option (List �
 PutsPart old bytes before after = (text : List ℕ) → old.pending ≡ Some (left old.line_length text) →
     AppendsPartOfRest before after (sure old.line_length text) (sure old.line_length (text ++ bytes))
 
--- What comes of a pending line that ends: for every text of which the breaker holds what is left, the lines of that text were
--- written, what of them was sure before and the rest now.
+-- What comes of a pending line that ends in these lines: for every text of which the breaker holds what is left, the lines of that text
+-- were written, what of them was sure before and the rest now.
+abbrev pub EndsAs : (ℕ → List ℕ → List ℕ) → Held → Option (List ℕ) → Option (List ℕ) → Type 0
+EndsAs lines_of old before after = (text : List ℕ) → old.pending ≡ Some (left old.line_length text) →
+    AppendsRest before after (sure old.line_length text) (lines_of old.line_length text)
+
+-- At a failure a prefix of that was written.
+abbrev pub EndsPartAs : (ℕ → List ℕ → List ℕ) → Held → Option (List ℕ) → Option (List ℕ) → Type 0
+EndsPartAs lines_of old before after = (text : List ℕ) → old.pending ≡ Some (left old.line_length text) →
+    AppendsPartOfRest before after (sure old.line_length text) (lines_of old.line_length text)
+
+-- a line that ends
 abbrev pub Ends : Held → Option (List ℕ) → Option (List ℕ) → Type 0
-Ends old before after = (text : List ℕ) → old.pending ≡ Some (left old.line_length text) →
-    AppendsRest before after (sure old.line_length text) (wrap old.line_length text)
+Ends old before after = EndsAs wrap old before after
 
--- At a failure a prefix of that was written.
 abbrev pub EndsPart : Held → Option (List ℕ) → Option (List ℕ) → Type 0
-EndsPart old before after = (text : List ℕ) → old.pending ≡ Some (left old.line_length text) →
-    AppendsPartOfRest before after (sure old.line_length text) (wrap old.line_length text)
+EndsPart old before after = EndsPartAs wrap old before after
 
--- The same at the very end, where an empty line isn't written.
+-- the same at the very end, where an empty line isn't written
 abbrev pub Finishes : Held → Option (List ℕ) → Option (List ℕ) → Type 0
-Finishes old before after = (text : List ℕ) → old.pending ≡ Some (left old.line_length text) →
-    AppendsRest before after (sure old.line_length text) (written_at_end old.line_length text)
+Finishes old before after = EndsAs written_at_end old before after
 
--- At a failure a prefix of that was written.
 abbrev pub FinishesPart : Held → Option (List ℕ) → Option (List ℕ) → Type 0
-FinishesPart old before after = (text : List ℕ) → old.pending ≡ Some (left old.line_length text) →
-    AppendsPartOfRest before after (sure old.line_length text) (written_at_end old.line_length text)
+FinishesPart old before after = EndsPartAs written_at_end old before after
 
 -- nothing is pending
 abbrev pub is_fresh : Option Left → Bool
