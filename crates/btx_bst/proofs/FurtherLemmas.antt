@@ -43,169 +43,123 @@ or-none : {A : Type 0} (o : Option A) → option_or o None ≡ o
 or-none None = refl
 or-none (Some x) = refl
 
--- ---- seven look-ups, one after another
+-- ---- look-ups, one after another
 
-abbrev chain : Option Callee → Option Callee → Option Callee → Option Callee → Option Callee → Option Callee → Option Callee → Option Callee
-chain a b c d e f g = option_or a (option_or b (option_or c (option_or d (option_or e (option_or f g)))))
+-- what look-ups find before others
+abbrev before : List (Option Callee) → Option Callee → Option Callee
+before [] o = o
+before (e ∷ es) o = option_or e (before es o)
 
-record NoneOf (a b c d e f g : Option Callee) : Type 0 where
-  no_a : a ≡ None
-  no_b : b ≡ None
-  no_c : c ≡ None
-  no_d : d ≡ None
-  no_e : e ≡ None
-  no_f : f ≡ None
-  no_g : g ≡ None
+-- what a look-up finds, with those after it
+abbrev then_after : Option Callee → List (Option Callee) → Option Callee
+then_after o [] = o
+then_after o (l ∷ ls) = option_or o (then_after l ls)
 
-none_of : (a b c d e f g : Option Callee) → chain a b c d e f g ≡ None → NoneOf a b c d e f g
-none_of (Some x) b c d e f g h = absurd (cc)
-none_of None (Some x) c d e f g h = absurd (cc)
-none_of None None (Some x) d e f g h = absurd (cc)
-none_of None None None (Some x) e f g h = absurd (cc)
-none_of None None None None (Some x) f g h = absurd (cc)
-none_of None None None None None (Some x) g h = absurd (cc)
-none_of None None None None None None g h = record { no_a = refl; no_b = refl; no_c = refl; no_d = refl; no_e = refl; no_f = refl; no_g = h }
+-- where look-ups find nothing, what one of them would find is found
+none_here : (ls : List (Option Callee)) (o : Option Callee) → then_after o ls ≡ None → (o ≡ None) × ((x : Callee) → then_after (Some x) ls ≡ Some x)
+none_here [] o h = (h, λ x. refl)
+none_here (l ∷ ls) None h = (refl, λ x. refl)
+none_here (l ∷ ls) (Some y) h = absurd (cc)
+
+at_its_place : (es ls : List (Option Callee)) (o : Option Callee) → before es (then_after o ls) ≡ None
+    → (o ≡ None) × ((x : Callee) → before es (then_after (Some x) ls) ≡ Some x)
+at_its_place [] ls o h = none_here ls o h
+at_its_place (None ∷ es) ls o h = at_its_place es ls o h
+at_its_place (Some y ∷ es) ls o h = absurd (cc)
 
 -- a look-up that finds one more
 abbrev more : (ℕ → Callee) → Option ℕ → Bool → ℕ → Option Callee
 more f o t n = option_map f (option_or o (cond t (Some n) None))
 
-more-false : (f : ℕ → Callee) (o : Option ℕ) (n : ℕ) → more f o false n ≡ option_map f o
-more-false f o n = ap (option_map f) (or-none o)
-
 more-true : (f : ℕ → Callee) (o : Option ℕ) (n : ℕ) → option_map f o ≡ None → more f o true n ≡ Some (f n)
 more-true f None n h = refl
 more-true f (Some k) n h = absurd (cc)
 
-same_name : (m name : List ℕ) → bytes_eq m name ≡ true → m ≡ name
-same_name m name h = (bytes_eq-Decides m name).0 h
-
-unknown_too : (names : Names) (m name : List ℕ) → bytes_eq m name ≡ true → named_lower names name ≡ None → named_lower names m ≡ None
-unknown_too names m name e h = ap (named_lower names) (same_name m name e) ∙ h
-
-place-b : (a b c d e f g : Option Callee) → chain a b c d e f g ≡ None → (b ≡ None) × ((x : Callee) → chain a (Some x) c d e f g ≡ Some x)
-place-b a b c d e f g h = let k = none_of a b c d e f g h in (k.no_b, λ x. rw k.no_a refl)
-
-place-c : (a b c d e f g : Option Callee) → chain a b c d e f g ≡ None → (c ≡ None) × ((x : Callee) → chain a b (Some x) d e f g ≡ Some x)
-place-c a b c d e f g h = let k = none_of a b c d e f g h in (k.no_c, λ x. rw (k.no_a, k.no_b) refl)
-
-place-d : (a b c d e f g : Option Callee) → chain a b c d e f g ≡ None → (d ≡ None) × ((x : Callee) → chain a b c (Some x) e f g ≡ Some x)
-place-d a b c d e f g h = let k = none_of a b c d e f g h in (k.no_d, λ x. rw (k.no_a, k.no_b, k.no_c) refl)
-
-place-e : (a b c d e f g : Option Callee) → chain a b c d e f g ≡ None → (e ≡ None) × ((x : Callee) → chain a b c d (Some x) f g ≡ Some x)
-place-e a b c d e f g h = let k = none_of a b c d e f g h in (k.no_e, λ x. rw (k.no_a, k.no_b, k.no_c, k.no_d) refl)
-
-place-f : (a b c d e f g : Option Callee) → chain a b c d e f g ≡ None → (f ≡ None) × ((x : Callee) → chain a b c d e (Some x) g ≡ Some x)
-place-f a b c d e f g h = let k = none_of a b c d e f g h in (k.no_f, λ x. rw (k.no_a, k.no_b, k.no_c, k.no_d, k.no_e) refl)
-
-place-g : (a b c d e f g : Option Callee) → chain a b c d e f g ≡ None → (g ≡ None) × ((x : Callee) → chain a b c d e f (Some x) ≡ Some x)
-place-g a b c d e f g h = let k = none_of a b c d e f g h in (k.no_g, λ x. rw (k.no_a, k.no_b, k.no_c, k.no_d, k.no_e, k.no_f) refl)
-
 -- a look-up with one more at its place
-at-place : (look : Option Callee → Option Callee) (f : ℕ → Callee) (o : Option ℕ) (n : ℕ) (t : Bool) → (t ≡ true → look (option_map f o) ≡ None)
-    → (look (option_map f o) ≡ None → (option_map f o ≡ None) × ((x : Callee) → look (Some x) ≡ Some x))
-    → look (more f o t n) ≡ option_or (look (option_map f o)) (cond t (Some (f n)) None)
-at-place look f o n false none open_at = ap look (more-false f o n) ∙ sym (or-none (look (option_map f o)))
-at-place look f o n true none open_at =
+more_found : (es ls : List (Option Callee)) (f : ℕ → Callee) (o : Option ℕ) (n : ℕ) (t : Bool)
+    → (t ≡ true → before es (then_after (option_map f o) ls) ≡ None) → before es (then_after (more f o t n) ls)
+    ≡ option_or (before es (then_after (option_map f o) ls)) (cond t (Some (f n)) None)
+more_found es ls f o n false none =
+    ap (λ (p : Option ℕ). before es (then_after (option_map f p) ls)) (or-none o) ∙ sym (or-none (before es (then_after (option_map f o) ls)))
+more_found es ls f o n true none =
     let e = none refl in
-    let w = open_at e in
-    ap look (more-true f o n w.0) ∙ w.1 (f n) ∙ sym (ap (λ (p : Option Callee). option_or p (Some (f n))) e)
+    let w = at_its_place es ls (option_map f o) e in
+    ap (λ (p : Option Callee). before es (then_after p ls)) (more-true f o n w.0) ∙ w.1 (f n) ∙ sym (ap (λ (p : Option Callee). option_or p (Some (f n))) e)
 
-abbrev built : List ℕ → Option Callee
-built m = option_map callee.BuiltIn (built_in_of m)
+-- a list with one more at its end, among look-ups in other lists
+list_grows : {A : Type 0} (es ls : List (Option Callee)) (f : ℕ → Callee) (p : A → Bool) (xs : List A) (y : A) (n : ℕ) → n ≡ length xs
+    → (p y ≡ true → before es (then_after (option_map f (position p xs)) ls) ≡ None)
+    → before es (then_after (option_map f (position p (xs ++ y ∷ []))) ls)
+    ≡ option_or (before es (then_after (option_map f (position p xs)) ls)) (cond (p y) (Some (f n)) None)
+list_grows es ls f p xs y n e none =
+    ap (λ (o : Option ℕ). before es (then_after (option_map f o) ls)) (position-push p xs y n e) ∙ more_found es ls f (position p xs) n (p y) none
+
+unknown_too : (names : Names) (m name : List ℕ) → named_lower names name ≡ None → bytes_eq m name ≡ true → named_lower names m ≡ None
+unknown_too names m name h e = ap (named_lower names) ((bytes_eq-Decides m name).0 e) ∙ h
+
+-- what a name finds in each list
+abbrev built_in : List ℕ → Option Callee
+built_in m = option_map callee.BuiltIn (built_in_of m)
+
+abbrev function : Names → List ℕ → Option Callee
+function names m = option_map User (position (has_name m) names.functions)
+
+abbrev field : Names → List ℕ → Option Callee
+field names m = option_map Field (number_in names.fields m)
+
+abbrev entry_integer : Names → List ℕ → Option Callee
+entry_integer names m = option_map EntryInteger (number_in names.entry_integers m)
+
+abbrev entry_string : Names → List ℕ → Option Callee
+entry_string names m = option_map EntryString (number_in names.entry_strings m)
+
+abbrev global_integer : Names → List ℕ → Option Callee
+global_integer names m = option_map GlobalInteger (number_in names.global_integers m)
+
+abbrev global_string : Names → List ℕ → Option Callee
+global_string names m = option_map GlobalString (number_in names.global_strings m)
 
 pub further-function : (names : Names) (name : List ℕ) (n : ℕ) → n ≡ length names.functions → named_lower names name ≡ None
     → IsFurther names (record names { functions = names.functions ++ Some name ∷ [] }) name (User n)
 unfolding named_lower
 further-function names name n len none m =
-    ap (λ (o : Option ℕ). chain (built m) (option_map User o) (option_map Field (number_in names.fields m))
-    (option_map EntryInteger (number_in names.entry_integers m)) (option_map EntryString (number_in names.entry_strings m))
-    (option_map GlobalInteger (number_in names.global_integers m)) (option_map GlobalString (number_in names.global_strings m)))
-    (position-push (has_name m) names.functions (Some name) n len)
-    ∙ at-place (λ (o : Option Callee). chain (built m) (o) (option_map Field (number_in names.fields m))
-    (option_map EntryInteger (number_in names.entry_integers m)) (option_map EntryString (number_in names.entry_strings m))
-    (option_map GlobalInteger (number_in names.global_integers m)) (option_map GlobalString (number_in names.global_strings m))) User
-    (position (has_name m) names.functions) n (bytes_eq m name) (λ h. unknown_too names m name h none)
-    (place-b (built m) (option_map User (position (has_name m) names.functions)) (option_map Field (number_in names.fields m))
-    (option_map EntryInteger (number_in names.entry_integers m)) (option_map EntryString (number_in names.entry_strings m))
-    (option_map GlobalInteger (number_in names.global_integers m)) (option_map GlobalString (number_in names.global_strings m)))
+    list_grows (built_in m ∷ []) (field names m ∷ entry_integer names m ∷ entry_string names m ∷ global_integer names m ∷ global_string names m ∷ []) User (has_name m) names.functions (Some name) n len
+    (unknown_too names m name none)
 
 pub further-field : (names : Names) (name : List ℕ) (n : ℕ) → n ≡ length names.fields → named_lower names name ≡ None
     → IsFurther names (record names { fields = names.fields ++ name ∷ [] }) name (Field n)
 unfolding named_lower
 further-field names name n len none m =
-    ap (λ (o : Option ℕ). chain (built m) (option_map User (position (has_name m) names.functions)) (option_map Field o)
-    (option_map EntryInteger (number_in names.entry_integers m)) (option_map EntryString (number_in names.entry_strings m))
-    (option_map GlobalInteger (number_in names.global_integers m)) (option_map GlobalString (number_in names.global_strings m)))
-    (position-push (bytes_eq m) names.fields (name) n len)
-    ∙ at-place (λ (o : Option Callee). chain (built m) (option_map User (position (has_name m) names.functions)) (o)
-    (option_map EntryInteger (number_in names.entry_integers m)) (option_map EntryString (number_in names.entry_strings m))
-    (option_map GlobalInteger (number_in names.global_integers m)) (option_map GlobalString (number_in names.global_strings m))) Field
-    (number_in names.fields m) n (bytes_eq m name) (λ h. unknown_too names m name h none)
-    (place-c (built m) (option_map User (position (has_name m) names.functions)) (option_map Field (number_in names.fields m))
-    (option_map EntryInteger (number_in names.entry_integers m)) (option_map EntryString (number_in names.entry_strings m))
-    (option_map GlobalInteger (number_in names.global_integers m)) (option_map GlobalString (number_in names.global_strings m)))
+    list_grows (built_in m ∷ function names m ∷ []) (entry_integer names m ∷ entry_string names m ∷ global_integer names m ∷ global_string names m ∷ []) Field (bytes_eq m) names.fields name n len
+    (unknown_too names m name none)
 
 pub further-entry_integer : (names : Names) (name : List ℕ) (n : ℕ) → n ≡ length names.entry_integers → named_lower names name ≡ None
     → IsFurther names (record names { entry_integers = names.entry_integers ++ name ∷ [] }) name (EntryInteger n)
 unfolding named_lower
 further-entry_integer names name n len none m =
-    ap (λ (o : Option ℕ). chain (built m) (option_map User (position (has_name m) names.functions)) (option_map Field (number_in names.fields m))
-    (option_map EntryInteger o) (option_map EntryString (number_in names.entry_strings m)) (option_map GlobalInteger (number_in names.global_integers m))
-    (option_map GlobalString (number_in names.global_strings m))) (position-push (bytes_eq m) names.entry_integers (name) n len)
-    ∙ at-place (λ (o : Option Callee). chain (built m) (option_map User (position (has_name m) names.functions)) (option_map Field (number_in names.fields m))
-    (o) (option_map EntryString (number_in names.entry_strings m)) (option_map GlobalInteger (number_in names.global_integers m))
-    (option_map GlobalString (number_in names.global_strings m))) EntryInteger (number_in names.entry_integers m) n (bytes_eq m name)
-    (λ h. unknown_too names m name h none)
-    (place-d (built m) (option_map User (position (has_name m) names.functions)) (option_map Field (number_in names.fields m))
-    (option_map EntryInteger (number_in names.entry_integers m)) (option_map EntryString (number_in names.entry_strings m))
-    (option_map GlobalInteger (number_in names.global_integers m)) (option_map GlobalString (number_in names.global_strings m)))
+    list_grows (built_in m ∷ function names m ∷ field names m ∷ []) (entry_string names m ∷ global_integer names m ∷ global_string names m ∷ []) EntryInteger (bytes_eq m) names.entry_integers name n len
+    (unknown_too names m name none)
 
 pub further-entry_string : (names : Names) (name : List ℕ) (n : ℕ) → n ≡ length names.entry_strings → named_lower names name ≡ None
     → IsFurther names (record names { entry_strings = names.entry_strings ++ name ∷ [] }) name (EntryString n)
 unfolding named_lower
 further-entry_string names name n len none m =
-    ap (λ (o : Option ℕ). chain (built m) (option_map User (position (has_name m) names.functions)) (option_map Field (number_in names.fields m))
-    (option_map EntryInteger (number_in names.entry_integers m)) (option_map EntryString o) (option_map GlobalInteger (number_in names.global_integers m))
-    (option_map GlobalString (number_in names.global_strings m))) (position-push (bytes_eq m) names.entry_strings (name) n len)
-    ∙ at-place (λ (o : Option Callee). chain (built m) (option_map User (position (has_name m) names.functions)) (option_map Field (number_in names.fields m))
-    (option_map EntryInteger (number_in names.entry_integers m)) (o) (option_map GlobalInteger (number_in names.global_integers m))
-    (option_map GlobalString (number_in names.global_strings m))) EntryString (number_in names.entry_strings m) n (bytes_eq m name)
-    (λ h. unknown_too names m name h none)
-    (place-e (built m) (option_map User (position (has_name m) names.functions)) (option_map Field (number_in names.fields m))
-    (option_map EntryInteger (number_in names.entry_integers m)) (option_map EntryString (number_in names.entry_strings m))
-    (option_map GlobalInteger (number_in names.global_integers m)) (option_map GlobalString (number_in names.global_strings m)))
+    list_grows (built_in m ∷ function names m ∷ field names m ∷ entry_integer names m ∷ []) (global_integer names m ∷ global_string names m ∷ []) EntryString (bytes_eq m) names.entry_strings name n len
+    (unknown_too names m name none)
 
 pub further-global_integer : (names : Names) (name : List ℕ) (n : ℕ) → n ≡ length names.global_integers → named_lower names name ≡ None
     → IsFurther names (record names { global_integers = names.global_integers ++ name ∷ [] }) name (GlobalInteger n)
 unfolding named_lower
 further-global_integer names name n len none m =
-    ap (λ (o : Option ℕ). chain (built m) (option_map User (position (has_name m) names.functions)) (option_map Field (number_in names.fields m))
-    (option_map EntryInteger (number_in names.entry_integers m)) (option_map EntryString (number_in names.entry_strings m)) (option_map GlobalInteger o)
-    (option_map GlobalString (number_in names.global_strings m))) (position-push (bytes_eq m) names.global_integers (name) n len)
-    ∙ at-place (λ (o : Option Callee). chain (built m) (option_map User (position (has_name m) names.functions)) (option_map Field (number_in names.fields m))
-    (option_map EntryInteger (number_in names.entry_integers m)) (option_map EntryString (number_in names.entry_strings m)) (o)
-    (option_map GlobalString (number_in names.global_strings m))) GlobalInteger (number_in names.global_integers m) n (bytes_eq m name)
-    (λ h. unknown_too names m name h none)
-    (place-f (built m) (option_map User (position (has_name m) names.functions)) (option_map Field (number_in names.fields m))
-    (option_map EntryInteger (number_in names.entry_integers m)) (option_map EntryString (number_in names.entry_strings m))
-    (option_map GlobalInteger (number_in names.global_integers m)) (option_map GlobalString (number_in names.global_strings m)))
+    list_grows (built_in m ∷ function names m ∷ field names m ∷ entry_integer names m ∷ entry_string names m ∷ []) (global_string names m ∷ []) GlobalInteger (bytes_eq m) names.global_integers name n len
+    (unknown_too names m name none)
 
 pub further-global_string : (names : Names) (name : List ℕ) (n : ℕ) → n ≡ length names.global_strings → named_lower names name ≡ None
     → IsFurther names (record names { global_strings = names.global_strings ++ name ∷ [] }) name (GlobalString n)
 unfolding named_lower
 further-global_string names name n len none m =
-    ap (λ (o : Option ℕ). chain (built m) (option_map User (position (has_name m) names.functions)) (option_map Field (number_in names.fields m))
-    (option_map EntryInteger (number_in names.entry_integers m)) (option_map EntryString (number_in names.entry_strings m))
-    (option_map GlobalInteger (number_in names.global_integers m)) (option_map GlobalString o))
-    (position-push (bytes_eq m) names.global_strings (name) n len)
-    ∙ at-place (λ (o : Option Callee). chain (built m) (option_map User (position (has_name m) names.functions)) (option_map Field (number_in names.fields m))
-    (option_map EntryInteger (number_in names.entry_integers m)) (option_map EntryString (number_in names.entry_strings m))
-    (option_map GlobalInteger (number_in names.global_integers m)) (o)) GlobalString (number_in names.global_strings m) n (bytes_eq m name)
-    (λ h. unknown_too names m name h none)
-    (place-g (built m) (option_map User (position (has_name m) names.functions)) (option_map Field (number_in names.fields m))
-    (option_map EntryInteger (number_in names.entry_integers m)) (option_map EntryString (number_in names.entry_strings m))
-    (option_map GlobalInteger (number_in names.global_integers m)) (option_map GlobalString (number_in names.global_strings m)))
+    list_grows (built_in m ∷ function names m ∷ field names m ∷ entry_integer names m ∷ entry_string names m ∷ global_integer names m ∷ []) [] GlobalString (bytes_eq m) names.global_strings name n len
+    (unknown_too names m name none)
 
 -- nameless functions change nothing
 from_pad : {A : Type 0} (p : A → Bool) (i : ℕ) (xs : List A) (k : ℕ) (y : A) → p y ≡ false → position_from p i (xs ++ replicate k y) ≡ position_from p i xs
@@ -220,10 +174,8 @@ position-pad m xs k =
 pub named-pad : (names : Names) (k : ℕ) (m : List ℕ) → named_lower (record names { functions = names.functions ++ replicate k None }) m ≡ named_lower names m
 unfolding named_lower
 named-pad names k m =
-    ap (λ (o : Option ℕ). chain (built m) (option_map User o) (option_map Field (number_in names.fields m))
-    (option_map EntryInteger (number_in names.entry_integers m)) (option_map EntryString (number_in names.entry_strings m))
-    (option_map GlobalInteger (number_in names.global_integers m)) (option_map GlobalString (number_in names.global_strings m)))
-    (position-pad m names.functions k)
+    ap (λ (o : Option ℕ). before (built_in m ∷ []) (then_after (option_map User o)
+    (field names m ∷ entry_integer names m ∷ entry_string names m ∷ global_integer names m ∷ global_string names m ∷ []))) (position-pad m names.functions k)
 
 -- ---- the table with a further name, or as it was
 

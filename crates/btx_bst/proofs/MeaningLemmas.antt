@@ -33,7 +33,7 @@ use Rattle.btx_bst.proofs.FurtherLemmas.{further-global_string, named-pad, padde
 use Rattle.btx_bst.proofs.ItemLemmas.{push_cases}
 use Rattle.btx_bst.proofs.KeepLemmas.{Keeps, kept-style, kept_list}
 use Rattle.btx_bst.proofs.ReferenceLemmas.{FineEnd, FineStyle, fine_keeps, fine_start, fine_function_body}
-use Rattle.btx_bst.specs.refinement.Names.{padded}
+use Rattle.btx_bst.specs.refinement.Names.{callee_of, names_of_kind, padded}
 
 -- ---- lists of names
 
@@ -44,37 +44,57 @@ Found look f xs = (k : ℕ) (m : List ℕ) → slice_get xs k ≡ Some m → loo
 abbrev pub FoundFunctions : (List ℕ → Option Callee) → List (Option (List ℕ)) → Type 0
 FoundFunctions look xs = (k : ℕ) (m : List ℕ) → slice_get xs k ≡ Some (Some m) → look m ≡ Some (User k)
 
+-- each name is found
+pub record FoundBy (look : List ℕ → Option Callee) (a : Names) : Type 0 where
+  pub of_functions : FoundFunctions look a.functions
+  pub of_fields : Found look Field a.fields
+  pub of_entry_integers : Found look EntryInteger a.entry_integers
+  pub of_entry_strings : Found look EntryString a.entry_strings
+  pub of_global_integers : Found look GlobalInteger a.global_integers
+  pub of_global_strings : Found look GlobalString a.global_strings
+
+abbrev pub AllFound : Names → Type 0
+AllFound a = FoundBy (named_lower a) a
+
+-- what finds what another look-up finds
+abbrev FindsToo : (List ℕ → Option Callee) → (List ℕ → Option Callee) → Type 0
+FindsToo look later = (m : List ℕ) (c : Callee) → look m ≡ Some c → later m ≡ Some c
+
+found_too : (look later : List ℕ → Option Callee) (a : Names) → FindsToo look later → FoundBy look a → FoundBy later a
+found_too look later a g t = record {
+  of_functions = λ k m e. g m (User k) (t.of_functions k m e);
+  of_fields = λ k m e. g m (Field k) (t.of_fields k m e);
+  of_entry_integers = λ k m e. g m (EntryInteger k) (t.of_entry_integers k m e);
+  of_entry_strings = λ k m e. g m (EntryString k) (t.of_entry_strings k m e);
+  of_global_integers = λ k m e. g m (GlobalInteger k) (t.of_global_integers k m e);
+  of_global_strings = λ k m e. g m (GlobalString k) (t.of_global_strings k m e);
+}
+
+-- ---- a further name
+
+further_finds_too : (a b : Names) (name : List ℕ) (c : Callee) → IsFurther a b name c → FindsToo (named_lower a) (named_lower b)
+further_finds_too a b name c g m d e = g m ∙ ap (λ (o : Option Callee). option_or o (cond (bytes_eq m name) (Some c) None)) e
+
 same : (name : List ℕ) → bytes_eq name name ≡ true
 same name = (bytes_eq-Decides name name).1 refl
-
-kept_look : (a b : Names) (name m : List ℕ) (c d : Callee) → IsFurther a b name c → named_lower a m ≡ Some d → named_lower b m ≡ Some d
-kept_look a b name m c d g e = g m ∙ ap (λ (o : Option Callee). option_or o (cond (bytes_eq m name) (Some c) None)) e
 
 new_look : (a b : Names) (name m : List ℕ) (c d : Callee) → IsFurther a b name c → named_lower a name ≡ None → name ≡ m → c ≡ d → named_lower b m ≡ Some d
 new_look a b name m c d g none e f =
     ap (named_lower b) (sym e) ∙ g name ∙ ap (λ (o : Option Callee). option_or o (cond (bytes_eq name name) (Some c) None)) none
     ∙ ap (λ (t : Bool). cond t (Some c) None) (same name) ∙ ap (λ (x : Callee). Some x) f
 
-found_keep : (a b : Names) (f : ℕ → Callee) (xs : List (List ℕ)) (name : List ℕ) (c : Callee) → IsFurther a b name c → Found (named_lower a) f xs
-    → Found (named_lower b) f xs
-found_keep a b f xs name c g t k m e = kept_look a b name m c (f k) g (t k m e)
-
 found_push : (a b : Names) (f : ℕ → Callee) (xs : List (List ℕ)) (name : List ℕ) → IsFurther a b name (f (length xs)) → named_lower a name ≡ None
     → Found (named_lower a) f xs → Found (named_lower b) f (xs ++ name ∷ [])
 found_push a b f xs name g none t k m e = at (push_cases xs name k m e) where
   at : (slice_get xs k ≡ Some m) ⊎ ((k ≡ length xs) × (name ≡ m)) → named_lower b m ≡ Some (f k)
-  at (inl h) = found_keep a b f xs name (f (length xs)) g t k m h
+  at (inl h) = further_finds_too a b name (f (length xs)) g m (f k) (t k m h)
   at (inr h) = new_look a b name m (f (length xs)) (f k) g none h.1 (ap f (sym h.0))
-
-functions_keep : (a b : Names) (xs : List (Option (List ℕ))) (name : List ℕ) (c : Callee) → IsFurther a b name c → FoundFunctions (named_lower a) xs
-    → FoundFunctions (named_lower b) xs
-functions_keep a b xs name c g t k m e = kept_look a b name m c (User k) g (t k m e)
 
 functions_push : (a b : Names) (xs : List (Option (List ℕ))) (name : List ℕ) (n : ℕ) → n ≡ length xs → IsFurther a b name (User n) → named_lower a name ≡ None
     → FoundFunctions (named_lower a) xs → FoundFunctions (named_lower b) (xs ++ Some name ∷ [])
 functions_push a b xs name n l g none t k m e = at (push_cases xs (Some name) k (Some m) e) where
   at : (slice_get xs k ≡ Some (Some m)) ⊎ ((k ≡ length xs) × (◌≡◌ {A = Option (List ℕ)} (Some name) (Some m))) → named_lower b m ≡ Some (User k)
-  at (inl h) = functions_keep a b xs name (User n) g t k m h
+  at (inl h) = further_finds_too a b name (User n) g m (User k) (t k m h)
   at (inr h) = new_look a b name m (User n) (User k) g none (same_Some name m h.1) (ap User (l ∙ sym h.0))
 
 pub pad_cases : (xs : List (Option (List ℕ))) (c k : ℕ) (m : List ℕ) → slice_get (xs ++ replicate c None) k ≡ Some (Some m) → slice_get xs k ≡ Some (Some m)
@@ -86,117 +106,56 @@ pad_cases (x ∷ xs) c (suc k) m e = pad_cases xs c k m e
 
 -- ---- names
 
-pub record AllFound (a : Names) : Type 0 where
-  pub of_functions : FoundFunctions (named_lower a) a.functions
-  pub of_fields : Found (named_lower a) Field a.fields
-  pub of_entry_integers : Found (named_lower a) EntryInteger a.entry_integers
-  pub of_entry_strings : Found (named_lower a) EntryString a.entry_strings
-  pub of_global_integers : Found (named_lower a) GlobalInteger a.global_integers
-  pub of_global_strings : Found (named_lower a) GlobalString a.global_strings
+further_name : (a : Names) (k : Kind) (name : List ℕ) → named_lower a name ≡ None
+    → IsFurther a (with_name k name a) name (callee_of k (length (names_of_kind k a)))
+further_name a kind.Field name none = further-field a name (length a.fields) refl none
+further_name a kind.EntryInteger name none = further-entry_integer a name (length a.entry_integers) refl none
+further_name a kind.EntryString name none = further-entry_string a name (length a.entry_strings) refl none
+further_name a kind.GlobalInteger name none = further-global_integer a name (length a.global_integers) refl none
+further_name a kind.GlobalString name none = further-global_string a name (length a.global_strings) refl none
+
+found_of : (a : Names) (k : Kind) → AllFound a → Found (named_lower a) (callee_of k) (names_of_kind k a)
+found_of a kind.Field t = t.of_fields
+found_of a kind.EntryInteger t = t.of_entry_integers
+found_of a kind.EntryString t = t.of_entry_strings
+found_of a kind.GlobalInteger t = t.of_global_integers
+found_of a kind.GlobalString t = t.of_global_strings
+
+-- a list of a kind with a further name, in place of the old one
+with_found : (look : List ℕ → Option Callee) (a : Names) (k : Kind) (name : List ℕ) → FoundBy look a
+    → Found look (callee_of k) (names_of_kind k a ++ name ∷ []) → FoundBy look (with_name k name a)
+with_found look a kind.Field name t f = assumption (t, f)
+with_found look a kind.EntryInteger name t f = assumption (t, f)
+with_found look a kind.EntryString name t f = assumption (t, f)
+with_found look a kind.GlobalInteger name t f = assumption (t, f)
+with_found look a kind.GlobalString name t f = assumption (t, f)
+
+-- functions in place of the old ones
+with_functions : (look : List ℕ → Option Callee) (a : Names) (functions : List (Option (List ℕ))) → FoundBy look a → FoundFunctions look functions
+    → FoundBy look (record a { functions = functions })
+with_functions look a functions t f = assumption (t, f)
 
 found_name : (a : Names) (k : Kind) (name : List ℕ) → named_lower a name ≡ None → AllFound a → AllFound (with_name k name a)
-found_name a kind.Field name none t =
-    let b = with_name kind.Field name a in
-    let g = further-field a name (length a.fields) refl none in
-    record {
-      of_functions = functions_keep a b a.functions name _ g t.of_functions;
-      of_fields = found_push a b Field a.fields name g none t.of_fields;
-      of_entry_integers = found_keep a b EntryInteger a.entry_integers name _ g t.of_entry_integers;
-      of_entry_strings =
-          found_keep a b EntryString a.entry_strings name _ g t.of_entry_strings;
-      of_global_integers =
-          found_keep a b GlobalInteger a.global_integers name _ g t.of_global_integers;
-      of_global_strings =
-          found_keep a b GlobalString a.global_strings name _ g t.of_global_strings;
-    }
-found_name a kind.EntryInteger name none t =
-    let b = with_name kind.EntryInteger name a in
-    let g = further-entry_integer a name (length a.entry_integers) refl none in
-    record {
-      of_functions = functions_keep a b a.functions name _ g t.of_functions;
-      of_fields = found_keep a b Field a.fields name _ g t.of_fields;
-      of_entry_integers = found_push a b EntryInteger a.entry_integers name g none t.of_entry_integers;
-      of_entry_strings =
-          found_keep a b EntryString a.entry_strings name _ g t.of_entry_strings;
-      of_global_integers =
-          found_keep a b GlobalInteger a.global_integers name _ g t.of_global_integers;
-      of_global_strings =
-          found_keep a b GlobalString a.global_strings name _ g t.of_global_strings;
-    }
-found_name a kind.EntryString name none t =
-    let b = with_name kind.EntryString name a in
-    let g = further-entry_string a name (length a.entry_strings) refl none in
-    record {
-      of_functions = functions_keep a b a.functions name _ g t.of_functions;
-      of_fields = found_keep a b Field a.fields name _ g t.of_fields;
-      of_entry_integers = found_keep a b EntryInteger a.entry_integers name _ g t.of_entry_integers;
-      of_entry_strings =
-          found_push a b EntryString a.entry_strings name g none t.of_entry_strings;
-      of_global_integers =
-          found_keep a b GlobalInteger a.global_integers name _ g t.of_global_integers;
-      of_global_strings =
-          found_keep a b GlobalString a.global_strings name _ g t.of_global_strings;
-    }
-found_name a kind.GlobalInteger name none t =
-    let b = with_name kind.GlobalInteger name a in
-    let g = further-global_integer a name (length a.global_integers) refl none in
-    record {
-      of_functions = functions_keep a b a.functions name _ g t.of_functions;
-      of_fields = found_keep a b Field a.fields name _ g t.of_fields;
-      of_entry_integers = found_keep a b EntryInteger a.entry_integers name _ g t.of_entry_integers;
-      of_entry_strings =
-          found_keep a b EntryString a.entry_strings name _ g t.of_entry_strings;
-      of_global_integers =
-          found_push a b GlobalInteger a.global_integers name g none t.of_global_integers;
-      of_global_strings =
-          found_keep a b GlobalString a.global_strings name _ g t.of_global_strings;
-    }
-found_name a kind.GlobalString name none t =
-    let b = with_name kind.GlobalString name a in
-    let g = further-global_string a name (length a.global_strings) refl none in
-    record {
-      of_functions = functions_keep a b a.functions name _ g t.of_functions;
-      of_fields = found_keep a b Field a.fields name _ g t.of_fields;
-      of_entry_integers = found_keep a b EntryInteger a.entry_integers name _ g t.of_entry_integers;
-      of_entry_strings =
-          found_keep a b EntryString a.entry_strings name _ g t.of_entry_strings;
-      of_global_integers =
-          found_keep a b GlobalInteger a.global_integers name _ g t.of_global_integers;
-      of_global_strings =
-          found_push a b GlobalString a.global_strings name g none t.of_global_strings;
-    }
+found_name a k name none t =
+    let b = with_name k name a in
+    let f = further_name a k name none in
+    let before = found_too (named_lower a) (named_lower b) a (further_finds_too a b name (callee_of k (length (names_of_kind k a))) f) t in
+    with_found (named_lower b) a k name before (found_push a b (callee_of k) (names_of_kind k a) name f none (found_of a k t))
 
 found_padded : (a : Names) (n : ℕ) → AllFound a → AllFound (record a { functions = padded n a.functions })
 found_padded a n t =
     let c = n - length a.functions in
-    record {
-      of_functions = λ k m e. named-pad a c m ∙ t.of_functions k m (pad_cases a.functions c k m e);
-      of_fields = λ k m e. named-pad a c m
-          ∙ t.of_fields k m e;
-      of_entry_integers = λ k m e. named-pad a c m ∙ t.of_entry_integers k m e;
-      of_entry_strings = λ k m e. named-pad a c m
-          ∙ t.of_entry_strings k m e;
-      of_global_integers = λ k m e. named-pad a c m ∙ t.of_global_integers k m e;
-      of_global_strings = λ k m e. named-pad a c m
-          ∙ t.of_global_strings k m e;
-    }
+    let b : Names = record a { functions = padded n a.functions } in
+    let before = found_too (named_lower a) (named_lower b) a (λ m d e. named-pad a c m ∙ e) t in
+    with_functions (named_lower b) a (padded n a.functions) before (λ k m e. before.of_functions k m (pad_cases a.functions c k m e))
 
 found_after : (a : Names) (n : ℕ) (name : List ℕ) → n ≡ length a.functions → named_lower a name ≡ None → AllFound a
     → AllFound (record a { functions = a.functions ++ Some name ∷ [] })
 found_after a n name l none t =
     let b : Names = record a { functions = a.functions ++ Some name ∷ [] } in
     let g = further-function a name n l none in
-    record {
-      of_functions = functions_push a b a.functions name n l g none t.of_functions;
-      of_fields = found_keep a b Field a.fields name _ g t.of_fields;
-      of_entry_integers = found_keep a b EntryInteger a.entry_integers name _ g t.of_entry_integers;
-      of_entry_strings =
-          found_keep a b EntryString a.entry_strings name _ g t.of_entry_strings;
-      of_global_integers =
-          found_keep a b GlobalInteger a.global_integers name _ g t.of_global_integers;
-      of_global_strings =
-          found_keep a b GlobalString a.global_strings name _ g t.of_global_strings;
-    }
+    let before = found_too (named_lower a) (named_lower b) a (further_finds_too a b name (User n) g) t in
+    with_functions (named_lower b) a b.functions before (functions_push a b a.functions name n l g none t.of_functions)
 
 found_function : (a : Names) (n : ℕ) (name : List ℕ) → length a.functions ≤ n → named_lower a name ≡ None → AllFound a → AllFound (with_function n name a)
 found_function a n name l none t =

@@ -285,67 +285,16 @@ fine_body a b s h f =
 abbrev Further : Names → Names → Type 0
 Further a b = Wider a b × (length b.functions ≤ length a.functions)
 
+-- a list that grows stays as long at least
+longer : (n : ℕ) (xs : List (List ℕ)) (name : List ℕ) → n ≤ length xs → n ≤ length (xs ++ name ∷ [])
+longer n xs name h = omega (arith, length-append xs (name ∷ []))
+
 wider_name : (a b : Names) (k : Kind) (name : List ℕ) → Further a b → Further a (with_name k name b)
-wider_name a b kind.Field name h =
-    let w = h.0 in let l = w.fields in (
-      record {
-        fields = omega (arith, length-append b.fields (name ∷ []));
-        entry_integers = w.entry_integers;
-        entry_strings = w.entry_strings;
-        global_integers =
-            w.global_integers;
-        global_strings = w.global_strings;
-      },
-      h.1,
-    )
-wider_name a b kind.EntryInteger name h =
-    let w = h.0 in let l = w.entry_integers in (
-      record {
-        fields = w.fields;
-        entry_integers = omega (arith, length-append b.entry_integers (name ∷ []));
-        entry_strings = w.entry_strings;
-        global_integers =
-            w.global_integers;
-        global_strings = w.global_strings;
-      },
-      h.1,
-    )
-wider_name a b kind.EntryString name h =
-    let w = h.0 in let l = w.entry_strings in (
-      record {
-        fields = w.fields;
-        entry_integers = w.entry_integers;
-        entry_strings = omega (arith, length-append b.entry_strings (name ∷ []));
-        global_integers =
-            w.global_integers;
-        global_strings = w.global_strings;
-      },
-      h.1,
-    )
-wider_name a b kind.GlobalInteger name h =
-    let w = h.0 in let l = w.global_integers in (
-      record {
-        fields = w.fields;
-        entry_integers = w.entry_integers;
-        entry_strings = w.entry_strings;
-        global_integers =
-            omega (arith, length-append b.global_integers (name ∷ []));
-        global_strings = w.global_strings;
-      },
-      h.1,
-    )
-wider_name a b kind.GlobalString name h =
-    let w = h.0 in let l = w.global_strings in (
-      record {
-        fields = w.fields;
-        entry_integers = w.entry_integers;
-        entry_strings = w.entry_strings;
-        global_integers = w.global_integers;
-        global_strings =
-            omega (arith, length-append b.global_strings (name ∷ []));
-      },
-      h.1,
-    )
+wider_name a b kind.Field name h = assumption (h, longer _ b.fields name h.0.fields)
+wider_name a b kind.EntryInteger name h = assumption (h, longer _ b.entry_integers name h.0.entry_integers)
+wider_name a b kind.EntryString name h = assumption (h, longer _ b.entry_strings name h.0.entry_strings)
+wider_name a b kind.GlobalInteger name h = assumption (h, longer _ b.global_integers name h.0.global_integers)
+wider_name a b kind.GlobalString name h = assumption (h, longer _ b.global_strings name h.0.global_strings)
 
 abbrev FurtherTurn : Names → Turn Listing Listed → Type 0
 FurtherTurn a t = OnTurn (λ s. Further a s.names) (λ r. Further a r.listing.names) t
