@@ -1,5 +1,5 @@
 -- Worked styles: what short texts are read as, and the texts of the messages.
-use Rattle.std.specs.Prelude.{ℕ, ◌≡◌, pos, negsuc, List, [], ◌∷◌, ◌++◌, codes}
+use Rattle.std.specs.Prelude.{ℕ, ◌≡◌, pos, negsuc, List, [], ◌∷◌, ◌++◌, codes, map}
 use Rattle.btx_bst.specs.declared.token.Token.{Token}
 use Rattle.btx_bst.specs.declared.built_in.BuiltIn.{BuiltIn}
 use Rattle.btx_bst.specs.declared.built_in.BuiltIn.TheVariants.{If, NewLine, Pop, Skip}
@@ -252,29 +252,34 @@ complaint_texts =
     ∷ complaint_row EndOfFile (codes "Illegal end of style file")
     ∷ []
 
--- each row is so
-
+-- each text has the items of its row
 abbrev pub AreRead : List WorkedStyle → Type 0
-AreRead [] = Unit {0}
-AreRead (row ∷ rows) = ((style_of [] row.text).items ≡ row.items) × AreRead rows
+AreRead rows = map (λ (row : WorkedStyle). (style_of [] row.text).items) rows ≡ map (λ (row : WorkedStyle). row.items) rows
+
+-- bodies of functions, and strings that stand in them
+abbrev Parts : Type 0
+Parts = List (List Token) × List (List ℕ)
 
 -- the text of each row has the bodies and the strings of the row
 abbrev pub AreBodies : List WorkedBody → Type 0
-AreBodies [] = Unit {0}
-AreBodies (row ∷ rows) = ((style_of [] row.text).bodies ≡ row.bodies) × ((style_of [] row.text).texts ≡ row.texts) × AreBodies rows
+AreBodies rows =
+    map (λ (row : WorkedBody). let style = style_of [] row.text in let parts : Parts = (style.bodies, style.texts) in parts) rows
+    ≡ map (λ (row : WorkedBody). let parts : Parts = (row.bodies, row.texts) in parts) rows
 
 -- a function with this word alone, `FUNCTION {f} {WORD}`
 abbrev pub function_with_word : List ℕ → List ℕ
 function_with_word word = codes "FUNCTION {f} {" ++ word ++ codes "}"
 
+-- the items of a style, and the bodies of its functions
+abbrev Read : Type 0
+Read = List Item × List (List Token)
+
 -- it executes that built-in function, and nothing else is read
 abbrev pub AreWords : List WorkedWord → Type 0
-AreWords [] = Unit {0}
-AreWords (row ∷ rows) =
-    ((style_of [] (function_with_word row.word)).items ≡ item.Function 0 ∷ [])
-    × ((style_of [] (function_with_word row.word)).bodies ≡ (Run (callee.BuiltIn row.function) ∷ []) ∷ []) × AreWords rows
+AreWords rows =
+    map (λ (row : WorkedWord). let style = style_of [] (function_with_word row.word) in let read : Read = (style.items, style.bodies) in read) rows
+    ≡ map (λ (row : WorkedWord). let read : Read = (item.Function 0 ∷ [], (Run (callee.BuiltIn row.function) ∷ []) ∷ []) in read) rows
 
 -- what is wrong has the text of its row
 abbrev pub AreTexts : List WorkedComplaint → Type 0
-AreTexts [] = Unit {0}
-AreTexts (row ∷ rows) = (complaint_text row.complaint ≡ row.text) × AreTexts rows
+AreTexts rows = map (λ (row : WorkedComplaint). complaint_text row.complaint) rows ≡ map (λ (row : WorkedComplaint). row.text) rows
