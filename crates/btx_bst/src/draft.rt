@@ -2,8 +2,6 @@
 ghost use Rattle.std.specs.Prelude.{◌≡◌, IfOk, OnOk, None};
 ghost use Rattle.btx_bst.specs.language.Commands.{command_at, entry_command, run_command, sort_command, declare, macro_command, function_command, function_ended, function_in, read_command, inside_at};
 ghost use Rattle.btx_bst.specs.language.BodyText.{body_end};
-ghost use Rattle.btx_bst.specs.declared.callee.Kind.TheVariants as kind;
-ghost use Rattle.btx_bst.specs.language.Items as item;
 ghost use Rattle.btx_bst.specs.refinement.Views.{item_view, run_item};
 ghost use Rattle.btx_bst.specs.language.Places.{Place};
 ghost use Rattle.btx_bst.specs.language.Names.{named_lower};
@@ -24,6 +22,19 @@ use crate::names::Names;
 use crate::open::Open;
 use btx_text::Lowered;
 use std::alloc::{AllocError, Global};
+
+// What was taken of a command. Where something is wrong instead, the function that calls this is left with it.
+macro_rules! taken {
+    ($read:expr) => {
+        match $read {
+            Ok(value) => value,
+            Err(complaint) => return Ok(Some(complaint)),
+        }
+    };
+}
+
+// What is wrong in the rest of a command that was taken, if anything is.
+type Taken<'a> = Result<Option<Complaint<'a>>, AllocError>;
 
 /// A style as far as it has been read.
 #[derive(Drop)]
@@ -64,12 +75,7 @@ impl<'a> Draft<'a> {
     }
 
     /// Takes the rest of a command.
-    pub fn command(
-        &mut self,
-        alloc: Global,
-        cursor: &mut Cursor<'a>,
-        command: Command,
-    ) -> Result<Option<Complaint<'a>>, AllocError>
+    pub fn command(&mut self, alloc: Global, cursor: &mut Cursor<'a>, command: Command) -> Taken<'a>
         requires { HasRoom (draft_view self.old) cursor.old }
         ensures { IfOk result (λ complaint. outcome_view complaint (draft_view self.new) cursor.new ≡ command_at command (draft_view self.old) cursor.old) }
     {
@@ -81,19 +87,15 @@ impl<'a> Draft<'a> {
             Command::Iterate => self.run(alloc, cursor, command),
             Command::Reverse => self.run(alloc, cursor, command),
             Command::Sort => self.sort(),
-            Command::Integers => self.integers(alloc, cursor),
-            Command::Strings => self.strings(alloc, cursor),
+            Command::Integers => self.declare(alloc, cursor, Kind::GlobalInteger, Item::Integers),
+            Command::Strings => self.declare(alloc, cursor, Kind::GlobalString, Item::Strings),
             Command::Macro => self.take_macro(alloc, cursor),
         }
     }
 
     // Takes the rest of an ENTRY.
     #[tactic(auto, unfolding(crate::specs::language::Commands::entry_command))]
-    fn entry(
-        &mut self,
-        alloc: Global,
-        cursor: &mut Cursor<'a>,
-    ) -> Result<Option<Complaint<'a>>, AllocError>
+    fn entry(&mut self, alloc: Global, cursor: &mut Cursor<'a>) -> Taken<'a>
         requires { HasRoom (draft_view self.old) cursor.old }
         ensures { IfOk result (λ complaint. outcome_view complaint (draft_view self.new) cursor.new ≡ entry_command (draft_view self.old) cursor.old) }
     {
@@ -116,7 +118,7 @@ impl<'a> Draft<'a> {
 
     // Takes a READ.
     #[tactic(auto, unfolding(crate::specs::language::Commands::read_command))]
-    fn read(&mut self) -> Result<Option<Complaint<'a>>, AllocError>
+    fn read(&mut self) -> Taken<'a>
         ensures { IfOk result (λ complaint. (place : Place) → outcome_view complaint (draft_view self.new) place ≡ read_command (draft_view self.old) place) }
     {
         if self.before_read.is_some() {
@@ -132,37 +134,25 @@ impl<'a> Draft<'a> {
 
     // Takes the rest of an EXECUTE, ITERATE or REVERSE.
     #[tactic(auto, unfolding(crate::specs::language::Commands::run_command))]
-    fn run(
-        &mut self,
-        alloc: Global,
-        cursor: &mut Cursor<'a>,
-        command: Command,
-    ) -> Result<Option<Complaint<'a>>, AllocError>
+    fn run(&mut self, alloc: Global, cursor: &mut Cursor<'a>, command: Command) -> Taken<'a>
         ensures { IfOk result (λ complaint. outcome_view complaint (draft_view self.new) cursor.new ≡ run_command command (run_item command) (draft_view self.old) cursor.old) }
     {
         if self.before_read.is_none() {
             return Ok(Some(Complaint::BeforeRead(command)));
         }
-        if let Err(complaint) = cursor.opening() {
-            return Ok(Some(complaint));
-        }
-        let name = match cursor.name() {
-            Ok(name) => name,
-            Err(complaint) => return Ok(Some(complaint)),
-        };
+        taken!(cursor.opening());
+        let name = taken!(cursor.name());
         let Some(callee) = function_in(find(alloc, &self.names, name)?) else {
             return Ok(Some(Complaint::Unknown(name)));
         };
-        if let Err(complaint) = cursor.closing() {
-            return Ok(Some(complaint));
-        }
+        taken!(cursor.closing());
         self.items.push(run_item(command, callee))?;
         Ok(None)
     }
 
     // Takes a SORT.
     #[tactic(auto, unfolding(crate::specs::language::Commands::sort_command))]
-    fn sort(&mut self) -> Result<Option<Complaint<'a>>, AllocError>
+    fn sort(&mut self) -> Taken<'a>
         ensures { IfOk result (λ complaint. (place : Place) → outcome_view complaint (draft_view self.new) place ≡ sort_command (draft_view self.old) place) }
     {
         if self.before_read.is_none() {
@@ -172,76 +162,43 @@ impl<'a> Draft<'a> {
         Ok(None)
     }
 
-    // Takes the rest of an INTEGERS.
+    // Takes the rest of an INTEGERS or a STRINGS, which declares variables of a kind.
     #[tactic(auto, unfolding(crate::specs::language::Commands::declare))]
-    fn integers(
+    fn declare(
         &mut self,
         alloc: Global,
         cursor: &mut Cursor<'a>,
-    ) -> Result<Option<Complaint<'a>>, AllocError>
+        kind: Kind,
+        item: Item<'a>,
+    ) -> Taken<'a>
         requires { HasRoom (draft_view self.old) cursor.old }
-        ensures { IfOk result (λ complaint. outcome_view complaint (draft_view self.new) cursor.new ≡ declare kind.GlobalInteger item.Integers (draft_view self.old) cursor.old) }
+        ensures { IfOk result (λ complaint. outcome_view complaint (draft_view self.new) cursor.new ≡ declare kind (item_view item.entry) (draft_view self.old) cursor.old) }
     {
-        if let Some(complaint) = list(alloc, cursor, &mut self.names, Kind::GlobalInteger)? {
+        if let Some(complaint) = list(alloc, cursor, &mut self.names, kind)? {
             return Ok(Some(complaint));
         }
-        self.items.push(Item::Integers)?;
-        Ok(None)
-    }
-
-    // Takes the rest of a STRINGS.
-    #[tactic(auto, unfolding(crate::specs::language::Commands::declare))]
-    fn strings(
-        &mut self,
-        alloc: Global,
-        cursor: &mut Cursor<'a>,
-    ) -> Result<Option<Complaint<'a>>, AllocError>
-        requires { HasRoom (draft_view self.old) cursor.old }
-        ensures { IfOk result (λ complaint. outcome_view complaint (draft_view self.new) cursor.new ≡ declare kind.GlobalString item.Strings (draft_view self.old) cursor.old) }
-    {
-        if let Some(complaint) = list(alloc, cursor, &mut self.names, Kind::GlobalString)? {
-            return Ok(Some(complaint));
-        }
-        self.items.push(Item::Strings)?;
+        self.items.push(item)?;
         Ok(None)
     }
 
     // Takes the rest of a MACRO.
     #[tactic(auto, unfolding(crate::specs::language::Commands::macro_command))]
-    fn take_macro(
-        &mut self,
-        alloc: Global,
-        cursor: &mut Cursor<'a>,
-    ) -> Result<Option<Complaint<'a>>, AllocError>
+    fn take_macro(&mut self, alloc: Global, cursor: &mut Cursor<'a>) -> Taken<'a>
         ensures { IfOk result (λ complaint. outcome_view complaint (draft_view self.new) cursor.new ≡ macro_command (draft_view self.old) cursor.old) }
     {
         if self.before_read.is_some() {
             return Ok(Some(Complaint::AfterRead));
         }
-        if let Err(complaint) = cursor.opening() {
-            return Ok(Some(complaint));
-        }
-        let name = match cursor.name() {
-            Ok(name) => name,
-            Err(complaint) => return Ok(Some(complaint)),
-        };
+        taken!(cursor.opening());
+        let name = taken!(cursor.name());
         let lowered = Lowered::of(alloc, name)?;
         if self.macros.text(lowered.as_bytes()).is_some() {
             return Ok(Some(Complaint::Defined(name)));
         }
-        if let Err(complaint) = cursor.closing() {
-            return Ok(Some(complaint));
-        }
-        if let Err(complaint) = cursor.opening() {
-            return Ok(Some(complaint));
-        }
-        let text = match cursor.quoted() {
-            Ok(text) => text,
-            Err(complaint) => return Ok(Some(complaint)),
-        };
-        if let Err(complaint) = cursor.closing() {
-            return Ok(Some(complaint));
-        }
+        taken!(cursor.closing());
+        taken!(cursor.opening());
+        let text = taken!(cursor.quoted());
+        taken!(cursor.closing());
         self.macros.add(alloc, &lowered, text)?;
         self.items.push(Item::Macro)?;
         Ok(None)
@@ -249,41 +206,23 @@ impl<'a> Draft<'a> {
 
     // Takes the rest of a FUNCTION.
     #[tactic(auto, unfolding(crate::specs::language::Commands::function_command))]
-    fn function(
-        &mut self,
-        alloc: Global,
-        cursor: &mut Cursor<'a>,
-    ) -> Result<Option<Complaint<'a>>, AllocError>
+    fn function(&mut self, alloc: Global, cursor: &mut Cursor<'a>) -> Taken<'a>
         requires { HasRoom (draft_view self.old) cursor.old }
         ensures { IfOk result (λ complaint. outcome_view complaint (draft_view self.new) cursor.new ≡ function_command (draft_view self.old) cursor.old) }
     {
-        if let Err(complaint) = cursor.opening() {
-            return Ok(Some(complaint));
-        }
-        let name = match cursor.name() {
-            Ok(name) => name,
-            Err(complaint) => return Ok(Some(complaint)),
-        };
+        taken!(cursor.opening());
+        let name = taken!(cursor.name());
         let lowered = Lowered::of(alloc, name)?;
         if self.names.find(lowered.as_bytes()).is_some() {
             return Ok(Some(Complaint::Defined(name)));
         }
-        if let Err(complaint) = cursor.closing() {
-            return Ok(Some(complaint));
-        }
-        if let Err(complaint) = cursor.opening() {
-            return Ok(Some(complaint));
-        }
+        taken!(cursor.closing());
+        taken!(cursor.opening());
         self.define(alloc, cursor, lowered)
     }
 
     // Takes a body, and defines its function.
-    fn define(
-        &mut self,
-        alloc: Global,
-        cursor: &mut Cursor<'a>,
-        lowered: Lowered<'a>,
-    ) -> Result<Option<Complaint<'a>>, AllocError>
+    fn define(&mut self, alloc: Global, cursor: &mut Cursor<'a>, lowered: Lowered<'a>) -> Taken<'a>
         requires new { named_lower (draft_view self.old).names lowered ≡ None }
         requires room { HasRoom (draft_view self.old) cursor.old }
         ensures { IfOk result (λ complaint. outcome_view complaint (draft_view self.new) cursor.new ≡ function_ended (draft_view self.old) lowered.entry (body_end (draft_view self.old).names (inside_at (draft_view self.old) cursor.old))) }

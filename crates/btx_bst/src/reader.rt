@@ -72,40 +72,34 @@ fn command<'a>(
     }
 }
 
+// The command whose word a name is, by a table of the words.
+macro_rules! with_word {
+    ($name:ident, $($word:literal => $command:ident,)*) => {{
+        $(
+            if $name == $word.as_slice() {
+                return Some(Command::$command);
+            }
+        )*
+        None
+    }};
+}
+
 // The command of a name in lower case.
 #[tactic(auto, unfolding(crate::specs::language::Commands::command_named))]
 fn command_named(name: &[u8]) -> Option<Command>
     ensures { result ≡ command_named name.now }
 {
-    if name == b"entry".as_slice() {
-        return Some(Command::Entry);
+    with_word! {
+        name,
+        b"entry" => Entry,
+        b"function" => Function,
+        b"read" => Read,
+        b"execute" => Execute,
+        b"iterate" => Iterate,
+        b"reverse" => Reverse,
+        b"sort" => Sort,
+        b"integers" => Integers,
+        b"strings" => Strings,
+        b"macro" => Macro,
     }
-    if name == b"function".as_slice() {
-        return Some(Command::Function);
-    }
-    if name == b"read".as_slice() {
-        return Some(Command::Read);
-    }
-    if name == b"execute".as_slice() {
-        return Some(Command::Execute);
-    }
-    if name == b"iterate".as_slice() {
-        return Some(Command::Iterate);
-    }
-    if name == b"reverse".as_slice() {
-        return Some(Command::Reverse);
-    }
-    if name == b"sort".as_slice() {
-        return Some(Command::Sort);
-    }
-    if name == b"integers".as_slice() {
-        return Some(Command::Integers);
-    }
-    if name == b"strings".as_slice() {
-        return Some(Command::Strings);
-    }
-    if name == b"macro".as_slice() {
-        return Some(Command::Macro);
-    }
-    None
 }
