@@ -91,27 +91,24 @@ module _ (whole rest next : Doing) (go : ℕ → State → Outcome) (s t : State
 module _ (whole rest next : Doing) (go : ℕ → State → Outcome) (old mid new : Work) (k taken k' : ℕ) (e : k' ≡ k + taken)
     (split : (n : ℕ) (out : Out) → rest n (state mid.store out) ≡ then_do (next n (state mid.store out)) go) (lasts : Lasts 1 next) (grows : Grows next)
     (first : Comes old mid (Reached whole rest k)) where
-  pub reached_on : Comes mid new (Runs next taken ends.Finished) → Comes old new (Reached whole go k')
-  reached_on second start out h =
+  -- what holds behind the first part and of the second one holds of both
+  joined : (second both : State → State → Type 0)
+      → ((s u : State) (out : Out) → Reached whole rest k s (state mid.store out) → second (state mid.store out) u → both s u)
+      → Comes mid new second → Comes old new both
+  joined second both join comes start out h =
       let l = first start out h in
-      let m = second start l.out l.stands in
-      record {
-        out = m.out;
-        stands = m.stands;
-        is = later_reached whole rest next go (state old.store out) (state mid.store l.out) k l.is (λ n. split n l.out)
-            lasts grows taken k' (state new.store m.out) e m.is;
-      }
+      let m = comes start l.out l.stands in
+      record { out = m.out; stands = m.stands; is = join (state old.store out) (state new.store m.out) l.out l.is m.is }
+
+  pub reached_on : Comes mid new (Runs next taken ends.Finished) → Comes old new (Reached whole go k')
+  reached_on =
+      joined (Runs next taken ends.Finished) (Reached whole go k')
+      (λ s u out r runs. later_reached whole rest next go s (state mid.store out) k r (λ n. split n out) lasts grows taken k' u e runs)
 
   pub reached_ends : (end : Ending) → (end ≡ ends.Finished → ⊥) → Comes mid new (Runs next taken end) → Comes old new (RunEnded whole k' end)
-  reached_ends end not second start out h =
-      let l = first start out h in
-      let m = second start l.out l.stands in
-      record {
-        out = m.out;
-        stands = m.stands;
-        is = later_ended whole rest next go (state old.store out) (state mid.store l.out) k l.is (λ n. split n l.out)
-            lasts grows taken k' end (state new.store m.out) e not m.is;
-      }
+  reached_ends end not =
+      joined (Runs next taken end) (RunEnded whole k' end)
+      (λ s u out r runs. later_ended whole rest next go s (state mid.store out) k r (λ n. split n out) lasts grows taken k' end u e not runs)
 
 pub reached_all : (whole rest : Doing) (old new : Work) (k : ℕ) → ((n : ℕ) (s : State) → rest n s ≡ Done s n) → Comes old new (Reached whole rest k)
     → Comes old new (RunEnded whole k ends.Finished)

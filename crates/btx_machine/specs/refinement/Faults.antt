@@ -20,6 +20,10 @@ CountsOfTwo (Err StringLimit) a b = ⊥
 abbrev pub CountsOfBoth : {T : Type 0} → Result T Fault → Outputs → Outputs → Type 0
 CountsOfBoth result old new = SameSinks old new × CountsOfTwo result (old.bbl.failures, new.bbl.failures) (old.log.sink.failures, new.log.sink.failures)
 
+-- since the first of two moments no write to either output has failed, and they go where they went
+abbrev pub NoneFailed : Outputs → Outputs → Type 0
+NoneFailed old new = SameSinks old new × Stays (old.bbl.failures, new.bbl.failures) × Stays (old.log.sink.failures, new.log.sink.failures)
+
 -- no write to the list of references has failed
 abbrev pub Writes : Outputs → Type 0
 Writes outputs = IsSome outputs.breaker.pending

@@ -1,21 +1,14 @@
-use Rattle.std.proofs.Common.{◌≡◌, ◌≤◌, ◌-◌, [], drop}
+use Rattle.std.proofs.Common.{◌-◌, [], drop}
 use Rattle.btx_bst.specs.refinement.Views.{items_view}
-use Rattle.btx_machine.specs.refinement.Faults.{Writes}
-use Rattle.btx_machine.specs.refinement.Outputs.{SameSinks}
-use Rattle.btx_machine.specs.refinement.Written.{Comes}
+use Rattle.btx_machine.specs.refinement.Faults.{NoneFailed}
 use Rattle.btx_machine.specs.language.Items.{do_items}
-use Rattle.btx_machine.specs.refinement.Progress.{Reached}
+use Rattle.btx_machine.specs.refinement.Progress.{Midway, Reached}
 use Rattle.btx_machine.proofs.items.do_items.Given as goal
 
 -- the items that are left remain to be done
 abbrev pub invariant-loop-item : goal.invariant-loop-item
 invariant-loop-item g l = record {
-  marks : l.marks ≡ [];
-  fewer : l.left ≤ l.fn.left;
-  writes : Writes l.work.outputs;
-  sinks : SameSinks l.fn.work.outputs l.work.outputs;
-  bbl_counts : l.work.outputs.bbl.failures.count ≡ l.fn.work.outputs.bbl.failures.count;
-  log_counts : l.work.outputs.log.sink.failures.count ≡ l.fn.work.outputs.log.sink.failures.count;
-  same : Comes l.fn.work l.work
+  midway : Midway l.fn.work l.work l.marks l.fn.left l.left
       (Reached (do_items l.job (items_view l.items) []) (do_items l.job (items_view (drop l.item-index l.items)) l.list.items) (l.fn.left - l.left));
+  counts : NoneFailed l.fn.work.outputs l.work.outputs;
 }

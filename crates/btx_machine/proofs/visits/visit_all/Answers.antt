@@ -11,31 +11,25 @@ pub returns-in_err-end-clause-err : goal.returns-in_err-end-clause-err
 returns-in_err-end-clause-err g c = on_err c.from_residual.result (by.one_fails (λ entry. visit c.args.program.job.now c.args.command c.args.function
     (Some entry)) _ (drop c.loop-entry.entry-index c.args.list.now) (drop (c.loop-entry.entry-index + 1) c.args.list.now) c.args.list.now c.args.work.now
     c.loop-entry.work c.visit.new.work.outputs (c.args.left.now - c.loop-entry.left) c.loop-entry.left c.args.left.now
-    (omega (arith, c.loop-entry.invariant.fewer)) (drop_step c.args.list.now c.loop-entry.entry-index _ (omega arith))
-    (λ entry. visit_grows c.args.program.job.now c.args.command c.args.function (Some entry)) c.loop-entry.invariant.same c.in_err-end.ensures.err)
+    (omega (arith, c.loop-entry.invariant.midway.fewer)) (drop_step c.args.list.now c.loop-entry.entry-index _ (omega arith))
+    (λ entry. visit_grows c.args.program.job.now c.args.command c.args.function (Some entry)) c.loop-entry.invariant.midway.same c.in_err-end.ensures.err)
 
 pub returns-in_default-clause-outcome : goal.returns-in_default-clause-outcome
 returns-in_default-clause-outcome g c = by.one_ends (λ entry. visit c.args.program.job.now c.args.command c.args.function (Some entry)) _
     (drop c.loop-entry.entry-index c.args.list.now) (drop (c.loop-entry.entry-index + 1) c.args.list.now) c.args.list.now c.args.work.now c.loop-entry.work
     c.visit.new.work (c.args.left.now - c.loop-entry.left) (c.loop-entry.left - c.visit.new.left) (c.args.left.now - c.visit.new.left) c.in_ok-end.end
-    (omega (arith, c.loop-entry.invariant.fewer, c.visit.ensures.fewer)) (drop_step c.args.list.now c.loop-entry.entry-index _ (omega arith))
-    c.in_default.not-Finished c.loop-entry.invariant.same c.in_ok-end.ensures.outcome
+    (omega (arith, c.loop-entry.invariant.midway.fewer, c.visit.ensures.fewer)) (drop_step c.args.list.now c.loop-entry.entry-index _ (omega arith))
+    c.in_default.not-Finished c.loop-entry.invariant.midway.same c.in_ok-end.ensures.outcome
 
 pub loop-entry-preserved : goal.loop-entry-preserved
 loop-entry-preserved g c = record {
-  writes = search rules;
-  sinks = (search rules, search rules);
-  bbl_counts = search rules;
-  log_counts = search rules;
-  marks = c.in_ok-end.ensures.cleared c.in-Finished.is;
-  fewer = omega (arith, c.loop-entry.invariant.fewer, c.visit.ensures.fewer);
-  same = by.one_less (λ entry. visit c.args.program.job.now c.args.command c.args.function (Some entry)) _ (drop c.loop-entry.entry-index c.args.list.now) (drop
-      (c.loop-entry.entry-index + 1) c.args.list.now) c.args.list.now c.args.work.now c.loop-entry.work c.visit.new.work (c.args.left.now - c.loop-entry.left)
-      (c.loop-entry.left - c.visit.new.left) (c.args.left.now - c.visit.new.left) (omega (arith, c.loop-entry.invariant.fewer, c.visit.ensures.fewer))
-      (drop_step c.args.list.now c.loop-entry.entry-index _ (omega arith)) c.loop-entry.invariant.same (rw c.in-Finished.is at c.in_ok-end.ensures.outcome);
+  midway = by.one_visited c.args.program.job.now c.args.command c.args.function c.args.list.now c.loop-entry.invariant.midway
+      (drop_step c.args.list.now c.loop-entry.entry-index _ (omega arith)) (c.in_ok-end.ensures.cleared c.in-Finished.is) c.visit.ensures.fewer
+      c.in_ok-end.ensures.writes (rw c.in-Finished.is at c.in_ok-end.ensures.outcome);
+  counts = ((search rules, search rules), search rules, search rules);
 }
 
 pub returns-clause-outcome : goal.returns-clause-outcome
 returns-clause-outcome g c = by.none_remain (λ entry. visit c.args.program.job.now c.args.command c.args.function (Some entry))
     (drop c.loop-entry.entry-index c.args.list.now) c.args.list.now c.args.work.now c.loop-entry.work (c.args.left.now - c.loop-entry.left)
-    (drop_all c.loop-entry.entry-index c.args.list.now (omega arith)) c.loop-entry.invariant.same
+    (drop_all c.loop-entry.entry-index c.args.list.now (omega arith)) c.loop-entry.invariant.midway.same

@@ -1,6 +1,6 @@
 use Rattle.std.proofs.Common.{◌≡◌, drop, map}
 use Rattle.btx_bib.specs.language.MessageTexts.{message_line}
-use Rattle.btx_machine.specs.refinement.Outputs.{SameSinks}
+use Rattle.btx_machine.specs.refinement.Faults.{NoneFailed}
 use Rattle.btx_machine.proofs.SayLemmas.{Logs}
 use Rattle.btx_machine.proofs.outputs.Outputs.log_messages.Given as goal
 
@@ -8,8 +8,6 @@ use Rattle.btx_machine.proofs.outputs.Outputs.log_messages.Given as goal
 abbrev pub invariant-loop-message : goal.invariant-loop-message
 invariant-loop-message g l = record {
   breaker : l.self.breaker ≡ l.fn.self.breaker;
-  sinks : SameSinks l.fn.self l.self;
-  bbl_counts : l.self.bbl.failures.count ≡ l.fn.self.bbl.failures.count;
-  log_counts : l.self.log.sink.failures.count ≡ l.fn.self.log.sink.failures.count;
+  counts : NoneFailed l.fn.self l.self;
   same : Logs l.fn.self l.self (map message_line (drop l.message-index l.messages)) (map message_line l.messages);
 }

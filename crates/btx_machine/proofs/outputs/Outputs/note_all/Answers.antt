@@ -2,16 +2,14 @@ use Rattle.std.proofs.Common.{arith, rules, ◌+◌, drop, refl, ap}
 use Rattle.std.proofs.lemmas.List.{drop_all}
 use Rattle.btx_machine.proofs.ComesLemmas.{on_err}
 use Rattle.btx_machine.proofs.SayLemmas as by
-use Rattle.btx_machine.proofs.SayLemmas.{drop_at, noting_at}
+use Rattle.btx_machine.proofs.SayLemmas.{noting_at}
 use Rattle.btx_machine.proofs.outputs.Outputs.note_all.Goals as goal
 use Rattle.btx_machine.specs.refinement.Saying.{note_lines}
 
 pub loop-note-init : goal.loop-note-init
 loop-note-init g c = record {
   breaker = refl;
-  sinks = (refl, refl);
-  bbl_counts = refl;
-  log_counts = refl;
+  counts = ((refl, refl), refl, refl);
   same =
       by.logs_first c.args.self.now (note_lines c.args.job.now c.args.executed.now c.args.current (drop 0 c.args.notes.now))
       (note_lines c.args.job.now c.args.executed.now c.args.current c.args.notes.now) refl;
@@ -26,9 +24,7 @@ returns-in_err-line-clause-err g c =
 pub loop-note-preserved : goal.loop-note-preserved
 loop-note-preserved g c = record {
   breaker = search rules;
-  sinks = (search rules, search rules);
-  bbl_counts = search rules;
-  log_counts = search rules;
+  counts = ((search rules, search rules), search rules, search rules);
   same = by.logs_more c.args.self.now c.loop-note.self c.log_one.new.self c.in_ok-line.line
       (note_lines c.args.job.now c.args.executed.now c.args.current (drop c.loop-note.note-index c.args.notes.now))
       (note_lines c.args.job.now c.args.executed.now c.args.current (drop (c.loop-note.note-index + 1) c.args.notes.now))
