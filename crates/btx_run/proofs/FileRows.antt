@@ -53,26 +53,17 @@ second_missing-found = refl
 abbrev style_missing : Logged FilesRead
 style_missing = with_databases (codes "a,b") ((codes "a.bib", codes "A") ∷ [])
 
-style_missing-logged : texts style_missing ≡ codes "The top-level auxiliary file: job.aux" ∷ codes "Error--I couldn't open style file s.bst" ∷ []
+style_missing-is : (texts style_missing ≡ codes "The top-level auxiliary file: job.aux" ∷ codes "Error--I couldn't open style file s.bst" ∷ [])
+    × (style_missing.gives ≡ Ends ended.Finished)
 unfolding line_pieces trimmed aux_note_kind aux_note_text aux_complaint_text mark_of place_text style_line no_style_line database_line no_database_line
     after_job style_named style_read after_style job_of_files job_events said pieces_of aux_command_named words_of
-style_missing-logged = refl
-
-style_missing-ends : style_missing.gives ≡ Ends ended.Finished
-unfolding line_pieces trimmed aux_note_kind aux_note_text aux_complaint_text mark_of place_text style_line no_style_line database_line no_database_line
-    after_job style_named style_read after_style job_of_files job_events said pieces_of aux_command_named words_of
-style_missing-ends = refl
+style_missing-is = (refl, refl)
 
 -- no file is there
 abbrev nothing_there : Logged FilesRead
 nothing_there = reading_of (files_of_pairs []) (codes "job.aux")
 
-nothing_there-logged : texts nothing_there ≡ []
+nothing_there-is : (texts nothing_there ≡ []) × (nothing_there.gives ≡ Ends ended.NoTopFile)
 unfolding line_pieces trimmed aux_note_kind aux_note_text aux_complaint_text mark_of place_text style_line no_style_line database_line no_database_line
     after_job style_named style_read after_style job_of_files job_events said pieces_of aux_command_named words_of
-nothing_there-logged = refl
-
-nothing_there-ends : nothing_there.gives ≡ Ends ended.NoTopFile
-unfolding line_pieces trimmed aux_note_kind aux_note_text aux_complaint_text mark_of place_text style_line no_style_line database_line no_database_line
-    after_job style_named style_read after_style job_of_files job_events said pieces_of aux_command_named words_of
-nothing_there-ends = refl
+nothing_there-is = (refl, refl)

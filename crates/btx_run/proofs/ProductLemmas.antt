@@ -14,6 +14,7 @@ use Rattle.btx_aux.specs.language.Job.{AuxJob}
 use Rattle.btx_out.specs.language.Pieces.{AppendsPrefix}
 use Rattle.btx_out.proofs.PieceLemmas.{prefix-after, prefix-longer, prefix-none_same}
 use Rattle.btx_bst.specs.language.Style.{Style}
+use Rattle.btx_bst.specs.language.StyleText.{style_of}
 use Rattle.btx_bst.specs.refinement.StyleReads.{Reads}
 use Rattle.btx_bib.specs.language.Databases.{library_of}
 use Rattle.btx_bib.specs.language.Library.{Library}
@@ -57,6 +58,14 @@ pub found_is : (job : AuxJob) (found : JobFiles) (options : Options) (style : St
 found_is job found options style library is_style is_library =
     ap (λ (library : Library). work_of style library options) is_library
     ∙ ap (λ (style : Style). work_of style (library_of (asked style job options.min_crossrefs) style.macros (map database_of found.databases)) options) is_style
+
+-- the style is read from the text that was found
+pub read_is : (job : AuxJob) (found : JobFiles) (options : Options) (style : Style) (library : Library) {name bytes : List ℕ} → style ≡ style_of name bytes
+    → name ≡ found.style.name → bytes ≡ found.style.bytes
+    → library ≡ library_of (asked style job options.min_crossrefs) style.macros (map database_of found.databases)
+    → work_of style library options ≡ work_in job found options
+read_is job found options style library {name} {bytes} is_style is_name is_bytes is_library =
+    found_is job found options style library (is_style ∙ ap (λ name. style_of name bytes) is_name ∙ ap (style_of found.style.name) is_bytes) is_library
 
 pub completes_of : (a b : Received) (counts : LogCounts) (line_length budget : ℕ) (here there : Job) → here ≡ there → (r : Result Report Fault)
     → IfOk r (λ report. Completes report a b (style_product here counts line_length budget))

@@ -277,20 +277,30 @@ style_is_missing r files job name found counted log none is read = subst (λ (st
 
 -- ---- the job
 
-pub style_unnamed : (files : Files) (job : AuxJob) (named : Option (List ℕ)) (a : LogCounts) (x : Option (List ℕ)) → named ≡ None
+style_unnamed : (files : Files) (job : AuxJob) (named : Option (List ℕ)) (a : LogCounts) (x : Option (List ℕ)) → named ≡ None
     → IsRead (Ends ended.Finished) (a, a) (x, x) (style_named files job named)
 unfolding style_named
 style_unnamed files job named a x is = subst (λ named. IsRead (Ends ended.Finished) (a, a) (x, x) (style_named files job named)) (sym is)
     (reads_at_once (Ends ended.Finished) a x)
 
-pub style_is_named : (files : Files) (job : AuxJob) (named : Option (List ℕ)) (name : List ℕ) → named ≡ Some name → style_named files job named
+style_is_named : (files : Files) (job : AuxJob) (named : Option (List ℕ)) (name : List ℕ) → named ≡ Some name → style_named files job named
     ≡ style_read files job name (file_at files name)
 unfolding style_named
 style_is_named files job named name is = ap (style_named files job) is
 
-pub after_whole : (files : Files) (job : AuxJob) (end : AuxEnd) → end ≡ aux.Whole → after_job files job end ≡ style_named files job job.style
+after_whole : (files : Files) (job : AuxJob) (end : AuxEnd) → end ≡ aux.Whole → after_job files job end ≡ style_named files job job.style
 unfolding after_job
 after_whole files job end is = ap (after_job files job) is
+
+-- then a style is looked for by the name that the files give, or none is
+pub after_named : (files : Files) (job : AuxJob) (end : AuxEnd) (name : List ℕ) → end ≡ aux.Whole → job.style ≡ Some name → after_job files job end
+    ≡ style_read files job name (file_at files name)
+after_named files job end name whole is = after_whole files job end whole ∙ style_is_named files job job.style name is
+
+pub after_unnamed : (files : Files) (job : AuxJob) (end : AuxEnd) (a : LogCounts) (x : Option (List ℕ)) → end ≡ aux.Whole → job.style ≡ None
+    → IsRead (Ends ended.Finished) (a, a) (x, x) (after_job files job end)
+after_unnamed files job end a x whole is =
+    subst (λ part. IsRead (Ends ended.Finished) (a, a) (x, x) part) (sym (after_whole files job end whole)) (style_unnamed files job job.style a x is)
 
 pub after_many : (files : Files) (job : AuxJob) (end : AuxEnd) (a : LogCounts) (x : Option (List ℕ)) → end ≡ aux.TooManyOpen
     → IsRead (Ends (ended.Limit kind.Files)) (a, a) (x, x) (after_job files job end)

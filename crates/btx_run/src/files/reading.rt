@@ -8,7 +8,7 @@ ghost use Rattle.btx_run.specs.refinement.Files.Asked.{AreAmong, names_in};
 ghost use Rattle.btx_run.specs.refinement.Files.Counts.{counts_at};
 ghost use Rattle.btx_run.specs.refinement.Files.Faults.{CountsOfReading, CountsOfLogging};
 ghost use Rattle.btx_core.specs.language.Files.Found.{file_at};
-ghost use Rattle.btx_core.specs.refinement.Files.Readings.{after_job, job_named, style_named, style_read};
+ghost use Rattle.btx_core.specs.refinement.Files.Readings.{after_job, job_named, style_read};
 ghost use Rattle.btx_run.specs.refinement.Files.Readings.{ReadsAs, StyleFits, after_style, files_read};
 ghost use Rattle.btx_run.specs.refinement.Files.Names.{top_name};
 
@@ -112,7 +112,7 @@ fn find_style<'a, F: Finder, L: Sink>(
     }
 }
 
-// Goes on from the `.aux` files, by how their reading ended.
+// Goes on from the `.aux` files, by how their reading ended: with the style that they name, if they name one.
 fn after_job<'a, F: Finder, L: Sink>(
     alloc: Global,
     finder: &mut F,
@@ -126,29 +126,13 @@ fn after_job<'a, F: Finder, L: Sink>(
     ensures counts { CountsOfReading result (F.failures finder.old, F.failures finder.new) journal.old journal.new }
 {
     match job.end() {
-        AuxEnd::Whole => named_style(alloc, finder, job, journal),
+        AuxEnd::Whole => match job.style() {
+            Some(name) => find_style(alloc, finder, job, name, journal),
+            None => Ok(FilesRead::Ends(End::Finished)),
+        },
         AuxEnd::TooManyOpen => Ok(FilesRead::Ends(End::Limit(Limit::Files))),
         AuxEnd::TopMissing => Ok(FilesRead::Ends(End::NoTopFile)),
         AuxEnd::FileLimit => Ok(FilesRead::Ends(End::Limit(Limit::File))),
-    }
-}
-
-// Looks for the style that a job names, if it names one.
-fn named_style<'a, F: Finder, L: Sink>(
-    alloc: Global,
-    finder: &mut F,
-    job: &'a AuxJob,
-    journal: &mut Journal<'_, L>,
-) -> Result<FilesRead<'a>, Fault>
-    ensures reads { ByAnswers (F.content finder.old) (F.answers finder.old) (F.answers finder.new) (λ asked. AreAmong asked (names_in job.entry.now)) (λ files.
-        ReadsAs result (counts_at journal.old, counts_at journal.new) (journal.old.sink.received, journal.new.sink.received) (style_named files job.entry.now job.entry.now.style)) }
-    ensures fits { IfOk result (λ read. StyleFits read) }
-    ensures stays { F.content finder.new ≡ F.content finder.old }
-    ensures counts { CountsOfReading result (F.failures finder.old, F.failures finder.new) journal.old journal.new }
-{
-    match job.style() {
-        Some(name) => find_style(alloc, finder, job, name, journal),
-        None => Ok(FilesRead::Ends(End::Finished)),
     }
 }
 

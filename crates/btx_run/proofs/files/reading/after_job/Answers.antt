@@ -1,21 +1,29 @@
-use Rattle.std.proofs.Common.{refl, rules, ◌≡◌}
+use Rattle.std.proofs.Common.{refl, rules, ◌≡◌, None, Some}
 use Rattle.btx_aux.specs.declared.end.End.TheVariants as aux
 use Rattle.btx_aux.proofs.AnswerLemmas.{by_map, by_none}
 use Rattle.btx_run.specs.refinement.Files.Counts.{counts_at}
 use Rattle.btx_run.specs.refinement.Files.Asked.{names_in}
-use Rattle.btx_run.proofs.AskedLemmas.{among-none}
-use Rattle.btx_run.proofs.ReadingLemmas.{after_long, after_many, after_none, after_whole, reads_is}
+use Rattle.btx_run.proofs.AskedLemmas.{among-named, among-none}
+use Rattle.btx_run.proofs.ReadingLemmas.{after_long, after_many, after_named, after_none, after_unnamed, reads_is}
 use Rattle.btx_run.proofs.files.reading.after_job.Goals as goal
 
-pub returns-in-Whole-clause-reads : goal.returns-in-Whole-clause-reads
-returns-in-Whole-clause-reads g c =
-    let is : c.args.job.now.ending ≡ aux.Whole = search rules in
-    by_map c.named_style.ensures.reads (λ names among. among)
-    (λ files read. reads_is c.named_style.result (counts_at c.args.journal.now, counts_at c.named_style.new.journal) (
+pub returns-in-Some-clause-reads : goal.returns-in-Some-clause-reads
+returns-in-Some-clause-reads g c =
+    let whole : c.args.job.now.ending ≡ aux.Whole = search rules in
+    let is : c.args.job.now.style ≡ Some c.in-Some.name.now = search (rules, c.in-Some.ensures) in
+    by_map c.find_style.ensures.reads (among-named c.args.job.now c.in-Some.name.now is)
+    (λ files read. reads_is c.find_style.result (counts_at c.args.journal.now, counts_at c.find_style.new.journal) (
       c.args.journal.now.sink.received,
-      c.named_style.new.journal.sink.received,
+      c.find_style.new.journal.sink.received,
     ) _ _
-    (after_whole files c.args.job.now c.args.job.now.ending is) read)
+    (after_named files c.args.job.now c.args.job.now.ending c.in-Some.name.now whole is) read)
+
+pub returns-in-None-clause-reads : goal.returns-in-None-clause-reads
+returns-in-None-clause-reads g c =
+    let whole : c.args.job.now.ending ≡ aux.Whole = search rules in
+    let is : c.args.job.now.style ≡ None = search (rules, c.in-None.ensures) in
+    by_none refl (among-none (names_in c.args.job.now))
+    (λ files. after_unnamed files c.args.job.now c.args.job.now.ending (counts_at c.args.journal.now) c.args.journal.now.sink.received whole is)
 
 pub returns-in-TooManyOpen-clause-reads : goal.returns-in-TooManyOpen-clause-reads
 returns-in-TooManyOpen-clause-reads g c =
