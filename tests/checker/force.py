@@ -48,16 +48,22 @@ def fault_in(log):
 # ---- one style ----
 
 
-def wrong_in_reference(files, options, said, ran):
-    """What is wrong in the reference's run, or None."""
+def run_deep(files, options):
+    """The reference's run, and the greatest number of literals on its stack."""
     DeepMachine.most = 0
     with mock.patch.object(product, "Machine", DeepMachine):
         made = run(files, b"job", options)
+    return made, DeepMachine.most
+
+
+def wrong_in_reference(files, options, said, ran):
+    """What is wrong in the reference's run, or None."""
+    made, most = run_deep(files, options)
     fault = fault_in(made.log)
     if fault or made.report.end in LIMITS:
         return fault or made.report.end.encode()
-    if made.report.deepest > said.bodies or DeepMachine.most > said.literals:
-        return b"%d bodies are open at once, and %d literals on the stack" % (made.report.deepest, DeepMachine.most)
+    if made.report.deepest > said.bodies or most > said.literals:
+        return b"%d bodies are open at once, and %d literals on the stack" % (made.report.deepest, most)
     if (ran.list, ran.log) != (made.list, made.log):
         return b"the library's run differs"
     return None
