@@ -1,5 +1,5 @@
 -- The worked jobs of btx_run, computed for the one product that stands in the relation.
-use Rattle.std.proofs.Common.{codes, refl, ap, ◌∙◌, ◌≡◌, ◌≤◌, arith}
+use Rattle.std.proofs.Common.{List, [], ◌∷◌, codes, refl, ap, ◌∙◌, ◌≡◌, ◌≤◌, arith}
 use Rattle.btx_core.proofs.ThereIsProduct.{behind_there, goes_there, come_there, executed_there, styled_there, found_there, named_there, asked_there}
 use Rattle.btx_core.proofs.ThereIsProduct.{behind_files_there, holds}
 use Rattle.btx_core.proofs.StyleThere.{next_has, opened_has, closed_has, named_has, text_has, where_has, makes_has, missing_both, gap_same, names_within}
@@ -57,7 +57,7 @@ use Rattle.btx_core.specs.language.Files.Lines.{database_line, no_database_line,
 use Rattle.btx_core.specs.refinement.Files.Readings.{after_job, style_named, style_read}
 use Rattle.btx_core.specs.laws.WorkedJobs as jobs
 use Rattle.btx_core.specs.laws.WorkedJobs.{WorkedJob, outputs_shown}
-use Rattle.btx_core.specs.laws.ProductLaws.{IsWorked, WorkedProducts}
+use Rattle.btx_core.specs.laws.ProductLaws.{AreWorked, IsWorked, WorkedProducts}
 use Rattle.btx_core.proofs.ProductLemmas as only
 use Rattle.btx_aux.specs.laws.Pairs.{files_of_pairs}
 use Rattle.btx_bst.specs.language.MessageTexts.{complaint_text}
@@ -83,10 +83,23 @@ computes = tt
 abbrev pub IsTheOne : (job : WorkedJob) → 3 ≤ job.options.line → Type 0
 IsTheOne job wide = outputs_shown (holds (files_of_pairs job.files) (codes "job") job.options wide).0 ≡ (job.list, job.log, job.status)
 
-pub by_the_one : (job : WorkedJob) (wide : 3 ≤ job.options.line) → IsTheOne job wide → IsWorked job
+by_the_one : (job : WorkedJob) (wide : 3 ≤ job.options.line) → IsTheOne job wide → IsWorked job
 by_the_one job wide is product stands =
     let one = holds (files_of_pairs job.files) (codes "job") job.options wide in
     ap outputs_shown (only.holds (files_of_pairs job.files) (codes "job") job.options wide product one.0 stands one.1) ∙ is
+
+-- of each of these jobs
+abbrev pub AreTheOnes : List WorkedJob → Type 0
+AreTheOnes [] = Unit {0}
+AreTheOnes (job ∷ jobs) = ((wide : 3 ≤ job.options.line) × IsTheOne job wide) × AreTheOnes jobs
+
+pub all_by_the_one : (jobs : List WorkedJob) → AreTheOnes jobs → AreWorked jobs
+all_by_the_one [] are = tt
+all_by_the_one (job ∷ jobs) (is, are) = (by_the_one job is.0 is.1, all_by_the_one jobs are)
+
+infixr 5 ◌⨾◌
+pub ◌⨾◌ : {A B : Type 0} → A → B → A × B
+here ⨾ behind = (here, behind)
 
 a_citation_is : IsTheOne jobs.a_citation (omega arith)
 unfolding computes
@@ -173,67 +186,11 @@ unfolding computes
 too_many_open_is = refl
 
 pub worked : WorkedProducts
-worked = (
-  by_the_one jobs.a_citation (omega arith) a_citation_is,
-  (
-    by_the_one jobs.cross_references (omega arith) cross_references_is,
-    (
-      by_the_one jobs.fewer_references (omega arith) fewer_references_is,
-      (
-        by_the_one jobs.all_cited (omega arith) all_cited_is,
-        (
-          by_the_one jobs.sorted_entries (omega arith) sorted_entries_is,
-          (
-            by_the_one jobs.reversed_entries (omega arith) reversed_entries_is,
-            (
-              by_the_one jobs.macros (omega arith) macros_is,
-              (
-                by_the_one jobs.broken_lines (omega arith) broken_lines_is,
-                (
-                  by_the_one jobs.no_top_file (omega arith) no_top_file_is,
-                  (
-                    by_the_one jobs.no_style (omega arith) no_style_is,
-                    (
-                      by_the_one jobs.missing_database (omega arith) missing_database_is,
-                      (
-                        by_the_one jobs.undefined_key (omega arith) undefined_key_is,
-                        (
-                          by_the_one jobs.error_of_a_style (omega arith) error_of_a_style_is,
-                          (
-                            by_the_one jobs.error_of_a_database (omega arith) error_of_a_database_is,
-                            (
-                              by_the_one jobs.messages_in_order (omega arith) messages_in_order_is,
-                              (
-                                by_the_one jobs.literal_left (omega arith) literal_left_is,
-                                (
-                                  by_the_one jobs.warned (omega arith) warned_is,
-                                  (
-                                    by_the_one jobs.stopped (omega arith) stopped_is,
-                                    (
-                                      by_the_one jobs.too_deep (omega arith) too_deep_is,
-                                      (
-                                        by_the_one jobs.too_many_literals (omega arith) too_many_literals_is,
-                                        (
-                                          by_the_one jobs.too_many_open (omega arith) too_many_open_is,
-                                          tt,
-                                        ),
-                                      ),
-                                    ),
-                                  ),
-                                ),
-                              ),
-                            ),
-                          ),
-                        ),
-                      ),
-                    ),
-                  ),
-                ),
-              ),
-            ),
-          ),
-        ),
-      ),
-    ),
-  ),
-)
+worked =
+    all_by_the_one jobs.worked_jobs
+    ((omega arith, a_citation_is) ⨾ (omega arith, cross_references_is) ⨾ (omega arith, fewer_references_is) ⨾ (omega arith, all_cited_is)
+    ⨾ (omega arith, sorted_entries_is) ⨾ (omega arith, reversed_entries_is) ⨾ (omega arith, macros_is) ⨾ (omega arith, broken_lines_is)
+    ⨾ (omega arith, no_top_file_is) ⨾ (omega arith, no_style_is) ⨾ (omega arith, missing_database_is) ⨾ (omega arith, undefined_key_is)
+    ⨾ (omega arith, error_of_a_style_is) ⨾ (omega arith, error_of_a_database_is) ⨾ (omega arith, messages_in_order_is) ⨾ (omega arith, literal_left_is)
+    ⨾ (omega arith, warned_is) ⨾ (omega arith, stopped_is) ⨾ (omega arith, too_deep_is) ⨾ (omega arith, too_many_literals_is)
+    ⨾ (omega arith, too_many_open_is) ⨾ tt)

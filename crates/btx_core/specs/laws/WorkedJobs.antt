@@ -1,5 +1,7 @@
 -- Worked jobs: what whole runs write and answer, from the bytes of their files to the list of references, the log and the status. The values are
 -- those of the reference, which was written from the rules alone.
+use Prim.Native.String.{String}
+use Rattle.std.specs.List.{flat_map}
 use Rattle.std.specs.Prelude.{◌≡◌, ℕ, List, [], ◌∷◌, ◌++◌, codes}
 use Rattle.btx_text.specs.declared.element_kind.TextMode.TheVariants as mode
 use Rattle.btx_aux.specs.laws.Pairs.{files_of_pairs}
@@ -34,20 +36,24 @@ IsSo job = outputs_shown (product (files_of_pairs job.files) (codes "job") job.o
 -- ---- files and options
 
 -- the file `job.aux`: it cites these keys, and names these databases and the style `s`
-abbrev pub aux_citing : List ℕ → List ℕ → File
-aux_citing keys databases = (codes "job.aux", codes "\\citation{" ++ keys ++ codes "}\n\\bibdata{" ++ databases ++ codes "}\n\\bibstyle{s}\n")
+abbrev pub aux_citing : String → String → File
+aux_citing keys databases = (codes "job.aux", codes "\\citation{" ++ codes keys ++ codes "}\n\\bibdata{" ++ codes databases ++ codes "}\n\\bibstyle{s}\n")
+
+-- the file `s.bst` of this text
+abbrev pub whole_style : String → File
+whole_style text = (codes "s.bst", codes text)
 
 -- the file `s.bst`, whose entries are of the type `misc` and have a title; this stands behind READ
-abbrev pub style_file : List ℕ → File
-style_file text = (codes "s.bst", codes "ENTRY {title}{}{} FUNCTION {misc}{} READ " ++ text)
+abbrev pub style_file : String → File
+style_file text = (codes "s.bst", codes "ENTRY {title}{}{} FUNCTION {misc}{} READ " ++ codes text)
 
 -- the file `d.bib`
-abbrev pub database_file : List ℕ → File
-database_file text = (codes "d.bib", text)
+abbrev pub database_file : String → File
+database_file text = (codes "d.bib", codes text)
 
 -- an `.aux` file of this name, whose one line opens another
-abbrev pub aux_opening : List ℕ → List ℕ → File
-aux_opening name next = (name ++ codes ".aux", codes "\\@input{" ++ next ++ codes ".aux}\n")
+abbrev pub aux_opening : String → String → File
+aux_opening name next = (codes name ++ codes ".aux", codes "\\@input{" ++ codes next ++ codes ".aux}\n")
 
 -- the usual options, with a budget, the least number of references of a parent that isn't cited, and the greatest length of a line
 abbrev pub options : ℕ → ℕ → ℕ → Options
@@ -64,233 +70,190 @@ options budget references line = record {
 abbrev pub usual : Options
 usual = options 1000 2 79
 
+-- ---- rows
+
+-- lines, each with its end
+abbrev pub lines : List String → List ℕ
+lines texts = flat_map (λ (text : String). codes text ++ codes "\n") texts
+
 -- the lines of the log on the files of a job that has all three
-abbrev pub files_logged : List ℕ
-files_logged = codes "The top-level auxiliary file: job.aux\nThe style file: s.bst\nDatabase file #1: d.bib\n"
+abbrev pub files_logged : List String
+files_logged = "The top-level auxiliary file: job.aux" ∷ "The style file: s.bst" ∷ "Database file #1: d.bib" ∷ []
+
+-- a run with these files, which comes to this list, these lines of the log, and this status
+abbrev pub comes_to : List File → String → List String → ℕ → WorkedJob
+comes_to files list log status = worked_job files usual (codes list) (lines log) status
+
+-- the files of a run that cites these keys: its database, and its style behind READ
+abbrev pub files_of : String → String → String → List File
+files_of keys database style = aux_citing keys "d" ∷ database_file database ∷ style_file style ∷ []
+
+-- a run that cites these keys, with this database and style, which comes to this list, these lines of the log behind those on files, and this status
+abbrev pub gathers : String → String → String → String → List String → ℕ → WorkedJob
+gathers keys database style list log status = comes_to (files_of keys database style) list (files_logged ++ log) status
+
+-- a run that logs nothing but its files and its end: its keys, database and style, the list, and the number of its steps
+abbrev pub lists : String → String → String → String → String → WorkedJob
+lists keys database style list steps =
+    worked_job (files_of keys database style) usual (codes list)
+    (lines files_logged ++ codes "Ended: finished, warnings 0, errors 0, steps " ++ codes steps ++ codes "\n") 0
+
+-- the same run with these options
+abbrev pub under : Options → WorkedJob → WorkedJob
+under asked job = record job { options = asked }
+
+-- ---- texts
+
+-- a style that writes each entry's key
+abbrev pub shows_key : String
+shows_key = "FUNCTION {f} {cite$ write$ newline$} ITERATE {f}"
+
+-- a style that writes each entry's title
+abbrev pub writes_title : String
+writes_title = "FUNCTION {f} {title write$ newline$} ITERATE {f}"
+
+-- a database with one entry, which has a title
+abbrev pub one_entry : String
+one_entry = "@misc{k, title = {T}}\n"
 
 -- ---- entries
 
 -- a citation comes to a line of the list
 abbrev pub a_citation : WorkedJob
-a_citation =
-    worked_job
-    (aux_citing (codes "k") (codes "d") ∷ style_file (codes "FUNCTION {f} {cite$ write$ \": \" write$ title write$ newline$} ITERATE {f}")
-    ∷ database_file (codes "@misc{k, title = {T}}\n") ∷ [])
-    usual
-    (codes "k: T\n") (files_logged ++ codes "Ended: finished, warnings 0, errors 0, steps 8\n") 0
+a_citation = lists "k" "@misc{k, title = {T}}\n" "FUNCTION {f} {cite$ write$ \": \" write$ title write$ newline$} ITERATE {f}" "k: T\n" "8"
 
 -- a parent that two cited entries name stays in the list, behind them, and they have its fields
 abbrev pub cross_references : WorkedJob
 cross_references =
-    worked_job
-    (aux_citing (codes "a,b") (codes "d") ∷ style_file (codes "FUNCTION {f} {cite$ write$ \" \" write$ title write$ newline$} ITERATE {f}")
-    ∷ database_file (codes "@misc{a, crossref = {p}}\n@misc{b, crossref = {P}}\n@misc{p, title = {Whole}}\n") ∷ [])
-    usual
-    (codes "a Whole\nb Whole\np Whole\n") (files_logged ++ codes "Ended: finished, warnings 0, errors 0, steps 24\n") 0
+    lists "a,b" "@misc{a, crossref = {p}}\n@misc{b, crossref = {P}}\n@misc{p, title = {Whole}}\n"
+    "FUNCTION {f} {cite$ write$ \" \" write$ title write$ newline$} ITERATE {f}" "a Whole\nb Whole\np Whole\n" "24"
 
 -- with one reference enough, one child keeps its parent
 abbrev pub fewer_references : WorkedJob
-fewer_references =
-    worked_job
-    (aux_citing (codes "a") (codes "d") ∷ style_file (codes "FUNCTION {f} {cite$ write$ newline$} ITERATE {f}")
-    ∷ database_file (codes "@misc{a, crossref = {p}}\n@misc{p}\n") ∷ [])
-    (options 1000 1 79)
-    (codes "a\np\n") (files_logged ++ codes "Ended: finished, warnings 0, errors 0, steps 8\n") 0
+fewer_references = under (options 1000 1 79) (lists "a" "@misc{a, crossref = {p}}\n@misc{p}\n" shows_key "a\np\n" "8")
 
 -- `*` stands for all entries, in the order of the database
 abbrev pub all_cited : WorkedJob
-all_cited =
-    worked_job
-    (aux_citing (codes "*") (codes "d") ∷ style_file (codes "FUNCTION {f} {cite$ write$ newline$} ITERATE {f}") ∷ database_file (codes "@misc{b}\n@misc{a}\n") ∷ [])
-    usual
-    (codes "b\na\n") (files_logged ++ codes "Ended: finished, warnings 0, errors 0, steps 8\n") 0
+all_cited = lists "*" "@misc{b}\n@misc{a}\n" shows_key "b\na\n" "8"
 
 -- SORT orders the entries by their sort keys
 abbrev pub sorted_entries : WorkedJob
 sorted_entries =
-    worked_job
-    (aux_citing (codes "b,a") (codes "d")
-    ∷ style_file (codes "FUNCTION {f} {cite$ 'sort.key$ :=} ITERATE {f} SORT FUNCTION {g} {cite$ write$ newline$} ITERATE {g}")
-    ∷ database_file (codes "@misc{a}\n@misc{b}\n") ∷ [])
-    usual
-    (codes "a\nb\n") (files_logged ++ codes "Ended: finished, warnings 0, errors 0, steps 16\n") 0
+    lists "b,a" "@misc{a}\n@misc{b}\n" "FUNCTION {f} {cite$ 'sort.key$ :=} ITERATE {f} SORT FUNCTION {g} {cite$ write$ newline$} ITERATE {g}" "a\nb\n" "16"
 
 -- REVERSE goes through the entries from the last to the first, and what follows it doesn't
 abbrev pub reversed_entries : WorkedJob
-reversed_entries =
-    worked_job
-    (aux_citing (codes "a,b") (codes "d") ∷ style_file (codes "FUNCTION {f} {cite$ write$ newline$} REVERSE {f} ITERATE {f}")
-    ∷ database_file (codes "@misc{a}\n@misc{b}\n") ∷ [])
-    usual
-    (codes "b\na\na\nb\n") (files_logged ++ codes "Ended: finished, warnings 0, errors 0, steps 16\n") 0
+reversed_entries = lists "a,b" "@misc{a}\n@misc{b}\n" "FUNCTION {f} {cite$ write$ newline$} REVERSE {f} ITERATE {f}" "b\na\na\nb\n" "16"
 
 -- the macros of a style and of a database stand for their texts
 abbrev pub macros : WorkedJob
 macros =
-    worked_job
-    (aux_citing (codes "k") (codes "d")
-    ∷ (codes "s.bst", codes "ENTRY {title}{}{} FUNCTION {misc}{} MACRO {m} {\"M\"} READ FUNCTION {f} {title write$ newline$} ITERATE {f}")
-    ∷ database_file (codes "@string{v = \"V\" # m}\n@misc{k, title = v # \"!\"}\n") ∷ [])
-    usual
-    (codes "VM!\n") (files_logged ++ codes "Ended: finished, warnings 0, errors 0, steps 4\n") 0
+    comes_to
+    (aux_citing "k" "d" ∷ whole_style "ENTRY {title}{}{} FUNCTION {misc}{} MACRO {m} {\"M\"} READ FUNCTION {f} {title write$ newline$} ITERATE {f}"
+    ∷ database_file "@string{v = \"V\" # m}\n@misc{k, title = v # \"!\"}\n" ∷ [])
+    "VM!\n" (files_logged ++ "Ended: finished, warnings 0, errors 0, steps 4" ∷ []) 0
 
 -- a line that is too long is broken at whitespace
 abbrev pub broken_lines : WorkedJob
 broken_lines =
-    worked_job
-    (aux_citing (codes "k") (codes "d") ∷ style_file (codes "FUNCTION {f} {title write$ newline$} ITERATE {f}")
-    ∷ database_file (codes "@misc{k, title = {one two three four five six seven}}\n") ∷ [])
-    (options 1000 2 20)
-    (codes "one two three four\n  five six seven\n") (files_logged ++ codes "Ended: finished, warnings 0, errors 0, steps 4\n") 0
+    under (options 1000 2 20) (lists "k" "@misc{k, title = {one two three four five six seven}}\n" writes_title "one two three four\n  five six seven\n" "4")
 
 -- ---- what is wrong
 
 -- without its top file a run ends at once
 abbrev pub no_top_file : WorkedJob
-no_top_file = worked_job [] usual [] (codes "Ended: no top file, warnings 0, errors 0, steps 0\n") 3
+no_top_file = comes_to [] "" ("Ended: no top file, warnings 0, errors 0, steps 0" ∷ []) 3
 
 -- without its style a run ends behind an error
 abbrev pub no_style : WorkedJob
 no_style =
-    worked_job
-    (aux_citing (codes "k") (codes "d") ∷ database_file (codes "@misc{k, title = {T}}\n") ∷ [])
-    usual
-    []
-    (codes "The top-level auxiliary file: job.aux\nError--I couldn't open style file s.bst\nEnded: finished, warnings 0, errors 1, steps 0\n")
-    2
+    comes_to (aux_citing "k" "d" ∷ database_file one_entry ∷ []) ""
+    ("The top-level auxiliary file: job.aux" ∷ "Error--I couldn't open style file s.bst" ∷ "Ended: finished, warnings 0, errors 1, steps 0" ∷ []) 2
 
 -- a database that is missing is an error
 abbrev pub missing_database : WorkedJob
 missing_database =
-    worked_job
-    (aux_citing (codes "k") (codes "gone,d") ∷ style_file (codes "FUNCTION {f} {title write$ newline$} ITERATE {f}")
-    ∷ database_file (codes "@misc{k, title = {T}}\n") ∷ [])
-    usual
-    (codes "T\n")
-    (codes "The top-level auxiliary file: job.aux\nThe style file: s.bst\nError--I couldn't open database file gone.bib\nDatabase file #1: d.bib\n"
-    ++ codes "Ended: finished, warnings 0, errors 1, steps 4\n")
-    2
+    comes_to (aux_citing "k" "gone,d" ∷ style_file writes_title ∷ database_file one_entry ∷ []) "T\n"
+    ("The top-level auxiliary file: job.aux" ∷ "The style file: s.bst" ∷ "Error--I couldn't open database file gone.bib" ∷ "Database file #1: d.bib"
+    ∷ "Ended: finished, warnings 0, errors 1, steps 4" ∷ []) 2
 
 -- a key without an entry is a warning
 abbrev pub undefined_key : WorkedJob
 undefined_key =
-    worked_job
-    (aux_citing (codes "nope") (codes "d") ∷ style_file (codes "FUNCTION {f} {cite$ write$ newline$} ITERATE {f}")
-    ∷ database_file (codes "@misc{k, title = {T}}\n") ∷ [])
-    usual
-    []
-    (files_logged ++ codes "Warning--I didn't find a database entry for \"nope\"\nEnded: finished, warnings 1, errors 0, steps 0\n")
-    0
+    gathers "nope" one_entry shows_key ""
+    ("Warning--I didn't find a database entry for \"nope\"" ∷ "Ended: finished, warnings 1, errors 0, steps 0" ∷ []) 0
 
 -- what is no command of a style is an error at its line
 abbrev pub error_of_a_style : WorkedJob
 error_of_a_style =
-    worked_job
-    (aux_citing (codes "k") (codes "d")
-    ∷ (codes "s.bst", codes "nonsense\n\nENTRY {title}{}{} FUNCTION {misc}{} READ FUNCTION {f} {title write$ newline$} ITERATE {f}")
-    ∷ database_file (codes "@misc{k, title = {T}}\n") ∷ [])
-    usual
-    (codes "T\n")
-    (files_logged ++ codes "Error--nonsense isn't a command--line 1 of file s.bst\nEnded: finished, warnings 0, errors 1, steps 4\n")
-    2
+    comes_to
+    (aux_citing "k" "d" ∷ database_file one_entry
+    ∷ whole_style "nonsense\n\nENTRY {title}{}{} FUNCTION {misc}{} READ FUNCTION {f} {title write$ newline$} ITERATE {f}" ∷ []) "T\n"
+    (files_logged ++ "Error--nonsense isn't a command--line 1 of file s.bst" ∷ "Ended: finished, warnings 0, errors 1, steps 4" ∷ []) 2
 
 -- of two entries with one key the first stays
 abbrev pub error_of_a_database : WorkedJob
 error_of_a_database =
-    worked_job
-    (aux_citing (codes "k") (codes "d") ∷ style_file (codes "FUNCTION {f} {title write$ newline$} ITERATE {f}")
-    ∷ database_file (codes "@misc{k, title = {T}}\n@misc{K, title = {U}}\n") ∷ [])
-    usual
-    (codes "T\n")
-    (files_logged ++ codes "Error--Repeated entry--line 2 of file d.bib\nEnded: finished, warnings 0, errors 1, steps 4\n")
-    2
+    gathers "k" "@misc{k, title = {T}}\n@misc{K, title = {U}}\n" writes_title "T\n"
+    ("Error--Repeated entry--line 2 of file d.bib" ∷ "Ended: finished, warnings 0, errors 1, steps 4" ∷ []) 2
 
 -- the log has the messages of the databases first, then those of cross-references, and then those of keys without an entry
 abbrev pub messages_in_order : WorkedJob
 messages_in_order =
-    worked_job
-    (aux_citing (codes "gone,a") (codes "d,e") ∷ style_file (codes "FUNCTION {f} {cite$ write$ newline$} ITERATE {f}")
-    ∷ database_file (codes "@misc{a, crossref = {p}}\n") ∷ (codes "e.bib", codes "\n@other{a}\n") ∷ [])
-    usual
-    (codes "a\n")
-    (files_logged ++ codes "Database file #2: e.bib\nError--Repeated entry--line 2 of file e.bib\n"
-    ++ codes "Error--A bad cross reference--entry \"a\" refers to entry \"p\", which doesn't exist\n"
-    ++ codes "Warning--I didn't find a database entry for \"gone\"\nWarning--I didn't find a database entry for \"p\"\n"
-    ++ codes "Ended: finished, warnings 2, errors 2, steps 4\n")
-    2
+    comes_to
+    (aux_citing "gone,a" "d,e" ∷ style_file shows_key ∷ database_file "@misc{a, crossref = {p}}\n" ∷ (codes "e.bib", codes "\n@other{a}\n") ∷ [])
+    "a\n"
+    (files_logged ++ "Database file #2: e.bib" ∷ "Error--Repeated entry--line 2 of file e.bib"
+    ∷ "Error--A bad cross reference--entry \"a\" refers to entry \"p\", which doesn't exist" ∷ "Warning--I didn't find a database entry for \"gone\""
+    ∷ "Warning--I didn't find a database entry for \"p\"" ∷ "Ended: finished, warnings 2, errors 2, steps 4" ∷ []) 2
 
 -- what a function leaves on the stack is an error, with its values
 abbrev pub literal_left : WorkedJob
 literal_left =
-    worked_job
-    (aux_citing (codes "k") (codes "d") ∷ style_file (codes "FUNCTION {f} {#7 \"x\"} EXECUTE {f}") ∷ database_file (codes "@misc{k, title = {T}}\n") ∷ [])
-    usual
-    []
-    (files_logged ++ codes "Error--The literal stack isn't empty while executing EXECUTE\n\"x\"\n7\nEnded: finished, warnings 0, errors 1, steps 3\n")
-    2
+    gathers "k" one_entry "FUNCTION {f} {#7 \"x\"} EXECUTE {f}" ""
+    ("Error--The literal stack isn't empty while executing EXECUTE" ∷ "\"x\"" ∷ "7" ∷ "Ended: finished, warnings 0, errors 1, steps 3" ∷ []) 2
 
 -- a style's warning is counted
 abbrev pub warned : WorkedJob
 warned =
-    worked_job
-    (aux_citing (codes "k") (codes "d") ∷ style_file (codes "FUNCTION {f} {\"look at \" cite$ * warning$} ITERATE {f}")
-    ∷ database_file (codes "@misc{k, title = {T}}\n") ∷ [])
-    usual
-    []
-    (files_logged ++ codes "Warning--look at k\nEnded: finished, warnings 1, errors 0, steps 5\n")
-    0
+    gathers "k" one_entry "FUNCTION {f} {\"look at \" cite$ * warning$} ITERATE {f}" ""
+    ("Warning--look at k" ∷ "Ended: finished, warnings 1, errors 0, steps 5" ∷ []) 0
 
 -- ---- limits and the budget
 
 -- a run whose budget is spent is stopped
 abbrev pub stopped : WorkedJob
 stopped =
-    worked_job
-    (aux_citing (codes "k") (codes "d") ∷ style_file (codes "FUNCTION {f} {\"x\" write$ newline$ {#1} {skip$} while$} EXECUTE {f}")
-    ∷ database_file (codes "@misc{k, title = {T}}\n") ∷ [])
-    (options 20 2 79)
-    (codes "x\n") (files_logged ++ codes "Ended: stopped, warnings 0, errors 0, steps 20\n") 4
+    under (options 20 2 79) (gathers "k" one_entry "FUNCTION {f} {\"x\" write$ newline$ {#1} {skip$} while$} EXECUTE {f}" "x\n"
+    ("Ended: stopped, warnings 0, errors 0, steps 20" ∷ []) 4)
 
 -- a function that calls itself through the stack meets the limit of calls
 abbrev pub too_deep : WorkedJob
 too_deep =
-    worked_job
-    (aux_citing (codes "k") (codes "d") ∷ style_file (codes "FUNCTION {h} {duplicate$ #1 swap$ 'skip$ if$} FUNCTION {g} {'h h} EXECUTE {g}")
-    ∷ database_file (codes "@misc{k, title = {T}}\n") ∷ [])
-    (options 100000 2 79)
-    [] (files_logged ++ codes "Ended: limit calls, warnings 0, errors 0, steps 24573\n") 3
+    under (options 100000 2 79) (gathers "k" one_entry "FUNCTION {h} {duplicate$ #1 swap$ 'skip$ if$} FUNCTION {g} {'h h} EXECUTE {g}" ""
+    ("Ended: limit calls, warnings 0, errors 0, steps 24573" ∷ []) 3)
 
 -- the literal stack holds 1,000 literals at most
 abbrev pub too_many_literals : WorkedJob
 too_many_literals =
-    worked_job
-    (aux_citing (codes "k") (codes "d") ∷ style_file (codes "FUNCTION {f} {{#1} {#5} while$} EXECUTE {f}")
-    ∷ database_file (codes "@misc{k, title = {T}}\n") ∷ [])
-    (options 100000 2 79)
-    [] (files_logged ++ codes "Ended: limit literals, warnings 0, errors 0, steps 4006\n") 3
+    under (options 100000 2 79) (gathers "k" one_entry "FUNCTION {f} {{#1} {#5} while$} EXECUTE {f}" ""
+    ("Ended: limit literals, warnings 0, errors 0, steps 4006" ∷ []) 3)
 
 -- at most 20 `.aux` files are open at once
 abbrev pub too_many_open : WorkedJob
 too_many_open =
-    worked_job
-    (aux_opening (codes "job") (codes "f1") ∷ aux_opening (codes "f1") (codes "f2") ∷ aux_opening (codes "f2") (codes "f3") ∷ aux_opening (codes "f3") (codes "f4")
-    ∷ aux_opening (codes "f4") (codes "f5") ∷ aux_opening (codes "f5") (codes "f6") ∷ aux_opening (codes "f6") (codes "f7") ∷ aux_opening (codes "f7") (codes "f8")
-    ∷ aux_opening (codes "f8") (codes "f9") ∷ aux_opening (codes "f9") (codes "f10") ∷ aux_opening (codes "f10") (codes "f11")
-    ∷ aux_opening (codes "f11") (codes "f12") ∷ aux_opening (codes "f12") (codes "f13") ∷ aux_opening (codes "f13") (codes "f14")
-    ∷ aux_opening (codes "f14") (codes "f15") ∷ aux_opening (codes "f15") (codes "f16") ∷ aux_opening (codes "f16") (codes "f17")
-    ∷ aux_opening (codes "f17") (codes "f18") ∷ aux_opening (codes "f18") (codes "f19") ∷ aux_opening (codes "f19") (codes "f20")
-    ∷ aux_opening (codes "f20") (codes "f21") ∷ [])
-    usual
-    []
-    (codes "The top-level auxiliary file: job.aux\nA level-1 auxiliary file: f1.aux\nA level-2 auxiliary file: f2.aux\n"
-    ++ codes "A level-3 auxiliary file: f3.aux\nA level-4 auxiliary file: f4.aux\nA level-5 auxiliary file: f5.aux\n"
-    ++ codes "A level-6 auxiliary file: f6.aux\nA level-7 auxiliary file: f7.aux\nA level-8 auxiliary file: f8.aux\n"
-    ++ codes "A level-9 auxiliary file: f9.aux\nA level-10 auxiliary file: f10.aux\nA level-11 auxiliary file: f11.aux\n"
-    ++ codes "A level-12 auxiliary file: f12.aux\nA level-13 auxiliary file: f13.aux\nA level-14 auxiliary file: f14.aux\n"
-    ++ codes "A level-15 auxiliary file: f15.aux\nA level-16 auxiliary file: f16.aux\nA level-17 auxiliary file: f17.aux\n"
-    ++ codes "A level-18 auxiliary file: f18.aux\nA level-19 auxiliary file: f19.aux\n"
-    ++ codes "Ended: limit files, warnings 0, errors 0, steps 0\n")
-    3
+    comes_to
+    (aux_opening "job" "f1" ∷ aux_opening "f1" "f2" ∷ aux_opening "f2" "f3" ∷ aux_opening "f3" "f4" ∷ aux_opening "f4" "f5" ∷ aux_opening "f5" "f6"
+    ∷ aux_opening "f6" "f7" ∷ aux_opening "f7" "f8" ∷ aux_opening "f8" "f9" ∷ aux_opening "f9" "f10" ∷ aux_opening "f10" "f11" ∷ aux_opening "f11" "f12"
+    ∷ aux_opening "f12" "f13" ∷ aux_opening "f13" "f14" ∷ aux_opening "f14" "f15" ∷ aux_opening "f15" "f16" ∷ aux_opening "f16" "f17"
+    ∷ aux_opening "f17" "f18" ∷ aux_opening "f18" "f19" ∷ aux_opening "f19" "f20" ∷ aux_opening "f20" "f21" ∷ [])
+    ""
+    ("The top-level auxiliary file: job.aux" ∷ "A level-1 auxiliary file: f1.aux" ∷ "A level-2 auxiliary file: f2.aux" ∷ "A level-3 auxiliary file: f3.aux"
+    ∷ "A level-4 auxiliary file: f4.aux" ∷ "A level-5 auxiliary file: f5.aux" ∷ "A level-6 auxiliary file: f6.aux" ∷ "A level-7 auxiliary file: f7.aux"
+    ∷ "A level-8 auxiliary file: f8.aux" ∷ "A level-9 auxiliary file: f9.aux" ∷ "A level-10 auxiliary file: f10.aux" ∷ "A level-11 auxiliary file: f11.aux"
+    ∷ "A level-12 auxiliary file: f12.aux" ∷ "A level-13 auxiliary file: f13.aux" ∷ "A level-14 auxiliary file: f14.aux"
+    ∷ "A level-15 auxiliary file: f15.aux" ∷ "A level-16 auxiliary file: f16.aux" ∷ "A level-17 auxiliary file: f17.aux"
+    ∷ "A level-18 auxiliary file: f18.aux" ∷ "A level-19 auxiliary file: f19.aux" ∷ "Ended: limit files, warnings 0, errors 0, steps 0" ∷ []) 3
 
 -- ---- all of them
 
