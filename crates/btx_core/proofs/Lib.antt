@@ -4,6 +4,7 @@ pub mod ComputedLemmas
 pub mod DivisionsThere
 pub mod MeaningLemmas
 pub mod PartLemmas
+pub mod RuleLemmas
 pub mod StyleLemmas
 pub mod StyleThere
 pub mod AuxLemmas

@@ -70,17 +70,28 @@ both_items items first second xs ys e f =
       mapped [] = refl
       mapped (z ∷ zs) = ap (λ (is : List Item). item_of z ∷ is) (mapped zs)
 
+-- the messages of a word, and those of what stands behind it
+word_before : (a : Numbers) (names : Names) (means : List ℕ → Option Function) → MeanSame a names means → (line : ℕ) (w : BodyWord) (m : Made)
+    (behind : List Message) (last : List Item)
+    → last ≡ (made_word names line w m).items ++ map item_of behind → last ≡ m.items ++ map item_of (wrong_in_word means line w ++ behind)
+word_before a names means h line w m behind last =
+    both_items m.items (made_word names line w m).items last (wrong_in_word means line w) behind (word_items a names means h line w m)
+
+-- and those of a group
+group_before : (means : List ℕ → Option Function) (inside : Parts) (m made : Made) (behind : List Message) (last : List Item)
+    → made.items ≡ m.items ++ map item_of (wrong_in means inside) → last ≡ made.items ++ map item_of behind
+    → last ≡ m.items ++ map item_of (wrong_in means inside ++ behind)
+group_before means inside m made behind last = both_items m.items made.items last (wrong_in means inside) behind
+
 -- the messages of a body, behind the items before it
 pub parts_items : (a : Numbers) (names : Names) (means : List ℕ → Option Function) → MeanSame a names means → (parts : Parts) (m : Made)
     → (made_by names parts m).items ≡ m.items ++ map item_of (wrong_in means parts)
 unfolding made_by
 parts_items a names means h Nothing m = sym (append-nil m.items)
 parts_items a names means h (Plain line w more) m =
-    both_items m.items (made_word names line w m).items _ (wrong_in_word means line w) (wrong_in means more) (word_items a names means h line w m)
-    (parts_items a names means h more (made_word names line w m))
+    word_before a names means h line w m (wrong_in means more) _ (parts_items a names means h more (made_word names line w m))
 parts_items a names means h (Group inside more) m =
-    both_items m.items (made_by names inside (nameless_begun m)).items _ (wrong_in means inside) (wrong_in means more)
-    (parts_items a names means h inside (nameless_begun m))
+    group_before means inside m (made_by names inside (nameless_begun m)) (wrong_in means more) _ (parts_items a names means h inside (nameless_begun m))
     (parts_items a names means h more (nameless_defined m.tokens (made_by names inside (nameless_begun m))))
 
 -- and of one that breaks off
@@ -89,11 +100,9 @@ pub fragment_items : (a : Numbers) (names : Names) (means : List ℕ → Option 
 unfolding made_till
 fragment_items a names means h (Here wrong) m = sym (append-nil m.items)
 fragment_items a names means h (After line w more) m =
-    both_items m.items (made_word names line w m).items _ (wrong_in_word means line w) (wrong_till means more) (word_items a names means h line w m)
-    (fragment_items a names means h more (made_word names line w m))
+    word_before a names means h line w m (wrong_till means more) _ (fragment_items a names means h more (made_word names line w m))
 fragment_items a names means h (AfterGroup inside more) m =
-    both_items m.items (made_by names inside (nameless_begun m)).items _ (wrong_in means inside) (wrong_till means more)
-    (parts_items a names means h inside (nameless_begun m))
+    group_before means inside m (made_by names inside (nameless_begun m)) (wrong_till means more) _ (parts_items a names means h inside (nameless_begun m))
     (fragment_items a names means h more (nameless_defined m.tokens (made_by names inside (nameless_begun m))))
 fragment_items a names means h (Inner inside) m = fragment_items a names means h inside (nameless_begun m)
 

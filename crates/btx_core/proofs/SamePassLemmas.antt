@@ -7,6 +7,7 @@ use Rattle.std.specs.Option.{option_map_or, option_or}
 use Rattle.std.specs.Prelude.{codes, slice_get, ◌&&◌, ◌||◌}
 use Rattle.std.specs.Str.{bytes_eq}
 use Rattle.std.proofs.lemmas.Bool.{ltb-true, lt-ltb}
+use Rattle.std.proofs.Math.Bool.{and-true, and-false}
 use Rattle.std.proofs.lemmas.Iterator.Adapters.{position_from-zero}
 use Rattle.std.proofs.lemmas.List.{length-append}
 use Rattle.std.proofs.lemmas.Option.{slice_get-map}
@@ -243,6 +244,21 @@ module _ (numbers : Numbers) (R : NumberedRequest) (Q : Request) (h : SameReques
     pub values_are : (name : List ℕ) → bytes_eq name (codes "crossref") ≡ false → value_named R.field (body_values s.body) name ≡ values name
     pub parent_is : parent_at s ≡ its_parent
 
+  -- the same place, whose body has these values and this parent
+  with_values : (values others : List ℕ → Option (List ℕ)) (its_parent other : Option (List ℕ)) (j : ℕ) (s t : NumberedSlot)
+      (p : Place values its_parent j s) → t.key ≡ s.key → t.stays ≡ s.stays → IsSameBody t.body p.c.entry
+      → ((name : List ℕ) → bytes_eq name (codes "crossref") ≡ false → value_named R.field (body_values t.body) name ≡ others name) → parent_at t ≡ other
+      → Place others other j t
+  with_values values others its_parent other j s t p same_key same_stays body are is = record {
+    c = p.c;
+    there = p.there;
+    key = same_key ∙ p.key;
+    stays = same_stays ∙ p.stays;
+    body = body;
+    values_are = are;
+    parent_is = is;
+  }
+
   has_body : (b : Option Body) (e : Option Stored) → IsSameBody b e → is_some e ≡ is_some b
   has_body None None k = refl
   has_body (Some b) (Some e) k = refl
@@ -270,17 +286,10 @@ module _ (numbers : Numbers) (R : NumberedRequest) (Q : Request) (h : SameReques
 
     -- an entry that names no parent that is listed keeps what it has
     alone : (k : ℕ) (s : NumberedSlot) → Own k s → parent C k ≡ None → parent_key C k ≡ own C k (codes "crossref") → Passed k s
-    alone k s p none same = record {
-      c = p.c;
-      there = p.there;
-      key = p.key;
-      stays = p.stays;
-      body = p.body;
-      values_are = λ name apart. p.values_are name apart
-          ∙ sym (inherits k name ∙ ap (λ (o : Option ℕ). option_or (own C k name) (option_and_then (λ j. if nat_lt j k then value j name else own C j name) o))
-          none ∙ plain_or (own C k name));
-      parent_is = p.parent_is ∙ sym same;
-    }
+    alone k s p none same = with_values _ _ _ _ k s s p refl refl p.body (λ name apart. p.values_are name apart
+        ∙ sym (inherits k name ∙ ap (λ (o : Option ℕ). option_or (own C k name) (option_and_then (λ j. if nat_lt j k then value j name else own C j name) o)) none
+        ∙ plain_or (own C k name)))
+        (p.parent_is ∙ sym same)
 
     -- the values that an entry takes from the place of its parent
     abbrev given : ℕ → ℕ → List ℕ → Option (List ℕ)
@@ -315,17 +324,11 @@ module _ (numbers : Numbers) (R : NumberedRequest) (Q : Request) (h : SameReques
           ap (λ (x : Option Body). option_map (λ (body : Body). record body { values = inherited_values p.key (body_values x) parents }) x) f in
           let first : 0 < R.count = h.within (codes "crossref") 0 h.parent in
           let size : length b.values ≡ R.count = both.1 in
-          record {
-            c = own_k.c;
-            there = own_k.there;
-            key = own_k.key;
-            stays = own_k.stays;
-            body = subst (λ x. IsSameBody x own_k.c.entry) (sym whole)
-                (subst (λ e. IsSameBody (Some (record b { values = new })) e) (sym g) (both.0, inherited_length p.key b.values parents ∙ size));
-            values_are = λ name apart. ap (λ (x : Option Body). value_named R.field (body_values x) name) whole ∙ valued name apart (R.field name) refl size;
-            parent_is = ap (λ (x : Option Body). parent_in (body_values x)) whole ∙ inherited_parent p.key b.values parents (omega (arith, first, size))
-                ∙ sym named;
-          } where
+          with_values _ _ _ _ k s (inherited_from (Some p) s) own_k refl refl
+          (subst (λ x. IsSameBody x own_k.c.entry) (sym whole)
+          (subst (λ e. IsSameBody (Some (record b { values = new })) e) (sym g) (both.0, inherited_length p.key b.values parents ∙ size)))
+          (λ name apart. ap (λ (x : Option Body). value_named R.field (body_values x) name) whole ∙ valued name apart (R.field name) refl size)
+          (ap (λ (x : Option Body). parent_in (body_values x)) whole ∙ inherited_parent p.key b.values parents (omega (arith, first, size)) ∙ sym named) where
             inherited_value : (name : List ℕ) → value k name ≡ option_or (own C k name) (given k j name)
             inherited_value name = inherits k name ∙ ap (λ (o : Option ℕ). option_or (own C k name) (option_and_then (λ j. given k j name) o)) parent_place
 
@@ -434,16 +437,7 @@ module _ (numbers : Numbers) (R : NumberedRequest) (Q : Request) (h : SameReques
 
     -- what is left of a place is the same but for its parent
     kept_parent : (k : ℕ) (s : NumberedSlot) → Passed k s → (if keeps_parent C k then parent_key C k else None) ≡ parent_key C k → Checked k s
-    kept_parent k s p same = record {
-      c = p.c;
-      there = p.there;
-      key = p.key;
-      stays = p.stays;
-      body = p.body;
-      values_are = p.values_are;
-      parent_is = p.parent_is
-          ∙ sym same;
-    }
+    kept_parent k s p same = with_values _ _ _ _ k s s p refl refl p.body p.values_are (p.parent_is ∙ sym same)
 
     lost_parent : (k : ℕ) (s : NumberedSlot) → Passed k s → keeps_parent C k ≡ false → Checked k (without_crossref s)
     lost_parent k s p lost = by s.body refl p.c.entry refl p.body where
@@ -451,35 +445,25 @@ module _ (numbers : Numbers) (R : NumberedRequest) (Q : Request) (h : SameReques
       none = sym (ap (λ (t : Bool). if t then parent_key C k else None) lost)
 
       by : (b : Option Body) → s.body ≡ b → (e : Option Stored) → p.c.entry ≡ e → IsSameBody s.body p.c.entry → Checked k (without_crossref s)
-      by None f e g same = record {
-        c = p.c;
-        there = p.there;
-        key = p.key;
-        stays = p.stays;
-        body = subst (λ x. IsSameBody (option_map (λ (body : Body). record body { values = without_parent (body_values x) }) x) p.c.entry) (sym f)
-            (subst (λ b. IsSameBody b p.c.entry) f same);
-        values_are = λ name apart. ap (λ (x : Option Body). value_named R.field
-            (body_values (option_map (λ (body : Body). record body { values = without_parent (body_values x) }) x)) name) f
-            ∙ ap (λ (x : Option Body). value_named R.field (body_values x) name) (sym f) ∙ p.values_are name apart;
-        parent_is = ap (λ (x : Option Body). parent_in (body_values (option_map (λ (body : Body). record body { values = without_parent (body_values x) }) x)))
-            f ∙ none;
-      }
+      by None f e g same =
+          with_values _ _ _ _ k s (without_crossref s) p refl refl
+          (subst (λ x. IsSameBody (option_map (λ (body : Body). record body { values = without_parent (body_values x) }) x) p.c.entry) (sym f)
+          (subst (λ b. IsSameBody b p.c.entry) f same))
+          (λ name apart. ap (λ (x : Option Body). value_named R.field
+          (body_values (option_map (λ (body : Body). record body { values = without_parent (body_values x) }) x)) name) f
+          ∙ ap (λ (x : Option Body). value_named R.field (body_values x) name) (sym f) ∙ p.values_are name apart)
+          (ap (λ (x : Option Body). parent_in (body_values (option_map (λ (body : Body). record body { values = without_parent (body_values x) }) x))) f ∙ none)
       by (Some b) f None g same = absurd (subst (λ e. IsSameBody (Some b) e) g (subst (λ b. IsSameBody b p.c.entry) f same))
       by (Some b) f (Some e) g same =
           let both : IsSameBody (Some b) (Some e) = subst (λ e. IsSameBody (Some b) e) g (subst (λ b. IsSameBody b p.c.entry) f same) in
           let whole : (without_crossref s).body ≡ Some (record b { values = without_parent b.values }) =
           ap (λ (x : Option Body). option_map (λ (body : Body). record body { values = without_parent (body_values x) }) x) f in
-          record {
-            c = p.c;
-            there = p.there;
-            key = p.key;
-            stays = p.stays;
-            body = subst (λ x. IsSameBody x p.c.entry) (sym whole)
-                (subst (λ e. IsSameBody (Some (record b { values = without_parent b.values })) e) (sym g) (both.0, without_length b.values ∙ both.1));
-            values_are = λ name apart. ap (λ (x : Option Body). value_named R.field (body_values x) name) whole ∙ valued name apart (R.field name) refl
-                ∙ ap (λ (x : Option Body). value_named R.field (body_values x) name) (sym f) ∙ p.values_are name apart;
-            parent_is = ap (λ (x : Option Body). parent_in (body_values x)) whole ∙ without_none b.values ∙ none;
-          } where
+          with_values _ _ _ _ k s (without_crossref s) p refl refl
+          (subst (λ x. IsSameBody x p.c.entry) (sym whole)
+          (subst (λ e. IsSameBody (Some (record b { values = without_parent b.values })) e) (sym g) (both.0, without_length b.values ∙ both.1)))
+          (λ name apart. ap (λ (x : Option Body). value_named R.field (body_values x) name) whole ∙ valued name apart (R.field name) refl
+          ∙ ap (λ (x : Option Body). value_named R.field (body_values x) name) (sym f) ∙ p.values_are name apart)
+          (ap (λ (x : Option Body). parent_in (body_values x)) whole ∙ without_none b.values ∙ none) where
             valued : (name : List ℕ) → bytes_eq name (codes "crossref") ≡ false → (o : Option ℕ) → R.field name ≡ o
                 → value_named R.field (without_parent b.values) name ≡ value_named R.field b.values name
             valued name apart None q = ap (option_and_then (λ (n : ℕ). field_value n (without_parent b.values))) q
@@ -516,42 +500,29 @@ module _ (numbers : Numbers) (R : NumberedRequest) (Q : Request) (h : SameReques
       zero_less = omega arith
 
       of_checked : (t : Bool) → keeps_parent C j ≡ t → is_some (if t then parent_key C j else None) ≡ (is_some (parent_key C j) && t)
-      of_checked true f = sym (and_true (is_some (parent_key C j))) where
-        and_true : (b : Bool) → (b && true) ≡ b
-        and_true true = refl
-        and_true false = refl
-      of_checked false f = sym (and_false (is_some (parent_key C j))) where
-        and_false : (b : Bool) → (b && false) ≡ false
-        and_false true = refl
-        and_false false = refl
+      of_checked true f = sym (and-true (is_some (parent_key C j)))
+      of_checked false f = sym (and-false (is_some (parent_key C j)))
 
-      and_true : (b : Bool) → b ≡ (b && true)
-      and_true true = refl
-      and_true false = refl
+      -- the place of a parent, of which it is known whether the first pass has kept it
+      of_place : (t : Bool) → nat_le k j ≡ t → (c : Slot) → slice_get C j ≡ Some c → s.stays ≡ c.stays → IsSameBody s.body c.entry
+          → is_some (parent_at s) ≡ (is_some (parent_key C j) && (t || keeps_parent C j)) → Seen k j s
+      of_place t is c there stays body parent = record {
+        c = c;
+        there = there;
+        stays = stays;
+        body = body;
+        has_parent = parent ∙ sym (ap (λ (t : Bool). is_some (parent_key C j) && (t || keeps_parent C j)) is);
+      }
 
       by : ((j < length done) × Checked (0 + j) s) ⊎ ((length done ≤ j) × Passed (0 + j) s) → Seen k j s
       by (inl g) =
           let q : Checked j s = subst (λ m. Checked m s) zero_less g.1 in
           let lt = g.0 in
-          record {
-            c = q.c;
-            there = q.there;
-            stays = q.stays;
-            body = q.body;
-            has_parent = ap is_some q.parent_is ∙ of_checked (keeps_parent C j) refl
-                ∙ sym (ap (λ (t : Bool). is_some (parent_key C j) && (t || keeps_parent C j)) (not_most k j (omega (arith, lt, size))));
-          }
+          of_place false (not_most k j (omega (arith, lt, size))) q.c q.there q.stays q.body (ap is_some q.parent_is ∙ of_checked (keeps_parent C j) refl)
       by (inr g) =
           let q : Passed j s = subst (λ m. Passed m s) zero_less g.1 in
           let le = g.0 in
-          record {
-            c = q.c;
-            there = q.there;
-            stays = q.stays;
-            body = q.body;
-            has_parent = ap is_some q.parent_is ∙ and_true (is_some (parent_key C j))
-                ∙ sym (ap (λ (t : Bool). is_some (parent_key C j) && (t || keeps_parent C j)) (is_most k j (omega (arith, le, size))));
-          }
+          of_place true (is_most k j (omega (arith, le, size))) q.c q.there q.stays q.body (ap is_some q.parent_is ∙ sym (and-true (is_some (parent_key C j))))
 
     -- the lines of messages
     bad_line : (child parent : List ℕ) → message_line (BadReference child parent) ∷ [] ≡ bad_reference child parent ∷ []

@@ -70,6 +70,7 @@ use Rattle.btx_core.proofs.SameRunLemmas.{global_integer_named}
 use Rattle.btx_core.proofs.SameStepLemmas as steps
 use Rattle.btx_core.proofs.SameStyleLemmas.{same_style}
 use Rattle.btx_core.proofs.StyleThere.{there_is_style}
+use Rattle.btx_core.proofs.ThereIsProduct.{executed_so}
 use Rattle.btx_core.proofs.VariableLemmas.{Numbering, by_name, item, set_item}
 
 -- ---- the variables before the first command
@@ -254,19 +255,8 @@ module _ (job : NumberedJob) (style : Style) (library : Library) (h : SameJob jo
       → IsExecuted here before options (lines_behind before (style_product job (counts_of before) options.line options.budget))
   executed_same options wide =
       let comes = runs.run_same job style library h before options.budget start (first_state here before) start_same in
-      record {
-        the = computed;
-        divided = divided;
-        means = by_steps computed here;
-        meant = there_is_meaning computed here;
-        wrapped = wrap options.line;
-        are_wrapped = wrapped options.line wide;
-        sure = sure options.line;
-        are_sure = sure_is options.line wide;
-        outcome = comes.outcome;
-        come = comes.come;
-        product_is = come_same options.line options.budget (do_items job job.style.items [] options.budget start) comes.outcome comes.same;
-      }
+      executed_so computed divided options wide here before comes.outcome comes.come _
+      (come_same options.line options.budget (do_items job job.style.items [] options.budget start) comes.outcome comes.same)
 
 -- ---- the files of a job
 

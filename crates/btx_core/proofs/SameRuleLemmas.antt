@@ -49,7 +49,7 @@ use Rattle.btx_core.specs.language.Styles.{Body, Built, Command, Declared, Defin
 use Rattle.btx_core.specs.language.StyleTexts.{SoFar, meaning, and_name, and_command, and_says, CommandEnd, ended_at, Rule, Next, Opened, Closed, Where, Makes}
 use Rattle.btx_core.specs.language.StyleTexts.{Names, Lists, body_of, wrong_in, wrong_till, HasBody, is_function, as_type, is_read, Executes, Behind}
 use Rattle.btx_core.specs.language.StyleTexts as in_names
-use Rattle.btx_core.proofs.SameNumberLemmas.{kept_push, last_of, Extends, extends_both, extends_by, still_body, still_meant, still_functions, still_commands}
+use Rattle.btx_core.proofs.SameNumberLemmas.{Kept, kept_push, last_of, Extends, extends_both, extends_by, still_body, still_meant, still_functions, still_commands}
 use Rattle.btx_core.proofs.SameNumberLemmas.{SameNames, functions_length, one_more_function, more_commands, one_more_command, no_more_command}
 use Rattle.btx_core.proofs.SameBodyLemmas.{MeanSame, item_of, said_of, messages_said, parts_items, fragment_items, numbers_at, Comes, parts_come}
 
@@ -149,59 +149,53 @@ makes_agree P change other same s t p o h w k = (ended_at None (other t) p, refl
 
 -- ---- items
 
+-- other items, macros and types: the names stay, and what they mean
+with_parts : (s : NumberedStyle) (t : SoFar) (h : SameSoFar s t) (items : List Item) (commands : List Command) (macros said_macros : List (List ℕ × List ℕ))
+    (entry said_entry : Bool) (before : Option ℕ) (types : Option (List ℕ → Option Function))
+    → AreCommandsOf (numbers_of s h.functions) s.file items commands → said_macros ≡ macros → said_entry ≡ entry
+    → SameTypes (numbers_of s h.functions) s.names before types → IsBehind (length s.bodies) before
+    → SameSoFar (record s { items = items; macros = macros; has_entry = entry; before_read = before })
+    (record t { commands = commands; macros = said_macros; has_entry = said_entry; types = types })
+with_parts s t h items commands macros said_macros entry said_entry before types are same_macros same_entry same_types behind = record {
+  functions = h.functions;
+  file = h.file;
+  defined = h.defined;
+  commands = are;
+  names = h.names;
+  apart = h.apart;
+  macros = same_macros;
+  has_entry = same_entry;
+  types = same_types;
+  named_first = h.named_first;
+  behind = behind;
+}
+
+-- other items alone
+with_items : (s : NumberedStyle) (t : SoFar) (h : SameSoFar s t) (items : List Item) (commands : List Command)
+    → AreCommandsOf (numbers_of s h.functions) s.file items commands → SameSoFar (record s { items = items }) (record t { commands = commands })
+with_items s t h items commands are = with_parts s t h items commands s.macros t.macros s.has_entry t.has_entry s.before_read t.types are h.macros h.has_entry
+    h.types h.behind
+
 -- a further item, and the commands that it is
 and_commands : (s : NumberedStyle) (t : SoFar) (x : Item) (more : List Command) (h : SameSoFar s t) → commands_of (numbers_of s h.functions) s.file x
     ≡ Some more
     → SameSoFar (with_item x s) (record t { commands = t.commands ++ more })
-and_commands s t x more h e = record {
-  functions = h.functions;
-  file = h.file;
-  defined = h.defined;
-  commands = one_more_command (numbers_of s h.functions) s.file s.items t.commands x more h.commands e;
-  names = h.names;
-  apart = h.apart;
-  macros = h.macros;
-  has_entry = h.has_entry;
-  types = h.types;
-  named_first = h.named_first;
-  behind = h.behind;
-}
+and_commands s t x more h e = with_items s t h (s.items ++ x ∷ []) (t.commands ++ more)
+    (one_more_command (numbers_of s h.functions) s.file s.items t.commands x more h.commands e)
 
 -- an item that is no command
 no_command : (s : NumberedStyle) (t : SoFar) (x : Item) (h : SameSoFar s t) → commands_of (numbers_of s h.functions) s.file x ≡ Some []
     → SameSoFar (with_item x s) t
-no_command s t x h e = record {
-  functions = h.functions;
-  file = h.file;
-  defined = h.defined;
-  commands = no_more_command (numbers_of s h.functions) s.file s.items t.commands x h.commands e;
-  names = h.names;
-  apart = h.apart;
-  macros = h.macros;
-  has_entry = h.has_entry;
-  types = h.types;
-  named_first = h.named_first;
-  behind = h.behind;
-}
+no_command s t x h e = with_items s t h (s.items ++ x ∷ []) t.commands
+    (no_more_command (numbers_of s h.functions) s.file s.items t.commands x h.commands e)
 
 -- messages, each of its line
 pub and_messages : (s : NumberedStyle) (t : SoFar) (said : List (Complaint × ℕ)) → SameSoFar s t
     → SameSoFar (record s { items = s.items ++ map item_of said }) (and_says said t)
-and_messages s t said h = record {
-  functions = h.functions;
-  file = h.file;
-  defined = h.defined;
-  commands = more_commands (numbers_of s h.functions) s.file s.items t.commands (map item_of said) (map (said_of t.file) said) h.commands
-      (subst (λ file. AreCommandsOf (numbers_of s h.functions) s.file (map item_of said) (map (said_of file) said)) (sym h.file)
-      (messages_said (numbers_of s h.functions) s.file said));
-  names = h.names;
-  apart = h.apart;
-  macros = h.macros;
-  has_entry = h.has_entry;
-  types = h.types;
-  named_first = h.named_first;
-  behind = h.behind;
-}
+and_messages s t said h = with_items s t h (s.items ++ map item_of said) (t.commands ++ map (said_of t.file) said)
+    (more_commands (numbers_of s h.functions) s.file s.items t.commands (map item_of said) (map (said_of t.file) said) h.commands
+    (subst (λ file. AreCommandsOf (numbers_of s h.functions) s.file (map item_of said) (map (said_of file) said)) (sym h.file)
+    (messages_said (numbers_of s h.functions) s.file said)))
 
 -- ---- names
 
@@ -287,95 +281,62 @@ types_further a b old new name c (Some count) types x further none past h =
 
 -- ---- lists of names
 
--- the numbers of a style with a further name of a kind
-further_kind : (k : Kind) (names : named.Names) (name : List ℕ) → named_lower names name ≡ None → (c : Callee) × IsFurther names (with_name k name names) name c
+-- the number of a further name of a kind: it stands for the name, which is that of no type
+abbrev Further : Kind → named.Names → List ℕ → Type 0
+Further k names name = (c : Callee) × IsFurther names (with_name k name names) name c
     × ((texts : List (List ℕ)) (functions : List Function) → stands_for (record { names = with_name k name names; texts = texts; functions = functions }) c
     ≡ Some (Declared k name))
     × ((count : ℕ) → type_number (Some count) (Some c) ≡ None)
-further_kind kind.Field names name e = (
-  callee.Field (length names.fields),
-  further-field names name (length names.fields) refl e,
-  λ texts functions. ap (option_map (Declared kind.Field)) (last_of names.fields name (length names.fields) refl),
-  λ count. refl,
+
+-- it is that of the name's place, behind the others of its kind
+further_by : (k : Kind) (names : named.Names) (name : List ℕ) (others : List (List ℕ)) (c : Callee) → IsFurther names (with_name k name names) name c
+    → ((texts : List (List ℕ)) (functions : List Function) → stands_for (record { names = with_name k name names; texts = texts; functions = functions }) c
+    ≡ option_map (Declared k) (slice_get (others ++ name ∷ []) (length others)))
+    → ((count : ℕ) → type_number (Some count) (Some c) ≡ None) → Further k names name
+further_by k names name others c further stands no_type = (
+  c,
+  further,
+  λ texts functions. stands texts functions ∙ ap (option_map (Declared k)) (last_of others name (length others) refl),
+  no_type,
 )
-further_kind kind.EntryInteger names name e = (
-  callee.EntryInteger (length names.entry_integers),
-  further-entry_integer names name (length names.entry_integers) refl e,
-  λ texts functions. ap (option_map (Declared kind.EntryInteger)) (last_of names.entry_integers name (length names.entry_integers) refl),
-  λ count. refl,
-)
-further_kind kind.EntryString names name e = (
-  callee.EntryString (length names.entry_strings),
-  further-entry_string names name (length names.entry_strings) refl e,
-  λ texts functions. ap (option_map (Declared kind.EntryString)) (last_of names.entry_strings name (length names.entry_strings) refl),
-  λ count. refl,
-)
-further_kind kind.GlobalInteger names name e = (
-  callee.GlobalInteger (length names.global_integers),
-  further-global_integer names name (length names.global_integers) refl e,
-  λ texts functions. ap (option_map (Declared kind.GlobalInteger)) (last_of names.global_integers name (length names.global_integers) refl),
-  λ count. refl,
-)
-further_kind kind.GlobalString names name e = (
-  callee.GlobalString (length names.global_strings),
-  further-global_string names name (length names.global_strings) refl e,
-  λ texts functions. ap (option_map (Declared kind.GlobalString)) (last_of names.global_strings name (length names.global_strings) refl),
-  λ count. refl,
-)
+
+further_kind : (k : Kind) (names : named.Names) (name : List ℕ) → named_lower names name ≡ None → Further k names name
+further_kind kind.Field names name e = further_by kind.Field names name names.fields (callee.Field (length names.fields))
+    (further-field names name (length names.fields) refl e) (λ texts functions. refl) (λ count. refl)
+further_kind kind.EntryInteger names name e = further_by kind.EntryInteger names name names.entry_integers (callee.EntryInteger (length names.entry_integers))
+    (further-entry_integer names name (length names.entry_integers) refl e) (λ texts functions. refl) (λ count. refl)
+further_kind kind.EntryString names name e = further_by kind.EntryString names name names.entry_strings (callee.EntryString (length names.entry_strings))
+    (further-entry_string names name (length names.entry_strings) refl e) (λ texts functions. refl) (λ count. refl)
+further_kind kind.GlobalInteger names name e = further_by kind.GlobalInteger names name names.global_integers (callee.GlobalInteger (length names.global_integers))
+    (further-global_integer names name (length names.global_integers) refl e) (λ texts functions. refl) (λ count. refl)
+further_kind kind.GlobalString names name e = further_by kind.GlobalString names name names.global_strings (callee.GlobalString (length names.global_strings))
+    (further-global_string names name (length names.global_strings) refl e) (λ texts functions. refl) (λ count. refl)
+
+extends_names : (a b : named.Names) (texts : List (List ℕ)) (functions : List Function) → Kept a.fields b.fields → Kept a.entry_integers b.entry_integers
+    → Kept a.entry_strings b.entry_strings → Kept a.global_integers b.global_integers → Kept a.global_strings b.global_strings
+    → Extends (record { names = a; texts = texts; functions = functions }) (record { names = b; texts = texts; functions = functions })
+extends_names a b texts functions fields entry_integers entry_strings global_integers global_strings = record {
+  fields = fields;
+  entry_integers = entry_integers;
+  entry_strings = entry_strings;
+  global_integers = global_integers;
+  global_strings = global_strings;
+  texts = λ n x e. e;
+  functions = λ n x e. e;
+}
 
 with_name_extends : (k : Kind) (names : named.Names) (name : List ℕ) (texts : List (List ℕ)) (functions : List Function)
     → Extends (record { names = names; texts = texts; functions = functions }) (record { names = with_name k name names; texts = texts; functions = functions })
 with_name_extends kind.Field names name texts functions =
-    record {
-      fields = kept_push names.fields (name ∷ []);
-      entry_integers = λ n x e. e;
-      entry_strings = λ n x e. e;
-      global_integers = λ n x e. e;
-      global_strings = λ n x e. e;
-      texts = λ n x e. e;
-      functions = λ n x e. e;
-    }
+    extends_names names _ texts functions (kept_push names.fields (name ∷ [])) (λ n x e. e) (λ n x e. e) (λ n x e. e) (λ n x e. e)
 with_name_extends kind.EntryInteger names name texts functions =
-    record {
-      fields = λ n x e. e;
-      entry_integers = kept_push names.entry_integers (name ∷ []);
-      entry_strings = λ n x e. e;
-      global_integers = λ n x e. e;
-      global_strings = λ n x e. e;
-      texts = λ n x e. e;
-      functions = λ n x e. e;
-    }
+    extends_names names _ texts functions (λ n x e. e) (kept_push names.entry_integers (name ∷ [])) (λ n x e. e) (λ n x e. e) (λ n x e. e)
 with_name_extends kind.EntryString names name texts functions =
-    record {
-      fields = λ n x e. e;
-      entry_integers = λ n x e. e;
-      entry_strings = kept_push names.entry_strings (name ∷ []);
-      global_integers = λ n x e. e;
-      global_strings = λ n x e. e;
-      texts = λ n x e. e;
-      functions = λ n x e. e;
-    }
+    extends_names names _ texts functions (λ n x e. e) (λ n x e. e) (kept_push names.entry_strings (name ∷ [])) (λ n x e. e) (λ n x e. e)
 with_name_extends kind.GlobalInteger names name texts functions =
-    record {
-      fields = λ n x e. e;
-      entry_integers = λ n x e. e;
-      entry_strings = λ n x e. e;
-      global_integers = kept_push names.global_integers (name ∷ []);
-      global_strings = λ n x e. e;
-      texts = λ n x e. e;
-      functions = λ n x e. e;
-    }
+    extends_names names _ texts functions (λ n x e. e) (λ n x e. e) (λ n x e. e) (kept_push names.global_integers (name ∷ [])) (λ n x e. e)
 with_name_extends kind.GlobalString names name texts functions =
-    record {
-      fields = λ n x e. e;
-      entry_integers = λ n x e. e;
-      entry_strings = λ n x e. e;
-      global_integers = λ n x e. e;
-      global_strings =
-          kept_push names.global_strings (name ∷ []);
-      texts = λ n x e. e;
-      functions = λ n x e. e;
-    }
+    extends_names names _ texts functions (λ n x e. e) (λ n x e. e) (λ n x e. e) (λ n x e. e) (kept_push names.global_strings (name ∷ []))
 
 -- the functions keep their names
 functions_stay : (k : Kind) (name : List ℕ) (names : named.Names) → (with_name k name names).functions ≡ names.functions
@@ -769,70 +730,44 @@ below n m lt = lt-ltb n m lt
 reads : (s : NumberedStyle) (t : SoFar) → SameSoFar s t
     → SameSoFar (with_item item.Read (record s { before_read = Some (length s.bodies) }))
     (and_command Read (record t { types = Some (λ name. option_and_then as_type (t.names name)) }))
-reads s t h = record {
-  functions = h.functions;
-  file = h.file;
-  defined = h.defined;
-  commands = one_more_command (numbers_of s h.functions) s.file s.items t.commands item.Read (Read ∷ []) h.commands refl;
-  names = h.names;
-  apart = h.apart;
-  macros = h.macros;
-  has_entry = h.has_entry;
-  types = (
-    λ name. option_and_then as_type (t.names name),
-    refl,
-    λ name.
-        subst (λ n. IsMeant (numbers_of s h.functions) (option_map callee.User n) (option_and_then as_type (t.names name)))
-        (all_before (named_lower s.names name) (lower_meaning t.names name) (h.names name)) (own s t h name).of_type,
-  );
-  named_first = h.named_first;
-  behind = omega arith;
-} where
-  all_before : (c : Option Callee) (m : Option Function) → IsMeant (numbers_of s h.functions) c m → user_in c ≡ type_number (Some (length s.bodies)) c
-  all_before None m k = refl
-  all_before (Some (callee.BuiltIn b)) m k = refl
-  all_before (Some (callee.User n)) m k =
-      let within = slice_get_within h.functions n k.0 k.1 in
-      let same = functions_length (numbers_of s h.functions) 0 s.bodies h.functions h.defined in
-      sym (ap (λ (z : Bool). if z then Some n else None) (below n (length s.bodies) (omega (arith, within, same))))
-  all_before (Some (callee.Field n)) m k = refl
-  all_before (Some (callee.EntryInteger n)) m k = refl
-  all_before (Some (callee.EntryString n)) m k = refl
-  all_before (Some (callee.GlobalInteger n)) m k = refl
-  all_before (Some (callee.GlobalString n)) m k = refl
+reads s t h =
+    with_parts s t h (s.items ++ item.Read ∷ []) (t.commands ++ Read ∷ []) s.macros t.macros s.has_entry t.has_entry (Some (length s.bodies))
+    (Some (λ name. option_and_then as_type (t.names name)))
+    (one_more_command (numbers_of s h.functions) s.file s.items t.commands item.Read (Read ∷ []) h.commands refl) h.macros h.has_entry types (omega arith) where
+      all_before : (c : Option Callee) (m : Option Function) → IsMeant (numbers_of s h.functions) c m → user_in c ≡ type_number (Some (length s.bodies)) c
+      all_before None m k = refl
+      all_before (Some (callee.BuiltIn b)) m k = refl
+      all_before (Some (callee.User n)) m k =
+          let within = slice_get_within h.functions n k.0 k.1 in
+          let same = functions_length (numbers_of s h.functions) 0 s.bodies h.functions h.defined in
+          sym (ap (λ (z : Bool). if z then Some n else None) (below n (length s.bodies) (omega (arith, within, same))))
+      all_before (Some (callee.Field n)) m k = refl
+      all_before (Some (callee.EntryInteger n)) m k = refl
+      all_before (Some (callee.EntryString n)) m k = refl
+      all_before (Some (callee.GlobalInteger n)) m k = refl
+      all_before (Some (callee.GlobalString n)) m k = refl
+
+      types : SameTypes (numbers_of s h.functions) s.names (Some (length s.bodies)) (Some (λ name. option_and_then as_type (t.names name)))
+      types = (
+        λ name. option_and_then as_type (t.names name),
+        refl,
+        λ name.
+            subst (λ n. IsMeant (numbers_of s h.functions) (option_map callee.User n) (option_and_then as_type (t.names name)))
+            (all_before (named_lower s.names name) (lower_meaning t.names name) (h.names name)) (own s t h name).of_type,
+      )
 
 -- ENTRY has stood there
 enters : (s : NumberedStyle) (t : SoFar) → SameSoFar s t → SameSoFar (with_item item.Entry (record s { has_entry = true })) (record t { has_entry = true })
-enters s t h = record {
-  functions = h.functions;
-  file = h.file;
-  defined = h.defined;
-  commands = no_more_command (numbers_of s h.functions) s.file s.items t.commands item.Entry h.commands refl;
-  names = h.names;
-  apart = h.apart;
-  macros = h.macros;
-  has_entry = refl;
-  types = h.types;
-  named_first = h.named_first;
-  behind = h.behind;
-}
+enters s t h = with_parts s t h (s.items ++ item.Entry ∷ []) t.commands s.macros t.macros true true s.before_read t.types
+    (no_more_command (numbers_of s h.functions) s.file s.items t.commands item.Entry h.commands refl) h.macros refl h.types h.behind
 
 -- a further macro
 adds_macro : (name text : List ℕ) (s : NumberedStyle) (t : SoFar) → SameSoFar s t
     → SameSoFar (with_item item.Macro (record s { macros = s.macros ++ (name, text) ∷ [] })) (record t { macros = t.macros ++ (name, text) ∷ [] })
-adds_macro name text s t h = record {
-  functions = h.functions;
-  file = h.file;
-  defined = h.defined;
-  commands = no_more_command (numbers_of s h.functions) s.file s.items t.commands item.Macro h.commands refl;
-  names = h.names;
-  apart = h.apart;
-  macros = ap (λ (ms : List (List ℕ × List ℕ)). ms ++ (name, text) ∷ []) h.macros;
-  has_entry = h.has_entry;
-  types = h.types;
-  named_first = h.named_first;
-  behind = h.behind;
-}
+adds_macro name text s t h =
+    with_parts s t h (s.items ++ item.Macro ∷ []) t.commands (s.macros ++ (name, text) ∷ []) (t.macros ++ (name, text) ∷ []) s.has_entry t.has_entry
+    s.before_read t.types (no_more_command (numbers_of s h.functions) s.file s.items t.commands item.Macro h.commands refl)
+    (ap (λ (ms : List (List ℕ × List ℕ)). ms ++ (name, text) ∷ []) h.macros) h.has_entry h.types h.behind
 
 pub behind_agree : (c : CommandName) → Agree (numbered.Behind c) (Behind c)
 behind_agree command.Entry =

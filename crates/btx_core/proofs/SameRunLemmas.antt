@@ -143,6 +143,9 @@ module _ (job : NumberedJob) (style : Style) (library : Library) (h : SameJob jo
   abbrev entry : ℕ → Entry
   entry = of_job.entry job style library h
 
+  abbrev naming : table.Naming job style library
+  naming = steps.naming job style library h before
+
   abbrev word : Token → Word
   word = steps.word job style library h before
 
@@ -170,8 +173,7 @@ module _ (job : NumberedJob) (style : Style) (library : Library) (h : SameJob jo
 
   -- ---- what a function left on the stack
 
-  left_over_is : table.IsError job style library of body entry (of_job.named job style library h) (of_job.keyed job style library h)
-      (of_job.typed job style library h) (of_job.default job style library h) h.same_library.preamble note.LeftOver (codes "The literal stack isn't empty")
+  left_over_is : table.IsError job style library naming note.LeftOver (codes "The literal stack isn't empty")
   unfolding note_text note_kind has_place
   left_over_is = record { of_text = refl; of_kind = refl; of_place = refl }
 
@@ -210,18 +212,14 @@ module _ (job : NumberedJob) (style : Style) (library : Library) (h : SameJob jo
       let f = named_frame frame name in
       let S = with_literals xs T in
       ap (λ (t : State). record (shows (map lit xs) t) { literals = [] })
-      (table.error_same job style library of body entry (of_job.named job style library h) (of_job.keyed job style library h)
-      (of_job.typed job style library h) (of_job.default job style library h) h.same_library.preamble (vars f T) S note.LeftOver
+      (table.error_same job style library naming (vars f T) S note.LeftOver
       (codes "The literal stack isn't empty") left_over_is)
       ∙ ap (λ (t : State). record t { literals = [] })
-      (table.shows_same job style library of body entry (of_job.named job style library h) (of_job.keyed job style library h)
-      (of_job.typed job style library h) (of_job.default job style library h) h.same_library.preamble xs
+      (table.shows_same job style library naming xs
       (saying (said.Noted (note.LeftOver ∷ [])) T.current (vars f T)) S)
       ∙ ap (λ (l : List Line). record (stacked (vars f T) (with_literals [] T)) { log = l })
-      (append_assoc frame.log (table.line_of job style library of body entry (of_job.named job style library h) (of_job.keyed job style library h)
-      (of_job.typed job style library h) (of_job.default job style library h) h.same_library.preamble f T.current note.LeftOver ∷ [])
-      (map (table.line_of job style library of body entry (of_job.named job style library h) (of_job.keyed job style library h)
-      (of_job.typed job style library h) (of_job.default job style library h) h.same_library.preamble f T.current) (map note.Shown xs)))
+      (append_assoc frame.log (table.line_of job style library naming f T.current note.LeftOver ∷ [])
+      (map (table.line_of job style library naming f T.current) (map note.Shown xs)))
 
   cleared_same : (c : Commanded) (name : List ℕ) → name ≡ command_word c → (S : NumberedState) (s : State) → Same S s
       → Same (numbered.cleared job c S) (cleared name s)
@@ -233,7 +231,7 @@ module _ (job : NumberedJob) (style : Style) (library : Library) (h : SameJob jo
       ap (cleared name) r.is ∙ ap (λ n. cleared_if (n == 0) name (state_of s T)) (length-map xs lit) ∙ cleared_at (length xs == 0) xs refl name s T in
       subst (Same (numbered.cleared job c S)) (sym is)
       (steps.behind job style library h before T S.out (named_frame s name) (command_word c) (answers.answer next.Nothing words (with_literals [] T)) refl
-      (tt, tt) r.whole named (steps.named_out job style library h before S.out s name r.out))
+      (tt, tt) r.whole named r.out)
 
   -- ---- the function of a command
 
@@ -255,7 +253,7 @@ module _ (job : NumberedJob) (style : Style) (library : Library) (h : SameJob jo
           current = λ i is. let less = lt i is in let size = w.entries in omega (arith, less, size);
         };
         is = ap (λ (u : State). record u { entry = option_map entry e }) r.is;
-        out = record { lines = r.out.lines; pending = r.out.pending; log = r.out.log; warnings = r.out.warnings; errors = r.out.errors };
+        out = r.out;
       }
 
   visit_same : (c : Commanded) (name : List ℕ) → name ≡ command_word c → (f : Callee) → known (token.Run f) → (e : Option ℕ)

@@ -6,11 +6,12 @@ use Rattle.std.specs.List.{flat_map}
 use Rattle.std.specs.Prelude.{slice_get, slice_index_or, slice_set}
 use Rattle.std.proofs.lemmas.List.Sums.{sum_by-append}
 use Rattle.btx_text.specs.language.LogLines.{Line, is_warning, is_error}
-use Rattle.btx_bib.specs.language.Library.{entry_type, key_of}
+use Rattle.btx_bib.specs.language.Library.{entry_type, entry_value, key_of}
 use Rattle.btx_bst.specs.declared.built_in.BuiltIn.{BuiltIn}
 use Rattle.btx_bst.specs.declared.built_in.BuiltIn.TheVariants as built_in
 use Rattle.btx_bst.specs.declared.callee.Callee.{Callee}
 use Rattle.btx_bst.specs.declared.callee.Callee.TheVariants as callee
+use Rattle.btx_bst.specs.declared.callee.Kind.{Kind}
 use Rattle.btx_bst.specs.declared.callee.Kind.TheVariants as kind
 use Rattle.btx_bst.specs.declared.token.Token.{Token}
 use Rattle.btx_bst.specs.declared.token.Token.TheVariants as token
@@ -50,14 +51,14 @@ use Rattle.btx_core.specs.language.Functions.{not_what_was_asked, on_literals, o
 use Rattle.btx_core.specs.language.Meanings.{deeper}
 use Rattle.btx_core.specs.language.Notes.{empty_stack, error, errors}
 use Rattle.btx_core.specs.language.Notes.{name_of as shown_name}
-use Rattle.btx_core.specs.language.Styles.{Body, Entry, Function, Integer, Job, Library, Literal, Missing, Quoted, State, Style, Text, Then, Word}
+use Rattle.btx_core.specs.language.Styles.{Body, Declared, Entry, Function, Integer, Job, Library, Literal, Missing, Quoted, State, Style, Text, Then, Word}
 use Rattle.btx_core.proofs.ComputedLemmas.{computed}
 use Rattle.btx_core.proofs.KnownStoreLemmas.{Has, HasLiteral, HasAll, HasNext, Fine, step_fine, tested_fine}
 use Rattle.btx_core.proofs.MeaningSame as meaning
 use Rattle.btx_core.proofs.SameJobLemmas as of_job
 use Rattle.btx_core.proofs.SameJobLemmas.{SameJob, listed}
 use Rattle.btx_core.proofs.TableLemmas as table
-use Rattle.btx_core.proofs.VariableLemmas.{Numbering, by_name, item, item_set}
+use Rattle.btx_core.proofs.VariableLemmas.{Numbering, item, item_set}
 
 -- ---- what is written and logged
 
@@ -81,12 +82,15 @@ counted_more true n = omega arith
 counted_more false n = refl
 
 -- what was written and logged is the same, behind the lines that were logged before
-pub record SameOut (before : List Line) (out : Out) (s : State) : Type 0 where
-  pub lines : s.lines ≡ out.lines
-  pub pending : s.pending ≡ out.pending
-  pub log : ended s.log ≡ ended before ++ out.log
-  pub warnings : out.warnings ≡ (counts_of s.log).warnings
-  pub errors : out.errors ≡ (counts_of s.log).errors
+pub record SameWritten (before : List Line) (out : Out) (lines_ : List (List ℕ)) (pending_ : List ℕ) (log_ : List Line) : Type 0 where
+  pub lines : lines_ ≡ out.lines
+  pub pending : pending_ ≡ out.pending
+  pub log : ended log_ ≡ ended before ++ out.log
+  pub warnings : out.warnings ≡ (counts_of log_).warnings
+  pub errors : out.errors ≡ (counts_of log_).errors
+
+abbrev pub SameOut : List Line → Out → State → Type 0
+SameOut before out s = SameWritten before out s.lines s.pending s.log
 
 pub logs_same : (before : List Line) (lines : List Line) (out : Out) (s : State) → SameOut before out s
     → SameOut before (lines_logged lines out) (record s { log = s.log ++ lines })
@@ -134,60 +138,86 @@ module _ (job : NumberedJob) (style : Style) (library : Library) (h : SameJob jo
   abbrev pub entry : ℕ → Entry
   entry = of_job.entry job style library h
 
+  abbrev pub naming : table.Naming job style library
+  naming = record {
+    of = of;
+    body = body;
+    entry = entry;
+    named = of_job.named job style library h;
+    keyed = of_job.keyed job style library h;
+    typed = of_job.typed job style library h;
+    default = of_job.default job style library h;
+    preamble = h.same_library.preamble;
+  }
+
+  abbrev pub of_variables : table.Variables job style library naming
+  of_variables = record {
+    gi = listed names.global_integers;
+    gs = listed names.global_strings;
+    ei = listed names.entry_integers;
+    es = listed names.entry_strings;
+    keys = listed (of_job.key_list job style library h);
+    user_name = λ i. name_of names (callee.User i);
+    field_name = λ i. name_of names (callee.Field i);
+    built = λ f. refl;
+    users = λ i. refl;
+    fields = λ i. refl;
+    global_integers = λ i. refl;
+    global_strings = λ i. refl;
+    entry_integers = λ i. refl;
+    entry_strings = λ i. refl;
+    key_names = of_job.key_names job style library h;
+  }
+
   abbrev pub gi : Numbering
-  gi = listed names.global_integers
+  gi = of_variables.gi
 
   abbrev pub gs : Numbering
-  gs = listed names.global_strings
+  gs = of_variables.gs
 
   abbrev pub ei : Numbering
-  ei = listed names.entry_integers
+  ei = of_variables.ei
 
   abbrev pub es : Numbering
-  es = listed names.entry_strings
+  es = of_variables.es
 
   abbrev pub keys : Numbering
-  keys = listed (of_job.key_list job style library h)
+  keys = of_variables.keys
 
   abbrev pub none : EntryVariables
-  none = record { integers = []; strings = [] }
+  none = table.none job style library naming of_variables
 
   abbrev pub here : Job
-  here = record { style = style; library = library; mode = job.mode; entry_max = job.entry_max; global_max = job.global_max }
+  here = table.here job style library naming
 
   abbrev pub lit : Numbered → Literal
-  lit (literal.Integer n) = Integer n
-  lit (literal.Text text) = Text text
-  lit (literal.Function f) = Quoted (of f)
-  lit literal.Missing = Missing
+  lit = table.lit job style library naming
 
   -- the values of variables by their names, and the rest of a state
   abbrev pub vars : State → Store → State
-  vars frame s = record frame {
-    integers = by_name gi (item s.integers (pos 0)) (pos 0);
-    strings = by_name gs (item s.strings []) [];
-    entry_integers = by_name keys (λ j. by_name ei (item (item s.entries none j).integers (pos 0)) (pos 0)) (λ n. pos 0);
-    entry_strings = by_name keys (λ j. by_name es (item (item s.entries none j).strings []) []) (λ n. []);
-    deepest = s.deepest;
-  }
+  vars = table.vars job style library naming of_variables
 
   -- and the stack and the current entry
   abbrev pub stacked : State → Store → State
-  stacked frame s = record frame { literals = map lit s.literals; entry = option_map entry s.current }
+  stacked = table.in_names job style library naming
 
   -- a store in names, and the rest of a state
   abbrev pub state_of : State → Store → State
   state_of frame s = stacked (vars frame s) s
 
   -- what the lists of a store have: a value for each variable, and no entry that isn't there
-  pub record Whole (s : Store) : Type 0 where
-    pub literals : HasAll job h.refers s.literals
-    pub integers : length s.integers ≡ length names.global_integers
-    pub strings : length s.strings ≡ length names.global_strings
-    pub entries : length s.entries ≡ length job.library.entries
-    pub entry_integers : (e : ℕ) → e < length s.entries → length (item s.entries none e).integers ≡ length names.entry_integers
-    pub entry_strings : (e : ℕ) → e < length s.entries → length (item s.entries none e).strings ≡ length names.entry_strings
-    pub current : (e : ℕ) → s.current ≡ Some e → e < length s.entries
+  pub record Fills (literals_ : List Numbered) (integers_ : List ℤ) (strings_ : List (List ℕ)) (entries_ : List EntryVariables) (current_ : Option ℕ)
+      : Type 0 where
+    pub literals : HasAll job h.refers literals_
+    pub integers : length integers_ ≡ length names.global_integers
+    pub strings : length strings_ ≡ length names.global_strings
+    pub entries : length entries_ ≡ length job.library.entries
+    pub entry_integers : (e : ℕ) → e < length entries_ → length (item entries_ none e).integers ≡ length names.entry_integers
+    pub entry_strings : (e : ℕ) → e < length entries_ → length (item entries_ none e).strings ≡ length names.entry_strings
+    pub current : (e : ℕ) → current_ ≡ Some e → e < length entries_
+
+  abbrev pub Whole : Store → Type 0
+  Whole s = Fills s.literals s.integers s.strings s.entries s.current
 
   pub record SameState (S : NumberedState) (s : State) : Type 0 where
     pub whole : Whole S.store
@@ -197,11 +227,7 @@ module _ (job : NumberedJob) (style : Style) (library : Library) (h : SameJob jo
   -- ---- what is said
 
   abbrev pub saying : Said → Option ℕ → State → State
-  saying said.Nothing current frame = frame
-  saying (said.Wrote text) current frame = record frame { pending = frame.pending ++ text }
-  saying said.EndedLine current frame = record frame { lines = frame.lines ++ frame.pending ∷ []; pending = [] }
-  saying (said.Noted notes) current frame =
-      record frame { log = frame.log ++ map (note_line job.style frame.executed (option_map (λ (e : ℕ). key_of (entry_of job e)) current)) notes }
+  saying = table.saying job style library naming
 
   said_same : (words : Said) (executed : List ℕ) (current : Option ℕ) (out : Out) (s : State) → s.executed ≡ executed → SameOut before out s
       → SameOut before (said_on job executed current words out) (saying words current s)
@@ -231,9 +257,6 @@ module _ (job : NumberedJob) (style : Style) (library : Library) (h : SameJob jo
   saying_of (said.Wrote text) current frame s = refl
   saying_of said.EndedLine current frame s = refl
   saying_of (said.Noted notes) current frame s = refl
-
-  out_of : (out : Out) (frame : State) (s : Store) → SameOut before out frame → SameOut before out (state_of frame s)
-  out_of out frame s k = record { lines = k.lines; pending = k.pending; log = k.log; warnings = k.warnings; errors = k.errors }
 
   -- ---- steps
 
@@ -271,11 +294,7 @@ module _ (job : NumberedJob) (style : Style) (library : Library) (h : SameJob jo
     all (t ∷ ts) k = (k 0 t refl, all ts (λ place u e. k (suc place) u e))
 
   abbrev follows : Next → State → Effect
-  follows next.Nothing t = Leaves t
-  follows (next.End kind) t = Meets kind t
-  follows (next.Run f) t = Runs (of f) t
-  follows (next.Open i) t = Opens (body i) t
-  follows (next.Loop test loop_body) t = Loops (of test) (of loop_body) t
+  follows = table.follows job style library naming
 
   -- what follows a step
   follows_same : (n : Next) → HasNext job h.refers n → (S : NumberedState) (t : State) → SameState S t → SameEffect n S (follows n t)
@@ -320,8 +339,7 @@ module _ (job : NumberedJob) (style : Style) (library : Library) (h : SameJob jo
       subst (SameState (state a.store (said_on job executed a.store.current a.said out))) (sym moved) (record {
         whole = rest;
         is = again a.said a.store.current frame a.store;
-        out = out_of (said_on job executed a.store.current a.said out) (saying a.said a.store.current frame) a.store
-            (said_same a.said executed a.store.current out frame named o);
+        out = said_same a.said executed a.store.current out frame named o;
       }) where
         -- variables are read from all but the literals
         restored : (S T : Store) → with_literals [] T ≡ with_literals [] S → with_literals S.literals T ≡ S
@@ -350,8 +368,7 @@ module _ (job : NumberedJob) (style : Style) (library : Library) (h : SameJob jo
       let same : SameState S t = record {
         whole = w;
         is = refl;
-        out = out_of (said_on job executed a.store.current a.said out) (saying a.said a.store.current frame) a.store
-            (said_same a.said executed a.store.current out frame named o);
+        out = said_same a.said executed a.store.current out frame named o;
       } in
       subst (SameEffect a.next S) (sym (is ∙ ap (follows a.next) (saying_of a.said a.store.current frame a.store))) (follows_same a.next k S t same)
 
@@ -386,10 +403,7 @@ module _ (job : NumberedJob) (style : Style) (library : Library) (h : SameJob jo
   -- ---- `:=`
 
   abbrev table_known : Store → Callee → Type 0
-  table_known = table.Known job style library of body entry (of_job.named job style library h) (of_job.keyed job style library h)
-      (of_job.typed job style library h) (of_job.default job style library h) h.same_library.preamble gi gs ei es keys (λ f. refl)
-      (λ i. name_of names (callee.User i)) (λ i. name_of names (callee.Field i)) (λ i. refl) (λ i. refl) (λ i. refl) (λ i. refl) (λ i. refl) (λ i. refl)
-      (of_job.key_names job style library h)
+  table_known = table.Known job style library naming of_variables
 
   -- a variable that the style has is in the store
   known_in : (s : Store) → Whole s → (c : Callee) → Has job h.refers c → table_known s c
@@ -505,58 +519,19 @@ module _ (job : NumberedJob) (style : Style) (library : Library) (h : SameJob jo
     same : by_rule (row computed here built_in.Assign) (state_of frame s) ≡ now frame (built_in_run job built_in.Assign s)
     whole : Whole (built_in_run job built_in.Assign s).store
 
+  -- this many literals are missing
+  lacking : (n : ℕ) (frame : State) (s : Store) → push_instead None (errors (replicate n empty_stack) (state_of frame (with_literals [] s)))
+      ≡ now frame (answers.complained (replicate n note.EmptyStack) stand_in.Nothing (with_literals [] s))
+  lacking n frame s = table.complained_same job style library naming (replicate n note.EmptyStack) (replicate n empty_stack)
+      (table.errors_absent job style library naming n) stand_in.Nothing (vars frame s) (with_literals [] s)
+
   assigned : (xs : List Numbered) (frame : State) (s : Store) → HasAll job h.refers xs → Whole s → Assigned frame (with_literals xs s)
   unfolding built_in_run
-  assigned [] frame s k w = record {
-    same = table.complained_same job style library of body entry (of_job.named job style library h) (of_job.keyed job style library h)
-        (of_job.typed job style library h) (of_job.default job style library h) h.same_library.preamble (note.EmptyStack ∷ note.EmptyStack ∷ [])
-        (empty_stack ∷ empty_stack ∷ []) (
-          table.empty_is job style library of body entry (of_job.named job style library h) (of_job.keyed job style library h)
-              (of_job.typed job style library h) (of_job.default job style library h) h.same_library.preamble,
-          (
-            table.empty_is job style library of body entry (of_job.named job style library h) (of_job.keyed job style library h) (of_job.typed job style library h)
-                (of_job.default job style library h) h.same_library.preamble,
-            refl,
-          ),
-        ) stand_in.Nothing (vars frame s) (with_literals [] s);
-    whole = whole_with s [] tt w;
-  }
-  assigned ((literal.Integer n) ∷ []) frame s k w = record {
-    same = table.complained_same job style library of body entry (of_job.named job style library h) (of_job.keyed job style library h)
-        (of_job.typed job style library h) (of_job.default job style library h) h.same_library.preamble (note.EmptyStack ∷ []) (empty_stack ∷ []) (
-          table.empty_is job style library of body entry (of_job.named job style library h) (of_job.keyed job style library h) (of_job.typed job style library h)
-              (of_job.default job style library h) h.same_library.preamble,
-          refl,
-        ) stand_in.Nothing (vars frame s) (with_literals [] s);
-    whole = whole_with s [] tt w;
-  }
-  assigned ((literal.Text n) ∷ []) frame s k w = record {
-    same = table.complained_same job style library of body entry (of_job.named job style library h) (of_job.keyed job style library h)
-        (of_job.typed job style library h) (of_job.default job style library h) h.same_library.preamble (note.EmptyStack ∷ []) (empty_stack ∷ []) (
-          table.empty_is job style library of body entry (of_job.named job style library h) (of_job.keyed job style library h) (of_job.typed job style library h)
-              (of_job.default job style library h) h.same_library.preamble,
-          refl,
-        ) stand_in.Nothing (vars frame s) (with_literals [] s);
-    whole = whole_with s [] tt w;
-  }
-  assigned ((literal.Function n) ∷ []) frame s k w = record {
-    same = table.complained_same job style library of body entry (of_job.named job style library h) (of_job.keyed job style library h)
-        (of_job.typed job style library h) (of_job.default job style library h) h.same_library.preamble (note.EmptyStack ∷ []) (empty_stack ∷ []) (
-          table.empty_is job style library of body entry (of_job.named job style library h) (of_job.keyed job style library h) (of_job.typed job style library h)
-              (of_job.default job style library h) h.same_library.preamble,
-          refl,
-        ) stand_in.Nothing (vars frame s) (with_literals [] s);
-    whole = whole_with s [] tt w;
-  }
-  assigned (literal.Missing ∷ []) frame s k w = record {
-    same = table.complained_same job style library of body entry (of_job.named job style library h) (of_job.keyed job style library h)
-        (of_job.typed job style library h) (of_job.default job style library h) h.same_library.preamble (note.EmptyStack ∷ []) (empty_stack ∷ []) (
-          table.empty_is job style library of body entry (of_job.named job style library h) (of_job.keyed job style library h) (of_job.typed job style library h)
-              (of_job.default job style library h) h.same_library.preamble,
-          refl,
-        ) stand_in.Nothing (vars frame s) (with_literals [] s);
-    whole = whole_with s [] tt w;
-  }
+  assigned [] frame s k w = record { same = lacking 2 frame s; whole = whole_with s [] tt w }
+  assigned ((literal.Integer n) ∷ []) frame s k w = record { same = lacking 1 frame s; whole = whole_with s [] tt w }
+  assigned ((literal.Text n) ∷ []) frame s k w = record { same = lacking 1 frame s; whole = whole_with s [] tt w }
+  assigned ((literal.Function n) ∷ []) frame s k w = record { same = lacking 1 frame s; whole = whole_with s [] tt w }
+  assigned (literal.Missing ∷ []) frame s k w = record { same = lacking 1 frame s; whole = whole_with s [] tt w }
   assigned (x ∷ y ∷ xs) frame s k w = of_top x k.0 where
     below : Store
     below = with_literals xs s
@@ -571,44 +546,21 @@ module _ (job : NumberedJob) (style : Style) (library : Library) (h : SameJob jo
         ≡ or_instead (taken (lit top)) None (state_of frame below)
     ruled top = ap (λ (t : Bool). if t then push_instead None (errors (replicate (2 - suc (suc (length (map lit xs)))) empty_stack) (state_of frame below)) else
         or_instead (taken (lit top)) None (state_of frame below))
-        (table.at_least_two job style library of body entry (of_job.named job style library h) (of_job.keyed job style library h)
-        (of_job.typed job style library h) (of_job.default job style library h) h.same_library.preamble (length (map lit xs)))
+        (table.at_least_two job style library naming (length (map lit xs)))
 
-    wrong_kind : (top : Numbered) → table.IsError job style library of body entry (of_job.named job style library h) (of_job.keyed job style library h)
-        (of_job.typed job style library h) (of_job.default job style library h) h.same_library.preamble (note.WrongKind top wanted.Function)
-        (not_what_was_asked AFunction (lit top)) → Leaves (error (not_what_was_asked AFunction (lit top)) (state_of frame below))
+    wrong_kind : (top : Numbered) → Leaves (error (not_what_was_asked AFunction (lit top)) (state_of frame below))
         ≡ now frame (answers.complains (note.WrongKind top wanted.Function) stand_in.Nothing below)
-    wrong_kind top is = table.complained_same job style library of body entry (of_job.named job style library h) (of_job.keyed job style library h)
-        (of_job.typed job style library h) (of_job.default job style library h) h.same_library.preamble (note.WrongKind top wanted.Function ∷ [])
-        (not_what_was_asked AFunction (lit top) ∷ []) (is, refl) stand_in.Nothing (vars frame s) below
+    wrong_kind top = table.complains_same job style library naming (note.WrongKind top wanted.Function) (not_what_was_asked AFunction (lit top))
+        (table.no_function job style library naming top) stand_in.Nothing (vars frame s) below
 
     of_top : (top : Numbered) → HasLiteral job h.refers top → Assigned frame (with_literals (top ∷ y ∷ xs) s)
     of_top (literal.Function c) has = record {
-      same = ruled (literal.Function c) ∙ table.assigns_same job style library of body entry (of_job.named job style library h)
-          (of_job.keyed job style library h) (of_job.typed job style library h) (of_job.default job style library h) h.same_library.preamble gi gs ei es keys
-          (λ f. refl) (λ i. name_of names (callee.User i)) (λ i. name_of names (callee.Field i)) (λ i. refl) (λ i. refl) (λ i. refl) (λ i. refl) (λ i. refl)
-          (λ i. refl) (of_job.key_names job style library h) c y frame below (known_in below whole_below c has);
+      same = ruled (literal.Function c) ∙ table.assigns_same job style library naming of_variables c y frame below (known_in below whole_below c has);
       whole = whole_assigned c y below whole_below;
     }
-    of_top (literal.Integer n) has = record {
-      same = ruled (literal.Integer n)
-          ∙ wrong_kind (literal.Integer n)
-          (table.no_function job style library of body entry (of_job.named job style library h) (of_job.keyed job style library h)
-          (of_job.typed job style library h) (of_job.default job style library h) h.same_library.preamble (literal.Integer n));
-      whole = whole_below;
-    }
-    of_top (literal.Text n) has = record {
-      same = ruled (literal.Text n)
-          ∙ wrong_kind (literal.Text n) (table.no_function job style library of body entry (of_job.named job style library h) (of_job.keyed job style library h)
-          (of_job.typed job style library h) (of_job.default job style library h) h.same_library.preamble (literal.Text n));
-      whole = whole_below;
-    }
-    of_top literal.Missing has = record {
-      same = ruled literal.Missing
-          ∙ wrong_kind literal.Missing (table.no_function job style library of body entry (of_job.named job style library h) (of_job.keyed job style library h)
-          (of_job.typed job style library h) (of_job.default job style library h) h.same_library.preamble literal.Missing);
-      whole = whole_below;
-    }
+    of_top (literal.Integer n) has = record { same = ruled (literal.Integer n) ∙ wrong_kind (literal.Integer n); whole = whole_below }
+    of_top (literal.Text n) has = record { same = ruled (literal.Text n) ∙ wrong_kind (literal.Text n); whole = whole_below }
+    of_top literal.Missing has = record { same = ruled literal.Missing ∙ wrong_kind literal.Missing; whole = whole_below }
 
   -- ---- each step
 
@@ -637,52 +589,31 @@ module _ (job : NumberedJob) (style : Style) (library : Library) (h : SameJob jo
   unfolding step_of function_run
   built_in_ran frame f S plain apart w =
       plainly frame (callee.BuiltIn f) S plain tt w
-      (table.built_in_same job style library of body entry (of_job.named job style library h) (of_job.keyed job style library h)
-      (of_job.typed job style library h) (of_job.default job style library h) h.same_library.preamble f apart (vars frame S) S
+      (table.built_in_same job style library naming f apart (vars frame S) S
       ∙ to_now S frame (built_in_run job f S) (variables_stay job (token.Run (callee.BuiltIn f)) S plain))
 
   assignment_ran : (frame : State) (S : Store) → Whole S → Ran frame (callee.BuiltIn built_in.Assign) S
   unfolding function_run
   assignment_ran frame S w = let a = assigned S.literals frame S w.literals w in record { same = a.same; whole = a.whole }
 
+  -- a field or variable
+  value_ran : (c : Callee) → is_assignment (token.Run c) ≡ false
+      → ((e i : ℕ) → c ≡ callee.Field i → (entry e).value (name_of names (callee.Field i)) ≡ entry_value i (entry_of job e))
+      → (k : Kind) (name : List ℕ) → of c ≡ Declared k name → (frame : State) (S : Store) → Has job h.refers c → Whole S → Ran frame c S
+  value_ran c plain valued k name is frame S has w =
+      plainly frame c S plain has w (table.variable_same job style library naming of_variables c valued frame S (known_in S w c has) k name is)
+
   ran : (frame : State) (c : Callee) (S : Store) → Has job h.refers c → Whole S → Ran frame c S
   unfolding function_run
   ran frame (callee.BuiltIn built_in.Assign) S k w = assignment_ran frame S w
   ran frame (callee.BuiltIn f) S k w = built_in_ran frame f S refl (λ e. absurd (cc)) w
   ran frame (callee.User i) S k w = plainly frame (callee.User i) S refl k w refl
-  ran frame (callee.Field i) S k w = plainly frame (callee.Field i) S refl k w
-      (table.variable_same job style library of body entry (of_job.named job style library h) (of_job.keyed job style library h)
-      (of_job.typed job style library h) (of_job.default job style library h) h.same_library.preamble gi gs ei es keys (λ f. refl)
-      (λ i. name_of names (callee.User i)) (λ i. name_of names (callee.Field i)) (λ i. refl) (λ i. refl) (λ i. refl) (λ i. refl) (λ i. refl) (λ i. refl)
-      (of_job.key_names job style library h) (callee.Field i) (λ e j is. let same : i ≡ j = cc in
-      of_job.valued job style library h e j (omega (arith, k, same))) frame S refl kind.Field (name_of names (callee.Field i)) refl)
-  ran frame (callee.EntryInteger i) S k w = plainly frame (callee.EntryInteger i) S refl k w
-      (table.variable_same job style library of body entry (of_job.named job style library h) (of_job.keyed job style library h)
-      (of_job.typed job style library h) (of_job.default job style library h) h.same_library.preamble gi gs ei es keys (λ f. refl)
-      (λ i. name_of names (callee.User i)) (λ i. name_of names (callee.Field i)) (λ i. refl) (λ i. refl) (λ i. refl) (λ i. refl) (λ i. refl) (λ i. refl)
-      (of_job.key_names job style library h) (callee.EntryInteger i) (λ e j is. absurd (cc)) frame S (known_in S w (callee.EntryInteger i) k)
-      kind.EntryInteger (name_of names (callee.EntryInteger i)) refl)
-  ran frame (callee.EntryString i) S k w = plainly frame (callee.EntryString i) S refl k w
-      (table.variable_same job style library of body entry (of_job.named job style library h) (of_job.keyed job style library h)
-      (of_job.typed job style library h) (of_job.default job style library h) h.same_library.preamble gi gs ei es keys (λ f. refl)
-      (λ i. name_of names (callee.User i)) (λ i. name_of names (callee.Field i)) (λ i. refl) (λ i. refl) (λ i. refl) (λ i. refl) (λ i. refl) (λ i. refl)
-      (of_job.key_names job style library h) (callee.EntryString i) (λ e j is. absurd (cc)) frame S (known_in S w (callee.EntryString i) k) kind.EntryString
-      (name_of names (callee.EntryString i)) refl)
-  ran frame (callee.GlobalInteger i) S k w = plainly frame (callee.GlobalInteger i) S refl k w
-      (table.variable_same job style library of body entry (of_job.named job style library h) (of_job.keyed job style library h)
-      (of_job.typed job style library h) (of_job.default job style library h) h.same_library.preamble gi gs ei es keys (λ f. refl)
-      (λ i. name_of names (callee.User i)) (λ i. name_of names (callee.Field i)) (λ i. refl) (λ i. refl) (λ i. refl) (λ i. refl) (λ i. refl) (λ i. refl)
-      (of_job.key_names job style library h) (callee.GlobalInteger i) (λ e j is. absurd (cc)) frame S (known_in S w (callee.GlobalInteger i) k)
-      kind.GlobalInteger (name_of names (callee.GlobalInteger i)) refl)
-  ran frame (callee.GlobalString i) S k w = plainly frame (callee.GlobalString i) S refl k w
-      (table.variable_same job style library of body entry (of_job.named job style library h) (of_job.keyed job style library h)
-      (of_job.typed job style library h) (of_job.default job style library h) h.same_library.preamble gi gs ei es keys (λ f. refl)
-      (λ i. name_of names (callee.User i)) (λ i. name_of names (callee.Field i)) (λ i. refl) (λ i. refl) (λ i. refl) (λ i. refl) (λ i. refl) (λ i. refl)
-      (of_job.key_names job style library h) (callee.GlobalString i) (λ e j is. absurd (cc)) frame S (known_in S w (callee.GlobalString i) k)
-      kind.GlobalString (name_of names (callee.GlobalString i)) refl)
-
-  pub named_out : (out : Out) (s : State) (name : List ℕ) → SameOut before out s → SameOut before out (record s { executed = name })
-  named_out out s name o = record { lines = o.lines; pending = o.pending; log = o.log; warnings = o.warnings; errors = o.errors }
+  ran frame (callee.Field i) S k w = value_ran (callee.Field i) refl
+      (λ e j is. let same : i ≡ j = cc in of_job.valued job style library h e j (omega (arith, k, same))) kind.Field _ refl frame S k w
+  ran frame (callee.EntryInteger i) S k w = value_ran (callee.EntryInteger i) refl (λ e j is. absurd (cc)) kind.EntryInteger _ refl frame S k w
+  ran frame (callee.EntryString i) S k w = value_ran (callee.EntryString i) refl (λ e j is. absurd (cc)) kind.EntryString _ refl frame S k w
+  ran frame (callee.GlobalInteger i) S k w = value_ran (callee.GlobalInteger i) refl (λ e j is. absurd (cc)) kind.GlobalInteger _ refl frame S k w
+  ran frame (callee.GlobalString i) S k w = value_ran (callee.GlobalString i) refl (λ e j is. absurd (cc)) kind.GlobalString _ refl frame S k w
 
   -- what a token does with numbers, its word does in names
   pub step_same : (x : Token) (S : NumberedState) (s : State) → known x → SameState S s → SameEffect (token_effect job x S).next (token_effect job x S).state
@@ -692,19 +623,16 @@ module _ (job : NumberedJob) (style : Style) (library : Library) (h : SameJob jo
       let text = slice_index_or job.style.texts n [] in
       literal_same S s (pushes_text said.Nothing text S.store) (push_text text s) r (silent_text text S.store) (variables_stay job (token.Text n) S.store refl)
       (fine_of (token.Text n) S s k r)
-      (ap (push_text text) r.is ∙ table.text_same job style library of body entry (of_job.named job style library h) (of_job.keyed job style library h)
-      (of_job.typed job style library h) (of_job.default job style library h) h.same_library.preamble said.Nothing text (vars s S.store) S.store)
+      (ap (push_text text) r.is ∙ table.text_same job style library naming said.Nothing text (vars s S.store) S.store)
   step_same (token.Integer n) S s k r =
       literal_same S s (pushes said.Nothing (literal.Integer n) S.store) (push (Integer n) s) r (silent (literal.Integer n) S.store)
       (variables_stay job (token.Integer n) S.store refl) (fine_of (token.Integer n) S s k r)
-      (ap (push (Integer n)) r.is ∙ table.push_same job style library of body entry (of_job.named job style library h) (of_job.keyed job style library h)
-      (of_job.typed job style library h) (of_job.default job style library h) h.same_library.preamble said.Nothing (literal.Integer n) (vars s S.store)
+      (ap (push (Integer n)) r.is ∙ table.push_same job style library naming said.Nothing (literal.Integer n) (vars s S.store)
       S.store)
   step_same (token.Quote c) S s k r =
       literal_same S s (pushes said.Nothing (literal.Function c) S.store) (push (Quoted (of c)) s) r (silent (literal.Function c) S.store)
       (variables_stay job (token.Quote c) S.store refl) (fine_of (token.Quote c) S s k r)
-      (ap (push (Quoted (of c))) r.is ∙ table.push_same job style library of body entry (of_job.named job style library h) (of_job.keyed job style library h)
-      (of_job.typed job style library h) (of_job.default job style library h) h.same_library.preamble said.Nothing (literal.Function c) (vars s S.store)
+      (ap (push (Quoted (of c))) r.is ∙ table.push_same job style library naming said.Nothing (literal.Function c) (vars s S.store)
       S.store)
   step_same (token.Run c) S s k r =
       let frame : State = record s { executed = shown_name (of c) } in
@@ -712,7 +640,7 @@ module _ (job : NumberedJob) (style : Style) (library : Library) (h : SameJob jo
       let done = ran frame c S.store k r.whole in
       now_same S.out frame (name_of names c) (function_run job c S.store) (function_effect computed here (of c) frame) (fine_of (token.Run c) S s k r).1
       done.whole (of_job.named job style library h c)
-      (named_out S.out s (shown_name (of c)) r.out) (ap (function_effect computed here (of c)) is ∙ done.same)
+      r.out (ap (function_effect computed here (of c)) is ∙ done.same)
 
   -- ---- tests of loops, and depths
 
@@ -731,14 +659,13 @@ module _ (job : NumberedJob) (style : Style) (library : Library) (h : SameJob jo
       let is : frame ≡ state_of frame S.store = ap (λ (u : State). record u { executed = name }) r.is in
       let test = control.tested S.store.literals S.store in
       let same : test_of s ≡ (test.again, stacked (saying test.said test.store.current (vars frame S.store)) test.store) =
-      ap (λ (u : State). tested u.literals u) is ∙ table.tested_same job style library of body entry (of_job.named job style library h)
-      (of_job.keyed job style library h) (of_job.typed job style library h) (of_job.default job style library h) h.same_library.preamble S.store.literals
+      ap (λ (u : State). tested u.literals u) is ∙ table.tested_same job style library naming S.store.literals
       (vars frame S.store) S.store
       ∙ ap (λ c. (test.again, stacked (saying test.said c (vars frame S.store)) test.store)) (current_kept S.store.literals S.store) in (
         sym (ap (λ (p : Bool × State). p.0) same),
         subst (SameState (turn_of job S).state) (sym (ap (λ (p : Bool × State). p.1) same))
             (tested_state frame S test.said test.store (tested_whole S.store.literals S.store)
-            (tested_fine job h.refers types S.store.literals S.store r.whole.literals) r.whole (named_out S.out s name r.out)),
+            (tested_fine job h.refers types S.store.literals S.store r.whole.literals) r.whole r.out),
       ) where
         current_kept : (xs : List Numbered) (s : Store) → s.current ≡ (control.tested xs s).store.current
         current_kept [] s = refl
@@ -756,17 +683,8 @@ module _ (job : NumberedJob) (style : Style) (library : Library) (h : SameJob jo
       → SameState (record S { store = record S.store { deepest = max S.store.deepest d } }) (deeper d s)
   deepens_same S s d r =
       let store : Store = record S.store { deepest = max S.store.deepest d } in
-      let w = r.whole in
       record {
-        whole = record {
-          literals = w.literals;
-          integers = w.integers;
-          strings = w.strings;
-          entries = w.entries;
-          entry_integers = w.entry_integers;
-          entry_strings = w.entry_strings;
-          current = w.current;
-        };
+        whole = r.whole;
         is = ap (deeper d) r.is ∙ sym (ap (λ (u : State). state_of (record u { deepest = max u.deepest d }) store) r.is);
-        out = record { lines = r.out.lines; pending = r.out.pending; log = r.out.log; warnings = r.out.warnings; errors = r.out.errors };
+        out = r.out;
       }

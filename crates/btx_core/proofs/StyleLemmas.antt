@@ -30,6 +30,7 @@ use Rattle.btx_core.specs.language.StyleTexts.{SoFar, meaning, unread, and_name,
 use Rattle.btx_core.specs.language.StyleTexts.{Makes, Names, Lists, body_of, wrong_in, wrong_till, HasBody, is_function, Executes, Behind, Named, FollowsOn}
 use Rattle.btx_core.specs.language.StyleTexts.{AreCommands, IsStyle, is_a_field}
 use Rattle.btx_text.specs.laws.Bytes.{open_brace, close_brace}
+use Rattle.btx_core.proofs.RuleLemmas.{behind_by}
 
 -- a byte that may stand in a list of names: its `}`, or one with which a name begins
 abbrev pub is_list_byte : ℕ → Bool
@@ -210,25 +211,41 @@ no_open w e h = subst IsPlain (sym e) h
 close_open : Close ≡ Open → ⊥
 close_open e = absurd (cc)
 
+-- two that begin with a word of a body, and go on in the same way
+plain_one : {R X : Type 0} (Are : R → Place → Place → Type 0) (make : ℕ → BodyWord → R → X) (line line' : ℕ) (w w' : BodyWord) (more more' : R) (p q r : Place)
+    (h : (next : Place) × NextWord w p next × (line ≡ next.number) × IsPlain w × Are more next q)
+    (k : (next : Place) × NextWord w' p next × (line' ≡ next.number) × IsPlain w' × Are more' next r)
+    → (Are more k.0 q → Are more' k.0 r → (more ≡ more') × (q ≡ r)) → (make line w more ≡ make line' w' more') × (q ≡ r)
+plain_one Are make line line' w w' more more' p q r h k go_on =
+    let word = same_word p h.0 k.0 w w' h.1 k.1 in
+    let place = same_place p h.0 k.0 w w' h.1 k.1 in
+    let rest = go_on (subst (λ x. Are more x q) place h.4) k.4 in
+    let lines : line ≡ line' = h.2 ∙ ap (λ (x : Place). x.number) place ∙ sym k.2 in
+    (ap (λ l. make l w more) lines ∙ ap (λ v. make line' v more) word ∙ ap (make line' w') rest.0, rest.1)
+
+-- two that begin with a group in braces, whose insides are the same, and go on in the same way
+group_one : {R X : Type 0} (Are : R → Place → Place → Type 0) (make : Parts → R → X) (inside inside' : Parts) (more more' : R) (p q r : Place)
+    (h : (first : Place) × (second : Place) × NextWord Open p first × AreBodyParts inside first second × Are more second q)
+    (k : (first : Place) × (second : Place) × NextWord Open p first × AreBodyParts inside' first second × Are more' second r)
+    → (AreBodyParts inside k.0 h.1 → AreBodyParts inside' k.0 k.1 → (inside ≡ inside') × (h.1 ≡ k.1))
+    → (Are more k.1 q → Are more' k.1 r → (more ≡ more') × (q ≡ r)) → (make inside more ≡ make inside' more') × (q ≡ r)
+group_one Are make inside inside' more more' p q r h k within go_on =
+    let inner = within (subst (λ x. AreBodyParts inside x h.1) (same_place p h.0 k.0 Open Open h.2 k.2) h.3) k.3 in
+    let rest = go_on (subst (λ x. Are more x q) inner.1 h.4) k.4 in
+    (ap (λ i. make i more) inner.0 ∙ ap (make inside') rest.0, rest.1)
+
 parts_one : (a b : Parts) (p q r : Place) → AreBodyParts a p q → AreBodyParts b p r → (a ≡ b) × (q ≡ r)
 parts_one Nothing Nothing p q r h k = (refl, same_place p q r Close Close h k)
 parts_one Nothing (Plain line w more) p q r h k = absurd (no_close w (same_word p q k.0 Close w h k.1) k.3)
 parts_one Nothing (Group inside more) p q r h k = absurd (close_open (same_word p q k.0 Close Open h k.2))
 parts_one (Plain line w more) Nothing p q r h k = absurd (no_close w (same_word p r h.0 Close w k h.1) h.3)
 parts_one (Plain line w more) (Plain line' w' more') p q r h k =
-    let word = same_word p h.0 k.0 w w' h.1 k.1 in
-    let place = same_place p h.0 k.0 w w' h.1 k.1 in
-    let rest = parts_one more more' k.0 q r (subst (λ x. AreBodyParts more x q) place h.4) k.4 in
-    let lines : line ≡ line' = h.2 ∙ ap (λ (x : Place). x.number) place ∙ sym k.2 in
-    (ap (λ l. Plain l w more) lines ∙ ap (λ v. Plain line' v more) word ∙ ap (Plain line' w') rest.0, rest.1)
+    plain_one AreBodyParts Plain line line' w w' more more' p q r h k (parts_one more more' k.0 q r)
 parts_one (Plain line w more) (Group inside more') p q r h k = absurd (no_open w (same_word p k.0 h.0 Open w k.2 h.1) h.3)
 parts_one (Group inside more) Nothing p q r h k = absurd (close_open (same_word p r h.0 Close Open k h.2))
 parts_one (Group inside more) (Plain line w more') p q r h k = absurd (no_open w (same_word p h.0 k.0 Open w h.2 k.1) k.3)
 parts_one (Group inside more) (Group inside' more') p q r h k =
-    let place = same_place p h.0 k.0 Open Open h.2 k.2 in
-    let inner = parts_one inside inside' k.0 h.1 k.1 (subst (λ x. AreBodyParts inside x h.1) place h.3) k.3 in
-    let rest = parts_one more more' k.1 q r (subst (λ x. AreBodyParts more x q) inner.1 h.4) k.4 in
-    (ap (λ i. Group i more) inner.0 ∙ ap (Group inside') rest.0, rest.1)
+    group_one AreBodyParts Group inside inside' more more' p q r h k (parts_one inside inside' k.0 h.1 k.1) (parts_one more more' k.1 q r)
 
 -- a word that breaks a body off is no part of one
 abbrev Breaking : BodyWord → Type 0
@@ -285,20 +302,13 @@ break_one (Here c) (AfterGroup inside more) p q r h k = absurd (open_no_break h.
 break_one (Here c) (Inner inside) p q r h k = absurd (open_no_break h.0 c (same_word p k.0 q Open h.0 k.1 h.1) h.2)
 break_one (After line w more) (Here c) p q r h k = absurd (plain_is_no w k.0 c (same_word p h.0 r w k.0 h.1 k.1) h.3 k.2)
 break_one (After line w more) (After line' w' more') p q r h k =
-    let word = same_word p h.0 k.0 w w' h.1 k.1 in
-    let place = same_place p h.0 k.0 w w' h.1 k.1 in
-    let rest = break_one more more' k.0 q r (subst (λ x. BreakOff more x q) place h.4) k.4 in
-    let lines : line ≡ line' = h.2 ∙ ap (λ (x : Place). x.number) place ∙ sym k.2 in
-    (ap (λ l. After l w more) lines ∙ ap (λ v. After line' v more) word ∙ ap (After line' w') rest.0, rest.1)
+    plain_one BreakOff After line line' w w' more more' p q r h k (break_one more more' k.0 q r)
 break_one (After line w more) (AfterGroup inside more') p q r h k = absurd (no_open w (same_word p k.0 h.0 Open w k.2 h.1) h.3)
 break_one (After line w more) (Inner inside) p q r h k = absurd (no_open w (same_word p k.0 h.0 Open w k.1 h.1) h.3)
 break_one (AfterGroup inside more) (Here c) p q r h k = absurd (open_no_break k.0 c (same_word p h.0 r Open k.0 h.2 k.1) k.2)
 break_one (AfterGroup inside more) (After line w more') p q r h k = absurd (no_open w (same_word p h.0 k.0 Open w h.2 k.1) k.3)
 break_one (AfterGroup inside more) (AfterGroup inside' more') p q r h k =
-    let place = same_place p h.0 k.0 Open Open h.2 k.2 in
-    let inner = parts_one inside inside' k.0 h.1 k.1 (subst (λ x. AreBodyParts inside x h.1) place h.3) k.3 in
-    let rest = break_one more more' k.1 q r (subst (λ x. BreakOff more x q) inner.1 h.4) k.4 in
-    (ap (λ i. AfterGroup i more) inner.0 ∙ ap (AfterGroup inside') rest.0, rest.1)
+    group_one BreakOff AfterGroup inside inside' more more' p q r h k (parts_one inside inside' k.0 h.1 k.1) (break_one more more' k.1 q r)
 break_one (AfterGroup inside more) (Inner inside') p q r h k =
     absurd (parts_break inside inside' k.0 h.1 r (subst (λ x. AreBodyParts inside x h.1) (same_place p h.0 k.0 Open Open h.2 k.1) h.3) k.2)
 break_one (Inner inside) (Here c) p q r h k = absurd (open_no_break k.0 c (same_word p h.0 r Open k.0 h.1 k.1) k.2)
@@ -340,17 +350,7 @@ executes_one command made = where_one _ _ _ (opened_one _ (named_one _ by)) wher
   by name s p o o' (inr h) (inr k) = h.1 ∙ sym k.1
 
 behind_one : (c : CommandName) → One (Behind c)
-behind_one command.Entry = where_one _ _ _ (lists_one kind.Field _ (lists_one kind.EntryInteger _ (lists_one kind.EntryString _ (makes_one _))))
-behind_one command.Function = opened_one _ (named_one _ (λ name. where_one _ _ _ (closed_one _ (opened_one _ (body_one name)))))
-behind_one command.Read = where_one _ _ _ (where_one _ _ _ (makes_one _))
-behind_one command.Execute = executes_one command.Execute Execute
-behind_one command.Iterate = executes_one command.Iterate Iterate
-behind_one command.Reverse = executes_one command.Reverse Reverse
-behind_one command.Sort = where_one _ _ _ (makes_one _)
-behind_one command.Integers = lists_one kind.GlobalInteger _ (makes_one _)
-behind_one command.Strings = lists_one kind.GlobalString _ (makes_one _)
-behind_one command.Macro = where_one _ _ _
-    (opened_one _ (named_one _ (λ name. where_one _ _ _ (closed_one _ (opened_one _ (text_one _ (λ text. closed_one _ (makes_one _))))))))
+behind_one = behind_by One opened_one closed_one named_one text_one where_one makes_one lists_one body_one executes_one
 
 command_name : (c d : CommandName) → Some c ≡ Some d → c ≡ d
 command_name c d e = cc

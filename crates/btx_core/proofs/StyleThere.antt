@@ -31,6 +31,7 @@ use Rattle.btx_core.specs.language.Styles.{Function, Declared, Defined, Command,
 use Rattle.btx_core.specs.language.StyleTexts.{SoFar, meaning, unread, and_name, and_command, and_says, CommandEnd, ended_at, Rule, Next, Opened, Closed, Where}
 use Rattle.btx_core.specs.language.StyleTexts.{Makes, Names, Lists, body_of, wrong_in, wrong_till, HasBody, is_function, Executes, Behind, Named, FollowsOn}
 use Rattle.btx_core.specs.language.StyleTexts.{AreCommands, IsStyle, is_a_field}
+use Rattle.btx_core.proofs.RuleLemmas.{behind_by}
 use Rattle.btx_core.proofs.StyleLemmas.{skips_one, is_list_byte}
 use Rattle.btx_bst.proofs.WrittenLemmas.{ink_twice}
 
@@ -222,17 +223,7 @@ executes_has command made = where_has _ _ _ (opened_has _ (named_has _ by)) wher
       )
 
 unfoldable pub behind_has : (c : CommandName) → Has (Behind c)
-behind_has command.Entry = where_has _ _ _ (lists_has kind.Field _ (lists_has kind.EntryInteger _ (lists_has kind.EntryString _ (makes_has _))))
-behind_has command.Function = opened_has _ (named_has _ (λ name. where_has _ _ _ (closed_has _ (opened_has _ (body_has name)))))
-behind_has command.Read = where_has _ _ _ (where_has _ _ _ (makes_has _))
-behind_has command.Execute = executes_has command.Execute Execute
-behind_has command.Iterate = executes_has command.Iterate Iterate
-behind_has command.Reverse = executes_has command.Reverse Reverse
-behind_has command.Sort = where_has _ _ _ (makes_has _)
-behind_has command.Integers = lists_has kind.GlobalInteger _ (makes_has _)
-behind_has command.Strings = lists_has kind.GlobalString _ (makes_has _)
-behind_has command.Macro = where_has _ _ _
-    (opened_has _ (named_has _ (λ name. where_has _ _ _ (closed_has _ (opened_has _ (text_has _ (λ text. closed_has _ (makes_has _))))))))
+behind_has = behind_by Has opened_has closed_has named_has text_has where_has makes_has lists_has body_has executes_has
 
 unfoldable pub no_word : (letters : List ℕ) → command_named (folded letters) ≡ None → (c : CommandName) → IsWordOf c letters → ⊥
 no_word letters e c h = let f : command_named (folded letters) ≡ Some c = ap command_named h ∙ word_named c in absurd (cc)

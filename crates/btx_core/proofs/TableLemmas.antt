@@ -117,11 +117,38 @@ final_comma n names = codes "Name " ++ signed_decimal n ++ codes " in \"" ++ nam
 abbrev too_many_commas : ℤ → List ℕ → List ℕ
 too_many_commas n names = codes "Too many commas in name " ++ signed_decimal n ++ codes " of \"" ++ names ++ codes "\""
 
-module _ (job : NumberedJob) (style : Style) (library : Library) (of : Callee → Function) (body : ℕ → Body) (entry : ℕ → Entry)
-    (named : (c : Callee) → name_of (of c) ≡ number_name job.style.names c) (keyed : (i : ℕ) → (entry i).key ≡ key_of (entry_of job i))
-    (typed : (i : ℕ) → (entry i).kind ≡ option_map (λ (f : ℕ). of (callee.User f)) (entry_type (entry_of job i)))
-    (default : style.types (codes "default.type") ≡ option_map (λ (f : ℕ). of (callee.User f)) (type_of job.style (codes "default.type")))
-    (preamble : library.preamble ≡ job.library.preamble) where
+-- what the numbers of a job stand for in names: functions, their bodies, and entries; they have the names, keys and types that the numbers have
+pub record Naming (job : NumberedJob) (style : Style) (library : Library) : Type 0 where
+  pub of : Callee → Function
+  pub body : ℕ → Body
+  pub entry : ℕ → Entry
+  pub named : (c : Callee) → name_of (of c) ≡ number_name job.style.names c
+  pub keyed : (i : ℕ) → (entry i).key ≡ key_of (entry_of job i)
+  pub typed : (i : ℕ) → (entry i).kind ≡ option_map (λ (f : ℕ). of (callee.User f)) (entry_type (entry_of job i))
+  pub default : style.types (codes "default.type") ≡ option_map (λ (f : ℕ). of (callee.User f)) (type_of job.style (codes "default.type"))
+  pub preamble : library.preamble ≡ job.library.preamble
+
+-- the numbers of variables and keys, and the functions in names that callees are
+pub record Variables (job : NumberedJob) (style : Style) (library : Library) (naming : Naming job style library) : Type 0 where
+  pub gi : Numbering
+  pub gs : Numbering
+  pub ei : Numbering
+  pub es : Numbering
+  pub keys : Numbering
+  pub user_name : ℕ → List ℕ
+  pub field_name : ℕ → List ℕ
+  pub built : (f : BuiltIn) → naming.of (callee.BuiltIn f) ≡ Built f
+  pub users : (i : ℕ) → naming.of (callee.User i) ≡ Defined (user_name i) (naming.body i)
+  pub fields : (i : ℕ) → naming.of (callee.Field i) ≡ Declared kind.Field (field_name i)
+  pub global_integers : (i : ℕ) → naming.of (callee.GlobalInteger i) ≡ Declared kind.GlobalInteger (gi.name i)
+  pub global_strings : (i : ℕ) → naming.of (callee.GlobalString i) ≡ Declared kind.GlobalString (gs.name i)
+  pub entry_integers : (i : ℕ) → naming.of (callee.EntryInteger i) ≡ Declared kind.EntryInteger (ei.name i)
+  pub entry_strings : (i : ℕ) → naming.of (callee.EntryString i) ≡ Declared kind.EntryString (es.name i)
+  pub key_names : (e : ℕ) → (naming.entry e).key ≡ keys.name e
+
+module _ (job : NumberedJob) (style : Style) (library : Library) (naming : Naming job style library) where
+  open naming use {of, body, entry, named, keyed, typed, default, preamble}
+
   -- ---- the state with numbers, said in names
 
   abbrev pub here : Job
@@ -268,7 +295,7 @@ module _ (job : NumberedJob) (style : Style) (library : Library) (of : Callee �
       ∙ push_same (said.Noted ns) (literal.Integer (pos 0)) frame s
   complained_same ns ts h stand_in.Empty frame s = ap (push (Text [])) (errors_same ns ts h frame s) ∙ push_same (said.Noted ns) (literal.Text []) frame s
 
-  complains_same : (n : Note) (t : List ℕ) → IsError n t → (instead : StandIn)
+  pub complains_same : (n : Note) (t : List ℕ) → IsError n t → (instead : StandIn)
       → Same (λ s. push_instead (stand instead) (error t s)) (answers.complains n instead)
   complains_same n t h instead = complained_same (n ∷ []) (t ∷ []) (h, refl) instead
 
@@ -374,7 +401,7 @@ module _ (job : NumberedJob) (style : Style) (library : Library) (of : Callee �
       let same : length os - length xs ≡ suc (length os) - suc (length xs) = omega arith in are_absent os xs w (omega (arith, h))
       ∙ ap (λ k. replicate k note.EmptyStack) same
 
-  errors_absent : (k : ℕ) → AreErrors (replicate k note.EmptyStack) (replicate k empty_stack)
+  pub errors_absent : (k : ℕ) → AreErrors (replicate k note.EmptyStack) (replicate k empty_stack)
   errors_absent zero = refl
   errors_absent (suc k) = (empty_is, errors_absent k)
 
@@ -912,14 +939,9 @@ module _ (job : NumberedJob) (style : Style) (library : Library) (of : Callee �
   unfolding note_text note_kind has_place
   not_assignable_is c = record { of_text = ap (λ n. codes "You can't assign to " ++ n) (named c); of_kind = refl; of_place = refl }
 
-  module _ (gi gs ei es keys : Numbering)
-      (built : (f : BuiltIn) → of (callee.BuiltIn f) ≡ Built f) (user_name field_name : ℕ → List ℕ)
-      (users : (i : ℕ) → of (callee.User i) ≡ Defined (user_name i) (body i)) (fields : (i : ℕ) → of (callee.Field i) ≡ Declared kind.Field (field_name i))
-      (global_integers : (i : ℕ) → of (callee.GlobalInteger i) ≡ Declared kind.GlobalInteger (gi.name i))
-      (global_strings : (i : ℕ) → of (callee.GlobalString i) ≡ Declared kind.GlobalString (gs.name i))
-      (entry_integers : (i : ℕ) → of (callee.EntryInteger i) ≡ Declared kind.EntryInteger (ei.name i))
-      (entry_strings : (i : ℕ) → of (callee.EntryString i) ≡ Declared kind.EntryString (es.name i))
-      (key_names : (e : ℕ) → (entry e).key ≡ keys.name e) where
+  module _ (of_variables : Variables job style library naming) where
+    open of_variables use {gi, gs, ei, es, keys, user_name, field_name, built, users, fields, global_integers, global_strings, entry_integers, entry_strings, key_names}
+
     abbrev pub none : EntryVariables
     none = record { integers = []; strings = [] }
 
@@ -953,6 +975,20 @@ module _ (job : NumberedJob) (style : Style) (library : Library) (of : Callee �
         ≡ answers_now frame (answers.complains n stand_in.Nothing s)
     complaint n t h frame s = complains_same n t h stand_in.Nothing (vars frame s) s
 
+    -- `:=` of a value to a callee, which is this function, does in names what it does with numbers
+    abbrev Assigned : Callee → Function → Numbered → Type 0
+    Assigned c f v = (frame : State) (s : Store) → Known s c → assigns here f (lit v) (now_in_names frame s)
+        ≡ answers_now frame (variables.assigns job c v s)
+
+    -- what is assigned to a variable of the other kind
+    not_integer : (x : Numbered) (frame : State) (s : Store) → Leaves (error (not_what_was_asked AnInteger (lit x)) (now_in_names frame s))
+        ≡ answers_now frame (answers.complains (note.WrongKind x wanted.Integer) stand_in.Nothing s)
+    not_integer x frame s = complaint (note.WrongKind x wanted.Integer) _ (no_integer x) frame s
+
+    not_text : (x : Numbered) (frame : State) (s : Store) → Leaves (error (not_what_was_asked AString (lit x)) (now_in_names frame s))
+        ≡ answers_now frame (answers.complains (note.WrongKind x wanted.Text) stand_in.Nothing s)
+    not_text x frame s = complaint (note.WrongKind x wanted.Text) _ (no_string x) frame s
+
     cuts : (most : ℕ) (text : List ℕ) (frame : State) (s : Store) → Leaves (cut_to most text (now_in_names frame s))
         ≡ answers_now frame (answers.says (answers.noted (only_if (nat_lt most (length text)) (note.Cut (length text) most))) s)
     cuts most text frame s = choose (nat_lt most (length text)) where
@@ -971,29 +1007,23 @@ module _ (job : NumberedJob) (style : Style) (library : Library) (of : Callee �
       by None e = complaint note.NoEntry no_entry no_entry_is frame s
       by (Some i) e = h i e
 
-    global_integer : (i : ℕ) (v : Numbered) (frame : State) (s : Store) → Known s (callee.GlobalInteger i)
-        → assigns here (Declared kind.GlobalInteger (gi.name i)) (lit v) (now_in_names frame s)
-        ≡ answers_now frame (variables.assigns job (callee.GlobalInteger i) v s)
+    global_integer : (i : ℕ) (v : Numbered) → Assigned (callee.GlobalInteger i) (Declared kind.GlobalInteger (gi.name i)) v
     global_integer i (literal.Integer n) frame s k =
         ap (λ m. Leaves (record (now_in_names frame s) { integers = m })) (set_item gi s.integers (pos 0) n i k.0 k.1)
-    global_integer i (literal.Text n) frame s k = complaint (note.WrongKind (literal.Text n) wanted.Integer) _ (no_integer (literal.Text n)) frame s
-    global_integer i (literal.Function n) frame s k = complaint (note.WrongKind (literal.Function n) wanted.Integer) _ (no_integer (literal.Function n)) frame s
-    global_integer i literal.Missing frame s k = complaint (note.WrongKind literal.Missing wanted.Integer) _ (no_integer literal.Missing) frame s
+    global_integer i (literal.Text n) frame s k = not_integer (literal.Text n) frame s
+    global_integer i (literal.Function n) frame s k = not_integer (literal.Function n) frame s
+    global_integer i literal.Missing frame s k = not_integer literal.Missing frame s
 
-    global_string : (i : ℕ) (v : Numbered) (frame : State) (s : Store) → Known s (callee.GlobalString i)
-        → assigns here (Declared kind.GlobalString (gs.name i)) (lit v) (now_in_names frame s)
-        ≡ answers_now frame (variables.assigns job (callee.GlobalString i) v s)
+    global_string : (i : ℕ) (v : Numbered) → Assigned (callee.GlobalString i) (Declared kind.GlobalString (gs.name i)) v
     global_string i (literal.Text text) frame s k =
         ap (λ m. Leaves (cut_to job.global_max text (record (now_in_names frame s) { strings = m })))
         (set_item gs s.strings [] (take job.global_max text) i k.0 k.1)
         ∙ cuts job.global_max text frame (variables.with_global_string i (take job.global_max text) s)
-    global_string i (literal.Integer n) frame s k = complaint (note.WrongKind (literal.Integer n) wanted.Text) _ (no_string (literal.Integer n)) frame s
-    global_string i (literal.Function n) frame s k = complaint (note.WrongKind (literal.Function n) wanted.Text) _ (no_string (literal.Function n)) frame s
-    global_string i literal.Missing frame s k = complaint (note.WrongKind literal.Missing wanted.Text) _ (no_string literal.Missing) frame s
+    global_string i (literal.Integer n) frame s k = not_text (literal.Integer n) frame s
+    global_string i (literal.Function n) frame s k = not_text (literal.Function n) frame s
+    global_string i literal.Missing frame s k = not_text literal.Missing frame s
 
-    entry_integer : (i : ℕ) (v : Numbered) (frame : State) (s : Store) → Known s (callee.EntryInteger i)
-        → assigns here (Declared kind.EntryInteger (ei.name i)) (lit v) (now_in_names frame s)
-        ≡ answers_now frame (variables.assigns job (callee.EntryInteger i) v s)
+    entry_integer : (i : ℕ) (v : Numbered) → Assigned (callee.EntryInteger i) (Declared kind.EntryInteger (ei.name i)) v
     entry_integer i (literal.Integer n) frame s k =
         entry_case (λ entry s. Leaves (record s { entry_integers = set entry.key (set (ei.name i) n (s.entry_integers entry.key)) s.entry_integers })) _ frame s
         (λ e c.
@@ -1007,16 +1037,14 @@ module _ (job : NumberedJob) (style : Style) (library : Library) (of : Callee �
         (set_both keys ei s.entries none (λ v. v.integers) (λ xs v. record v { integers = xs }) (λ xs v. refl) (pos 0) n e i known.0 known.1.0 known.1.1.0
         known.1.1.1)
         (kept s.entries none y e (λ v. by_name es (item v.strings []) []) known.1.0 refl))
-    entry_integer i (literal.Text n) frame s k = entry_case (λ entry s. Leaves (error (not_what_was_asked AnInteger (lit (literal.Text n))) s)) _ frame s
-        (λ e c. complaint (note.WrongKind (literal.Text n) wanted.Integer) _ (no_integer (literal.Text n)) frame s)
-    entry_integer i (literal.Function n) frame s k = entry_case (λ entry s. Leaves (error (not_what_was_asked AnInteger (lit (literal.Function n))) s)) _ frame
-        s (λ e c. complaint (note.WrongKind (literal.Function n) wanted.Integer) _ (no_integer (literal.Function n)) frame s)
-    entry_integer i literal.Missing frame s k = entry_case (λ entry s. Leaves (error (not_what_was_asked AnInteger (lit literal.Missing)) s)) _ frame s
-        (λ e c. complaint (note.WrongKind literal.Missing wanted.Integer) _ (no_integer literal.Missing) frame s)
+    entry_integer i (literal.Text n) frame s k =
+        entry_case (λ entry s. Leaves (error (not_what_was_asked AnInteger (lit (literal.Text n))) s)) _ frame s (λ e c. not_integer (literal.Text n) frame s)
+    entry_integer i (literal.Function n) frame s k =
+        entry_case (λ entry s. Leaves (error (not_what_was_asked AnInteger (lit (literal.Function n))) s)) _ frame s (λ e c. not_integer (literal.Function n) frame s)
+    entry_integer i literal.Missing frame s k =
+        entry_case (λ entry s. Leaves (error (not_what_was_asked AnInteger (lit literal.Missing)) s)) _ frame s (λ e c. not_integer literal.Missing frame s)
 
-    entry_string : (i : ℕ) (v : Numbered) (frame : State) (s : Store) → Known s (callee.EntryString i)
-        → assigns here (Declared kind.EntryString (es.name i)) (lit v) (now_in_names frame s)
-        ≡ answers_now frame (variables.assigns job (callee.EntryString i) v s)
+    entry_string : (i : ℕ) (v : Numbered) → Assigned (callee.EntryString i) (Declared kind.EntryString (es.name i)) v
     entry_string i (literal.Text text) frame s k =
         entry_case (λ entry s. Leaves (cut_to job.entry_max text
         (record s { entry_strings = set entry.key (set (es.name i) (take job.entry_max text) (s.entry_strings entry.key)) s.entry_strings }))) _ frame s (λ e c.
@@ -1033,12 +1061,12 @@ module _ (job : NumberedJob) (style : Style) (library : Library) (of : Callee �
         (set_both keys es s.entries none (λ v. v.strings) (λ xs v. record v { strings = xs }) (λ xs v. refl) [] n e i known.0 known.1.0 known.1.1.0 known.1.1.1)
         (kept s.entries none y e (λ v. by_name ei (item v.integers (pos 0)) (pos 0)) known.1.0 refl)
         ∙ cuts job.entry_max text frame (variables.with_entry_string e i n s))
-    entry_string i (literal.Integer n) frame s k = entry_case (λ entry s. Leaves (error (not_what_was_asked AString (lit (literal.Integer n))) s)) _ frame s
-        (λ e c. complaint (note.WrongKind (literal.Integer n) wanted.Text) _ (no_string (literal.Integer n)) frame s)
-    entry_string i (literal.Function n) frame s k = entry_case (λ entry s. Leaves (error (not_what_was_asked AString (lit (literal.Function n))) s)) _ frame s
-        (λ e c. complaint (note.WrongKind (literal.Function n) wanted.Text) _ (no_string (literal.Function n)) frame s)
-    entry_string i literal.Missing frame s k = entry_case (λ entry s. Leaves (error (not_what_was_asked AString (lit literal.Missing)) s)) _ frame s
-        (λ e c. complaint (note.WrongKind literal.Missing wanted.Text) _ (no_string literal.Missing) frame s)
+    entry_string i (literal.Integer n) frame s k =
+        entry_case (λ entry s. Leaves (error (not_what_was_asked AString (lit (literal.Integer n))) s)) _ frame s (λ e c. not_text (literal.Integer n) frame s)
+    entry_string i (literal.Function n) frame s k =
+        entry_case (λ entry s. Leaves (error (not_what_was_asked AString (lit (literal.Function n))) s)) _ frame s (λ e c. not_text (literal.Function n) frame s)
+    entry_string i literal.Missing frame s k =
+        entry_case (λ entry s. Leaves (error (not_what_was_asked AString (lit literal.Missing)) s)) _ frame s (λ e c. not_text literal.Missing frame s)
 
     refused : (c : Callee) (f : Function) (v : Numbered) (frame : State) (s : Store) → of c ≡ f → Leaves (error (not_assignable f) (now_in_names frame s))
         ≡ answers_now frame (answers.complains (note.NotAssignable c) stand_in.Nothing s)

@@ -1,5 +1,5 @@
 -- Each job has a product.
-use Rattle.std.proofs.Common.{◌≤◌, ℕ, Bool, true, false, List, [], ◌∷◌, ◌++◌, map, Option, None, Some, refl}
+use Rattle.std.proofs.Common.{◌≡◌, ◌≤◌, ℕ, Bool, true, false, List, [], ◌∷◌, ◌++◌, map, Option, None, Some, refl}
 use Rattle.std.specs.Prelude.{codes}
 use Rattle.btx_text.specs.language.LogLines.{Line}
 use Rattle.btx_text.specs.language.Limits.{is_too_long}
@@ -56,24 +56,29 @@ come_there means library (c ∷ cs) list left s =
     (g.0, (b.0, b.1, g.1))
 
 module _ (the : Divisions) (are : AreDivisions the) (options : Options) (wide : 3 ≤ options.line) where
+  -- a style is executed as its commands come to
+  pub executed_so : (job : Job) (log : List Line) (outcome : Outcome)
+      → CommandsCome (by_steps the job) job.library job.style.commands [] options.budget (first_state job log) outcome
+      → (product : Product) → product ≡ comes_to (wrap options.line) (sure options.line) options.budget outcome → IsExecuted job log options product
+  executed_so job log outcome come product is = record {
+    the = the;
+    divided = are;
+    means = by_steps the job;
+    meant = there_is_meaning the job;
+    wrapped = wrap options.line;
+    are_wrapped = wrapped options.line wide;
+    sure = sure options.line;
+    are_sure = sure_is options.line wide;
+    outcome = outcome;
+    come = come;
+    product_is = is;
+  }
+
   unfoldable pub executed_there : (job : Job) (log : List Line) → (p : Product) × IsExecuted job log options p
   executed_there job log =
-      let c = come_there (by_steps the job) job.library job.style.commands [] options.budget (first_state job log) in (
-        comes_to (wrap options.line) (sure options.line) options.budget c.0,
-        record {
-          the = the;
-          divided = are;
-          means = by_steps the job;
-          meant = there_is_meaning the job;
-          wrapped = wrap options.line;
-          are_wrapped = wrapped options.line wide;
-          sure = sure options.line;
-          are_sure = sure_is options.line wide;
-          outcome = c.0;
-          come = c.1;
-          product_is = refl;
-        },
-      )
+      let c = come_there (by_steps the job) job.library job.style.commands [] options.budget (first_state job log) in
+      let product : Product = comes_to (wrap options.line) (sure options.line) options.budget c.0 in
+      (product, executed_so job log c.0 c.1 product refl)
 
   unfoldable pub styled_there : (files : Files) (job : AuxSaid) (name text : List ℕ) (log : List Line)
       → (p : Product) × IsStyled files job name text log options p
