@@ -4,7 +4,9 @@ use Rattle.std.proofs.Common.{append_assoc, append-nil}
 use Rattle.std.specs.Prelude.{slice_get}
 use Rattle.btx_bst.specs.declared.callee.Callee.{Callee}
 use Rattle.btx_bst.specs.declared.callee.Callee.TheVariants as callee
+use Rattle.btx_bst.specs.declared.callee.Kind.{Kind}
 use Rattle.btx_bst.specs.declared.callee.Kind.TheVariants as kind
+use Rattle.btx_bst.specs.refinement.Names.{names_of_kind}
 use Rattle.btx_bst.specs.declared.token.Token.{Token}
 use Rattle.btx_bst.specs.declared.token.Token.TheVariants as token
 use Rattle.btx_bst.specs.language.Items as item
@@ -36,21 +38,13 @@ last_of (x ∷ xs) y (suc n) e = last_of xs y n (omega arith)
 -- ---- more numbers
 
 pub record Extends (a b : Numbers) : Type 0 where
-  pub fields : Kept a.names.fields b.names.fields
-  pub entry_integers : Kept a.names.entry_integers b.names.entry_integers
-  pub entry_strings : Kept a.names.entry_strings b.names.entry_strings
-  pub global_integers : Kept a.names.global_integers b.names.global_integers
-  pub global_strings : Kept a.names.global_strings b.names.global_strings
+  pub names : (k : Kind) → Kept (names_of_kind k a.names) (names_of_kind k b.names)
   pub texts : Kept a.texts b.texts
   pub functions : Kept a.functions b.functions
 
 pub extends_both : (a b c : Numbers) → Extends a b → Extends b c → Extends a c
 extends_both a b c h k = record {
-  fields = λ n x e. k.fields n x (h.fields n x e);
-  entry_integers = λ n x e. k.entry_integers n x (h.entry_integers n x e);
-  entry_strings = λ n x e. k.entry_strings n x (h.entry_strings n x e);
-  global_integers = λ n x e. k.global_integers n x (h.global_integers n x e);
-  global_strings = λ n x e. k.global_strings n x (h.global_strings n x e);
+  names = λ kind n x e. k.names kind n x (h.names kind n x e);
   texts = λ n x e. k.texts n x (h.texts n x e);
   functions = λ n x e. k.functions n x (h.functions n x e);
 }
@@ -59,11 +53,7 @@ extends_both a b c h k = record {
 pub extends_by : (names : Names) (texts texts' : List (List ℕ)) (functions functions' : List Function) → Kept texts texts' → Kept functions functions'
     → Extends (record { names = names; texts = texts; functions = functions }) (record { names = names; texts = texts'; functions = functions' })
 extends_by names texts texts' functions functions' h k = record {
-  fields = λ n x e. e;
-  entry_integers = λ n x e. e;
-  entry_strings = λ n x e. e;
-  global_integers = λ n x e. e;
-  global_strings = λ n x e. e;
+  names = λ kind n x e. e;
   texts = h;
   functions = k;
 }
@@ -79,15 +69,15 @@ map_kept f o p h b e = let m = mapped f o b e in ap (option_map f) (h m.0 m.1) �
 pub still_stands : (a b : Numbers) → Extends a b → (c : Callee) (f : Function) → stands_for a c ≡ Some f → stands_for b c ≡ Some f
 still_stands a b h (callee.BuiltIn g) f e = e
 still_stands a b h (callee.User n) f e = h.functions n f e
-still_stands a b h (callee.Field n) f e = map_kept (Declared kind.Field) (slice_get a.names.fields n) (slice_get b.names.fields n) (h.fields n) f e
+still_stands a b h (callee.Field n) f e = map_kept (Declared kind.Field) (slice_get a.names.fields n) (slice_get b.names.fields n) (h.names kind.Field n) f e
 still_stands a b h (callee.EntryInteger n) f e = map_kept (Declared kind.EntryInteger) (slice_get a.names.entry_integers n) (slice_get b.names.entry_integers n)
-    (h.entry_integers n) f e
+    (h.names kind.EntryInteger n) f e
 still_stands a b h (callee.EntryString n) f e = map_kept (Declared kind.EntryString) (slice_get a.names.entry_strings n) (slice_get b.names.entry_strings n)
-    (h.entry_strings n) f e
+    (h.names kind.EntryString n) f e
 still_stands a b h (callee.GlobalInteger n) f e = map_kept (Declared kind.GlobalInteger) (slice_get a.names.global_integers n)
-    (slice_get b.names.global_integers n) (h.global_integers n) f e
+    (slice_get b.names.global_integers n) (h.names kind.GlobalInteger n) f e
 still_stands a b h (callee.GlobalString n) f e = map_kept (Declared kind.GlobalString) (slice_get a.names.global_strings n) (slice_get b.names.global_strings n)
-    (h.global_strings n) f e
+    (h.names kind.GlobalString n) f e
 
 pub still_word : (a b : Numbers) → Extends a b → (t : Token) (w : Word) → word_of a t ≡ Some w → word_of b t ≡ Some w
 still_word a b h (token.Text n) w e = map_kept (λ (text : List ℕ). Push (Text text)) (slice_get a.texts n) (slice_get b.texts n) (h.texts n) w e

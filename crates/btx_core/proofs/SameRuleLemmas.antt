@@ -40,7 +40,7 @@ use Rattle.btx_bst.specs.laws.Names.{macro_lower}
 use Rattle.btx_bst.specs.laws.Spelling.{Parts, made_by, complaint_in}
 use Rattle.btx_bst.specs.laws.TokenSpelling.{StyleGrammar, Gap, BehindGap, StyleSignHere, StyleNameHere, TextHere}
 use Rattle.btx_bst.specs.laws.Written.{AreNew, declared, made_in, with_made_function}
-use Rattle.btx_bst.specs.refinement.Names.{padded}
+use Rattle.btx_bst.specs.refinement.Names.{names_of_kind, padded}
 use Rattle.btx_bst.proofs.FurtherLemmas.{further-function, further-field, further-entry_integer, further-entry_string, further-global_integer}
 use Rattle.btx_bst.proofs.FurtherLemmas.{further-global_string, named-pad, padded-length}
 use Rattle.btx_bst.proofs.TableLemmas.{IsFurther}
@@ -49,7 +49,7 @@ use Rattle.btx_core.specs.language.Styles.{Body, Built, Command, Declared, Defin
 use Rattle.btx_core.specs.language.StyleTexts.{SoFar, meaning, and_name, and_command, and_says, CommandEnd, ended_at, Rule, Next, Opened, Closed, Where, Makes}
 use Rattle.btx_core.specs.language.StyleTexts.{Names, Lists, body_of, wrong_in, wrong_till, HasBody, is_function, as_type, is_read, Executes, Behind}
 use Rattle.btx_core.specs.language.StyleTexts as in_names
-use Rattle.btx_core.proofs.SameNumberLemmas.{Kept, kept_push, last_of, Extends, extends_both, extends_by, still_body, still_meant, still_functions, still_commands}
+use Rattle.btx_core.proofs.SameNumberLemmas.{Kept, kept_push, kept_same, last_of, Extends, extends_both, extends_by, still_body, still_meant, still_functions, still_commands}
 use Rattle.btx_core.proofs.SameNumberLemmas.{SameNames, functions_length, one_more_function, more_commands, one_more_command, no_more_command}
 use Rattle.btx_core.proofs.SameBodyLemmas.{MeanSame, item_of, said_of, messages_said, parts_items, fragment_items, numbers_at, Comes, parts_come}
 
@@ -312,31 +312,20 @@ further_kind kind.GlobalInteger names name e = further_by kind.GlobalInteger nam
 further_kind kind.GlobalString names name e = further_by kind.GlobalString names name names.global_strings (callee.GlobalString (length names.global_strings))
     (further-global_string names name (length names.global_strings) refl e) (λ texts functions. refl) (λ count. refl)
 
-extends_names : (a b : named.Names) (texts : List (List ℕ)) (functions : List Function) → Kept a.fields b.fields → Kept a.entry_integers b.entry_integers
-    → Kept a.entry_strings b.entry_strings → Kept a.global_integers b.global_integers → Kept a.global_strings b.global_strings
-    → Extends (record { names = a; texts = texts; functions = functions }) (record { names = b; texts = texts; functions = functions })
-extends_names a b texts functions fields entry_integers entry_strings global_integers global_strings = record {
-  fields = fields;
-  entry_integers = entry_integers;
-  entry_strings = entry_strings;
-  global_integers = global_integers;
-  global_strings = global_strings;
-  texts = λ n x e. e;
-  functions = λ n x e. e;
-}
+-- the names of one kind get one more, and those of the others stay
+with_name_kept : (k : Kind) (names : named.Names) (name : List ℕ) (other : Kind) → Kept (names_of_kind other names)
+    (names_of_kind other (with_name k name names))
+with_name_kept kind.Field names name kind.Field = kept_push names.fields (name ∷ [])
+with_name_kept kind.EntryInteger names name kind.EntryInteger = kept_push names.entry_integers (name ∷ [])
+with_name_kept kind.EntryString names name kind.EntryString = kept_push names.entry_strings (name ∷ [])
+with_name_kept kind.GlobalInteger names name kind.GlobalInteger = kept_push names.global_integers (name ∷ [])
+with_name_kept kind.GlobalString names name kind.GlobalString = kept_push names.global_strings (name ∷ [])
+with_name_kept k names name other = λ n x e. e
 
 with_name_extends : (k : Kind) (names : named.Names) (name : List ℕ) (texts : List (List ℕ)) (functions : List Function)
     → Extends (record { names = names; texts = texts; functions = functions }) (record { names = with_name k name names; texts = texts; functions = functions })
-with_name_extends kind.Field names name texts functions =
-    extends_names names _ texts functions (kept_push names.fields (name ∷ [])) (λ n x e. e) (λ n x e. e) (λ n x e. e) (λ n x e. e)
-with_name_extends kind.EntryInteger names name texts functions =
-    extends_names names _ texts functions (λ n x e. e) (kept_push names.entry_integers (name ∷ [])) (λ n x e. e) (λ n x e. e) (λ n x e. e)
-with_name_extends kind.EntryString names name texts functions =
-    extends_names names _ texts functions (λ n x e. e) (λ n x e. e) (kept_push names.entry_strings (name ∷ [])) (λ n x e. e) (λ n x e. e)
-with_name_extends kind.GlobalInteger names name texts functions =
-    extends_names names _ texts functions (λ n x e. e) (λ n x e. e) (λ n x e. e) (kept_push names.global_integers (name ∷ [])) (λ n x e. e)
-with_name_extends kind.GlobalString names name texts functions =
-    extends_names names _ texts functions (λ n x e. e) (λ n x e. e) (λ n x e. e) (λ n x e. e) (kept_push names.global_strings (name ∷ []))
+with_name_extends k names name texts functions =
+    record { names = with_name_kept k names name; texts = kept_same texts; functions = kept_same functions }
 
 -- the functions keep their names
 functions_stay : (k : Kind) (name : List ℕ) (names : named.Names) → (with_name k name names).functions ≡ names.functions
@@ -492,6 +481,14 @@ behind_count : (n : ℕ) (before : Option ℕ) (count : ℕ) → before ≡ Some
 behind_count n None count e h = absurd (cc)
 behind_count n (Some c) count e h = let same : c ≡ count = cc in subst (λ x. x ≤ n) same h
 
+-- a function with a name leaves the names of each kind as they are
+function_kept : (n : ℕ) (name : List ℕ) (names : named.Names) (k : Kind) → Kept (names_of_kind k names) (names_of_kind k (with_function n name names))
+function_kept n name names kind.Field = kept_same names.fields
+function_kept n name names kind.EntryInteger = kept_same names.entry_integers
+function_kept n name names kind.EntryString = kept_same names.entry_strings
+function_kept n name names kind.GlobalInteger = kept_same names.global_integers
+function_kept n name names kind.GlobalString = kept_same names.global_strings
+
 -- the function of a name that is new
 defines : (name : List ℕ) (parts : Parts) (s : NumberedStyle) (t : SoFar) → SameSoFar s t → named_lower s.names (folded name) ≡ None
     → SameSoFar (with_made_function name (made_by s.names parts (made_in s)) s)
@@ -511,12 +508,8 @@ defines name parts s t h e =
     let last : Numbers = record { names = names; texts = m.texts; functions = all } in
     let begun : Extends first made = extends_by s.names s.texts m.texts h.functions comes.all comes.texts comes.kept in
     let ended : Extends made last = record {
-      fields = λ n x e. e;
-      entry_integers = λ n x e. e;
-      entry_strings = λ n x e. e;
-      global_integers = λ n x e. e;
-      global_strings = λ n x e. e;
-      texts = λ n x e. e;
+      names = function_kept n lowered s.names;
+      texts = kept_same m.texts;
       functions = kept_push comes.all (Defined lowered body ∷ []);
     } in
     let whole : Extends first last = extends_both first made last begun ended in

@@ -980,15 +980,6 @@ module _ (job : NumberedJob) (style : Style) (library : Library) (naming : Namin
     Assigned c f v = (frame : State) (s : Store) → Known s c → assigns here f (lit v) (now_in_names frame s)
         ≡ answers_now frame (variables.assigns job c v s)
 
-    -- what is assigned to a variable of the other kind
-    not_integer : (x : Numbered) (frame : State) (s : Store) → Leaves (error (not_what_was_asked AnInteger (lit x)) (now_in_names frame s))
-        ≡ answers_now frame (answers.complains (note.WrongKind x wanted.Integer) stand_in.Nothing s)
-    not_integer x frame s = complaint (note.WrongKind x wanted.Integer) _ (no_integer x) frame s
-
-    not_text : (x : Numbered) (frame : State) (s : Store) → Leaves (error (not_what_was_asked AString (lit x)) (now_in_names frame s))
-        ≡ answers_now frame (answers.complains (note.WrongKind x wanted.Text) stand_in.Nothing s)
-    not_text x frame s = complaint (note.WrongKind x wanted.Text) _ (no_string x) frame s
-
     cuts : (most : ℕ) (text : List ℕ) (frame : State) (s : Store) → Leaves (cut_to most text (now_in_names frame s))
         ≡ answers_now frame (answers.says (answers.noted (only_if (nat_lt most (length text)) (note.Cut (length text) most))) s)
     cuts most text frame s = choose (nat_lt most (length text)) where
@@ -1007,21 +998,27 @@ module _ (job : NumberedJob) (style : Style) (library : Library) (naming : Namin
       by None e = complaint note.NoEntry no_entry no_entry_is frame s
       by (Some i) e = h i e
 
+    complaint_in_entry : (n : Note) (t : List ℕ) → IsError n t → (frame : State) (s : Store)
+        → in_entry (λ entry s. Leaves (error t s)) (now_in_names frame s)
+        ≡ answers_now frame (variables.in_entry (λ e. answers.complains n stand_in.Nothing) s.current s)
+    complaint_in_entry n t is frame s =
+        entry_case (λ entry s. Leaves (error t s)) (λ e. answers.complains n stand_in.Nothing) frame s (λ e c. complaint n t is frame s)
+
     global_integer : (i : ℕ) (v : Numbered) → Assigned (callee.GlobalInteger i) (Declared kind.GlobalInteger (gi.name i)) v
     global_integer i (literal.Integer n) frame s k =
         ap (λ m. Leaves (record (now_in_names frame s) { integers = m })) (set_item gi s.integers (pos 0) n i k.0 k.1)
-    global_integer i (literal.Text n) frame s k = not_integer (literal.Text n) frame s
-    global_integer i (literal.Function n) frame s k = not_integer (literal.Function n) frame s
-    global_integer i literal.Missing frame s k = not_integer literal.Missing frame s
+    global_integer i (literal.Text n) frame s k = complaint _ _ (no_integer (literal.Text n)) frame s
+    global_integer i (literal.Function n) frame s k = complaint _ _ (no_integer (literal.Function n)) frame s
+    global_integer i literal.Missing frame s k = complaint _ _ (no_integer literal.Missing) frame s
 
     global_string : (i : ℕ) (v : Numbered) → Assigned (callee.GlobalString i) (Declared kind.GlobalString (gs.name i)) v
     global_string i (literal.Text text) frame s k =
         ap (λ m. Leaves (cut_to job.global_max text (record (now_in_names frame s) { strings = m })))
         (set_item gs s.strings [] (take job.global_max text) i k.0 k.1)
         ∙ cuts job.global_max text frame (variables.with_global_string i (take job.global_max text) s)
-    global_string i (literal.Integer n) frame s k = not_text (literal.Integer n) frame s
-    global_string i (literal.Function n) frame s k = not_text (literal.Function n) frame s
-    global_string i literal.Missing frame s k = not_text literal.Missing frame s
+    global_string i (literal.Integer n) frame s k = complaint _ _ (no_string (literal.Integer n)) frame s
+    global_string i (literal.Function n) frame s k = complaint _ _ (no_string (literal.Function n)) frame s
+    global_string i literal.Missing frame s k = complaint _ _ (no_string literal.Missing) frame s
 
     entry_integer : (i : ℕ) (v : Numbered) → Assigned (callee.EntryInteger i) (Declared kind.EntryInteger (ei.name i)) v
     entry_integer i (literal.Integer n) frame s k =
@@ -1037,12 +1034,9 @@ module _ (job : NumberedJob) (style : Style) (library : Library) (naming : Namin
         (set_both keys ei s.entries none (λ v. v.integers) (λ xs v. record v { integers = xs }) (λ xs v. refl) (pos 0) n e i known.0 known.1.0 known.1.1.0
         known.1.1.1)
         (kept s.entries none y e (λ v. by_name es (item v.strings []) []) known.1.0 refl))
-    entry_integer i (literal.Text n) frame s k =
-        entry_case (λ entry s. Leaves (error (not_what_was_asked AnInteger (lit (literal.Text n))) s)) _ frame s (λ e c. not_integer (literal.Text n) frame s)
-    entry_integer i (literal.Function n) frame s k =
-        entry_case (λ entry s. Leaves (error (not_what_was_asked AnInteger (lit (literal.Function n))) s)) _ frame s (λ e c. not_integer (literal.Function n) frame s)
-    entry_integer i literal.Missing frame s k =
-        entry_case (λ entry s. Leaves (error (not_what_was_asked AnInteger (lit literal.Missing)) s)) _ frame s (λ e c. not_integer literal.Missing frame s)
+    entry_integer i (literal.Text n) frame s k = complaint_in_entry _ _ (no_integer (literal.Text n)) frame s
+    entry_integer i (literal.Function n) frame s k = complaint_in_entry _ _ (no_integer (literal.Function n)) frame s
+    entry_integer i literal.Missing frame s k = complaint_in_entry _ _ (no_integer literal.Missing) frame s
 
     entry_string : (i : ℕ) (v : Numbered) → Assigned (callee.EntryString i) (Declared kind.EntryString (es.name i)) v
     entry_string i (literal.Text text) frame s k =
@@ -1061,12 +1055,9 @@ module _ (job : NumberedJob) (style : Style) (library : Library) (naming : Namin
         (set_both keys es s.entries none (λ v. v.strings) (λ xs v. record v { strings = xs }) (λ xs v. refl) [] n e i known.0 known.1.0 known.1.1.0 known.1.1.1)
         (kept s.entries none y e (λ v. by_name ei (item v.integers (pos 0)) (pos 0)) known.1.0 refl)
         ∙ cuts job.entry_max text frame (variables.with_entry_string e i n s))
-    entry_string i (literal.Integer n) frame s k =
-        entry_case (λ entry s. Leaves (error (not_what_was_asked AString (lit (literal.Integer n))) s)) _ frame s (λ e c. not_text (literal.Integer n) frame s)
-    entry_string i (literal.Function n) frame s k =
-        entry_case (λ entry s. Leaves (error (not_what_was_asked AString (lit (literal.Function n))) s)) _ frame s (λ e c. not_text (literal.Function n) frame s)
-    entry_string i literal.Missing frame s k =
-        entry_case (λ entry s. Leaves (error (not_what_was_asked AString (lit literal.Missing)) s)) _ frame s (λ e c. not_text literal.Missing frame s)
+    entry_string i (literal.Integer n) frame s k = complaint_in_entry _ _ (no_string (literal.Integer n)) frame s
+    entry_string i (literal.Function n) frame s k = complaint_in_entry _ _ (no_string (literal.Function n)) frame s
+    entry_string i literal.Missing frame s k = complaint_in_entry _ _ (no_string literal.Missing) frame s
 
     refused : (c : Callee) (f : Function) (v : Numbered) (frame : State) (s : Store) → of c ≡ f → Leaves (error (not_assignable f) (now_in_names frame s))
         ≡ answers_now frame (answers.complains (note.NotAssignable c) stand_in.Nothing s)
