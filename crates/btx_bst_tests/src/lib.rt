@@ -2,14 +2,4 @@
 #![tactic(auto)]
 
 #[cfg(test)]
-mod bodies;
-#[cfg(test)]
-mod calls;
-#[cfg(test)]
-mod hostile;
-#[cfg(test)]
-mod long_style;
-#[cfg(test)]
-mod messages;
-#[cfg(test)]
-mod showing;
+mod tests;

@@ -1,7 +1,7 @@
 //! Databases that were cut or spoilt: each is read.
-use crate::rows::USUAL_STYLE;
-use crate::showing::size_of;
-use crate::usual::entries;
+use super::rows::USUAL_STYLE;
+use super::showing::size_of;
+use super::usual::entries;
 use btx_bib::End;
 use btx_text::Fault;
 use std::alloc::{AllocError, Global};

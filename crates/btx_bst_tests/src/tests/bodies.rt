@@ -1,6 +1,6 @@
 //! The bodies that texts come to, and the test of all rows.
-use crate::messages::{ARGUMENTS, COMMANDS, WORDS};
-use crate::showing::{Row, Shown, first_wrong};
+use super::messages::{ARGUMENTS, COMMANDS, WORDS};
+use super::showing::{Row, Shown, first_wrong};
 use btx_text::Fault;
 use std::alloc::Global;
 

@@ -1,5 +1,5 @@
 //! Tests of what no contract says: that the calls succeed where memory suffices. They hold by the contracts as well.
-use crate::limits::{MOST, with_letters};
+use super::limits::{MOST, with_letters};
 use btx_bib::grammar::events::Event;
 use btx_bib::grammar::line_counter::LineCounter;
 use btx_bib::grammar::reader::{Reader, StoredKeys};

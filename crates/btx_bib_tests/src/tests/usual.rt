@@ -1,6 +1,6 @@
 //! A database of two hundred entries of usual types.
-use crate::rows::{TEN_ENTRIES, TEN_GIVEN, USUAL_STYLE};
-use crate::showing::{Asked, shown_of};
+use super::rows::{TEN_ENTRIES, TEN_GIVEN, USUAL_STYLE};
+use super::showing::{Asked, shown_of};
 use btx_bib::Source;
 use btx_text::Fault;
 use std::alloc::{AllocError, Global};

@@ -1,5 +1,5 @@
 //! A style read and shown by each call.
-use crate::showing::look_over;
+use super::showing::look_over;
 use btx_bst::{BuiltIn, Callee, Style, Token, read_style};
 use btx_text::Fault;
 use std::alloc::Global;

@@ -1,5 +1,5 @@
 //! Texts that were cut or spoilt: each is read.
-use crate::showing::look_over;
+use super::showing::look_over;
 use btx_text::Fault;
 use std::alloc::{AllocError, Global};
 

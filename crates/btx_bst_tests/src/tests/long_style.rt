@@ -1,5 +1,5 @@
 //! A style of more than a thousand lines, made of parts for fields, types, months and journals, is read without a message.
-use crate::showing::look_over;
+use super::showing::look_over;
 use btx_text::Fault;
 use std::alloc::{AllocError, Global};
 

@@ -1,6 +1,6 @@
 //! Values and strings of a million bytes, and of one byte more.
-use crate::rows::STYLE;
-use crate::showing::{Size, size_of};
+use super::rows::STYLE;
+use super::showing::{Size, size_of};
 use btx_bib::End;
 use btx_text::Fault;
 use std::alloc::{AllocError, Global};

@@ -1,7 +1,7 @@
 //! Libraries of some databases, worked by hand.
-use crate::passed_rows::{PASSED, Passed};
-use crate::rows::{ENDS, FAULTS, REFERENCES, Row, STYLE, VALUES};
-use crate::showing::{Asked, seen_of, shown_of};
+use super::passed_rows::PASSED;
+use super::rows::{ENDS, FAULTS, REFERENCES, Row, STYLE, VALUES};
+use super::showing::{Asked, seen_of, shown_of};
 use btx_bib::Source;
 use btx_text::Fault;
 use std::alloc::Global;
@@ -68,31 +68,8 @@ fn wrong_reference(alloc: Global) -> Result<Option<usize>, Fault> {
     first_wrong(alloc, &REFERENCES)
 }
 
-// Whether a job that cites `k` alone is given what is said of the database.
-fn is_passed(alloc: Global, passed: &Passed) -> Result<bool, Fault> {
-    let (first, entries, log) = *passed;
-    let row = Row {
-        keys: b"k",
-        least: 2,
-        first,
-        second: b"",
-        entries,
-        log,
-    };
-    is_right(alloc, &row)
-}
-
-fn first_not_passed(alloc: Global, rows: &[Passed]) -> Result<Option<usize>, Fault> {
-    for (number, row) in rows.iter().enumerate() {
-        if !is_passed(alloc, row)? {
-            return Ok(Some(number));
-        }
-    }
-    Ok(None)
-}
-
 fn wrong_passed(alloc: Global) -> Result<Option<usize>, Fault> {
-    first_not_passed(alloc, &PASSED)
+    first_wrong(alloc, &PASSED)
 }
 
 #[test]

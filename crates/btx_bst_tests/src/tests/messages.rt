@@ -1,5 +1,5 @@
 //! The items that texts come to: commands, and each message with its line, in the middle of a file and at its end.
-use crate::showing::Row;
+use super::showing::Row;
 
 // Commands: what is no command, and what stands in a wrong place.
 pub const COMMANDS: [Row; 17] = [

@@ -1,0 +1,9 @@
+//! The tests, by module.
+mod grammar;
+mod hostile;
+mod libraries;
+mod limits;
+mod passed_rows;
+mod rows;
+mod showing;
+mod usual;
