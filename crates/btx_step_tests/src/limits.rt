@@ -88,13 +88,16 @@ fn end_when_full(rt: &impl Abort, alloc: Global, pushes: &[&'static str]) -> Res
     Ok(())
 }
 
-fn go_on_when_full(
+/// Asserts what the answers of each body begin with, of which the piece `front` is the front.
+fn all_begin(
     rt: &impl Abort,
     alloc: Global,
+    setting: &Setting,
+    front: Piece,
     rows: &[(&'static str, &'static str)],
 ) -> Result<(), Fail> {
     for (more, wanted) in rows {
-        begins_when_full(rt, alloc, more, wanted)?;
+        begins(rt, alloc, setting, &[front, (*more, 1)], wanted)?;
     }
     Ok(())
 }
@@ -102,7 +105,7 @@ fn go_on_when_full(
 #[test]
 fn the_thousandth_literal_and_one_more(rt: HostRuntime) -> Result<(), Fail> {
     end_when_full(&rt, rt.alloc(), &PUSHES)?;
-    go_on_when_full(&rt, rt.alloc(), &NO_PUSHES)
+    all_begin(&rt, rt.alloc(), &usual(Some(0)), ("#7 ", 1_000), &NO_PUSHES)
 }
 
 /// How often a body pushes 7 before a string, the front of the string, how many `x` follow, what follows those, and what the answers begin with.
@@ -165,18 +168,17 @@ fn what_ends_a_run_logs_nothing_else(rt: HostRuntime) -> Result<(), Fail> {
     strings_begin(&rt, rt.alloc(), &ENDED)
 }
 
-/// Asserts that a body's answers are `wanted` if variables of entries keep two bytes, and global ones three.
-fn cut_short(rt: &impl Abort, alloc: Global, body: &'static str, wanted: &str) -> Result<(), Fail> {
-    let setting = Setting {
+/// Variables of entries keep two bytes, and global ones three.
+fn keeping_little() -> Result<Setting, Fail> {
+    Ok(Setting {
         entry: Some(0),
         mode: TextMode::Bytes,
         entry_max: KeptBytes::new(2).ok_or("two bytes")?,
         global_max: KeptBytes::new(3).ok_or("three bytes")?,
-    };
-    begins(rt, alloc, &setting, &[(body, 1)], wanted)
+    })
 }
 
-/// Bodies, and their answers.
+/// Bodies, and what their answers begin with.
 const CUTS: [(&str, &str); 7] = [
     ("\"abc\" 's := s", "\"abc\""),
     (
@@ -199,20 +201,9 @@ const CUTS: [(&str, &str); 7] = [
     ),
 ];
 
-fn all_cut_short(
-    rt: &impl Abort,
-    alloc: Global,
-    rows: &[(&'static str, &'static str)],
-) -> Result<(), Fail> {
-    for (body, wanted) in rows {
-        cut_short(rt, alloc, body, wanted)?;
-    }
-    Ok(())
-}
-
 #[test]
 fn strings_that_variables_cut(rt: HostRuntime) -> Result<(), Fail> {
-    all_cut_short(&rt, rt.alloc(), &CUTS)
+    all_begin(&rt, rt.alloc(), &keeping_little()?, ("", 0), &CUTS)
 }
 
 const USUAL_CUTS: [StringRow; 4] = [

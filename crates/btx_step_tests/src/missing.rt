@@ -181,18 +181,6 @@ fn row_lacks(rt: &impl Abort, alloc: Global, row: Row) -> Result<(), Fail> {
     Ok(())
 }
 
-fn rows_lack(rt: &impl Abort, alloc: Global, rows: &[Row]) -> Result<(), Fail> {
-    for row in rows {
-        row_lacks(rt, alloc, *row)?;
-    }
-    Ok(())
-}
-
-#[test]
-fn too_few_operands(rt: HostRuntime) -> Result<(), Fail> {
-    rows_lack(&rt, rt.alloc(), &ROWS)
-}
-
 fn row_refuses(rt: &impl Abort, alloc: Global, row: Row) -> Result<(), Fail> {
     for way in 0..ways(row.1) {
         refuses(rt, alloc, row, way)?;
@@ -200,16 +188,18 @@ fn row_refuses(rt: &impl Abort, alloc: Global, row: Row) -> Result<(), Fail> {
     Ok(())
 }
 
-fn rows_refuse(rt: &impl Abort, alloc: Global, rows: &[Row]) -> Result<(), Fail> {
+/// Asserts of each function that it logs too few literals, and each literal that it doesn't take.
+fn rows_err(rt: &impl Abort, alloc: Global, rows: &[Row]) -> Result<(), Fail> {
     for row in rows {
+        row_lacks(rt, alloc, *row)?;
         row_refuses(rt, alloc, *row)?;
     }
     Ok(())
 }
 
 #[test]
-fn operands_of_a_wrong_kind(rt: HostRuntime) -> Result<(), Fail> {
-    rows_refuse(&rt, rt.alloc(), &ROWS)
+fn operands_that_lack_or_do_not_fit(rt: HostRuntime) -> Result<(), Fail> {
+    rows_err(&rt, rt.alloc(), &ROWS)
 }
 
 #[test]

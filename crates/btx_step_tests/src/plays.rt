@@ -221,17 +221,20 @@ fn write_step(
     next: Result<Next, AllocError>,
     answers: &mut Vec<u8>,
 ) -> Result<bool, AllocError> {
-    write_said(alloc, job, entry, token, said, answers)?;
+    let executed = executed_name(job.style(), token);
+    let key = key_of(job, entry);
+    write_said(alloc, job.style(), executed, key, said, answers)?;
     let next = next?;
     write_next(job.style(), next, answers)?;
     Ok(!matches!(next, Next::End(_)))
 }
 
+/// Adds what was said of what was executed, for the entry of this key if there is one.
 fn write_said(
     alloc: Global,
-    job: &Job<'_>,
-    entry: Option<usize>,
-    token: Token,
+    style: &Style<'_>,
+    executed: &[u8],
+    key: Option<&[u8]>,
     said: &Said<'_>,
     answers: &mut Vec<u8>,
 ) -> Result<(), AllocError> {
@@ -240,15 +243,11 @@ fn write_said(
         Said::Wrote(text) => write_line(answers, b"write ", text.as_bytes()),
         Said::EndedLine => write_line(answers, b"newline", b""),
         Said::Noted(notes) => {
-            let executed = executed_name(job.style(), token);
-            write_notes(
-                alloc,
-                job.style(),
-                executed,
-                key_of(job, entry),
-                notes,
-                answers,
-            )
+            for note in notes.as_slice() {
+                let line = line_of(alloc, style, executed, key, note)?;
+                write_line(answers, line.text(), b"")?;
+            }
+            Ok(())
         }
     }
 }
@@ -277,21 +276,6 @@ fn key_of<'a>(job: &Job<'a>, entry: Option<usize>) -> Option<&'a [u8]> {
         Some(entry) => Some(job.key(entry)),
         None => None,
     }
-}
-
-fn write_notes(
-    alloc: Global,
-    style: &Style<'_>,
-    executed: &[u8],
-    key: Option<&[u8]>,
-    notes: &Notes<'_>,
-    answers: &mut Vec<u8>,
-) -> Result<(), AllocError> {
-    for note in notes.as_slice() {
-        let line = line_of(alloc, style, executed, key, note)?;
-        write_line(answers, line.text(), b"")?;
-    }
-    Ok(())
 }
 
 fn write_next(style: &Style<'_>, next: Next, answers: &mut Vec<u8>) -> Result<(), AllocError> {
@@ -323,7 +307,7 @@ fn write_literals(
     for _ in 0..store.depth() {
         pop_into(store, &mut notes)?;
     }
-    write_notes(alloc, style, b"", None, &notes, answers)
+    write_said(alloc, style, b"", None, &Said::Noted(notes), answers)
 }
 
 /// Pops a literal, and adds how it is shown.
