@@ -278,30 +278,18 @@ code_assign_integer style allowed deep loops a b j i (callee.EntryInteger k) lo 
       (rest_into a b (λ x. putting (callee.EntryInteger k) i x) new t.rest x.into));
   sub = x.sub;
 }
-code_assign_integer style allowed deep loops a b j i (callee.GlobalString k) lo hi old new t v x = absurd v
-code_assign_integer style allowed deep loops a b j i (callee.EntryString k) lo hi old new t v x = absurd v
-code_assign_integer style allowed deep loops a b j i (callee.Field k) lo hi old new t v x = absurd v
-code_assign_integer style allowed deep loops a b j i (callee.BuiltIn k) lo hi old new t v x = absurd v
-code_assign_integer style allowed deep loops a b j i (callee.User k) lo hi old new t v x = absurd v
+code_assign_integer style allowed deep loops a b j i _ lo hi old new t v x = absurd v
 
 -- a variable that can be assigned where its operands are taken off can be assigned before
 pub integer_below : (style : Style) (f : Callee) (a b : Abstract) → b ≡ with_stack b.stack a → IsIntegerOf style f b → IsIntegerOf style f a
 integer_below style (callee.GlobalInteger k) a b e h = h
 integer_below style (callee.EntryInteger k) a b e h = (h.0, sym (ap (λ (x : Abstract). x.entry) e) ∙ h.1)
-integer_below style (callee.GlobalString k) a b e h = absurd h
-integer_below style (callee.EntryString k) a b e h = absurd h
-integer_below style (callee.Field k) a b e h = absurd h
-integer_below style (callee.BuiltIn k) a b e h = absurd h
-integer_below style (callee.User k) a b e h = absurd h
+integer_below style _ a b e h = absurd h
 
 pub string_below : (style : Style) (f : Callee) (a b : Abstract) → b ≡ with_stack b.stack a → IsStringOf style f b → IsStringOf style f a
 string_below style (callee.GlobalString k) a b e h = h
 string_below style (callee.EntryString k) a b e h = (h.0, sym (ap (λ (x : Abstract). x.entry) e) ∙ h.1)
-string_below style (callee.GlobalInteger k) a b e h = absurd h
-string_below style (callee.EntryInteger k) a b e h = absurd h
-string_below style (callee.Field k) a b e h = absurd h
-string_below style (callee.BuiltIn k) a b e h = absurd h
-string_below style (callee.User k) a b e h = absurd h
+string_below style _ a b e h = absurd h
 
 pub code_assign_text : (style : Style) (allowed : List ℕ) (deep loops : ℕ) (a b : Abstract) (j i : ℕ) (f : Callee) (m : Mask) (old new : List Abstract)
     → TwoAre a j i (value.Function f) (value.Text m) b → m.missing ≡ false → IsStringOf style f a
@@ -318,11 +306,7 @@ code_assign_text style allowed deep loops a b j i (callee.EntryString k) m old n
       (rest_into a b (λ x. putting_text (callee.EntryString k) m x) new t.rest x.into));
   sub = x.sub;
 }
-code_assign_text style allowed deep loops a b j i (callee.GlobalInteger k) m old new t there v x = absurd v
-code_assign_text style allowed deep loops a b j i (callee.EntryInteger k) m old new t there v x = absurd v
-code_assign_text style allowed deep loops a b j i (callee.Field k) m old new t there v x = absurd v
-code_assign_text style allowed deep loops a b j i (callee.BuiltIn k) m old new t there v x = absurd v
-code_assign_text style allowed deep loops a b j i (callee.User k) m old new t there v x = absurd v
+code_assign_text style allowed deep loops a b j i _ m old new t there v x = absurd v
 
 -- ---- names
 

@@ -5,6 +5,7 @@ use Rattle.std.proofs.lemmas.Bool.{and_from, or_left, or_right}
 use Rattle.std.proofs.lemmas.Int.{ints}
 use Rattle.std.proofs.lemmas.List.Folds.{list_all-append}
 use Rattle.std.specs.Prelude.{◌+ℤ◌, ◌-ℤ◌, int_lt, ◌==◌, ◌&&◌}
+use Rattle.btx_bst.specs.declared.built_in.BuiltIn.{BuiltIn}
 use Rattle.btx_bst.specs.declared.built_in.BuiltIn.TheVariants as built_in
 use Rattle.btx_bst.specs.declared.callee.Callee.TheVariants as callee
 use Rattle.btx_stack.specs.declared.literal.Literal.{Literal}
@@ -18,9 +19,9 @@ use Rattle.btx_step.specs.language.Stores.{Store}
 use Rattle.btx_step.specs.language.Answers.{with_literals, pushed, pushed_text, truth, complains}
 use Rattle.std.specs.Ordering.{int_eq}
 use Rattle.btx_step.specs.language.Arithmetic.{fits, result_of, equals}
-use Rattle.btx_step.specs.language.Operands.{Of}
+use Rattle.btx_step.specs.language.Operands.{Of, on_operands}
 use Rattle.btx_step.specs.language.Table.{row}
-use Rattle.btx_step.specs.language.Steps.{built_in_run}
+use Rattle.btx_step.specs.language.Steps.{built_in_run, function_run}
 use Rattle.btx_names.specs.language.NameLists.{names_of, pieces_from, is_separator}
 use Rattle.std.specs.List.{list_all}
 use Rattle.btx_text.specs.language.Class.{is_white}
@@ -31,7 +32,7 @@ use Rattle.btx_check.specs.declared.description.Value.{Value}
 use Rattle.btx_check.specs.declared.description.Value.TheVariants as value
 use Rattle.btx_check.specs.declared.description.Upper.{Upper}
 use Rattle.btx_check.specs.Descriptions.{White, Full, class_of, allows, Is, exactly, followed, nothing, open_end, something}
-use Rattle.btx_check.specs.States.{Abstract, values_in, at, pushing_new, knowing, with_stack}
+use Rattle.btx_check.specs.States.{Abstract, In, values_in, at, pushing_new, knowing, with_stack}
 use Rattle.btx_check.specs.Inclusion.{Into}
 use Rattle.btx_check.specs.Bounds.{SumIs, Narrows, Matches}
 use Rattle.btx_check.specs.Running.{Leads, RuleNow, Rule}
@@ -53,49 +54,51 @@ module _ (a : Abstract) (j i : ℕ) (below : List ℕ) (lo : Option ℤ) (hi : U
     (dj : get_or a.values j value.Any ≡ value.Integer lo hi) (di : get_or a.values i value.Any ≡ value.Integer lo2 hi2)
     (if_so : Into (pushing_new (exactly (pos 1)) (knowing j d (knowing i c (with_stack below a)))) to)
     (if_not : Into (pushing_new (exactly (pos 0)) (knowing j d' (knowing i c' (with_stack below a)))) to) where
+  -- an answer that says this of both integers
+  answered : (answer : ℤ) (e f : Value) → ((left : ℕ) → Is left (exactly answer) (Integer answer))
+      → Into (pushing_new (exactly answer) (knowing j f (knowing i e (with_stack below a)))) to
+      → (job : Job) (left : ℕ) (v : List Literal) (s : Store) (n m : ℤ) → at v j ≡ Some (Integer n) → at v i ≡ Some (Integer m)
+      → Is left e (Integer m) × Is left f (Integer n) → OnwardAt job left left a v below to s (λ t. pushed (Integer answer) t)
+  answered answer e f said_so go job left v s n m ej ei q under w =
+      let k = stack-length v below under w.stack in
+      pushes_leads job left to (with_literals under s) (with_literals under s) said.Nothing (Integer answer) tt refl (λ z. z) (omega (arith, l, k))
+      (go.into job left (with_literals (Integer answer ∷ under) s) (
+        v ++ Integer answer ∷ [],
+        fresh job left (knowing j f (knowing i e (with_stack below a))) (values_in s) v under (exactly answer) (Integer answer) (said_so left)
+            (known job left (knowing i e (with_stack below a)) (values_in s) v under j f (Integer n) ej q.1
+            (known job left (with_stack below a) (values_in s) v under i e (Integer m) ei q.0 w)),
+      ))
+
   compared : (job : Job) (left : ℕ) (v : List Literal) (s : Store) (b : Bool) (n m : ℤ) → at v j ≡ Some (Integer n) → at v i ≡ Some (Integer m)
       → (b ≡ true → Is left c (Integer m) × Is left d (Integer n)) → (b ≡ false → Is left c' (Integer m) × Is left d' (Integer n))
       → OnwardAt job left left a v below to s (λ t. pushed (truth b) t)
-  compared job left v s true n m ej ei up down under w =
-      let q = up refl in
-      let k = stack-length v below under w.stack in
-      pushes_leads job left to (with_literals under s) (with_literals under s) said.Nothing (Integer (pos 1)) tt refl (λ z. z) (omega (arith, l, k))
-      (if_so.into job left (with_literals (Integer (pos 1) ∷ under) s) (
-        v ++ Integer (pos 1) ∷ [],
-        fresh job left (knowing j d (knowing i c (with_stack below a))) (values_in s) v under (exactly (pos 1)) (Integer (pos 1)) (one_is left)
-            (known job left (knowing i c (with_stack below a)) (values_in s) v under j d (Integer n) ej q.1
-            (known job left (with_stack below a) (values_in s) v under i c (Integer m) ei q.0 w)),
-      ))
-  compared job left v s false n m ej ei up down under w =
-      let q = down refl in
-      let k = stack-length v below under w.stack in
-      pushes_leads job left to (with_literals under s) (with_literals under s) said.Nothing (Integer (pos 0)) tt refl (λ z. z) (omega (arith, l, k))
-      (if_not.into job left (with_literals (Integer (pos 0) ∷ under) s) (
-        v ++ Integer (pos 0) ∷ [],
-        fresh job left (knowing j d' (knowing i c' (with_stack below a))) (values_in s) v under (exactly (pos 0)) (Integer (pos 0)) (zero_is left)
-            (known job left (knowing i c' (with_stack below a)) (values_in s) v under j d' (Integer n) ej q.1
-            (known job left (with_stack below a) (values_in s) v under i c' (Integer m) ei q.0 w)),
-      ))
+  compared job left v s true n m ej ei up down = answered (pos 1) c d one_is if_so job left v s n m ej ei (up refl)
+  compared job left v s false n m ej ei up down = answered (pos 0) c' d' zero_is if_not job left v s n m ej ei (down refl)
+
+  -- a function of the two integers on top, by its row
+  by_row : (f : BuiltIn) (job : Job) (left : ℕ) (s : Store)
+      → built_in_run job f s ≡ on_operands (row f).operands (row f).default ((row f).does job) s.literals s
+      → TopsFit a.values (row f).operands a.stack below → (h : In job left a s)
+      → OnKnown left (OnwardAt job left left a h.0 below to s) h.0 a.values (row f).operands (j ∷ i ∷ below) ((row f).does job)
+      → Leads job left to s (function_run job (callee.BuiltIn f) s)
+  by_row f job left s runs fit h known = row_known job left left f a below to s runs fit h
+      (subst (λ (is : List ℕ). OnKnown left (OnwardAt job left left a h.0 below to s) h.0 a.values (row f).operands is ((row f).does job)) (sym st) known)
 
   -- the integer below is greater than that on top
   pub rule_greater_known : Narrows true (value.Integer lo2 hi2) (value.Integer lo hi) c d → Narrows false (value.Integer lo2 hi2) (value.Integer lo hi) c' d'
       → RuleNow (callee.BuiltIn built_in.Greater) a to
   unfolding built_in_run
-  rule_greater_known up down job g g' left s h = row_known job left left built_in.Greater a below to s refl (two_integers a j i below lo hi lo2 hi2 st dj di) h
-      (subst (λ (is : List ℕ). OnKnown left (OnwardAt job left left a h.0 below to s) h.0 a.values (row built_in.Greater).operands is
-      ((row built_in.Greater).does job)) (sym st)
+  rule_greater_known up down job g g' left s h = by_row built_in.Greater job left s refl (two_integers a j i below lo hi lo2 hi2 st dj di) h
       (λ n ej o m ei p. let o2 = subst (λ (x : Value). Is left x (Integer n)) dj o in let p2 = subst (λ (x : Value). Is left x (Integer m)) di p in
-      compared job left h.0 s (int_lt n m) n m ej ei (λ e. up left m n p2 o2 e) (λ e. down left m n p2 o2 e)))
+      compared job left h.0 s (int_lt n m) n m ej ei (λ e. up left m n p2 o2 e) (λ e. down left m n p2 o2 e))
 
   -- it is less
   pub rule_less_known : Narrows true (value.Integer lo hi) (value.Integer lo2 hi2) d c → Narrows false (value.Integer lo hi) (value.Integer lo2 hi2) d' c'
       → RuleNow (callee.BuiltIn built_in.Less) a to
   unfolding built_in_run
-  rule_less_known up down job g g' left s h = row_known job left left built_in.Less a below to s refl (two_integers a j i below lo hi lo2 hi2 st dj di) h
-      (subst (λ (is : List ℕ). OnKnown left (OnwardAt job left left a h.0 below to s) h.0 a.values (row built_in.Less).operands is
-      ((row built_in.Less).does job)) (sym st)
+  rule_less_known up down job g g' left s h = by_row built_in.Less job left s refl (two_integers a j i below lo hi lo2 hi2 st dj di) h
       (λ n ej o m ei p. let o2 = subst (λ (x : Value). Is left x (Integer n)) dj o in let p2 = subst (λ (x : Value). Is left x (Integer m)) di p in
-      compared job left h.0 s (int_lt m n) n m ej ei (λ e. let q = up left n m o2 p2 e in (q.1, q.0)) (λ e. let q = down left n m o2 p2 e in (q.1, q.0))))
+      compared job left h.0 s (int_lt m n) n m ej ei (λ e. let q = up left n m o2 p2 e in (q.1, q.0)) (λ e. let q = down left n m o2 p2 e in (q.1, q.0)))
 
   equal_integers : Matches true (value.Integer lo2 hi2) (value.Integer lo hi) c d → Matches false (value.Integer lo2 hi2) (value.Integer lo hi) c' d'
       → (job : Job) (left : ℕ) (v : List Literal) (s : Store) (y x : Literal) → at v j ≡ Some y → at v i ≡ Some x
@@ -113,11 +116,9 @@ module _ (a : Abstract) (j i : ℕ) (below : List ℕ) (lo : Option ℤ) (hi : U
   pub rule_equals_integers : Matches true (value.Integer lo2 hi2) (value.Integer lo hi) c d → Matches false (value.Integer lo2 hi2) (value.Integer lo hi) c' d'
       → RuleNow (callee.BuiltIn built_in.Equals) a to
   unfolding built_in_run
-  rule_equals_integers same other job g g' left s h = row_known job left left built_in.Equals a below to s refl
+  rule_equals_integers same other job g g' left s h = by_row built_in.Equals job left s refl
       (subst (λ (is : List ℕ). TopsFit a.values (row built_in.Equals).operands is below) (sym st) (tt, (tt, refl))) h
-      (subst (λ (is : List ℕ). OnKnown left (OnwardAt job left left a h.0 below to s) h.0 a.values (row built_in.Equals).operands is
-      ((row built_in.Equals).does job)) (sym st)
-      (λ y ej o x ei p. equal_integers same other job left h.0 s y x ej ei (subst (λ (z : Value). Is left z y) dj o) (subst (λ (z : Value). Is left z x) di p)))
+      (λ y ej o x ei p. equal_integers same other job left h.0 s y x ej ei (subst (λ (z : Value). Is left z y) dj o) (subst (λ (z : Value). Is left z x) di p))
 
 -- ---- sums and differences
 

@@ -8,29 +8,63 @@ ghost use Rattle.btx_check.specs.Answers.{Ruled, Comparable};
 use crate::adding::{Known, add_found, add_new, add_tested};
 use crate::bounds::{both, lower, next, other_than, previous, raise};
 use crate::description::Value;
-use crate::operands::{pair_of, top_of};
+use crate::operands::{fitting, pair_of, top_of};
 use crate::state::State;
 use crate::sums::{difference_of, sum_of};
 use crate::work::Work;
 use std::alloc::AllocError;
 
+// Adds what follows a test of the string on top: what is known of it where the test holds, and where it doesn't, each with its answer.
+macro_rules! add_either {
+    ($work:ident, $t:ident, $so:expr => $answer:expr, $other:expr => $otherwise:expr, $out:ident) => {{
+        let so = Value::Text($so);
+        let other = Value::Text($other);
+        add_found($work, $t.below.copy()?, $t.number, so, $answer, $out)?;
+        add_found($work, $t.below, $t.number, other, $otherwise, $out)?;
+        Ok(true)
+    }};
+}
+
+// What is known of the literal of a number.
+macro_rules! known {
+    ($number:expr, $value:expr) => {
+        Known {
+            number: $number,
+            value: $value,
+        }
+    };
+}
+
+// Adds what follows a comparison of two integers: what is known of the one on top and of the one below where it answers 1, and where it answers 0.
+macro_rules! add_compared {
+    ($work:ident, $t:ident, ($top:expr, $below:expr), ($other_top:expr, $other_below:expr), $out:ident) => {{
+        let first = known!($t.first, $top);
+        let second = known!($t.second, $below);
+        add_tested($work, $t.below.copy()?, first, second, Value::one(), $out)?;
+        let first = known!($t.first, $other_top);
+        let second = known!($t.second, $other_below);
+        add_tested($work, $t.below, first, second, Value::zero(), $out)?;
+        Ok(true)
+    }};
+}
+
+// What is known of two integers where the first is greater, and where it isn't.
+macro_rules! let_greater {
+    (($low:ident, $high:ident) > ($low2:ident, $high2:ident) => $up:ident, $up2:ident, $down:ident, $down2:ident) => {
+        let $up = Value::Integer(raise($low, next($low2)), $high);
+        let $up2 = Value::Integer($low2, lower($high2, previous($high)));
+        let $down = Value::Integer($low, lower($high, $high2));
+        let $down2 = Value::Integer(raise($low2, $low), $high2);
+    };
+}
+
 /// `empty$`.
 pub fn empty(work: &Work, a: State, out: &mut Vec<State>) -> Result<bool, AllocError>
     ensures { IfOk result (λ ok. IsTrue ok → Ruled (callee.BuiltIn built_in.Empty) a out.old.items out.new.items) }
 {
-    match top_of(a) {
-        None => Ok(false),
-        Some(t) => match t.value {
-            Value::Text(m) => {
-                let blank = Value::Text(m.blank());
-                let filled = Value::Text(m.filled());
-                add_found(work, t.below.copy()?, t.number, blank, Value::one(), out)?;
-                add_found(work, t.below, t.number, filled, Value::zero(), out)?;
-                Ok(true)
-            }
-            _ => Ok(false),
-        },
-    }
+    fitting!(top_of(a), t, t.value, Value::Text(m) => {
+        add_either!(work, t, m.blank() => Value::one(), m.filled() => Value::zero(), out)
+    })
 }
 
 /// `missing$`.
@@ -40,172 +74,78 @@ pub fn missing(work: &Work, a: State, out: &mut Vec<State>) -> Result<bool, Allo
     if !a.has_entry() {
         return Ok(false);
     }
-    match top_of(a) {
-        None => Ok(false),
-        Some(t) => match t.value {
-            Value::Text(m) => {
-                let gone = Value::Text(m.gone());
-                let present = Value::Text(m.present());
-                add_found(work, t.below.copy()?, t.number, gone, Value::one(), out)?;
-                add_found(work, t.below, t.number, present, Value::zero(), out)?;
-                Ok(true)
-            }
-            _ => Ok(false),
-        },
-    }
+    fitting!(top_of(a), t, t.value, Value::Text(m) => {
+        add_either!(work, t, m.gone() => Value::one(), m.present() => Value::zero(), out)
+    })
 }
 
 /// `num.names$`.
 pub fn num_names(work: &Work, a: State, out: &mut Vec<State>) -> Result<bool, AllocError>
     ensures { IfOk result (λ ok. IsTrue ok → Ruled (callee.BuiltIn built_in.NumNames) a out.old.items out.new.items) }
 {
-    match top_of(a) {
-        None => Ok(false),
-        Some(t) => match t.value {
-            Value::Text(m) => {
-                if m.missing {
-                    return Ok(false);
-                }
-                let none = Value::Text(m.nothing());
-                let some = Value::Text(m.something());
-                add_found(work, t.below.copy()?, t.number, none, Value::zero(), out)?;
-                add_found(work, t.below, t.number, some, Value::some_count(), out)?;
-                Ok(true)
-            }
-            _ => Ok(false),
-        },
-    }
+    fitting!(top_of(a), t, t.value, Value::Text(m) => {
+        if m.missing {
+            return Ok(false);
+        }
+        add_either!(work, t, m.nothing() => Value::zero(), m.something() => Value::some_count(), out)
+    })
 }
 
 /// `*`.
 pub fn concatenate(work: &Work, a: State, out: &mut Vec<State>) -> Result<bool, AllocError>
     ensures { IfOk result (λ ok. IsTrue ok → Ruled (callee.BuiltIn built_in.Concatenate) a out.old.items out.new.items) }
 {
-    match pair_of(a) {
-        None => Ok(false),
-        Some(t) => match (t.first_value, t.second_value) {
-            (Value::Text(m), Value::Text(n)) => {
-                if m.missing {
-                    return Ok(false);
-                }
-                if n.missing {
-                    return Ok(false);
-                }
-                let whole = n.followed(m);
-                add_new(work, t.below, Value::Text(whole), out)?;
-                Ok(true)
-            }
-            _ => Ok(false),
-        },
-    }
+    fitting!(pair_of(a), t, (t.first_value, t.second_value), (Value::Text(m), Value::Text(n)) => {
+        if m.missing {
+            return Ok(false);
+        }
+        if n.missing {
+            return Ok(false);
+        }
+        let whole = n.followed(m);
+        add_new(work, t.below, Value::Text(whole), out)?;
+        Ok(true)
+    })
 }
 
 /// `+`.
 pub fn plus(work: &Work, a: State, out: &mut Vec<State>) -> Result<bool, AllocError>
     ensures { IfOk result (λ ok. IsTrue ok → Ruled (callee.BuiltIn built_in.Plus) a out.old.items out.new.items) }
 {
-    match pair_of(a) {
-        None => Ok(false),
-        Some(t) => match (t.first_value, t.second_value) {
-            (Value::Integer(low, high), Value::Integer(low2, high2)) => {
-                let sum = sum_of(low2, high2, low, high);
-                add_new(work, t.below, sum, out)?;
-                Ok(true)
-            }
-            _ => Ok(false),
-        },
-    }
+    fitting!(pair_of(a), t, (t.first_value, t.second_value), (Value::Integer(low, high), Value::Integer(low2, high2)) => {
+        add_new(work, t.below, sum_of(low2, high2, low, high), out)?;
+        Ok(true)
+    })
 }
 
 /// `-`.
 pub fn minus(work: &Work, a: State, out: &mut Vec<State>) -> Result<bool, AllocError>
     ensures { IfOk result (λ ok. IsTrue ok → Ruled (callee.BuiltIn built_in.Minus) a out.old.items out.new.items) }
 {
-    match pair_of(a) {
-        None => Ok(false),
-        Some(t) => match (t.first_value, t.second_value) {
-            (Value::Integer(low, high), Value::Integer(low2, high2)) => {
-                let difference = difference_of(low2, high2, low, high);
-                add_new(work, t.below, difference, out)?;
-                Ok(true)
-            }
-            _ => Ok(false),
-        },
-    }
+    fitting!(pair_of(a), t, (t.first_value, t.second_value), (Value::Integer(low, high), Value::Integer(low2, high2)) => {
+        add_new(work, t.below, difference_of(low2, high2, low, high), out)?;
+        Ok(true)
+    })
 }
 
 /// `>`.
 pub fn greater(work: &Work, a: State, out: &mut Vec<State>) -> Result<bool, AllocError>
     ensures { IfOk result (λ ok. IsTrue ok → Ruled (callee.BuiltIn built_in.Greater) a out.old.items out.new.items) }
 {
-    match pair_of(a) {
-        None => Ok(false),
-        Some(t) => match (t.first_value, t.second_value) {
-            (Value::Integer(low, high), Value::Integer(low2, high2)) => {
-                let up = Value::Integer(raise(low2, next(low)), high2);
-                let up_top = Value::Integer(low, lower(high, previous(high2)));
-                let down = Value::Integer(low2, lower(high2, high));
-                let down_top = Value::Integer(raise(low, low2), high);
-                let first = Known {
-                    number: t.first,
-                    value: up_top,
-                };
-                let second = Known {
-                    number: t.second,
-                    value: up,
-                };
-                add_tested(work, t.below.copy()?, first, second, Value::one(), out)?;
-                let first = Known {
-                    number: t.first,
-                    value: down_top,
-                };
-                let second = Known {
-                    number: t.second,
-                    value: down,
-                };
-                add_tested(work, t.below, first, second, Value::zero(), out)?;
-                Ok(true)
-            }
-            _ => Ok(false),
-        },
-    }
+    fitting!(pair_of(a), t, (t.first_value, t.second_value), (Value::Integer(low, high), Value::Integer(low2, high2)) => {
+        let_greater!((low2, high2) > (low, high) => up, up_top, down, down_top);
+        add_compared!(work, t, (up_top, up), (down_top, down), out)
+    })
 }
 
 /// `<`.
 pub fn less(work: &Work, a: State, out: &mut Vec<State>) -> Result<bool, AllocError>
     ensures { IfOk result (λ ok. IsTrue ok → Ruled (callee.BuiltIn built_in.Less) a out.old.items out.new.items) }
 {
-    match pair_of(a) {
-        None => Ok(false),
-        Some(t) => match (t.first_value, t.second_value) {
-            (Value::Integer(low, high), Value::Integer(low2, high2)) => {
-                let up_top = Value::Integer(raise(low, next(low2)), high);
-                let up = Value::Integer(low2, lower(high2, previous(high)));
-                let down_top = Value::Integer(low, lower(high, high2));
-                let down = Value::Integer(raise(low2, low), high2);
-                let first = Known {
-                    number: t.first,
-                    value: up_top,
-                };
-                let second = Known {
-                    number: t.second,
-                    value: up,
-                };
-                add_tested(work, t.below.copy()?, first, second, Value::one(), out)?;
-                let first = Known {
-                    number: t.first,
-                    value: down_top,
-                };
-                let second = Known {
-                    number: t.second,
-                    value: down,
-                };
-                add_tested(work, t.below, first, second, Value::zero(), out)?;
-                Ok(true)
-            }
-            _ => Ok(false),
-        },
-    }
+    fitting!(pair_of(a), t, (t.first_value, t.second_value), (Value::Integer(low, high), Value::Integer(low2, high2)) => {
+        let_greater!((low, high) > (low2, high2) => up_top, up, down_top, down);
+        add_compared!(work, t, (up_top, up), (down_top, down), out)
+    })
 }
 
 /// `=`.
@@ -217,27 +157,9 @@ pub fn equals(work: &Work, a: State, out: &mut Vec<State>) -> Result<bool, Alloc
         Some(t) => match (t.first_value, t.second_value) {
             (Value::Integer(low, high), Value::Integer(low2, high2)) => {
                 let same = both(low2, high2, low, high);
-                let first = Known {
-                    number: t.first,
-                    value: same,
-                };
-                let second = Known {
-                    number: t.second,
-                    value: same,
-                };
-                add_tested(work, t.below.copy()?, first, second, Value::one(), out)?;
                 let below = other_than(low2, high2, low, high);
                 let top = other_than(low, high, low2, high2);
-                let first = Known {
-                    number: t.first,
-                    value: top,
-                };
-                let second = Known {
-                    number: t.second,
-                    value: below,
-                };
-                add_tested(work, t.below, first, second, Value::zero(), out)?;
-                Ok(true)
+                add_compared!(work, t, (same, same), (top, below), out)
             }
             _ => {
                 if !is_comparable(t.first_value, t.second_value) {

@@ -12,6 +12,35 @@ use crate::work::Work;
 use btx_step::Wanted;
 use std::alloc::AllocError;
 
+// Goes on with what stands on top of the stack, whatever it is, if it is there.
+macro_rules! taking {
+    ($taken:expr, $top:ident => $then:expr) => {
+        match $taken {
+            None => Ok(false),
+            Some($top) => {
+                $then?;
+                Ok(true)
+            }
+        }
+    };
+}
+
+// Goes on with what stands on top of the stack, where it is there and of this form; otherwise the function may go wrong.
+macro_rules! fitting {
+    ($taken:expr, $top:ident, $value:expr, $form:pat => $then:block) => {
+        match $taken {
+            None => Ok(false),
+            Some($top) => match $value {
+                $form => $then,
+                _ => Ok(false),
+            },
+        }
+    };
+}
+
+pub(crate) use fitting;
+pub(crate) use taking;
+
 /// The number on top, what is known of it, and what is below it.
 #[derive(Drop)]
 pub struct Top {

@@ -7,7 +7,7 @@ ghost use Rattle.btx_check.specs.Answers.{Ruled};
 
 use crate::adding::{add_pushed_both, add_sure, add_without_stack};
 use crate::description::Value;
-use crate::operands::{pair_of, top_of};
+use crate::operands::{fitting, pair_of, taking, top_of};
 use crate::state::State;
 use crate::work::Work;
 use std::alloc::AllocError;
@@ -16,39 +16,21 @@ use std::alloc::AllocError;
 pub fn duplicate(work: &Work, a: State, out: &mut Vec<State>) -> Result<bool, AllocError>
     ensures { IfOk result (λ ok. IsTrue ok → Ruled (callee.BuiltIn built_in.Duplicate) a out.old.items out.new.items) }
 {
-    match top_of(a) {
-        None => Ok(false),
-        Some(t) => {
-            add_pushed_both(work, t.below, t.number, t.number, out)?;
-            Ok(true)
-        }
-    }
+    taking!(top_of(a), t => add_pushed_both(work, t.below, t.number, t.number, out))
 }
 
 /// `pop$`.
 pub fn pop(work: &Work, a: State, out: &mut Vec<State>) -> Result<bool, AllocError>
     ensures { IfOk result (λ ok. IsTrue ok → Ruled (callee.BuiltIn built_in.Pop) a out.old.items out.new.items) }
 {
-    match top_of(a) {
-        None => Ok(false),
-        Some(t) => {
-            add_sure(work, out, t.below)?;
-            Ok(true)
-        }
-    }
+    taking!(top_of(a), t => add_sure(work, out, t.below))
 }
 
 /// `top$`.
 pub fn top(work: &Work, a: State, out: &mut Vec<State>) -> Result<bool, AllocError>
     ensures { IfOk result (λ ok. IsTrue ok → Ruled (callee.BuiltIn built_in.Top) a out.old.items out.new.items) }
 {
-    match top_of(a) {
-        None => Ok(false),
-        Some(t) => {
-            add_sure(work, out, t.below)?;
-            Ok(true)
-        }
-    }
+    taking!(top_of(a), t => add_sure(work, out, t.below))
 }
 
 /// `skip$`.
@@ -71,30 +53,18 @@ pub fn stack(work: &Work, a: State, out: &mut Vec<State>) -> Result<bool, AllocE
 pub fn swap(work: &Work, a: State, out: &mut Vec<State>) -> Result<bool, AllocError>
     ensures { IfOk result (λ ok. IsTrue ok → Ruled (callee.BuiltIn built_in.Swap) a out.old.items out.new.items) }
 {
-    match pair_of(a) {
-        None => Ok(false),
-        Some(t) => {
-            add_pushed_both(work, t.below, t.first, t.second, out)?;
-            Ok(true)
-        }
-    }
+    taking!(pair_of(a), t => add_pushed_both(work, t.below, t.first, t.second, out))
 }
 
 /// `write$`.
 pub fn write(work: &Work, a: State, out: &mut Vec<State>) -> Result<bool, AllocError>
     ensures { IfOk result (λ ok. IsTrue ok → Ruled (callee.BuiltIn built_in.Write) a out.old.items out.new.items) }
 {
-    match top_of(a) {
-        None => Ok(false),
-        Some(t) => match t.value {
-            Value::Text(m) => {
-                if m.missing {
-                    return Ok(false);
-                }
-                add_sure(work, out, t.below)?;
-                Ok(true)
-            }
-            _ => Ok(false),
-        },
-    }
+    fitting!(top_of(a), t, t.value, Value::Text(m) => {
+        if m.missing {
+            return Ok(false);
+        }
+        add_sure(work, out, t.below)?;
+        Ok(true)
+    })
 }

@@ -51,6 +51,23 @@ impl Model for State {
     } };
 }
 
+// Sets a name's number in the list of its kind.
+macro_rules! number_put {
+    ($alloc:ident, $state:ident.$numbers:ident, $name:ident, $number:ident) => {{
+        $state.$numbers = with_number($alloc, &$state.$numbers, $name as usize, $number)?;
+        Ok(())
+    }};
+}
+
+// Answers false where one of these doesn't hold.
+macro_rules! need_all {
+    ($($test:expr),+ $(,)?) => {
+        $(if !$test {
+            return false;
+        })+
+    };
+}
+
 impl State {
     /// A state of which nothing is known but whether an entry is current.
     pub fn start(alloc: Global, entry: bool, style: &Style) -> Result<State, AllocError>
@@ -260,31 +277,11 @@ impl State {
         ensures { IfOk result (λ _. self.new ≡ putting name number self.old) }
     {
         match name {
-            Callee::GlobalInteger(i) => {
-                self.global_integers = with_number(
-                    alloc,
-                    &self.global_integers,
-                    i as usize,
-                    number,
-                )?;
-                Ok(())
-            }
-            Callee::GlobalString(i) => {
-                self.global_strings = with_number(alloc, &self.global_strings, i as usize, number)?;
-                Ok(())
-            }
-            Callee::EntryInteger(i) => {
-                self.entry_integers = with_number(alloc, &self.entry_integers, i as usize, number)?;
-                Ok(())
-            }
-            Callee::EntryString(i) => {
-                self.entry_strings = with_number(alloc, &self.entry_strings, i as usize, number)?;
-                Ok(())
-            }
-            Callee::Field(i) => {
-                self.fields = with_number(alloc, &self.fields, i as usize, number)?;
-                Ok(())
-            }
+            Callee::GlobalInteger(i) => number_put!(alloc, self.global_integers, i, number),
+            Callee::GlobalString(i) => number_put!(alloc, self.global_strings, i, number),
+            Callee::EntryInteger(i) => number_put!(alloc, self.entry_integers, i, number),
+            Callee::EntryString(i) => number_put!(alloc, self.entry_strings, i, number),
+            Callee::Field(i) => number_put!(alloc, self.fields, i, number),
             _ => Ok(()),
         }
     }
@@ -340,24 +337,14 @@ impl State {
         if self.entry != other.entry {
             return false;
         }
-        if !stack_maps(numbers, &self.stack, &other.stack) {
-            return false;
-        }
-        if !fields_map(numbers, &self.global_integers, &other.global_integers) {
-            return false;
-        }
-        if !fields_map(numbers, &self.global_strings, &other.global_strings) {
-            return false;
-        }
-        if !fields_map(numbers, &self.entry_integers, &other.entry_integers) {
-            return false;
-        }
-        if !fields_map(numbers, &self.entry_strings, &other.entry_strings) {
-            return false;
-        }
-        if !fields_map(numbers, &self.fields, &other.fields) {
-            return false;
-        }
+        need_all!(
+            stack_maps(numbers, &self.stack, &other.stack),
+            fields_map(numbers, &self.global_integers, &other.global_integers),
+            fields_map(numbers, &self.global_strings, &other.global_strings),
+            fields_map(numbers, &self.entry_integers, &other.entry_integers),
+            fields_map(numbers, &self.entry_strings, &other.entry_strings),
+            fields_map(numbers, &self.fields, &other.fields),
+        );
         values_map(numbers, &self.values, &other.values)
     }
 
@@ -467,24 +454,28 @@ pub fn is_nothing(value: Value) -> bool
 // How many further items a copy has room for.
 const ROOM_TO_GROW: usize = 8;
 
+// The same items once more, with room for some others.
+macro_rules! copied {
+    ($items:ident) => {{
+        let room = $items.len().saturating_add(ROOM_TO_GROW);
+        let mut copied = Vec::with_capacity(*$items.allocator(), room)?;
+        copied.extend_from_slice($items)?;
+        Ok(copied)
+    }};
+}
+
 // The same numbers once more, with room for some others.
 fn copied_numbers(numbers: &Vec<usize>) -> Result<Vec<usize>, AllocError>
     ensures { IfOk result (λ v. v.items ≡ numbers.now.items) }
 {
-    let room = numbers.len().saturating_add(ROOM_TO_GROW);
-    let mut copied: Vec<usize> = Vec::with_capacity(*numbers.allocator(), room)?;
-    copied.extend_from_slice(numbers)?;
-    Ok(copied)
+    copied!(numbers)
 }
 
 // The same values once more, with room for some others.
 fn copied_values(values: &Vec<Value>) -> Result<Vec<Value>, AllocError>
     ensures { IfOk result (λ v. v.items ≡ values.now.items) }
 {
-    let room = values.len().saturating_add(ROOM_TO_GROW);
-    let mut copied: Vec<Value> = Vec::with_capacity(*values.allocator(), room)?;
-    copied.extend_from_slice(values)?;
-    Ok(copied)
+    copied!(values)
 }
 
 // `n` places without a number.

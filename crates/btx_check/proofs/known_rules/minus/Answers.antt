@@ -5,4 +5,4 @@ pub returns-in_ok-add_new-in-Integer-Integer : goal.returns-in_ok-add_new-in-Int
 returns-in_ok-add_new-in-Integer-Integer c =
     λ t. code_minus _ _ _ _ _ _ _ _ _ _ _
     (two_at _ _ _ _ _ _ _ _ (rw c.in-Some.is at c.pair_of.ensures) c.in-Integer-Integer.is-0 c.in-Integer-Integer.is-1)
-    c.in_ok-add_new-in-Integer-Integer.ensures c.difference_of-difference.ensures
+    c.in_ok-add_new-in-Integer-Integer.ensures c.difference_of.ensures
