@@ -15,13 +15,23 @@ struct Uses {
 }
 
 /// The functions that are meant as types: those of standard names, and those without a dot in their names that no other function uses and that write an
-/// entry.
+/// entry with its key. If there is none, the style may make a list without keys, as one of addresses: then those that write.
 pub fn meant_types(alloc: Global, style: &Style) -> Result<Vec<u32>, AllocError> {
-    let uses = uses_of(alloc, style)?;
+    let mut uses = uses_of(alloc, style)?;
+    let types = types_by(alloc, style, &uses)?;
+    if types.is_empty() {
+        uses.cites = vec![in alloc; true; style.functions()]?;
+        return types_by(alloc, style, &uses);
+    }
+    Ok(types)
+}
+
+// The functions that are meant as types, by what each reaches.
+fn types_by(alloc: Global, style: &Style, uses: &Uses) -> Result<Vec<u32>, AllocError> {
     let mut meant: Vec<bool> = Vec::new(alloc);
     let mut types: Vec<u32> = Vec::new(alloc);
     for i in 0..style.functions() {
-        let is_meant = is_type(style, &uses, &meant, i);
+        let is_meant = is_type(style, uses, &meant, i);
         meant.push(is_meant)?;
         if is_meant && i < u32::MAX as usize {
             types.push(i as u32)?;
