@@ -20,6 +20,7 @@ mod running;
 mod stack_rules;
 mod state;
 mod sums;
+mod traces;
 mod tracing;
 mod types;
 pub mod verdict;

@@ -1,17 +1,20 @@
 //! The search for all places where a style may go wrong: it executes functions on descriptions as `running` does, and goes on after a fault. No proof rests on it.
-use crate::adding::{add, add_known, add_same};
+use crate::adding::{add, add_known, add_same, add_sure};
 use crate::bounds::{not_positive, positive};
 use crate::description::{Upper, Value};
 use crate::findings::{Condition, Fault, Finding, Growth, Operand};
-use crate::loops::{all_in, proposed};
+use crate::loops::{all_in, copies_of, proposed};
+use crate::memo::LEAST_TOKENS;
 use crate::name_rules::assign;
 use crate::rules::{one_step, push_token};
 use crate::state::State;
+use crate::traces::{Trace, Traces, mark_of};
 use crate::wants::{Left, Wants, wants_of};
 use crate::work::{Place, Room, Work};
 use btx_bst::{BuiltIn, Callee, Style, Token};
 use btx_step::Wanted;
 use std::alloc::{AllocError, Global};
+use std::mem;
 
 /// Descriptions before any fault of a visit, and after one.
 #[derive(Drop)]
@@ -60,6 +63,12 @@ pub struct Search {
     pub forks: Vec<Fork>,
     /// Of each function: whether it can leave different numbers of literals from one description.
     pub uneven: Vec<bool>,
+    /// What functions of the style led to.
+    pub traces: Traces,
+    /// The numbers of what was found in the functions that are open, whether it was known before or not.
+    pub noted: Vec<usize>,
+    /// How often the type of the entry was asked for.
+    pub types_asked: u64,
 }
 
 impl Search {
@@ -80,14 +89,19 @@ impl Search {
             },
         };
         let entry_type = self.entry_type;
-        for known in self.found.iter_mut() {
-            if known.place == place && known.fault == fault {
+        for k in 0..self.found.len() {
+            if k < self.found.len()
+                && self.found[k].place == place
+                && self.found[k].fault == fault
+            {
                 if is_first {
-                    known.is_first = true;
+                    self.found[k].is_first = true;
                 }
-                return add_type(&mut known.types, entry_type);
+                self.noted.push(k)?;
+                return add_type(&mut self.found[k].types, entry_type);
             }
         }
+        self.noted.push(self.found.len())?;
         let mut types: Vec<Option<u32>> = Vec::new(self.work.alloc);
         types.push(entry_type)?;
         let conditions = conditions_of(self.work.alloc, a)?;
@@ -114,7 +128,7 @@ impl Search {
         &mut self,
         style: &Style,
         room: Room,
-        a: &State,
+        a: State,
         is_first: bool,
         f: Callee,
         out: &mut Lanes,
@@ -123,7 +137,7 @@ impl Search {
             self.work.gave_up = true;
             return Ok(());
         }
-        if !self.work.step() || a.is_impossible() {
+        if !self.work.step() {
             return Ok(());
         }
         let room = Room {
@@ -135,7 +149,7 @@ impl Search {
             Callee::BuiltIn(BuiltIn::If) => self.choice(style, room, a, is_first, out),
             Callee::BuiltIn(BuiltIn::While) => self.turns(style, room, a, is_first, out),
             Callee::BuiltIn(BuiltIn::CallType) => self.by_type(style, room, a, is_first, out),
-            Callee::User(i) => self.body(style, room, a, is_first, i, out),
+            Callee::User(i) => self.user(style, room, a, is_first, i, out),
             _ => self.simple(style, a, is_first, f, out),
         }
     }
@@ -147,7 +161,7 @@ impl Search {
         &mut self,
         style: &Style,
         room: Room,
-        states: &[State],
+        states: Vec<State>,
         is_first: bool,
         t: Token,
         out: &mut Lanes,
@@ -156,21 +170,21 @@ impl Search {
             match t {
                 Token::Run(f) => self.function(style, room, a, is_first, f, out)?,
                 _ => {
-                    let _ = push_token(&self.work, style, a.copy()?, t, out.lane(is_first))?;
+                    let _ = push_token(&self.work, style, a, t, out.lane(is_first))?;
                 }
             }
         }
         Ok(())
     }
 
-    // The body of a function of the style.
+    // A function of the style. What it led to from an equal description is found again, if that was kept.
     #[cycle(tracing)]
     #[inline(never)]
-    fn body(
+    fn user(
         &mut self,
         style: &Style,
         room: Room,
-        a: &State,
+        a: State,
         is_first: bool,
         i: u32,
         out: &mut Lanes,
@@ -178,14 +192,122 @@ impl Search {
         if i as usize >= style.functions() {
             return Ok(());
         }
-        self.work.enter(i, 0)?;
+        if style.body(i as usize).len() < LEAST_TOKENS {
+            let ends = self.body(style, room, a, is_first, i)?;
+            return add_ends(&self.work, ends, out);
+        }
+        let a = a.renumbered(self.work.alloc)?;
+        let mark = mark_of(&a, i, is_first);
+        match self.traces.recall(
+            self.work.alloc,
+            room,
+            self.work.steps,
+            &a,
+            i,
+            is_first,
+            mark,
+        )? {
+            Some(k) => self.again(k, out),
+            None => self.anew(style, room, a, is_first, i, mark, out),
+        }
+    }
+
+    // What a function of the style led to, once more: its steps, what was found in it, and its ends.
+    fn again(&mut self, k: usize, out: &mut Lanes) -> Result<(), AllocError> {
+        if k >= self.traces.entries.len() {
+            return Ok(());
+        }
+        let entry_type = self.entry_type;
+        let trace = &self.traces.entries[k];
+        self.work.steps = self.work.steps.saturating_sub(trace.steps);
+        add_types(&mut self.found, &trace.found, entry_type)?;
+        self.noted.extend_from_slice(&trace.found)?;
+        add_copies(&self.work, &trace.to, out)
+    }
+
+    // A function of the style, of which nothing is remembered. What it leads to is remembered, if the search wasn't given up in it and the type of the entry
+    // not asked for.
+    #[cycle(tracing)]
+    #[inline(never)]
+    fn anew(
+        &mut self,
+        style: &Style,
+        room: Room,
+        a: State,
+        is_first: bool,
+        i: u32,
+        mark: u64,
+        out: &mut Lanes,
+    ) -> Result<(), AllocError> {
+        let steps = self.work.steps;
+        let types_asked = self.types_asked;
+        let gave_up = self.work.gave_up;
+        self.work.gave_up = false;
+        let noted = self.noted.len();
+        let from = a.copy()?;
+        let to = self.body(style, room, a, is_first, i)?;
+        add_copies(&self.work, &to, out)?;
+        let found = self.noted_from(noted)?;
+        if self.work.gave_up || self.types_asked != types_asked {
+            self.work.gave_up = self.work.gave_up || gave_up;
+            return Ok(());
+        }
+        self.work.gave_up = gave_up;
+        self.traces.keep(Trace {
+            mark,
+            function: i,
+            is_first,
+            room,
+            from,
+            to,
+            steps: steps.saturating_sub(self.work.steps),
+            found,
+        })
+    }
+
+    // The numbers of what was found since there were so many of them, each once.
+    fn noted_from(&mut self, before: usize) -> Result<Vec<usize>, AllocError> {
+        let mut found: Vec<usize> = Vec::new(self.work.alloc);
+        if self.noted.len() <= before {
+            return Ok(found);
+        }
+        let mut is_there: Vec<bool> = vec![in self.work.alloc; false; self.found.len()]?;
+        for k in before..self.noted.len() {
+            if k < self.noted.len() {
+                let number = self.noted[k];
+                if number < is_there.len() && !is_there[number] {
+                    is_there[number] = true;
+                    found.push(number)?;
+                }
+            }
+        }
+        self.noted.truncate(before);
+        self.noted.extend_from_slice(&found)?;
+        Ok(found)
+    }
+
+    // The body of a function of the style: what it leads to.
+    #[cycle(tracing)]
+    #[inline(never)]
+    fn body(
+        &mut self,
+        style: &Style,
+        room: Room,
+        a: State,
+        is_first: bool,
+        i: u32,
+    ) -> Result<Lanes, AllocError> {
         let mut now = Lanes::new(self.work.alloc);
-        let first = a.copy()?;
-        now.lane(is_first).push(first)?;
+        if i as usize >= style.functions() {
+            return Ok(now);
+        }
+        self.work.enter(i, 0)?;
+        now.lane(is_first).push(a)?;
         for t in style.body(i as usize) {
             let mut after = Lanes::new(self.work.alloc);
-            self.token(style, room, &now.good, true, *t, &mut after)?;
-            self.token(style, room, &now.spoilt, false, *t, &mut after)?;
+            let before = mem::replace(&mut now, Lanes::new(self.work.alloc));
+            self.token(style, room, before.good, true, *t, &mut after)?;
+            self.token(style, room, before.spoilt, false, *t, &mut after)?;
             now = after;
             self.work.advance();
         }
@@ -193,13 +315,7 @@ impl Search {
         if is_first && !is_even(&now.good) {
             mark(&mut self.uneven, i);
         }
-        for b in now.good.iter() {
-            add_same(&self.work, b, &mut out.good)?;
-        }
-        for b in now.spoilt.iter() {
-            add_same(&self.work, b, &mut out.spoilt)?;
-        }
-        Ok(())
+        Ok(now)
     }
 
     // A function of one step. Where an operand may be wrong and may be right, the search goes on with the latter; and with what follows the fault.
@@ -207,12 +323,12 @@ impl Search {
     fn simple(
         &mut self,
         style: &Style,
-        a: &State,
+        a: State,
         is_first: bool,
         f: Callee,
         out: &mut Lanes,
     ) -> Result<(), AllocError> {
-        let mut now = a.copy()?;
+        let mut now = a;
         for _ in 0..4 {
             let is_done = match f {
                 Callee::BuiltIn(BuiltIn::Assign) => assign(
@@ -282,36 +398,31 @@ impl Search {
         &mut self,
         style: &Style,
         room: Room,
-        a: &State,
+        a: State,
         is_first: bool,
         out: &mut Lanes,
     ) -> Result<(), AllocError> {
-        let f = Callee::BuiltIn(BuiltIn::If);
-        let mut below = a.copy()?;
-        let first = below.pop();
-        let second = below.pop();
-        let third = below.pop();
-        match (
-            value_of(a, first),
-            value_of(a, second),
-            value_of(a, third),
-            third,
-        ) {
+        let third = number_at(&a, 2);
+        match (value_at(&a, 0), value_at(&a, 1), value_of(&a, third), third) {
             (
                 Some(Value::Function(g)),
                 Some(Value::Function(f)),
                 Some(Value::Integer(low, high)),
                 Some(number),
             ) => {
-                let mut yes = below.copy()?;
+                let mut no = a;
+                let _ = no.pop();
+                let _ = no.pop();
+                let _ = no.pop();
+                let mut yes = no.copy()?;
                 yes.know(number, positive(low, high));
-                let mut no = below;
                 no.know(number, not_positive(low, high));
-                self.branches(style, room, &yes, &no, f, g, is_first, out)
+                self.branches(style, room, yes, no, number, f, g, is_first, out)
             }
             _ => {
-                let _ = self.fault(a, f, is_first)?;
-                self.recover(a, f, &mut out.spoilt)
+                let f = Callee::BuiltIn(BuiltIn::If);
+                let _ = self.fault(&a, f, is_first)?;
+                self.recover(&a, f, &mut out.spoilt)
             }
         }
     }
@@ -323,22 +434,43 @@ impl Search {
         &mut self,
         style: &Style,
         room: Room,
-        yes: &State,
-        no: &State,
+        yes: State,
+        no: State,
+        number: usize,
         f: Callee,
         g: Callee,
         is_first: bool,
         out: &mut Lanes,
     ) -> Result<(), AllocError> {
-        let mut after_yes = Lanes::new(self.work.alloc);
-        self.function(style, room, yes, is_first, f, &mut after_yes)?;
-        let mut after_no = Lanes::new(self.work.alloc);
-        self.function(style, room, no, is_first, g, &mut after_no)?;
+        let height = no.height();
+        let after_yes = self.branch(style, room, yes, number, is_first, f)?;
+        let after_no = self.branch(style, room, no, number, is_first, g)?;
         if is_first {
-            self.compare(yes.height(), &after_yes.good, &after_no.good)?;
+            self.compare(height, &after_yes.good, &after_no.good)?;
         }
         self.join(after_yes, out)?;
         self.join(after_no, out)
+    }
+
+    // One of them, where the result of the test has a number: nothing is to be done if it can't be.
+    #[cycle(tracing)]
+    #[inline(never)]
+    fn branch(
+        &mut self,
+        style: &Style,
+        room: Room,
+        a: State,
+        number: usize,
+        is_first: bool,
+        f: Callee,
+    ) -> Result<Lanes, AllocError> {
+        let mut after = Lanes::new(self.work.alloc);
+        if room.fuel > 0 && a.is_impossible_at(number) {
+            let _ = self.work.step();
+            return Ok(after);
+        }
+        self.function(style, room, a, is_first, f, &mut after)?;
+        Ok(after)
     }
 
     // Adds descriptions to others.
@@ -378,15 +510,11 @@ impl Search {
         &mut self,
         style: &Style,
         room: Room,
-        a: &State,
+        a: State,
         is_first: bool,
         out: &mut Lanes,
     ) -> Result<(), AllocError> {
-        let f = Callee::BuiltIn(BuiltIn::While);
-        let mut below = a.copy()?;
-        let first = below.pop();
-        let second = below.pop();
-        match (value_of(a, first), value_of(a, second)) {
+        match (value_at(&a, 0), value_at(&a, 1)) {
             (Some(Value::Function(g)), Some(Value::Function(f))) => {
                 if room.loops == 0 {
                     self.work.gave_up = true;
@@ -397,11 +525,15 @@ impl Search {
                     deep: room.deep,
                     loops: room.loops - 1,
                 };
+                let mut below = a;
+                let _ = below.pop();
+                let _ = below.pop();
                 self.heads(style, inside, &below, is_first, f, g, out)
             }
             _ => {
-                let _ = self.fault(a, f, is_first)?;
-                self.recover(a, f, &mut out.spoilt)
+                let f = Callee::BuiltIn(BuiltIn::While);
+                let _ = self.fault(&a, f, is_first)?;
+                self.recover(&a, f, &mut out.spoilt)
             }
         }
     }
@@ -424,12 +556,13 @@ impl Search {
         heads.push(head)?;
         for round in 0..40 {
             let mut tests = Lanes::new(self.work.alloc);
-            self.token(style, room, &heads, is_first, Token::Run(f), &mut tests)?;
+            let copies = copies_of(&self.work, &heads)?;
+            self.token(style, room, copies, is_first, Token::Run(f), &mut tests)?;
             let mut again: Vec<State> = Vec::new(self.work.alloc);
             let mut ends: Vec<State> = Vec::new(self.work.alloc);
             self.turn(tests.lane(is_first), is_first, &mut again, &mut ends)?;
             let mut bodies = Lanes::new(self.work.alloc);
-            self.token(style, room, &again, is_first, Token::Run(g), &mut bodies)?;
+            self.token(style, room, again, is_first, Token::Run(g), &mut bodies)?;
             let back = bodies.lane(is_first);
             if all_in(&self.work, back, &heads)? {
                 for e in ends {
@@ -481,32 +614,69 @@ impl Search {
         &mut self,
         style: &Style,
         room: Room,
-        a: &State,
+        a: State,
         is_first: bool,
         out: &mut Lanes,
     ) -> Result<(), AllocError> {
         if !a.has_entry() {
             return self.note(
-                a,
+                &a,
                 Callee::BuiltIn(BuiltIn::CallType),
                 Fault::NoEntry,
                 None,
                 is_first,
             );
         }
+        self.types_asked = self.types_asked.wrapping_add(1);
         for k in 0..self.allowed.len() {
             if k < self.allowed.len() {
                 let number = self.allowed[k];
                 self.entry_type = Some(number);
-                self.function(style, room, a, is_first, Callee::User(number), out)?;
+                self.function(style, room, a.copy()?, is_first, Callee::User(number), out)?;
             }
         }
         self.entry_type = None;
         match style.type_function(b"default.type") {
-            None => add_same(&self.work, a, out.lane(is_first)),
+            None => add_sure(&self.work, out.lane(is_first), a),
             Some(number) => self.function(style, room, a, is_first, Callee::User(number), out),
         }
     }
+}
+
+// Adds a type to those of several places.
+fn add_types(
+    found: &mut [Finding],
+    numbers: &[usize],
+    entry_type: Option<u32>,
+) -> Result<(), AllocError> {
+    for number in numbers {
+        if *number < found.len() {
+            add_type(&mut found[*number].types, entry_type)?;
+        }
+    }
+    Ok(())
+}
+
+// Adds the ends of a function to others.
+fn add_ends(work: &Work, ends: Lanes, out: &mut Lanes) -> Result<(), AllocError> {
+    for b in ends.good {
+        add_sure(work, &mut out.good, b)?;
+    }
+    for b in ends.spoilt {
+        add_sure(work, &mut out.spoilt, b)?;
+    }
+    Ok(())
+}
+
+// Adds copies of them.
+fn add_copies(work: &Work, ends: &Lanes, out: &mut Lanes) -> Result<(), AllocError> {
+    for b in ends.good.iter() {
+        add_same(work, b, &mut out.good)?;
+    }
+    for b in ends.spoilt.iter() {
+        add_same(work, b, &mut out.spoilt)?;
+    }
+    Ok(())
 }
 
 // Adds a type to others.
@@ -518,6 +688,20 @@ fn add_type(types: &mut Vec<Option<u32>>, entry_type: Option<u32>) -> Result<(),
     }
     types.push(entry_type)?;
     Ok(())
+}
+
+// The number at a place of the stack, from the top.
+fn number_at(a: &State, k: usize) -> Option<usize> {
+    if k < a.stack.len() {
+        Some(a.stack[k])
+    } else {
+        None
+    }
+}
+
+// What is known of the literal there.
+fn value_at(a: &State, k: usize) -> Option<Value> {
+    value_of(a, number_at(a, k))
 }
 
 // What is known of a number, if there is one.

@@ -3,6 +3,7 @@ use crate::entries::{Known, entries_of, starts_of, unknown_entries};
 use crate::findings::{Cause, Fault, Finding};
 use crate::lasting::{globals_of, lasting};
 use crate::state::State;
+use crate::traces::Traces;
 use crate::tracing::{Lanes, Search, mark};
 use crate::types::meant_types;
 use crate::work::{MOST_LOOPS, MOST_NESTED, Place, Room, Work};
@@ -33,6 +34,9 @@ pub fn trace(before: Work, style: &Style) -> Result<Traced, AllocError> {
         found: Vec::new(alloc),
         forks: Vec::new(alloc),
         uneven: vec![in alloc; false; style.functions()]?,
+        traces: Traces::new(alloc)?,
+        noted: Vec::new(alloc),
+        types_asked: 0,
     };
     let items = style.items();
     let nothing = State::start(alloc, false, style)?;
@@ -82,7 +86,8 @@ impl Search {
         for start in starts {
             self.entry_type = None;
             self.work.open.clear();
-            self.function(style, room, start, true, f, &mut out)?;
+            self.noted.clear();
+            self.function(style, room, start.copy()?, true, f, &mut out)?;
         }
         self.left_over(style, f, &out.good, true)?;
         self.left_over(style, f, &out.spoilt, false)?;
