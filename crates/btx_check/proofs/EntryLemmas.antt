@@ -1,7 +1,7 @@
 -- What is known of an entry, beside what is known of the global variables.
 use Rattle.std.proofs.Common.{◌≡◌, ℕ, zero, suc, ◌+◌, ◌<◌, List, [], ◌∷◌, ◌++◌, length, Option, None, Some, true, take, get_or, refl, sym, ap, subst, ◌∙◌}
 use Rattle.std.proofs.Common.{arith, inl, inr}
-use Rattle.std.specs.Prelude.{◌⊎◌, slice_index_or}
+use Rattle.std.specs.Prelude.{◌⊎◌}
 use Rattle.btx_bst.specs.declared.callee.Callee.{Callee}
 use Rattle.btx_bst.specs.declared.callee.Callee.TheVariants as callee
 use Rattle.btx_stack.specs.declared.literal.Literal.{Literal}
@@ -9,7 +9,7 @@ use Rattle.btx_step.specs.language.Jobs.{Job}
 use Rattle.btx_step.specs.language.Stores.{Store}
 use Rattle.btx_check.specs.declared.description.Value.{Value}
 use Rattle.btx_check.specs.States.{Abstract, values_in, slot, named, at, Fits, Stack, Stands, In, Among}
-use Rattle.btx_check.specs.Running.{Each, Starts}
+use Rattle.btx_check.specs.Running.{Each}
 use Rattle.btx_check.specs.Between.{IsLocal, where_entry, Joint, IsShifted, Combines}
 use Rattle.btx_check.proofs.AddLemmas.{among_left, among_right}
 use Rattle.btx_check.proofs.RunLemmas.{taking}

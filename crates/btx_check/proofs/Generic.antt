@@ -6,12 +6,11 @@ use Rattle.btx_bst.specs.declared.built_in.BuiltIn.{BuiltIn}
 use Rattle.btx_bst.specs.declared.callee.Callee.TheVariants as callee
 use Rattle.btx_stack.specs.declared.literal.Literal.{Literal}
 use Rattle.btx_stack.specs.declared.literal.Literal.TheVariants.{Text}
-use Rattle.btx_step.specs.declared.literal.Wanted.TheVariants as wanted
 use Rattle.btx_step.specs.declared.said.Said.{Said}
 use Rattle.btx_step.specs.language.Jobs.{Job}
 use Rattle.btx_step.specs.language.Stores.{Store}
 use Rattle.btx_step.specs.language.Answers.{Answer, with_literals, pushes, pushes_text, says}
-use Rattle.btx_step.specs.language.Operands.{Operand, Any, Value as Operated, Does, absent, wrong, or_else, or_default, on_operands}
+use Rattle.btx_step.specs.language.Operands.{Operand, Value as Operated, Does, absent, wrong, or_else, or_default, on_operands}
 use Rattle.btx_step.specs.language.Table.{row}
 use Rattle.btx_step.specs.language.Steps.{built_in_run, function_run}
 use Rattle.btx_check.specs.declared.description.Value.{Value}

@@ -1,17 +1,15 @@
 -- What no execution changes: which entry is current, and the variables of the other entries. And none adds to the steps that are left.
-use Rattle.std.proofs.Common.{◌≡◌, ℕ, zero, suc, ◌+◌, List, [], ◌∷◌, ◌≤◌, Option, None, Some, Bool, true, false, refl, sym, subst, ◌∙◌, nat_lt, max, arith}
+use Rattle.std.proofs.Common.{◌≡◌, ℕ, zero, suc, ◌+◌, List, [], ◌∷◌, ◌≤◌, Option, Bool, true, false, refl, sym, subst, ◌∙◌, nat_lt, max, arith}
 use Rattle.std.specs.Prelude.{slice_get, slice_index_or}
-use Rattle.btx_bst.specs.declared.callee.Callee.{Callee}
 use Rattle.btx_bst.specs.declared.token.Token.{Token}
 use Rattle.btx_bst.specs.declared.token.Token.TheVariants as token
 use Rattle.btx_stack.specs.declared.literal.Literal.{Literal}
-use Rattle.btx_stack.specs.declared.literal.Literal.TheVariants.{Integer, Text, Function, Missing}
+use Rattle.btx_stack.specs.declared.literal.Literal.TheVariants.{Integer}
 use Rattle.btx_step.specs.declared.next.Next.{Next}
 use Rattle.btx_step.specs.declared.next.Next.TheVariants as next
 use Rattle.btx_step.specs.language.Jobs.{Job}
 use Rattle.btx_step.specs.language.Stores.{Store}
 use Rattle.btx_step.specs.language.Control.{tested}
-use Rattle.btx_step.specs.language.Steps.{step_of}
 use Rattle.btx_step.specs.laws.Leaves.{IsOther}
 use Rattle.btx_step.proofs.LeaveLemmas.{current_stays, other_entries_stay}
 use Rattle.btx_machine.specs.language.States.{State, Outcome, Done, Stopped, Limit}

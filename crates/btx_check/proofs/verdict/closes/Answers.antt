@@ -1,4 +1,4 @@
-use Rattle.std.proofs.Common.{rules, subst, false, List, [], ◌∷◌}
+use Rattle.std.proofs.Common.{rules, subst, false, [], ◌∷◌}
 use Rattle.btx_check.specs.States.{Abstract}
 use Rattle.btx_check.specs.Inclusion.{Within, Sub}
 use Rattle.btx_check.specs.Between.{where_entry}
