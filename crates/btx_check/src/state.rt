@@ -420,7 +420,7 @@ impl State {
 }
 
 // How many numbers that nothing has any more are borne.
-const SPARE_NUMBERS: usize = 20;
+const SPARE_NUMBERS: usize = 60;
 
 // How many names have a number.
 fn used(numbers: &[Option<usize>]) -> usize {

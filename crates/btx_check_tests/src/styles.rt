@@ -48,13 +48,15 @@ const LOOPS: &[u8] =
     b"FUNCTION {f} {#1 'n := #3 'm := {m #0 >} {n #1 > {\"b\" *} {\"a\"} if$ n #1 + 'n := m #1 - 'm :=} while$ write$} READ EXECUTE {f}
 FUNCTION {f} {#0 'n := {#10 n >} {n #1 + 'n := \"a\" write$} while$} READ EXECUTE {f}
 FUNCTION {f} {#0 'n := {#10 n >} {n #1 + 'n :=} while$ n #9 > 'skip$ {#1 write$} if$} READ EXECUTE {f}
-FUNCTION {book} {title empty$ 'skip$ {title write$} if$} FUNCTION {output} {write$} READ ITERATE {call.type$}";
+FUNCTION {book} {title empty$ 'skip$ {title write$} if$} FUNCTION {output} {write$} READ ITERATE {call.type$}
+FUNCTION {letter} {title empty$ 'skip$ {title write$} if$} READ ITERATE {call.type$}";
 
 const SPOILT_LOOPS: &[u8] =
     b"FUNCTION {f} {#0 'n := {#10 n >} {n #1 + 'n := \"a\"} while$} READ EXECUTE {f}
 FUNCTION {f} {#0 'n := {\"a\"} {n #1 + 'n :=} while$} READ EXECUTE {f}
 FUNCTION {f} {#0 'n := {#10 n >} {n #1 + 'n :=} while$ n #9 > {#1 write$} 'skip$ if$} READ EXECUTE {f}
 FUNCTION {book} {title write$} READ ITERATE {call.type$}
+FUNCTION {letter} {title write$} READ ITERATE {call.type$}
 FUNCTION {book} {skip$} FUNCTION {default.type} {pop$} READ ITERATE {call.type$}
 FUNCTION {h} {duplicate$ #1 swap$ 'skip$ if$} FUNCTION {g} {'h h} READ EXECUTE {g}";
 
@@ -150,7 +152,7 @@ fn spoilt_values(rt: HostRuntime) {
 
 #[test]
 fn loops(rt: HostRuntime) {
-    assert!(rt; clean_of(rt.alloc(), LOOPS) == 4);
+    assert!(rt; clean_of(rt.alloc(), LOOPS) == 5);
 }
 
 #[test]
