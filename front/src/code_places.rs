@@ -168,9 +168,13 @@ impl<'a> CodePlace<'_, 'a> {
 
     /// The variable to which a `:=` here assigns, and what it is declared as.
     pub fn variable(self) -> Option<(&'a [u8], Declared)> {
-        let (kind, name) = self.before(1)?;
-        let name = (kind == Kind::Quoted).then(|| &name[1..])?;
+        let name = self.quoted()?;
         Some((name, self.code.declared(name)?))
+    }
+
+    /// The name behind the quote that stands directly before.
+    pub fn quoted(self) -> Option<&'a [u8]> {
+        self.before(1).filter(|(kind, _)| *kind == Kind::Quoted).map(|(_, name)| &name[1..])
     }
 
     /// The literal, variable or field that the token `back` tokens before is.

@@ -33,7 +33,7 @@ pub fn write_for_people(check: &StyleCheck, terminal: &Terminal, out: &mut impl 
     if check.messages > 0 {
         explain::write(&Log::new(&check.log), &check.files, Part::Messages, terminal, out)?;
     }
-    let style = Style { path: &path, code: &code_of(check), terminal };
+    let style = Style { path: &path, code: &code_of(check), terminal, has_mistakes: check.messages > 0 };
     write(&style, &check.found, check.entries.as_deref(), out)?;
     for hint in check.hints.iter().filter(|hint| !hint.is_of_loop) {
         writeln!(out, "{path}:{}: hint: {}", hint.line, hint.text)?;

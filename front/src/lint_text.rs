@@ -5,7 +5,7 @@ use crate::code_places::Code;
 use crate::lint_entry::Shown;
 use crate::lint_warnings::{Cause, Fault, Growth, Operand, Value, Wanted, Warning, Warnings};
 use crate::notes::Spot;
-use crate::operands::{assigned, compared, let_through, without_entry};
+use crate::operands::{Said, assigned, compared, left_out, let_through, without_entry};
 use crate::shown_line::ShownLine;
 use crate::terminal::{Terminal, plain};
 use std::io::{self, Write};
@@ -111,11 +111,24 @@ fn literals(count: usize) -> String {
     }
 }
 
+/// What is said of a `:=` that finds no variable though a name is quoted before it. That follows from a mistake in the style's text.
+fn left_out_of(warning: &Warning, code: &Code<'_>) -> Option<Said> {
+    let place = code.place(warning.places.first().filter(|_| warning.next == b":=")?, &warning.next)?;
+    let is_left_out = match (&warning.operand, warning.fault) {
+        (Some(operand), _) => operand.position == 0 && operand.wanted == Some(Wanted::Function),
+        (None, fault) => fault == Some(Fault::EmptyStack) && place.variable().is_none(),
+    };
+    left_out(place).filter(|_| is_left_out)
+}
+
 /// What may go wrong and what to do, in words. The style's text says of some operands more than the notes do.
 pub fn said_of(warning: &Warning, code: &Code<'_>) -> (String, String) {
     let usual = || (what_of(warning), advice_of(warning));
     let Some(place) = warning.places.first().and_then(|spot| code.place(spot, &warning.next)) else { return usual() };
     let next = plain(&warning.next);
+    if let Some((what, advice)) = left_out_of(warning, code) {
+        return (format!("`{next}` takes VALUE 'VARIABLE: {what}"), advice);
+    }
     match (warning.fault, &warning.missing) {
         (Some(Fault::NotAssignable | Fault::WrongKind), None) if next == ":=" => assigned(place)
             .map_or_else(usual, |(what, advice)| (format!("`{next}` takes VALUE 'VARIABLE: {what}"), advice)),
@@ -303,6 +316,8 @@ pub struct Style<'s, 'a> {
     pub path: &'s str,
     pub code: &'s Code<'a>,
     pub terminal: &'s Terminal,
+    /// Whether its text has mistakes, from which warnings may follow.
+    pub has_mistakes: bool,
 }
 
 impl Style<'_, '_> {
@@ -360,9 +375,16 @@ fn write_lines(word: &str, lines: &[usize], out: &mut impl Write) -> io::Result<
     if lines.is_empty() {
         return Ok(());
     }
+    writeln!(out, "    {word} in {}", numbers_of(lines.to_vec()))
+}
+
+/// The numbers of lines, each once: `lines 3, 7`.
+fn numbers_of(mut lines: Vec<usize>) -> String {
+    lines.sort_unstable();
+    lines.dedup();
     let plural = if lines.len() > 1 { "s" } else { "" };
     let lines: Vec<String> = lines.iter().map(usize::to_string).collect();
-    writeln!(out, "    {word} in line{plural} {}", lines.join(", "))
+    format!("line{plural} {}", lines.join(", "))
 }
 
 /// Writes the warnings of one cause.
@@ -427,6 +449,29 @@ fn plain_lines(text: &[u8]) -> Vec<String> {
     text.split(|byte| *byte == b'\n').filter(|line| !line.is_empty()).map(plain).collect()
 }
 
+/// Says which warnings follow from mistakes in the style's text, and that the others may.
+fn write_mistaken(
+    style: &Style<'_, '_>,
+    following: &[&Warning],
+    others: usize,
+    out: &mut impl Write,
+) -> io::Result<()> {
+    let path = style.path;
+    if !following.is_empty() {
+        let (noun, verb) = if following.len() == 1 { ("warning", "follows") } else { ("warnings", "follow") };
+        let lines = numbers_of(following.iter().map(|warning| warning.line()).collect());
+        writeln!(
+            out,
+            "{path}: {} {noun} {verb} from the mistakes above: `:=` to a name that isn't known, in {lines}",
+            following.len()
+        )?;
+    }
+    if others > 0 {
+        writeln!(out, "{path}: these warnings may follow from the mistakes above:")?;
+    }
+    Ok(())
+}
+
 /// Writes all warnings of a style; `entries` says of each that is shown whether an entry shows it, where that was asked.
 pub fn write(
     style: &Style<'_, '_>,
@@ -435,12 +480,18 @@ pub fn write(
     out: &mut impl Write,
 ) -> io::Result<()> {
     let shown = found.shown();
-    let is_of_stack =
-        |warning: &&&Warning| matches!(warning.fault, Some(Fault::EmptyStack | Fault::LeftOver | Fault::WrongKind));
-    if shown.iter().any(|warning| is_of_stack(&warning)) {
+    let follows = |warning: &Warning| style.has_mistakes && left_out_of(warning, style.code).is_some();
+    let following: Vec<&Warning> = shown.iter().copied().filter(|warning| follows(warning)).collect();
+    if style.has_mistakes {
+        write_mistaken(style, &following, shown.len() - following.len(), out)?;
+    }
+    let is_of_stack = |warning: &&Warning| {
+        !follows(warning) && matches!(warning.fault, Some(Fault::EmptyStack | Fault::LeftOver | Fault::WrongKind))
+    };
+    if shown.iter().any(is_of_stack) {
         write_causes(style, &found.causes, out)?;
     }
-    for group in groups(&shown) {
+    for group in groups(&shown).into_iter().filter(|group| !group.iter().all(|number| follows(shown[*number]))) {
         let warnings: Vec<&Warning> = group.iter().map(|number| shown[*number]).collect();
         let entry = entries.and_then(|entries| {
             let mut of_group = group.iter().filter_map(|number| entries.get(*number));
@@ -529,7 +580,7 @@ mod tests {
         let mut out = Vec::new();
         let found = read(notes, b"s.bst");
         let code = Code::new(b"");
-        let style = Style { path: "s.bst", code: &code, terminal: &Terminal::NONE };
+        let style = Style { path: "s.bst", code: &code, terminal: &Terminal::NONE, has_mistakes: false };
         write(&style, &found, None, &mut out).unwrap();
         let wanted = "s.bst:7: in f: the branches of this `if$` leave different numbers of literals: the first 0, the second 1 to 2\n    \
             do: let both leave the same number; warnings below may follow from this\n\

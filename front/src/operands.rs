@@ -39,6 +39,15 @@ pub fn assigned(place: CodePlace<'_, '_>) -> Option<Said> {
     }
 }
 
+/// What is said of a `:=` whose variable is quoted and yet isn't there: the name wasn't known where the style was read, so it was left out.
+pub fn left_out(place: CodePlace<'_, '_>) -> Option<Said> {
+    let name = plain(place.quoted()?);
+    Some((
+        format!("`{name}` isn't known here"),
+        format!("declare `{name}` above this function, in a command that is read"),
+    ))
+}
+
 /// What is said of a `=` that gets a string and an integer.
 pub fn compared(place: CodePlace<'_, '_>) -> Option<Said> {
     const NEVER: &str = "a string and an integer are never equal";

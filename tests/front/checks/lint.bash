@@ -150,6 +150,7 @@ run_lint clean.bst
 wants_status 2
 head -n 4 "$folder/stdout" >first
 grep -qF 'is it INTEGERS?' first || complaints+=("the first lines are $(cat first)")
+wants_line_of_output "clean.bst: 1 warning follows from the mistakes above: \`:=\` to a name that isn't known, in line 6"
 end
 
 begin lint_of_what_has_no_use
