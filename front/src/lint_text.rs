@@ -151,7 +151,8 @@ fn what_of(warning: &Warning) -> String {
     match (warning.fault, takes, operand) {
         (Some(Fault::LeftOver), _, _) => {
             let command = warning.item.as_ref().map_or(format!("a command with `{next}`"), owner);
-            format!("{command} may leave {} on the stack", warning.depth.map_or("literals".to_string(), literals))
+            let first = warning.depth.map_or(String::new(), |depth| format!(": {depth} where it was met first"));
+            format!("{command} may leave literals on the stack{first}")
         }
         (Some(Fault::NoEntry), _, _) => {
             let command = warning.item.as_ref().map_or("EXECUTE".to_string(), owner);
@@ -259,9 +260,12 @@ fn advice_on_kind(warning: &Warning, takes: &str) -> String {
 
 // ---- for whom, and how ----
 
-/// For entries of which types.
+/// For entries of which types. Literals that are left over are noted when the command ends, where the type isn't known any more.
 fn types_of(group: &[&Warning]) -> Option<String> {
-    let by_type = |warning: &Warning| warning.item.as_ref().is_some_and(|item| owner(item).ends_with("{call.type$}"));
+    let by_type = |warning: &Warning| {
+        let command = warning.item.as_ref().filter(|_| warning.fault != Some(Fault::LeftOver));
+        command.is_some_and(|item| owner(item).ends_with("{call.type$}"))
+    };
     let mut names: Vec<String> = Vec::new();
     let mut has_unknown = false;
     for warning in group.iter().filter(|warning| by_type(warning)) {
@@ -563,7 +567,7 @@ mod tests {
             ("warning entry first\nnext cite$\nat in 2 0 1 f\n", "`cite$` needs a current entry, and EXECUTE has none"),
             (
                 "warning left first\nnext call.type$\ndepth 2\nitem ITERATE 9 call.type$\n",
-                "ITERATE {call.type$} may leave 2 literals on the stack",
+                "ITERATE {call.type$} may leave literals on the stack: 2 where it was met first",
             ),
         ];
         for (notes, wanted) in rows {

@@ -185,6 +185,8 @@ sed -i 's/^{ output.title }/{ output.title title empty$ { "left" } '"'skip\$"' i
 run_lint --entry clean.bst
 wants_status 2
 wants_line_of_output "    logs: Error--The literal stack isn't empty while executing ITERATE for entry key"
+wants_line_of_output 'clean.bst:13: ITERATE {call.type$} may leave literals on the stack: 1 where it was met first'
+! grep -q 'for entries of type' "$folder/stdout" || complaints+=("a type is named in $(cat "$folder/stdout")")
 grep -q '^    left since: .*FUNCTION {article}, line 7$' "$folder/stdout" || complaints+=("printed is $(cat "$folder/stdout")")
 end
 
