@@ -12,7 +12,9 @@ use crate::scene::{Call, End, Scene};
 use crate::shapes::{Part, counted, went_well};
 use crate::shown_line::{ShownLine, first_columns};
 use crate::sources::{Sources, Spot};
-use crate::style_text::{Command, Defined, costs_a_token, end_of_skipped, is_command, lines_of_name, nearest_word};
+use crate::style_text::{
+    Command, Defined, costs_a_token, end_of_skipped, is_command, last_token, lines_of_name, nearest_word, unclosed,
+};
 use crate::terminal::{Terminal, in_lines, plain};
 use crate::text::{Text, split_first};
 use std::collections::HashSet;
@@ -43,7 +45,7 @@ const NO_COLOUR: &str = "\x1b[0m";
 /// Writes a log with its explanations, safe for a terminal.
 pub fn write(log: &Log<'_>, files: &Files, part: Part, terminal: &Terminal, out: &mut impl Write) -> io::Result<()> {
     let out = BufWriter::with_capacity(1 << 16, out);
-    let mut explainer = Explainer::new(log, files, terminal, out);
+    let mut explainer = Explainer::new(log, files, part, terminal, out);
     let mut lines = log.lines();
     while let Some(line) = lines.next() {
         if part == Part::Whole || !went_well(&line) {
@@ -81,6 +83,7 @@ struct Cause<'a> {
 /// Explains the lines of a log.
 struct Explainer<'a, W: Write> {
     files: &'a Files,
+    part: Part,
     sources: Sources<'a>,
     entries: Option<Entries<'a>>,
     terminal: &'a Terminal,
@@ -108,9 +111,10 @@ struct Explainer<'a, W: Write> {
 }
 
 impl<'a, W: Write> Explainer<'a, W> {
-    fn new(log: &Log<'a>, files: &'a Files, terminal: &'a Terminal, out: W) -> Self {
+    fn new(log: &Log<'a>, files: &'a Files, part: Part, terminal: &'a Terminal, out: W) -> Self {
         Explainer {
             files,
+            part,
             sources: Sources::new(files),
             entries: None,
             terminal,
@@ -247,6 +251,9 @@ impl<'a, W: Write> Explainer<'a, W> {
     fn message(&mut self, line: &[u8], message: &Message<'a>) -> io::Result<()> {
         self.end_lines()?;
         self.explained += 1;
+        if self.part == Part::Mistakes && self.missing_brace(line, message)? {
+            return Ok(());
+        }
         self.put_line(if message.severity == Severity::Error { ERROR_COLOUR } else { WARNING_COLOUR }, line)?;
         match message.place {
             Place::Line { file, .. } if file.ends_with(b".aux") => {
@@ -360,24 +367,67 @@ impl<'a, W: Write> Explainer<'a, W> {
         place: usize,
     ) -> Option<String> {
         let above = &commands[..commands.partition_point(|command| command.start < place)];
-        let at_end = error == b"Illegal end of style file";
+        let at_end = error == AT_END;
         if at_end || unknown(error).is_some_and(is_command) {
             let opened = above.iter().find(|command| command.balance > 0)?;
-            let lost = Defined::new(text.bytes, opened.start, text.bytes.len(), commands);
-            let (style, number) = (&spot.file.name[..], spot.number);
-            self.causes.push(Cause { style, number, has_commands: true, lost, unprinted: 0 });
+            self.add_unclosed(opened, spot, text, commands);
             return Some(format!("a `}}` is missing in {}", begins(spot.file, text, opened)));
         }
         let closed = above.last().filter(|command| command.balance < 0 && error == b"I was expecting a command")?;
         Some(format!("there is a `}}` too many in {}", begins(spot.file, text, closed)))
     }
 
+    /// Errors that follow from a command that isn't closed are counted from now on.
+    fn add_unclosed(&mut self, opened: &Command<'a>, spot: &Spot<'a>, text: &Text<'a>, commands: &[Command<'a>]) {
+        let lost = Defined::new(text.bytes, opened.start, text.bytes.len(), commands);
+        let (style, number) = (&spot.file.name[..], spot.number);
+        self.causes.push(Cause { style, number, has_commands: true, lost, unprinted: 0 });
+    }
+
+    /// Says where a brace is missing, if this is the error in which that shows itself: the function with its lines, and the brace that is likely to be without its other one.
+    fn missing_brace(&mut self, line: &[u8], message: &Message<'a>) -> io::Result<bool> {
+        let Place::Line { file: style, .. } = message.place else { return Ok(false) };
+        if message.text != AT_END && !unknown(message.text).is_some_and(is_command) {
+            return Ok(false);
+        }
+        let Some(spot) = self.sources.spot(message) else { return Ok(false) };
+        let (Some(text), commands) = (self.sources.text(style), self.sources.commands(style)) else { return Ok(false) };
+        let place = text.span(spot.number).0 + spot.part.map_or(spot.line.len(), |(at, _)| at);
+        let above = &commands[..commands.partition_point(|command| command.start < place)];
+        let Some(opened) = above.iter().find(|command| command.balance > 0) else { return Ok(false) };
+        let end = commands.iter().find(|next| next.start > opened.start).map_or(text.bytes.len(), |next| next.start);
+        let last = last_token(&text, opened.start, end).map_or(opened.start, |token| token.start);
+        let (name, first, last) = (plain(shown_path(spot.file)), text.line_of(opened.start), text.line_of(last));
+        let lines = if first == last { format!("line {first}") } else { format!("lines {first}-{last}") };
+        self.coloured(ERROR_COLOUR, &format!("{name}:{first}: a `}}` is missing in {}, {lines}", named(opened)))?;
+        if let Some((brace, outside)) = unclosed(&text, opened.start, end) {
+            let (number, at) = (text.line_of(brace.start), brace.start - text.span(text.line_of(brace.start)).0);
+            let line = text.line(number);
+            self.show_line(&Spot { file: spot.file, number, line, part: Some((at, at + 1)), item: None })?;
+            let (of, behind) = (plain(&text.bytes[outside.start..outside.end]), text.line_of(outside.start));
+            self.put_advice(&format!("close this brace before line {behind}: `{of}` stands further left there"))?;
+        } else {
+            let line = text.line(first);
+            self.show_line(&Spot { file: spot.file, number: first, line, part: None, item: None })?;
+            self.put_advice("count its braces: each `{` needs a `}`")?;
+        }
+        self.put_place(&format!("it shows in: {}", plain(line)))?;
+        self.last_of_style = spot.number;
+        self.first_of_style.get_or_insert_with(|| format!("{name}:{first}"));
+        self.add_unclosed(opened, &spot, &text, &commands);
+        Ok(true)
+    }
+
     /// Whether this error follows from one of a style that was explained. It is counted there.
     fn follows(&mut self, message: &Message<'a>) -> bool {
         let Place::Line { file, .. } = message.place else { return false };
-        let Some(name) = unknown(message.text) else { return false };
+        let name = unknown(message.text);
+        if name.is_none() && message.text != AT_END {
+            return false;
+        }
         let is_it = |cause: &&mut Cause<'a>| {
-            file == cause.style && (cause.lost.has(name) || cause.has_commands && is_command(name))
+            let is_lost = name.is_some_and(|name| cause.lost.has(name));
+            file == cause.style && (is_lost || cause.has_commands && name.is_none_or(is_command))
         };
         let cause = self.causes.iter_mut().find(is_it);
         cause.map(|cause| cause.unprinted += 1).is_some()
@@ -567,6 +617,9 @@ impl<'a, W: Write> Explainer<'a, W> {
     }
 }
 
+/// The error at the end of a style whose last command isn't closed.
+const AT_END: &[u8] = b"Illegal end of style file";
+
 /// The name in the error of a function that isn't known.
 fn unknown(error: &[u8]) -> Option<&[u8]> {
     error.strip_suffix(b" is an unknown function")
@@ -579,9 +632,14 @@ fn between<'a>(text: &'a [u8], before: &[u8], behind: &[u8]) -> Option<&'a [u8]>
 
 /// A command of a style, and where it begins.
 fn begins(file: &File, text: &Text<'_>, command: &Command<'_>) -> String {
-    let name = command.name.map(|name| format!(" {{{}}}", plain(name))).unwrap_or_default();
     let (path, line) = (plain(shown_path(file)), text.line_of(command.start));
-    format!("{}{name}, which begins at {path}:{line}", plain(command.word))
+    format!("{}, which begins at {path}:{line}", named(command))
+}
+
+/// A command of a style with its name.
+fn named(command: &Command<'_>) -> String {
+    let name = command.name.map(|name| format!(" {{{}}}", plain(name))).unwrap_or_default();
+    format!("{}{name}", plain(command.word))
 }
 
 /// An item of a database, and where it begins.

@@ -31,7 +31,7 @@ fn code_of(check: &StyleCheck) -> Code<'_> {
 pub fn write_for_people(check: &StyleCheck, terminal: &Terminal, out: &mut impl Write) -> io::Result<()> {
     let path = path_of(check);
     if check.messages > 0 {
-        explain::write(&Log::new(&check.log), &check.files, Part::Messages, terminal, out)?;
+        explain::write(&Log::new(&check.log), &check.files, Part::Mistakes, terminal, out)?;
     }
     let style = Style { path: &path, code: &code_of(check), terminal, has_mistakes: check.messages > 0 };
     write(&style, &check.found, check.entries.as_deref(), out)?;

@@ -121,7 +121,7 @@ impl RunLog<'_> {
     fn print_plainly(&self, whole: &[u8], terminal: &Terminal, out: &mut impl Write) -> io::Result<()> {
         let text = match self.part() {
             Part::Whole => Cow::Borrowed(whole),
-            Part::Messages => {
+            Part::Messages | Part::Mistakes => {
                 let mut messages = self.notes();
                 self.shape(Part::Messages, &mut messages);
                 messages.into()

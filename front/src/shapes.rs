@@ -15,6 +15,8 @@ pub enum Part {
     Whole,
     /// The messages alone, and how the run ended where it didn't finish: what the original prints with `-terse`.
     Messages,
+    /// The messages on a style's text, for its designer: what a brace has to do with them is said before them.
+    Mistakes,
 }
 
 /// Of how many messages at most a source line is shown, and how many bytes of it on each side of the place.

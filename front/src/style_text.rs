@@ -252,6 +252,38 @@ pub fn end_of_skipped(text: &Text<'_>, number: usize) -> usize {
     text.bytes.len()
 }
 
+/// The last token of a part of a text.
+pub fn last_token(text: &Text<'_>, from: usize, to: usize) -> Option<Token> {
+    Tokens::behind(&text.bytes[..to], from).last()
+}
+
+/// In which column a place of a text stands; a tab goes on to the next eighth one.
+fn column(text: &Text<'_>, place: usize) -> usize {
+    let (start, _) = text.span(text.line_of(place));
+    text.bytes[start..place].iter().fold(0, |column, byte| if *byte == b'\t' { column / 8 * 8 + 8 } else { column + 1 })
+}
+
+/// In a command that isn't closed the brace that is likely to be without its other one, and the token that shows it: the first one that begins a line further left than an open
+/// brace that itself begins one. None where the lines aren't set in so.
+pub fn unclosed(text: &Text<'_>, from: usize, to: usize) -> Option<(Token, Token)> {
+    // (a brace that begins no line counts as if it stood at the margin)
+    let mut open: Vec<(Token, usize)> = Vec::new();
+    for token in Tokens::behind(&text.bytes[..to], from) {
+        let begun = begins_line(text.bytes, token.start).then(|| column(text, token.start));
+        if let (Some(begun), Some((brace, column))) = (begun, open.last())
+            && begun < *column
+        {
+            return Some((*brace, token));
+        }
+        match token.kind {
+            Kind::Open => open.push((token, begun.unwrap_or(0))),
+            Kind::Close => drop(open.pop()),
+            _ => {}
+        }
+    }
+    None
+}
+
 /// The names that a part of a style defines.
 #[derive(Debug, Clone, Default, PartialEq, Eq)]
 pub struct Defined<'a> {
@@ -385,6 +417,19 @@ mod tests {
 
     fn kinds(text: &[u8]) -> Vec<Kind> {
         Tokens::new(text).map(|token| token.kind).collect()
+    }
+
+    #[test]
+    fn an_open_brace_is_seen_by_its_column() {
+        let seen = |bytes: &[u8]| {
+            let text = Text::new(bytes);
+            let found = unclosed(&text, 0, bytes.len());
+            found.map(|(brace, token)| (text.line_of(brace.start), text.line_of(token.start)))
+        };
+        assert_eq!(seen(b"FUNCTION {f}\n{ a\n    'b\n    { c\n  if$\n}\n"), Some((4, 5)));
+        assert_eq!(seen(b"FUNCTION {f}\n{ a\n\t{ b }\n\t{ c\n\t  d\n    e\n}\n"), Some((4, 6)));
+        assert_eq!(seen(b"FUNCTION {f}\n{ a\n{ c\nif$\n}\n"), None);
+        assert_eq!(seen(b""), None);
     }
 
     #[test]

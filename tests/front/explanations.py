@@ -297,7 +297,7 @@ def compare(old, new):
             continue
         if not new or new[0][0] != line:
             kinds["an error that follows from another"] += 1
-            if not re.search(r" is an unknown function--line \d+ of file .*\.bst$", line):
+            if not re.search(r"( is an unknown function|^Error--Illegal end of style file)--line \d+ of file .*\.bst$", line):
                 wrong.append(f"missing: {line}")
             continue
         found, rest, more = kinds_of_difference(line, said, new.pop(0)[1], advised)

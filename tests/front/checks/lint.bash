@@ -139,8 +139,14 @@ sed -i 's/newline\$ } if\$ }/newline$ } if$/' clean.bst
 run_lint clean.bst
 wants_status 2
 head -n 4 "$folder/stdout" >first
-grep -qF 'a `}` is missing in FUNCTION {output.title}, which begins at clean.bst:3' first || complaints+=("the first lines are $(cat first)")
+grep -qxF 'clean.bst:3: a `}` is missing in FUNCTION {output.title}, lines 3-4' first || complaints+=("the first lines are $(cat first)")
 [ "$(grep -c 'is missing in' "$folder/stdout")" -eq 1 ] || complaints+=('it is said more than once')
+! grep -q '^Error--' "$folder/stdout" || complaints+=("what follows is shown in $(cat "$folder/stdout")")
+write_clean
+sed -i "s/{ title empty.*/{ title empty\$\n    'skip\$\n    { title write\$ newline\$\n  if\$\n}/" clean.bst
+run_lint clean.bst
+wants_line_of_output '    clean.bst:6:     { title write$ newline$'
+wants_line_of_output '    what to do: close this brace before line 7: `if$` stands further left there'
 end
 
 begin lint_of_a_misspelt_command
