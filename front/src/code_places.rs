@@ -5,7 +5,7 @@ use crate::database::Folded;
 use crate::notes;
 use crate::style_text::{Kind, Token, Tokens, commands};
 use crate::text::Text;
-use std::collections::HashMap;
+use std::collections::{HashMap, HashSet};
 
 /// What a style declares a name as.
 #[derive(Debug, Clone, Copy, PartialEq, Eq)]
@@ -25,6 +25,11 @@ pub enum Declared {
 }
 
 impl Declared {
+    /// Whether each entry has a value of its own.
+    pub fn is_of_entry(self) -> bool {
+        matches!(self, Declared::Field | Declared::Integer { is_of_entry: true } | Declared::Text { is_of_entry: true })
+    }
+
     /// In words, for a variable or a field.
     pub fn text(self) -> &'static str {
         match self {
@@ -43,11 +48,18 @@ impl Declared {
 pub struct Code<'a> {
     pub text: Text<'a>,
     tokens: Vec<Token>,
-    declared: HashMap<Folded<'a>, Declared>,
+    declared: HashMap<Folded<'a>, Declaration>,
+}
+
+/// What a name is declared as, and where it stands there.
+#[derive(Debug, Clone, Copy)]
+struct Declaration {
+    sort: Declared,
+    start: usize,
 }
 
 /// The names that commands declare, with what each of them is.
-fn declared<'a>(text: &Text<'a>) -> HashMap<Folded<'a>, Declared> {
+fn declared<'a>(text: &Text<'a>) -> HashMap<Folded<'a>, Declaration> {
     let commands = commands(text.bytes);
     let ends = commands.iter().skip(1).map(|next| next.start).chain([text.bytes.len()]);
     let mut found = HashMap::new();
@@ -67,7 +79,10 @@ fn declared<'a>(text: &Text<'a>) -> HashMap<Folded<'a>, Declared> {
             match token.kind {
                 Kind::Close if command.is("entry") => closed += 1,
                 Kind::Close => break,
-                Kind::Name => drop(found.insert(Folded(&text.bytes[begin + token.start..begin + token.end]), sort)),
+                Kind::Name => {
+                    let start = begin + token.start;
+                    found.insert(Folded(&text.bytes[start..begin + token.end]), Declaration { sort, start });
+                }
                 _ => {}
             }
         }
@@ -83,7 +98,38 @@ impl<'a> Code<'a> {
 
     /// What a style declares a name as.
     pub fn declared(&self, name: &[u8]) -> Option<Declared> {
-        self.declared.get(&Folded(name)).copied()
+        self.declared.get(&Folded(name)).map(|declaration| declaration.sort)
+    }
+
+    /// In which line it does so.
+    pub fn line_of(&self, name: &[u8]) -> Option<usize> {
+        self.declared.get(&Folded(name)).map(|declaration| self.text.line_of(declaration.start))
+    }
+
+    /// What a variable or a field is declared as, with the line: `a string (STRINGS, line 9)`.
+    pub fn declaration(&self, name: &[u8]) -> Option<String> {
+        let (sort, line) = (self.declared(name)?.text(), self.line_of(name)?);
+        Some(
+            sort.strip_suffix(')')
+                .map_or_else(|| format!("{sort} (line {line})"), |begin| format!("{begin}, line {line})")),
+        )
+    }
+
+    /// The variables that all entries share, of the same kind as this one, in the order of the text.
+    pub fn shared_like(&self, name: &[u8]) -> Vec<&'a [u8]> {
+        let wanted = match self.declared(name) {
+            Some(Declared::Integer { .. }) => Declared::Integer { is_of_entry: false },
+            Some(Declared::Text { .. }) => Declared::Text { is_of_entry: false },
+            _ => return Vec::new(),
+        };
+        let mut found: Vec<(usize, &'a [u8])> = self
+            .declared
+            .iter()
+            .filter(|(_, declaration)| declaration.sort == wanted)
+            .map(|(name, declaration)| (declaration.start, name.0))
+            .collect();
+        found.sort_unstable();
+        found.into_iter().map(|(_, name)| name).collect()
     }
 
     fn of(&self, index: usize) -> &'a [u8] {
@@ -133,6 +179,9 @@ impl<'a> Code<'a> {
 /// Among how many tokens of one text in a line a place is looked for at most.
 const MOST_OF_LINE: usize = 50;
 
+/// How many tokens on each side of a place are looked at for the names that its function assigns to.
+const MOST_AROUND: usize = 1000;
+
 /// How many tokens before a place are looked at for the field that is there.
 const MOST_FUNCTIONS: usize = 5;
 
@@ -175,6 +224,18 @@ impl<'a> CodePlace<'_, 'a> {
     /// The name behind the quote that stands directly before.
     pub fn quoted(self) -> Option<&'a [u8]> {
         self.before(1).filter(|(kind, _)| *kind == Kind::Quoted).map(|(_, name)| &name[1..])
+    }
+
+    /// The names behind quotes around it, in the same function.
+    pub fn quoted_around(self) -> HashSet<Folded<'a>> {
+        let is_inside = |index: &usize| {
+            let begin = self.code.of(*index).get(..8);
+            begin.is_none_or(|begin| !begin.eq_ignore_ascii_case(b"function"))
+        };
+        let before = (0..self.index).rev().take(MOST_AROUND).take_while(is_inside);
+        let behind = (self.index..self.code.tokens.len()).take(MOST_AROUND).take_while(is_inside);
+        let is_quoted = |index: &usize| self.code.tokens[*index].kind == Kind::Quoted;
+        before.chain(behind).filter(is_quoted).map(|index| Folded(&self.code.of(index)[1..])).collect()
     }
 
     /// The literal, variable or field that the token `back` tokens before is.
@@ -237,6 +298,9 @@ mod tests {
         assert_eq!(code.declared(b"s"), Some(Declared::Text { is_of_entry: false }));
         assert_eq!(code.declared(b"f.g"), Some(Declared::Function { line: 4 }));
         assert_eq!(code.declared(b"pop$"), None);
+        assert_eq!(code.declaration(b"label").as_deref(), Some("a string of each entry (ENTRY, line 1)"));
+        assert_eq!((code.declaration(b"year").as_deref(), code.line_of(b"i")), (Some("a field (line 1)"), Some(2)));
+        assert_eq!((code.shared_like(b"LABEL"), code.shared_like(b"year")), (vec![&b"s"[..]], vec![]));
     }
 
     #[test]
@@ -253,5 +317,10 @@ mod tests {
         let compared = code.place_in(6, b"=", None).unwrap();
         assert_eq!((compared.left_by(1), compared.left_by(2)), (Some(Left::Number(b"#0")), Some(Left::Field(b"year"))));
         assert!(code.place_in(1, b"=", None).is_none());
+        let around = compared.quoted_around();
+        assert!(
+            around.len() == 2 && around.contains(&Folded(b"label")) && around.contains(&Folded(b"S")),
+            "{around:?}"
+        );
     }
 }

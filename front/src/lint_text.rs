@@ -5,7 +5,7 @@ use crate::code_places::Code;
 use crate::lint_entry::Shown;
 use crate::lint_warnings::{Cause, Fault, Growth, Operand, Value, Wanted, Warning, Warnings};
 use crate::notes::Spot;
-use crate::operands::{Said, assigned, compared, left_out, let_through, without_entry};
+use crate::operands::{Said, assigned, assigned_without_entry, compared, left_out, let_through, without_entry};
 use crate::shown_line::ShownLine;
 use crate::terminal::{Terminal, plain};
 use std::io::{self, Write};
@@ -121,6 +121,19 @@ fn left_out_of(warning: &Warning, code: &Code<'_>) -> Option<Said> {
     left_out(place).filter(|_| is_left_out)
 }
 
+/// What is said of what belongs to each entry where there is none, if the text shows its declaration.
+fn without_entry_of(warning: &Warning, code: &Code<'_>) -> Option<Said> {
+    let (what, advice) = (what_of(warning), advice_of(warning));
+    let (spot, item) = (warning.places.first()?, warning.item.as_ref()?);
+    if warning.next != b":=" {
+        let declared = code.declaration(&warning.next)?;
+        return Some((format!("{what}: it is {declared}"), advice));
+    }
+    let place = code.place(spot, &warning.next)?;
+    let (declared, advice) = assigned_without_entry(code, place, &spot.call, &owner(item), item.call.line)?;
+    Some((format!("{what}: {declared}"), advice))
+}
+
 /// What may go wrong and what to do, in words. The style's text says of some operands more than the notes do.
 pub fn said_of(warning: &Warning, code: &Code<'_>) -> (String, String) {
     let usual = || (what_of(warning), advice_of(warning));
@@ -135,6 +148,7 @@ pub fn said_of(warning: &Warning, code: &Code<'_>) -> (String, String) {
         (Some(Fault::Incomparable), None) => compared(place).map_or_else(usual, |(what, advice)| {
             (format!("`{next}` compares two strings or two numbers: {what}"), advice)
         }),
+        (Some(Fault::NoEntry), _) => without_entry_of(warning, code).unwrap_or_else(usual),
         (_, Some(field)) => match let_through(place, Some(field)) {
             Some(advice) => (what_of(warning), advice),
             None => usual(),

@@ -2,7 +2,7 @@
 
 use crate::code_places::{Code, CodePlace, Declared, Left};
 use crate::database::Folded;
-use crate::scene::Scene;
+use crate::scene::{Call, Scene};
 use crate::terminal::plain;
 
 /// What is wrong, and what to do about it.
@@ -96,6 +96,38 @@ pub fn advice_at(code: &Code<'_>, scene: &Scene, message: &[u8], function: &[u8]
     said.map(|(what, advice)| format!("{what}; {advice}"))
 }
 
+/// What is said of a variable of each entry that is assigned by a command without an entry: where it is declared, and which other one may be meant.
+pub fn assigned_without_entry(
+    code: &Code<'_>,
+    place: CodePlace<'_, '_>,
+    at: &Call,
+    command: &str,
+    line: usize,
+) -> Option<Said> {
+    let (name, sort) = place.variable().filter(|(_, sort)| sort.is_of_entry())?;
+    let shared = shared_instead(code, place, name, at);
+    let word = if matches!(sort, Declared::Integer { .. }) { "INTEGERS" } else { "STRINGS" };
+    let shared =
+        shared.and_then(|shared| Some(format!(": is it `{}`, line {}?", plain(shared), code.line_of(shared)?)));
+    let advice = format!(
+        "assign to a variable of {word}, which all entries share{} Else run the function by ITERATE or REVERSE, not by {command} in line {line}",
+        shared.unwrap_or(".".to_string())
+    );
+    Some((format!("`{}` is {}", plain(name), code.declaration(name)?), advice))
+}
+
+/// The variable that all entries share and that may be meant by one of each entry: it isn't assigned in this function, and one of the names is a part of the other, or it is a part of
+/// the function's.
+fn shared_instead<'a>(code: &Code<'a>, place: CodePlace<'_, '_>, name: &[u8], at: &Call) -> Option<&'a [u8]> {
+    let assigned = place.quoted_around();
+    let has = |whole: &[u8], part: &[u8]| {
+        whole.len() >= part.len() && whole.windows(part.len().max(1)).any(|window| window.eq_ignore_ascii_case(part))
+    };
+    let is_like = |shared: &[u8]| has(shared, name) || has(name, shared) || has(&at.function, shared);
+    let is_it = |shared: &&[u8]| shared.len() > 2 && is_like(shared) && !assigned.contains(&Folded(*shared));
+    code.shared_like(name).into_iter().filter(is_it).max_by_key(|shared| shared.len())
+}
+
 /// What to do about a use of an entry in a command that has none.
 pub fn without_entry(command: &str, line: usize) -> String {
     format!("there is no current entry: take {command} in line {line} out, or run its function by ITERATE or REVERSE")
@@ -127,6 +159,21 @@ mod tests {
             assert_eq!(what, wanted);
             assert!(advice.starts_with(begin), "{advice}");
         }
+    }
+
+    #[test]
+    fn variables_that_all_entries_share_are_offered() {
+        let style = "ENTRY {}{}{label}\nSTRINGS {s longest.label label.kept}\nFUNCTION {begin}\n{ \"\" 'label := \"\" 'label.kept := }\n";
+        let code = Code::new(style.as_bytes());
+        let at = Call { function: b"begin".to_vec(), file: b"s.bst".to_vec(), line: 4 };
+        let place = code.place_in(4, b":=", Some(2)).unwrap();
+        let (what, advice) = assigned_without_entry(&code, place, &at, "EXECUTE {begin}", 9).unwrap();
+        assert_eq!(what, "`label` is a string of each entry (ENTRY, line 1)");
+        let wanted =
+            "assign to a variable of STRINGS, which all entries share: is it `longest.label`, line 2? Else run";
+        assert!(advice.starts_with(wanted), "{advice}");
+        let kept = code.place_in(4, b":=", Some(5)).unwrap();
+        assert_eq!(assigned_without_entry(&code, kept, &at, "EXECUTE {begin}", 9), None);
     }
 
     #[test]
