@@ -49,6 +49,8 @@ pub struct Code<'a> {
     pub text: Text<'a>,
     tokens: Vec<Token>,
     declared: HashMap<Folded<'a>, Declaration>,
+    /// The tokens `:=` that stand behind each quoted name.
+    assigned: HashMap<Folded<'a>, Vec<usize>>,
 }
 
 /// What a name is declared as, and where it stands there.
@@ -56,6 +58,17 @@ pub struct Code<'a> {
 struct Declaration {
     sort: Declared,
     start: usize,
+}
+
+/// The tokens `:=` that stand behind each quoted name.
+fn assigned<'a>(bytes: &'a [u8], tokens: &[Token]) -> HashMap<Folded<'a>, Vec<usize>> {
+    let mut found: HashMap<Folded<'a>, Vec<usize>> = HashMap::new();
+    for (index, pair) in tokens.windows(2).enumerate() {
+        if pair[0].kind == Kind::Quoted && bytes[pair[1].start..pair[1].end] == *b":=" {
+            found.entry(Folded(&bytes[pair[0].start + 1..pair[0].end])).or_default().push(index + 1);
+        }
+    }
+    found
 }
 
 /// The names that commands declare, with what each of them is.
@@ -93,7 +106,8 @@ fn declared<'a>(text: &Text<'a>) -> HashMap<Folded<'a>, Declaration> {
 impl<'a> Code<'a> {
     pub fn new(bytes: &'a [u8]) -> Code<'a> {
         let text = Text::new(bytes);
-        Code { declared: declared(&text), tokens: Tokens::new(bytes).collect(), text }
+        let tokens: Vec<Token> = Tokens::new(bytes).collect();
+        Code { declared: declared(&text), assigned: assigned(bytes, &tokens), tokens, text }
     }
 
     /// What a style declares a name as.
@@ -130,6 +144,17 @@ impl<'a> Code<'a> {
             .collect();
         found.sort_unstable();
         found.into_iter().map(|(_, name)| name).collect()
+    }
+
+    /// Whether no `:=` to this variable is seen to get a value that isn't of this kind, `a string` or `an integer`. The place is that of one that does.
+    pub fn gets_only(&self, variable: &[u8], at: CodePlace<'_, '_>, kind: &str) -> bool {
+        let all = self.assigned.get(&Folded(variable)).into_iter().flatten().filter(|index| **index != at.index);
+        let mut left = all.map(|index| CodePlace { code: self, index: *index });
+        left.all(|place| match place.left_by(2) {
+            Some(Left::Number(_)) => kind == "an integer",
+            Some(Left::Text(_) | Left::Field(_)) => kind == "a string",
+            None => true,
+        })
     }
 
     fn of(&self, index: usize) -> &'a [u8] {

@@ -143,8 +143,10 @@ pub fn said_of(warning: &Warning, code: &Code<'_>) -> (String, String) {
         return (format!("`{next}` takes VALUE 'VARIABLE: {what}"), advice);
     }
     match (warning.fault, &warning.missing) {
-        (Some(Fault::NotAssignable | Fault::WrongKind), None) if next == ":=" => assigned(place)
-            .map_or_else(usual, |(what, advice)| (format!("`{next}` takes VALUE 'VARIABLE: {what}"), advice)),
+        (Some(Fault::NotAssignable | Fault::WrongKind), None) if next == ":=" => {
+            assigned(code, place, warning.operand.as_ref().map(|operand| &operand.value))
+                .map_or_else(usual, |(what, advice)| (format!("`{next}` takes VALUE 'VARIABLE: {what}"), advice))
+        }
         (Some(Fault::Incomparable), None) => compared(place).map_or_else(usual, |(what, advice)| {
             (format!("`{next}` compares two strings or two numbers: {what}"), advice)
         }),

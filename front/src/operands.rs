@@ -2,41 +2,57 @@
 
 use crate::code_places::{Code, CodePlace, Declared, Left};
 use crate::database::Folded;
+use crate::lint_warnings::Value;
 use crate::scene::{Call, Scene};
 use crate::terminal::plain;
 
 /// What is wrong, and what to do about it.
 pub type Said = (String, String);
 
-/// What is said of a `:=` that gets a value of another kind than its variable's.
-pub fn assigned(place: CodePlace<'_, '_>) -> Option<Said> {
-    let (name, declared) = place.variable()?;
-    let (name, sort) = (plain(name), declared.text());
+/// What is said of a `:=` that gets a value of another kind than its variable's; `value` is what the check knows of it.
+pub fn assigned(code: &Code<'_>, place: CodePlace<'_, '_>, value: Option<&Value>) -> Option<Said> {
+    let (variable, declared) = place.variable()?;
+    let (name, sort) = (plain(variable), code.declaration(variable)?);
+    let other = match declared {
+        Declared::Text { .. } => "an integer",
+        Declared::Integer { .. } => "a string",
+        Declared::Field | Declared::Function { .. } => {
+            let advice = "assign to a name that INTEGERS, STRINGS or ENTRY declares as a variable";
+            return Some((format!("`{name}` is {sort}, and no variable"), advice.to_string()));
+        }
+    };
     let given = match place.left_by(2) {
         Some(Left::Number(given)) => Some((plain(given), "an integer")),
         Some(Left::Text(given) | Left::Field(given)) => Some((plain(given), "a string")),
         None => None,
     };
-    match declared {
-        Declared::Text { .. } => {
-            let given = given.filter(|(_, kind)| *kind == "an integer");
-            let what =
-                given.map_or("what it gets may be none".to_string(), |(given, kind)| format!("`{given}` is {kind}"));
-            let advice = format!("write `int.to.str$` before `'{name}`: it makes a string of a number");
-            Some((format!("`{name}` is {sort}, and {what}"), advice))
-        }
-        Declared::Integer { .. } => {
-            let given = given.filter(|(_, kind)| *kind == "a string");
-            let what =
-                given.map_or("what it gets may be none".to_string(), |(given, kind)| format!("`{given}` is {kind}"));
-            let advice = "assign it to a variable that is declared as a string: no function makes a number of digits";
-            Some((format!("`{name}` is {sort}, and {what}"), advice.to_string()))
-        }
-        Declared::Field | Declared::Function { .. } => {
-            let advice = "assign to a name that INTEGERS, STRINGS or ENTRY declares as a variable";
-            Some((format!("`{name}` is {sort}, and no variable"), advice.to_string()))
-        }
-    }
+    let what = match (given.filter(|(_, kind)| *kind == other), value) {
+        (Some((given, kind)), _) => format!("`{given}` is {kind}"),
+        (None, Some(Value::Integer(..))) if other == "an integer" => "it gets an integer here".to_string(),
+        (None, Some(Value::Text(_))) if other == "a string" => "it gets a string here".to_string(),
+        (None, _) => "what it gets may be none".to_string(),
+    };
+    let declare = (what != "what it gets may be none" && code.gets_only(variable, place, other))
+        .then(|| declare_otherwise(code, variable, declared))
+        .flatten();
+    let convert = match declared {
+        Declared::Text { .. } => format!("write `int.to.str$` before `'{name}`: it makes a string of a number"),
+        _ => "assign it to a variable that is declared as a string: no function makes a number of digits".to_string(),
+    };
+    let advice = declare.map_or_else(|| convert.clone(), |declare| format!("{declare}; else {convert}"));
+    Some((format!("`{name}` is {sort}, and {what}"), advice))
+}
+
+/// How a variable is declared that is to be of the other kind.
+fn declare_otherwise(code: &Code<'_>, variable: &[u8], declared: Declared) -> Option<String> {
+    let (kind, word) = match declared {
+        Declared::Text { is_of_entry: false } => ("a number", "INTEGERS"),
+        Declared::Text { is_of_entry: true } => ("a number", "the second list of ENTRY"),
+        Declared::Integer { is_of_entry: false } => ("a string", "STRINGS"),
+        _ => ("a string", "the third list of ENTRY"),
+    };
+    let line = code.line_of(variable)?;
+    Some(format!("if `{}` is to be {kind}, declare it in {word}, and not in line {line}", plain(variable)))
 }
 
 /// What is said of a `:=` whose variable is quoted and yet isn't there: the name wasn't known where the style was read, so it was left out.
@@ -88,7 +104,7 @@ pub fn advice_at(code: &Code<'_>, scene: &Scene, message: &[u8], function: &[u8]
             return Some(format!("write a ' before the variable: `'{}`", plain(name)));
         }
         b":=" if message.starts_with(b"missing field ") => return None,
-        b":=" => assigned(place),
+        b":=" => assigned(code, place, None),
         b"=" => compared(place),
         _ if message == b"missing field is not a string" => return let_through(place, None),
         _ => None,
@@ -142,11 +158,11 @@ mod tests {
 
     /// Rows of a line of the style, its function, what is said, and how the advice begins.
     const SAID: &str = "\
-5 | := | `label` is a string of each entry (ENTRY), and `n` is an integer | write `int.to.str$` before `'label`
-6 | := | `n` is an integer of each entry (ENTRY), and `\"a\"` is a string | assign it to a variable that is declared as a string
+5 | := | `label` is a string of each entry (ENTRY, line 1), and `n` is an integer | if `label` is to be a number, declare it in the second list of ENTRY, and not in line 1; else write `int.to.str$` before `'label`
+6 | := | `n` is an integer of each entry (ENTRY, line 1), and `\"a\"` is a string | if `n` is to be a string, declare it in the third list of ENTRY, and not in line 1; else assign it to a variable that is declared as a string
 7 | = | a string and an integer are never equal: `year` is a field, and `#0` is a number | ask by `year empty$`
 8 | = | a string and an integer are never equal: `s` is a string, and `n` is a number | compare two
-11 | := | `f.g` is a function, and no variable | assign to a name
+11 | := | `f.g` is a function (line 3), and no variable | assign to a name
 ";
 
     #[test]
@@ -155,7 +171,8 @@ mod tests {
         for row in SAID.lines() {
             let [line, function, wanted, begin] = row.splitn(4, " | ").collect::<Vec<_>>()[..] else { panic!("{row}") };
             let place = code.place_in(line.parse().unwrap(), function.as_bytes(), None).unwrap();
-            let (what, advice) = if function == "=" { compared(place) } else { assigned(place) }.unwrap_or_default();
+            let (what, advice) =
+                if function == "=" { compared(place) } else { assigned(&code, place, None) }.unwrap_or_default();
             assert_eq!(what, wanted);
             assert!(advice.starts_with(begin), "{advice}");
         }

@@ -67,7 +67,7 @@ ITERATE {f}'
 sed -i 's/ENTRY { *title/ENTRY { note title/; s/ENTRY {title/ENTRY {note title/' s.bst
 run_search -explain job
 wants_status 2
-wants_words "$folder/stdout" '`s` is a string (STRINGS), and `#1` is an integer; write `int.to.str$` before `'"'s"'`'
+wants_words "$folder/stdout" '`s` is a string (STRINGS, line 1), and `#1` is an integer; if `s` is to be a number, declare it in INTEGERS, and not in line 1; else write `int.to.str$` before `'"'s"'`'
 wants_words "$folder/stdout" 'a string and an integer are never equal: `title` is a field, and `#0` is a number; ask by `title empty$`'
 wants_words "$folder/stdout" "write a ' before the variable: \`'s\`"
 end

@@ -96,8 +96,11 @@ with_body() {
     wants_status 2
 }
 with_body "n 's :="
-wants_line_of_output 'clean.bst:9: in assigns: `:=` takes VALUE '"'VARIABLE: \`s\` is a string (STRINGS), and \`n\` is an integer"
+wants_line_of_output 'clean.bst:9: in assigns: `:=` takes VALUE '"'VARIABLE: \`s\` is a string (STRINGS, line 6), and \`n\` is an integer"
+wants_line_of_output '    do: if `s` is to be a number, declare it in INTEGERS, and not in line 6; else write `int.to.str$` before `'"'s\`: it makes a string of a number"
+with_body "\"\" 's := n 's :="
 wants_line_of_output '    do: write `int.to.str$` before `'"'s\`: it makes a string of a number"
+with_body "n 's :="
 grep -A1 -xF "    clean.bst:9: { n 's := }" "$folder/stdout" | grep -qx '                        ^' || complaints+=('the mark is missing')
 with_body 's s :='
 wants_line_of_output "    do: write a ' before the variable: \`'s\`"
