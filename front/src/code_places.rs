@@ -190,6 +190,40 @@ impl<'a> Code<'a> {
         of_number.next().filter(|_| all.len() <= MOST_OF_LINE && of_number.next().is_none()).copied()
     }
 
+    /// The function in braces, or the one token, that ends directly before this token: its first token and its last one.
+    fn operand_before(&self, index: usize) -> Option<(usize, usize)> {
+        let last = index.checked_sub(1)?;
+        let mut depth = 0_usize;
+        for first in (0..=last).rev() {
+            match self.tokens[first].kind {
+                Kind::Close => depth += 1,
+                Kind::Open => depth = depth.checked_sub(1)?,
+                _ => {}
+            }
+            if depth == 0 {
+                return Some((first, last));
+            }
+        }
+        None
+    }
+
+    /// The functions that each function of the style names, quoted or not.
+    pub fn named_by_functions(&self) -> HashMap<Folded<'a>, HashSet<Folded<'a>>> {
+        let commands = commands(self.text.bytes);
+        let ends = commands.iter().skip(1).map(|next| next.start).chain([self.text.bytes.len()]);
+        let mut found: HashMap<Folded<'a>, HashSet<Folded<'a>>> = HashMap::new();
+        for (command, end) in commands.iter().zip(ends) {
+            let Some(name) = command.name.filter(|_| command.is("function")) else { continue };
+            let [first, behind] =
+                [command.start, end].map(|place| self.tokens.partition_point(|token| token.start < place));
+            let names =
+                (first..behind).map(|index| Folded(self.of(index).strip_prefix(b"'").unwrap_or(self.of(index))));
+            let is_function = |name: &Folded<'a>| matches!(self.declared(name.0), Some(Declared::Function { .. }));
+            found.entry(Folded(name)).or_default().extend(names.filter(is_function));
+        }
+        found
+    }
+
     /// A place of the code, as the library notes it.
     pub fn place(&self, spot: &notes::Spot, text: &[u8]) -> Option<CodePlace<'_, 'a>> {
         self.place_in(spot.call.line, text, spot.token.map(|(_, number)| number))
@@ -249,6 +283,19 @@ impl<'a> CodePlace<'_, 'a> {
     /// The name behind the quote that stands directly before.
     pub fn quoted(self) -> Option<&'a [u8]> {
         self.before(1).filter(|(kind, _)| *kind == Kind::Quoted).map(|(_, name)| &name[1..])
+    }
+
+    /// The lines of the two functions that stand before an `if$` here, from the first to the last line of each.
+    pub fn branches(self) -> Option<[(usize, usize); 2]> {
+        let (no, last) = self.code.operand_before(self.index)?;
+        let (yes, end) = self.code.operand_before(no)?;
+        let line = |index: usize| self.code.text.line_of(self.code.tokens[index].start);
+        Some([(line(yes), line(end)), (line(no), line(last))])
+    }
+
+    /// In which line it stands.
+    pub fn line(self) -> usize {
+        self.code.text.line_of(self.code.tokens[self.index].start)
     }
 
     /// The names behind quotes around it, in the same function.

@@ -326,9 +326,29 @@ fn way_of(warning: &Warning) -> Option<String> {
     (!warning.places.is_empty()).then(|| shown.join(" > "))
 }
 
-/// By how many literals the stack grows, in words.
+/// By how many literals the stack grows behind a function, in words.
 fn growth_text((least, most): Growth) -> String {
-    if least == most { least.to_string() } else { format!("{least} to {most}") }
+    match (least, most) {
+        _ if least != most => format!("leaves {least} to {most}"),
+        (..0, _) => format!("takes {} off", least.unsigned_abs()),
+        _ => format!("leaves {least}"),
+    }
+}
+
+/// The lines of each function before an `if$`, in brackets; nothing where all stands in its line.
+fn branch_lines(code: &Code<'_>, spot: &Spot) -> [String; 2] {
+    let place = code.place(spot, b"if$");
+    let Some((place, branches)) = place.and_then(|place| Some((place, place.branches()?))) else {
+        return Default::default();
+    };
+    if branches.iter().all(|(first, _)| *first == place.line()) {
+        return Default::default();
+    }
+    branches.map(
+        |(first, last)| {
+            if first == last { format!(" (line {first})") } else { format!(" (lines {first}-{last})") }
+        },
+    )
 }
 
 /// A style as its warnings are shown: its path, its code, and where they are printed.
@@ -356,10 +376,10 @@ impl Style<'_, '_> {
 
 /// Writes where the numbers of literals differ, and in which lines of the same function they do so, too.
 fn write_cause(style: &Style<'_, '_>, cause: &Cause, others: &[usize], out: &mut impl Write) -> io::Result<()> {
-    let [yes, no] = cause.grows.map(growth_text);
+    let ([yes, no], [of_yes, of_no]) = (cause.grows.map(growth_text), branch_lines(style.code, &cause.spot));
     writeln!(
         out,
-        "{}:{}: in {}: the branches of this `if$` leave different numbers of literals: the first {yes}, the second {no}",
+        "{}:{}: in {}: the branches of this `if$` leave different numbers of literals: the first{of_yes} {yes}, the second{of_no} {no}",
         style.path,
         cause.spot.call.line,
         owner(&cause.spot)
@@ -602,7 +622,7 @@ mod tests {
         let code = Code::new(b"");
         let style = Style { path: "s.bst", code: &code, terminal: &Terminal::NONE, has_mistakes: false };
         write(&style, &found, None, &mut out).unwrap();
-        let wanted = "s.bst:7: in f: the branches of this `if$` leave different numbers of literals: the first 0, the second 1 to 2\n    \
+        let wanted = "s.bst:7: in f: the branches of this `if$` leave different numbers of literals: the first leaves 0, the second leaves 1 to 2\n    \
             do: let both leave the same number; warnings below may follow from this\n\
             s.bst:4: in f: `write$` takes TEXT, and there may be no literal on the stack here\n    and in line 3\n    \
             for entries of type: book, types that the style doesn't know\n    when: title is given\n    \
