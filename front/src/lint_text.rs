@@ -2,17 +2,22 @@
 
 use crate::advice;
 use crate::code_places::Code;
+use crate::database::Folded;
 use crate::lint_entry::Shown;
 use crate::lint_warnings::{Cause, Fault, Growth, Operand, Value, Wanted, Warning, Warnings};
 use crate::notes::Spot;
 use crate::operands::{Said, assigned, assigned_without_entry, compared, left_out, let_through, without_entry};
 use crate::shown_line::ShownLine;
 use crate::terminal::{Terminal, plain};
+use std::collections::{HashMap, HashSet};
 use std::io::{self, Write};
 
 /// How many types, and how many fields, are named at most.
 const MOST_TYPES: usize = 8;
 const MOST_FIELDS: usize = 6;
+
+/// How many unequal `if$` are named with a warning at most.
+const MOST_TIES: usize = 8;
 
 /// Warnings with one cause, by their numbers among those that are shown: the first is the one that was met first.
 pub type Group = Vec<usize>;
@@ -394,12 +399,16 @@ fn varies(cause: &Cause) -> bool {
     cause.grows.iter().any(|(least, most)| least != most)
 }
 
+/// Whether this may follow from another one of the same function.
+fn may_follow(cause: &Cause, causes: &[Cause]) -> bool {
+    let is_first = |first: &Cause| !varies(first) && owner(&first.spot) == owner(&cause.spot);
+    varies(cause) && causes.iter().any(is_first)
+}
+
 /// Writes the causes. Those that may follow from another one of the same function are named with it.
 fn write_causes(style: &Style<'_, '_>, causes: &[Cause], out: &mut impl Write) -> io::Result<()> {
-    let has_first =
-        |cause: &Cause| causes.iter().any(|first| !varies(first) && owner(&first.spot) == owner(&cause.spot));
     let mut named: Vec<String> = Vec::new();
-    for cause in causes.iter().filter(|cause| !(varies(cause) && has_first(cause))) {
+    for cause in causes.iter().filter(|cause| !may_follow(cause, causes)) {
         let function = owner(&cause.spot);
         let is_other = |other: &&Cause| varies(other) && !varies(cause) && owner(&other.spot) == function;
         let is_new = !named.contains(&function);
@@ -408,6 +417,47 @@ fn write_causes(style: &Style<'_, '_>, causes: &[Cause], out: &mut impl Write) -
         named.push(function);
     }
     Ok(())
+}
+
+/// From which unequal `if$` warnings may follow: those in functions that the function of the command, or the entry's type, can run.
+struct Ties<'w, 'a> {
+    causes: Vec<&'w Cause>,
+    named: HashMap<Folded<'a>, HashSet<Folded<'a>>>,
+}
+
+impl<'w, 'a> Ties<'w, 'a> {
+    fn new(code: &Code<'a>, causes: &'w [Cause]) -> Ties<'w, 'a> {
+        let named = if causes.is_empty() { HashMap::new() } else { code.named_by_functions() };
+        Ties { causes: causes.iter().filter(|cause| !may_follow(cause, causes)).take(MOST_TIES).collect(), named }
+    }
+
+    /// The functions that may be run by this one, itself as well.
+    fn run_by<'b>(&'b self, function: &'b [u8]) -> HashSet<Folded<'b>> {
+        let (mut seen, mut open) = (HashSet::from([Folded(function)]), vec![Folded(function)]);
+        while let Some(next) = open.pop() {
+            let named = self.named.get(&next).into_iter().flatten();
+            open.extend(named.copied().filter(|name| seen.insert(*name)));
+        }
+        seen
+    }
+
+    /// The lines of those `if$` from which a warning may follow.
+    fn of(&self, warning: &Warning) -> Option<String> {
+        if self.causes.is_empty() || !is_of_stack(warning) {
+            return None;
+        }
+        let begun = warning.places.last().map(owner);
+        let run = begun.as_ref().map(|begun| self.run_by(begun.as_bytes()));
+        let may_run =
+            |cause: &&&Cause| run.as_ref().is_none_or(|run| run.contains(&Folded(owner(&cause.spot).as_bytes())));
+        let lines: Vec<usize> = self.causes.iter().filter(may_run).map(|cause| cause.spot.call.line).collect();
+        (!lines.is_empty()).then(|| format!("the unequal `if$` in {}", numbers_of(lines)))
+    }
+}
+
+/// Whether literals that are missing or too many can be the reason of a warning.
+fn is_of_stack(warning: &Warning) -> bool {
+    matches!(warning.fault, Some(Fault::EmptyStack | Fault::LeftOver | Fault::WrongKind))
 }
 
 /// Writes further lines, if there are any.
@@ -431,6 +481,7 @@ fn numbers_of(mut lines: Vec<usize>) -> String {
 fn write_group(
     style: &Style<'_, '_>,
     group: &[&Warning],
+    ties: &Ties<'_, '_>,
     entry: Option<&Shown>,
     out: &mut impl Write,
 ) -> io::Result<()> {
@@ -453,6 +504,7 @@ fn write_group(
         ("for entries of type", types_of(group)),
         ("when", conditions_of(first)),
         ("run by", way_of(first)),
+        ("may follow from", ties.of(first)),
         ("do", Some(advice)),
     ];
     for (label, text) in said {
@@ -525,19 +577,17 @@ pub fn write(
     if style.has_mistakes {
         write_mistaken(style, &following, shown.len() - following.len(), out)?;
     }
-    let is_of_stack = |warning: &&Warning| {
-        !follows(warning) && matches!(warning.fault, Some(Fault::EmptyStack | Fault::LeftOver | Fault::WrongKind))
-    };
-    if shown.iter().any(is_of_stack) {
+    if shown.iter().any(|warning| !follows(warning) && is_of_stack(warning)) {
         write_causes(style, &found.causes, out)?;
     }
+    let ties = Ties::new(style.code, &found.causes);
     for group in groups(&shown).into_iter().filter(|group| !group.iter().all(|number| follows(shown[*number]))) {
         let warnings: Vec<&Warning> = group.iter().map(|number| shown[*number]).collect();
         let entry = entries.and_then(|entries| {
             let mut of_group = group.iter().filter_map(|number| entries.get(*number));
             of_group.clone().find(|entry| matches!(entry, Shown::By { .. })).or_else(|| of_group.next())
         });
-        write_group(style, &warnings, entry, out)?;
+        write_group(style, &warnings, &ties, entry, out)?;
     }
     Ok(())
 }

@@ -116,6 +116,7 @@ run_lint clean.bst
 wants_status 2
 wants_line_of_output '    do: `text.of` (line 6) is run on `title` just before: let it leave one string, and nothing else, where the field is missing'
 wants_line_of_output 'clean.bst:7: in text.of: the branches of this `if$` leave different numbers of literals: the first leaves 1, the second leaves 0'
+wants_line_of_output '    may follow from: the unequal `if$` in line 7'
 head -n 1 "$folder/stdout" | grep -q 'the branches of this' || complaints+=("the cause isn't first in $(cat "$folder/stdout")")
 end
 
