@@ -293,6 +293,20 @@ impl<'a> CodePlace<'_, 'a> {
         Some([(line(yes), line(end)), (line(no), line(last))])
     }
 
+    /// The function of the style that stands unquoted before an `if$` here, where its first (or its second) function is to stand, and its line.
+    pub fn unquoted_branch(self, is_first: bool) -> Option<(&'a [u8], usize)> {
+        let (no, last) = self.code.operand_before(self.index)?;
+        // (what stands behind the first function leaves one literal)
+        if is_first && self.code.tokens[last].kind == Kind::Name {
+            return None;
+        }
+        let (first, last) = if is_first { self.code.operand_before(no)? } else { (no, last) };
+        let name = self.code.of(last);
+        let is_function = first == last && self.code.tokens[last].kind == Kind::Name;
+        let is_known = matches!(self.code.declared(name), Some(Declared::Function { .. }));
+        (is_function && is_known).then(|| (name, self.code.text.line_of(self.code.tokens[last].start)))
+    }
+
     /// In which line it stands.
     pub fn line(self) -> usize {
         self.code.text.line_of(self.code.tokens[self.index].start)
@@ -319,6 +333,11 @@ impl<'a> CodePlace<'_, 'a> {
             (Kind::Name, Some(Declared::Field)) => Some(Left::Field(name)),
             _ => None,
         }
+    }
+
+    /// Whether this field stands directly before.
+    pub fn is_behind_field(self, field: &[u8]) -> bool {
+        matches!(self.value(1), Some(Left::Field(name)) if Folded(name) == Folded(field))
     }
 
     /// The variable that stands directly before without a quote.

@@ -1,12 +1,14 @@
 //! The warnings of a style in words for its designer.
 
 use crate::advice;
-use crate::code_places::Code;
+use crate::code_places::{Code, CodePlace};
 use crate::database::Folded;
 use crate::lint_entry::Shown;
 use crate::lint_warnings::{Cause, Fault, Growth, Operand, Value, Wanted, Warning, Warnings};
 use crate::notes::Spot;
-use crate::operands::{Said, assigned, assigned_without_entry, compared, left_out, let_through, without_entry};
+use crate::operands::{
+    Said, assigned, assigned_without_entry, compared, exchanged, left_out, let_through, pushed, unquoted, without_entry,
+};
 use crate::shown_line::ShownLine;
 use crate::terminal::{Terminal, plain};
 use std::collections::{HashMap, HashSet};
@@ -126,6 +128,33 @@ fn left_out_of(warning: &Warning, code: &Code<'_>) -> Option<Said> {
     left_out(place).filter(|_| is_left_out)
 }
 
+/// What to do where a field may be missing that a caller pushes directly before its call.
+fn pushed_of(warning: &Warning, field: &[u8], code: &Code<'_>) -> Option<String> {
+    let calls = warning.places.windows(2).filter(|calls| owner(&calls[0]) != owner(&calls[1]));
+    let pushing = calls.map(|calls| (owner(&calls[0]), &calls[1]));
+    let is_pushed = |(callee, caller): &(String, &Spot)| {
+        code.place(caller, callee.as_bytes()).is_some_and(|place| place.is_behind_field(field))
+    };
+    let lines: Vec<usize> = pushing.filter(is_pushed).map(|(_, caller)| caller.call.line).take(1).collect();
+    lines.first().map(|line| pushed(code, field, *line))
+}
+
+/// What is said of an operand of another kind, where the text shows what leaves it.
+fn operand_of(warning: &Warning, place: CodePlace<'_, '_>) -> Option<Said> {
+    let operand = warning.operand.as_ref()?;
+    let (what, takes) = (what_of(warning), advice::operands(&warning.next)?);
+    if warning.next == b"if$" && operand.wanted == Some(Wanted::Function) {
+        let (left, advice) = unquoted(place, operand.position)?;
+        return Some((format!("{what}, {left}"), advice));
+    }
+    let is_number_wanted = match operand.wanted {
+        Some(Wanted::Integer) => true,
+        Some(Wanted::Text) => false,
+        _ => return None,
+    };
+    exchanged(place, is_number_wanted).filter(|_| !takes.contains(' ')).map(|advice| (what, advice))
+}
+
 /// What is said of what belongs to each entry where there is none, if the text shows its declaration.
 fn without_entry_of(warning: &Warning, code: &Code<'_>) -> Option<Said> {
     let (what, advice) = (what_of(warning), advice_of(warning));
@@ -155,8 +184,9 @@ pub fn said_of(warning: &Warning, code: &Code<'_>) -> (String, String) {
         (Some(Fault::Incomparable), None) => compared(place).map_or_else(usual, |(what, advice)| {
             (format!("`{next}` compares two strings or two numbers: {what}"), advice)
         }),
+        (Some(Fault::WrongKind), None) => operand_of(warning, place).unwrap_or_else(usual),
         (Some(Fault::NoEntry), _) => without_entry_of(warning, code).unwrap_or_else(usual),
-        (_, Some(field)) => match let_through(place, Some(field)) {
+        (_, Some(field)) => match let_through(place, Some(field)).or_else(|| pushed_of(warning, field, code)) {
             Some(advice) => (what_of(warning), advice),
             None => usual(),
         },
@@ -310,7 +340,9 @@ fn conditions_of(warning: &Warning) -> Option<String> {
     let said = |fields: &[Vec<u8>], what: &str| -> Vec<String> {
         fields.iter().take(MOST_FIELDS).map(|field| format!("{} {what}", plain(field))).collect()
     };
-    let mut all = said(&warning.given, "is given");
+    let missing = warning.missing.as_ref().filter(|field| !warning.blank.contains(*field));
+    let mut all: Vec<String> = missing.map(|field| format!("{} is missing", plain(field))).into_iter().collect();
+    all.extend(said(&warning.given, "is given"));
     all.extend(said(&warning.blank, "is missing or blank"));
     let is_cut = warning.given.len() > MOST_FIELDS || warning.blank.len() > MOST_FIELDS;
     all.extend(if is_cut { Some("..".to_string()) } else { None });

@@ -9,6 +9,25 @@ use crate::terminal::plain;
 /// What is wrong, and what to do about it.
 pub type Said = (String, String);
 
+/// What is said of an `if$` before which a function of the style stands unquoted: it was run, and what it left stands there.
+pub fn unquoted(place: CodePlace<'_, '_>, position: usize) -> Option<Said> {
+    let (name, line) = place.unquoted_branch(position == 1)?;
+    let name = plain(name);
+    Some((format!("what `{name}` in line {line} leaves"), format!("write a ' before it in line {line}: `'{name}`")))
+}
+
+/// What to do where a function that takes one operand finds one of another kind: whether the one that it wants stands below that.
+pub fn exchanged(place: CodePlace<'_, '_>, is_number_wanted: bool) -> Option<String> {
+    let (above, below) = (place.left_by(1)?, place.left_by(2)?);
+    let (above, below) = match (above, below) {
+        (Left::Text(above), Left::Number(below)) if is_number_wanted => (above, below),
+        (Left::Number(above), Left::Text(below)) if !is_number_wanted => (above, below),
+        _ => return None,
+    };
+    let (above, below) = (plain(above), plain(below));
+    Some(format!("it takes what is pushed last, `{above}`, and `{below}` stands before that: are these two exchanged?"))
+}
+
 /// What is said of a `:=` that gets a value of another kind than its variable's; `value` is what the check knows of it.
 pub fn assigned(code: &Code<'_>, place: CodePlace<'_, '_>, value: Option<&Value>) -> Option<Said> {
     let (variable, declared) = place.variable()?;
@@ -90,6 +109,17 @@ pub fn let_through(place: CodePlace<'_, '_>, field: Option<&[u8]>) -> Option<Str
     let leaves = format!("`{function}` (line {line}) is run on `{of}` just before: let it leave one string");
     is_it.then(|| format!("{leaves}, and nothing else, where the field is missing"))
 }
+
+/// What to do where a field may be missing that is pushed in this line.
+pub fn pushed(code: &Code<'_>, field: &[u8], line: usize) -> String {
+    let field = plain(field);
+    let advice = format!("`{field}` is pushed in line {line}: choose there by `{field} empty$`, or `{field} missing$`");
+    let usual = OR_EMPTY.iter().find(|name| matches!(code.declared(name), Some(Declared::Function { .. })));
+    usual.map_or(advice.clone(), |name| format!("{advice}; or write `{field} {}`", plain(name)))
+}
+
+/// How styles call their function that makes the empty string of a missing field.
+const OR_EMPTY: [&[u8]; 2] = [b"field.or.null", b"field.or.empty"];
 
 /// What to do about an error of an execution, where the text at its place says more than the message.
 pub fn advice_at(code: &Code<'_>, scene: &Scene, message: &[u8], function: &[u8]) -> Option<String> {
@@ -191,6 +221,25 @@ mod tests {
         assert!(advice.starts_with(wanted), "{advice}");
         let kept = code.place_in(4, b":=", Some(5)).unwrap();
         assert_eq!(assigned_without_entry(&code, kept, &at, "EXECUTE {begin}", 9), None);
+    }
+
+    #[test]
+    fn operands_that_stand_elsewhere_are_named() {
+        let style = "INTEGERS {n}\nFUNCTION {f.g} {}\nFUNCTION {field.or.null} {}\nFUNCTION {h}\n{ n #0 =\n f.g\n 'skip$\n if$\n n \"a\" int.to.str$\n f.g f.g if$ }\n";
+        let code = Code::new(style.as_bytes());
+        let at = |line, token: &str| code.place_in(line, token.as_bytes(), None).unwrap();
+        let wanted = ("what `f.g` in line 6 leaves", "write a ' before it in line 6: `'f.g`");
+        let said = unquoted(at(8, "if$"), 1).unwrap();
+        assert_eq!((&said.0[..], &said.1[..]), wanted);
+        assert_eq!((unquoted(at(8, "if$"), 0), unquoted(at(10, "if$"), 1)), (None, None));
+        let wanted = "it takes what is pushed last, `\"a\"`, and `n` stands before that: are these two exchanged?";
+        assert_eq!(exchanged(at(9, "int.to.str$"), true).as_deref(), Some(wanted));
+        assert_eq!(exchanged(at(9, "int.to.str$"), false), None);
+        assert!(
+            pushed(&code, b"year", 3).ends_with(
+                "in line 3: choose there by `year empty$`, or `year missing$`; or write `year field.or.null`"
+            )
+        );
     }
 
     #[test]
