@@ -384,7 +384,8 @@ impl<'a, W: Write> Explainer<'a, W> {
         self.causes.push(Cause { style, number, has_commands: true, lost, unprinted: 0 });
     }
 
-    /// Says where a brace is missing, if this is the error in which that shows itself: the function with its lines, and the brace that is likely to be without its other one.
+    /// Says where a brace is missing, if this is the error in which that shows itself: the function with its lines, and the brace that is likely to be without
+    /// its other one.
     fn missing_brace(&mut self, line: &[u8], message: &Message<'a>) -> io::Result<bool> {
         let Place::Line { file: style, .. } = message.place else { return Ok(false) };
         if message.text != AT_END && !unknown(message.text).is_some_and(is_command) {

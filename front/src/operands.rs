@@ -162,15 +162,15 @@ pub fn assigned_without_entry(
     Some((format!("`{}` is {}", plain(name), code.declaration(name)?), advice))
 }
 
-/// The variable that all entries share and that may be meant by one of each entry: it isn't assigned in this function, and one of the names is a part of the other, or it is a part of
-/// the function's.
+/// The variable that all entries share and that may be meant by one of each entry: it isn't assigned in this function, and one of the names is a part of the
+/// other, or it is a part of the function's.
 fn shared_instead<'a>(code: &Code<'a>, place: CodePlace<'_, '_>, name: &[u8], at: &Call) -> Option<&'a [u8]> {
     let assigned = place.quoted_around();
     let has = |whole: &[u8], part: &[u8]| {
         whole.len() >= part.len() && whole.windows(part.len().max(1)).any(|window| window.eq_ignore_ascii_case(part))
     };
     let is_like = |shared: &[u8]| has(shared, name) || has(name, shared) || has(&at.function, shared);
-    let is_it = |shared: &&[u8]| shared.len() > 2 && is_like(shared) && !assigned.contains(&Folded(*shared));
+    let is_it = |shared: &&[u8]| shared.len() > 2 && is_like(shared) && !assigned.contains(&Folded(shared));
     code.shared_like(name).into_iter().filter(is_it).max_by_key(|shared| shared.len())
 }
 
@@ -188,8 +188,8 @@ mod tests {
 
     /// Rows of a line of the style, its function, what is said, and how the advice begins.
     const SAID: &str = "\
-5 | := | `label` is a string of each entry (ENTRY, line 1), and `n` is an integer | if `label` is to be a number, declare it in the second list of ENTRY, and not in line 1; else write `int.to.str$` before `'label`
-6 | := | `n` is an integer of each entry (ENTRY, line 1), and `\"a\"` is a string | if `n` is to be a string, declare it in the third list of ENTRY, and not in line 1; else assign it to a variable that is declared as a string
+5 | := | `label` is a string of each entry (ENTRY, line 1), and `n` is an integer | if `label` is to be a number, declare it in the second list of ENTRY
+6 | := | `n` is an integer of each entry (ENTRY, line 1), and `\"a\"` is a string | if `n` is to be a string, declare it in the third list of ENTRY
 7 | = | a string and an integer are never equal: `year` is a field, and `#0` is a number | ask by `year empty$`
 8 | = | a string and an integer are never equal: `s` is a string, and `n` is a number | compare two
 11 | := | `f.g` is a function (line 3), and no variable | assign to a name
@@ -225,7 +225,8 @@ mod tests {
 
     #[test]
     fn operands_that_stand_elsewhere_are_named() {
-        let style = "INTEGERS {n}\nFUNCTION {f.g} {}\nFUNCTION {field.or.null} {}\nFUNCTION {h}\n{ n #0 =\n f.g\n 'skip$\n if$\n n \"a\" int.to.str$\n f.g f.g if$ }\n";
+        let style = "INTEGERS {n}\nFUNCTION {f.g} {}\nFUNCTION {field.or.null} {}\nFUNCTION {h}\n\
+            { n #0 =\n f.g\n 'skip$\n if$\n n \"a\" int.to.str$\n f.g f.g if$ }\n";
         let code = Code::new(style.as_bytes());
         let at = |line, token: &str| code.place_in(line, token.as_bytes(), None).unwrap();
         let wanted = ("what `f.g` in line 6 leaves", "write a ' before it in line 6: `'f.g`");

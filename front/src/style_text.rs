@@ -263,8 +263,8 @@ fn column(text: &Text<'_>, place: usize) -> usize {
     text.bytes[start..place].iter().fold(0, |column, byte| if *byte == b'\t' { column / 8 * 8 + 8 } else { column + 1 })
 }
 
-/// In a command that isn't closed the brace that is likely to be without its other one, and the token that shows it: the first one that begins a line further left than an open
-/// brace that itself begins one. None where the lines aren't set in so.
+/// In a command that isn't closed the brace that is likely to be without its other one, and the token that shows it: the first one that begins a line further
+/// left than an open brace that itself begins one. None where the lines aren't set in so.
 pub fn unclosed(text: &Text<'_>, from: usize, to: usize) -> Option<(Token, Token)> {
     // (a brace that begins no line counts as if it stood at the margin)
     let mut open: Vec<(Token, usize)> = Vec::new();
