@@ -123,11 +123,17 @@ const OR_EMPTY: [&[u8]; 2] = [b"field.or.null", b"field.or.empty"];
 
 /// What to do about an error of an execution, where the text at its place says more than the message.
 pub fn advice_at(code: &Code<'_>, scene: &Scene, message: &[u8], function: &[u8]) -> Option<String> {
+    let place = code.place_in(scene.at.line, function, scene.token.map(|(_, number)| number));
     if message == b"You can't mess with entries here" {
         let command = scene.callers.last().filter(|call| call.function.starts_with(b"EXECUTE "))?;
-        return Some(without_entry(&plain(&command.function), command.line));
+        let command = (&plain(&command.function)[..], command.line);
+        let said = place
+            .filter(|_| function == b":=")
+            .and_then(|place| assigned_without_entry(code, place, &scene.at, command.0, command.1));
+        let usual = || without_entry(command.0, command.1);
+        return Some(said.map_or_else(usual, |(what, advice)| format!("{what}; {advice}")));
     }
-    let place = code.place_in(scene.at.line, function, scene.token.map(|(_, number)| number))?;
+    let place = place?;
     let said = match function {
         b":=" if message.ends_with(b" is not a function") => {
             let (Left::Number(name) | Left::Text(name)) = place.variable_itself()? else { return None };

@@ -72,6 +72,16 @@ wants_words "$folder/stdout" 'a string and an integer are never equal: `title` i
 wants_words "$folder/stdout" "write a ' before the variable: \`'s\`"
 end
 
+# A variable of each entry that EXECUTE assigns to: its declaration, and one that all entries share.
+begin explained_variable_without_an_entry
+use_style 'STRINGS { last.label }
+FUNCTION {f} { "" '"'label"' := }
+EXECUTE {f}'
+sed -i 's/ENTRY {title}{}{}/ENTRY {title}{}{label}/' s.bst
+run_search -explain job
+wants_words "$folder/stdout" '`label` is a string of each entry (ENTRY, line 1); assign to a variable of STRINGS, which all entries share: is it `last.label`, line 1?'
+end
+
 # One EXECUTE without an entry: what follows from that is counted.
 begin explained_without_an_entry
 use_style 'FUNCTION {f} { title write$ title write$ cite$ write$ "x" }
