@@ -154,8 +154,8 @@ begin advice_for_a_token_of_many
 printf "ENTRY{title}{}{}\nINTEGERS{n}\nSTRINGS{s}\nFUNCTION {misc} { title 's := #1 's := title 'n := }\nREAD\nITERATE {call.type\$}\n" >s.bst
 run_search -explain job
 wants_status 2
-wants_line "$folder/stdout" "    what to do: \`s\` is a string (STRINGS), and \`#1\` is an integer; write \`int.to.str\$\` before \`'s\`: it makes a string of a number"
-wants_words "$folder/stdout" '    what to do: `n` is an integer (INTEGERS), and `title` is a string; assign it'
+wants_line "$folder/stdout" "    what to do: \`s\` is a string (STRINGS, line 3), and \`#1\` is an integer; write \`int.to.str\$\` before \`'s\`: it makes a string of a number"
+wants_words "$folder/stdout" '    what to do: `n` is an integer (INTEGERS, line 2), and `title` is a string; if `n` is to be a string, declare it in STRINGS, and not in line 2; else assign it'
 end
 
 begin errors_that_a_style_invents
