@@ -82,7 +82,7 @@ fn all_give(rt: &(impl Abort + AllocGlobal), rows: &[Row]) -> Result<(), Fail> {
     Ok(())
 }
 
-const WORDS: [Row; 5] = [
+const WORDS: [Row; 7] = [
     (
         b"bibtex j",
         Part::Text,
@@ -108,15 +108,7 @@ const WORDS: [Row; 5] = [
         Part::Text,
         b" .aux  false 2 1000000000 Bytes 79 250 20000",
     ),
-];
-
-#[test]
-fn reads_words(rt: HostRuntime) -> Result<(), Fail> {
-    all_give(&rt, &WORDS)
-}
-
-// Each range has both of its ends.
-const ENDS: [Row; 2] = [
+    // Each range has both of its ends.
     (
         b"bibtex --min-crossrefs 0 --budget 0 --line 20 --entry-max 1 --global-max 1 j",
         Part::Text,
@@ -130,47 +122,46 @@ const ENDS: [Row; 2] = [
 ];
 
 #[test]
-fn reads_ends(rt: HostRuntime) -> Result<(), Fail> {
-    all_give(&rt, &ENDS)
+fn reads_words(rt: HostRuntime) -> Result<(), Fail> {
+    all_give(&rt, &WORDS)
 }
 
-const MISTAKE: &[u8] = b"refused 1 error: ";
-
-// Numbers past the ends of their ranges, and texts that are no number, are mistakes.
-const VALUES: [Row; 13] = [
-    (b"bibtex --min-crossrefs=2147483648 j", Part::Front, MISTAKE),
-    (b"bibtex --budget=1000000000000001 j", Part::Front, MISTAKE),
-    (b"bibtex --budget=x j", Part::Front, MISTAKE),
-    (b"bibtex --budget=-1 j", Part::Front, MISTAKE),
-    (b"bibtex --line=19 j", Part::Front, MISTAKE),
-    (b"bibtex --line=1001 j", Part::Front, MISTAKE),
-    (b"bibtex --entry-max=0 j", Part::Front, MISTAKE),
-    (b"bibtex --entry-max=1000001 j", Part::Front, MISTAKE),
-    (b"bibtex --global-max=0 j", Part::Front, MISTAKE),
-    (b"bibtex --global-max=1000001 j", Part::Front, MISTAKE),
-    (b"bibtex --text=utf-8 j", Part::Front, MISTAKE),
-    (b"bibtex --text=UTF8 j", Part::Front, MISTAKE),
-    (b"bibtex --terse=1 j", Part::Front, MISTAKE),
+// Lines that are mistakes.
+const MISTAKES: [&[u8]; 18] = [
+    // Numbers past the ends of their ranges, and texts that are no number.
+    b"bibtex --min-crossrefs=2147483648 j",
+    b"bibtex --budget=1000000000000001 j",
+    b"bibtex --budget=x j",
+    b"bibtex --budget=-1 j",
+    b"bibtex --line=19 j",
+    b"bibtex --line=1001 j",
+    b"bibtex --entry-max=0 j",
+    b"bibtex --entry-max=1000001 j",
+    b"bibtex --global-max=0 j",
+    b"bibtex --global-max=1000001 j",
+    // Values that an option doesn't have.
+    b"bibtex --text=utf-8 j",
+    b"bibtex --text=UTF8 j",
+    b"bibtex --terse=1 j",
+    // No job, no such option, an option twice, and one without its value.
+    b"bibtex",
+    b"bibtex --nope",
+    b"bibtex --dir=a",
+    b"bibtex --terse --terse j",
+    b"bibtex --text j",
 ];
 
-#[test]
-fn refuses_values(rt: HostRuntime) -> Result<(), Fail> {
-    all_give(&rt, &VALUES)
+// Asserts that each line is refused with a text.
+fn all_refused(rt: &(impl Abort + AllocGlobal), lines: &[&[u8]]) -> Result<(), Fail> {
+    for line in lines {
+        assert!(rt; gives(rt.alloc(), line, Part::Front, b"refused 1 error: ")?);
+    }
+    Ok(())
 }
 
-// Each refusal has a text.
-const REFUSED: [Row; 6] = [
-    (b"bibtex -h", Part::Front, b"refused 0 "),
-    (b"bibtex", Part::Front, MISTAKE),
-    (b"bibtex --nope", Part::Front, MISTAKE),
-    (b"bibtex --dir=a", Part::Front, MISTAKE),
-    (b"bibtex --terse --terse j", Part::Front, MISTAKE),
-    (b"bibtex --text j", Part::Front, MISTAKE),
-];
-
 #[test]
-fn refuses_words(rt: HostRuntime) -> Result<(), Fail> {
-    all_give(&rt, &REFUSED)
+fn refuses_mistakes(rt: HostRuntime) -> Result<(), Fail> {
+    all_refused(&rt, &MISTAKES)
 }
 
 // Whether the help says what the program does, and lists the statuses.
@@ -186,12 +177,14 @@ fn helps(rt: HostRuntime) -> Result<(), Fail> {
     Ok(())
 }
 
-const VERSIONS: [Row; 2] = [
+// Lines that ask for a text.
+const SHOWN: [Row; 3] = [
     (b"bibtex --version", Part::Text, b"refused 0 bibtex 1.0.0\n"),
     (b"bibtex -V", Part::Text, b"refused 0 bibtex 1.0.0\n"),
+    (b"bibtex -h", Part::Front, b"refused 0 "),
 ];
 
 #[test]
-fn prints_its_version(rt: HostRuntime) -> Result<(), Fail> {
-    all_give(&rt, &VERSIONS)
+fn shows_what_is_asked(rt: HostRuntime) -> Result<(), Fail> {
+    all_give(&rt, &SHOWN)
 }
