@@ -3,7 +3,7 @@ use btx_run::{
     End, KeptBytes, Limit, LineLength, MemoryFinder, Options, Over, Report, RunFault, TextMode, run,
 };
 use btx_text::Fault;
-use std::alloc::Global;
+use std::alloc::{AllocError, Global};
 use std::process::Abort;
 use std::test::Fail;
 
@@ -145,41 +145,75 @@ impl Ending {
             errors,
         }
     }
-}
 
-// Whether a text is made of these pieces.
-fn is_made_of(text: &[u8], pieces: &[&[u8]]) -> bool {
-    let mut rest = text;
-    for piece in pieces {
-        match rest.strip_prefix(*piece) {
-            Some(after) => rest = after,
-            None => return false,
+    // How the log's last line names it.
+    fn name(self) -> &'static str {
+        match self {
+            Ending::Finished(_, _, _) | Ending::Warned(_) => "finished",
+            Ending::Stopped(_, _) => "stopped",
+            Ending::Past(limit, _, _) => limit_name(limit),
+            Ending::NoTopFile => "no top file",
         }
     }
-    rest.is_empty()
+
+    // The log's last line.
+    fn last_line(self, alloc: Global) -> Result<String, AllocError> {
+        let (name, report) = (self.name(), self.report());
+        let (warnings, errors, steps) = (report.warnings, report.errors, report.steps);
+        format!(in alloc; "Ended: {name}, warnings {warnings}, errors {errors}, steps {steps}\n")
+    }
+}
+
+// The name of a limit in the log.
+fn limit_name(limit: Limit) -> &'static str {
+    match limit {
+        Limit::String => "limit string",
+        Limit::Calls => "limit calls",
+        Limit::Literals => "limit literals",
+        Limit::Files => "limit files",
+        _ => "another limit",
+    }
+}
+
+// What of a text is behind these pieces; None if it doesn't begin so.
+fn behind<'a>(text: &'a [u8], pieces: &[&[u8]]) -> Option<&'a [u8]> {
+    let mut rest = text;
+    for piece in pieces {
+        rest = rest.strip_prefix(*piece)?;
+    }
+    Some(rest)
 }
 
 // Whether a run wrote and answered so.
-fn is_ended(ran: &Outputs, bbl: &[u8], log: &[&[u8]], ending: Ending) -> bool {
-    ran.answer == Ok(ending.report())
-        && ran.bbl.as_slice() == bbl
-        && is_made_of(ran.log.as_slice(), log)
+fn is_ended(
+    alloc: Global,
+    ran: &Outputs,
+    bbl: &[u8],
+    log: &[&[u8]],
+    ending: Ending,
+) -> Result<bool, AllocError> {
+    let last = ending.last_line(alloc)?;
+    Ok(
+        ran.answer == Ok(ending.report())
+            && ran.bbl.as_slice() == bbl
+            && behind(ran.log.as_slice(), log) == Some(last.as_bytes()),
+    )
 }
 
-/// Asserts what a run wrote and answered; the log is given in pieces.
+/// Asserts what a run wrote and answered; the log is given in pieces, without the last line, which is the ending's.
 pub fn ends_as(
-    rt: &impl Abort,
+    rt: &(impl Abort + AllocGlobal),
     ran: Result<Outputs, Fault>,
     bbl: &[u8],
     log: &[&[u8]],
     ending: Ending,
 ) -> Result<(), Fail> {
     let ran = ran?;
-    assert!(rt; is_ended(&ran, bbl, log, ending));
+    assert!(rt; is_ended(rt.alloc(), &ran, bbl, log, ending)?);
     Ok(())
 }
 
-/// A job, and what comes of it: the list, the log in pieces, and how the run ends.
+/// A job, and what comes of it: the list, the log in pieces without its last line, and how the run ends.
 pub struct Row {
     pub aux: &'static [u8],
     pub database: &'static [u8],

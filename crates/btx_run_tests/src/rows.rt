@@ -16,7 +16,7 @@ const ROWS: [Row; 9] = [
         style: PARENTS,
         budget: 1_000,
         bbl: b"c1:1:Vol\n",
-        log: &[FOUND, b"Ended: finished, warnings 0, errors 0, steps 20\n"],
+        log: &[FOUND],
         ending: Ending::Finished(0, 20, 2),
     },
     Row {
@@ -25,7 +25,7 @@ const ROWS: [Row; 9] = [
         style: PARENTS,
         budget: 1_000,
         bbl: b"c1:0:Vol\nc2:0:Vol\nP:1:Vol\n",
-        log: &[FOUND, b"Ended: finished, warnings 0, errors 0, steps 60\n"],
+        log: &[FOUND],
         ending: Ending::Finished(0, 60, 2),
     },
     Row {
@@ -34,7 +34,7 @@ const ROWS: [Row; 9] = [
         style: b"ENTRY {title}{}{} FUNCTION {misc}{} READ FUNCTION {f} {cite$ 'sort.key$ :=} FUNCTION {g} {cite$ write$ newline$} ITERATE {f} SORT ITERATE {g}",
         budget: 1_000,
         bbl: b"C\na\nb\n",
-        log: &[FOUND, b"Ended: finished, warnings 0, errors 0, steps 24\n"],
+        log: &[FOUND],
         ending: Ending::Finished(0, 24, 1),
     },
     Row {
@@ -45,7 +45,7 @@ const ROWS: [Row; 9] = [
         bbl: b"",
         log: &[
             FOUND,
-            b"Error--The literal stack isn't empty while executing EXECUTE\n\"x\"\n7\nEnded: finished, warnings 0, errors 1, steps 3\n",
+            b"Error--The literal stack isn't empty while executing EXECUTE\n\"x\"\n7\n",
         ],
         ending: Ending::Finished(1, 3, 1),
     },
@@ -55,7 +55,7 @@ const ROWS: [Row; 9] = [
         style: b"ENTRY {title}{}{} FUNCTION {misc}{} READ FUNCTION {f} {{#1} {skip$} while$} EXECUTE {f}",
         budget: 100,
         bbl: b"",
-        log: &[FOUND, b"Ended: stopped, warnings 0, errors 0, steps 100\n"],
+        log: &[FOUND],
         ending: Ending::Stopped(100, 2),
     },
     Row {
@@ -64,10 +64,7 @@ const ROWS: [Row; 9] = [
         style: b"ENTRY {title}{}{} FUNCTION {misc}{} READ FUNCTION {h} {duplicate$ #1 swap$ 'skip$ if$} FUNCTION {g} {'h h} EXECUTE {g}",
         budget: 100_000,
         bbl: b"",
-        log: &[
-            FOUND,
-            b"Ended: limit calls, warnings 0, errors 0, steps 24573\n",
-        ],
+        log: &[FOUND],
         ending: Ending::Past(Limit::Calls, 24_573, 4_096),
     },
     Row {
@@ -76,10 +73,7 @@ const ROWS: [Row; 9] = [
         style: b"ENTRY {title}{}{} FUNCTION {misc}{} READ FUNCTION {f} {{#1} {#7} while$} EXECUTE {f}",
         budget: 100_000,
         bbl: b"",
-        log: &[
-            FOUND,
-            b"Ended: limit literals, warnings 0, errors 0, steps 4006\n",
-        ],
+        log: &[FOUND],
         ending: Ending::Past(Limit::Literals, 4_006, 2),
     },
     Row {
@@ -90,7 +84,7 @@ const ROWS: [Row; 9] = [
         bbl: b"",
         log: &[
             FOUND,
-            b"Error--I couldn't open database file gone.bib\nError--nonsense isn't a command--line 1 of file s.bst\nWarning--I didn't find a database entry for \"nope\"\nEnded: finished, warnings 1, errors 2, steps 0\n",
+            b"Error--I couldn't open database file gone.bib\nError--nonsense isn't a command--line 1 of file s.bst\nWarning--I didn't find a database entry for \"nope\"\n",
         ],
         ending: Ending::Warned(2),
     },
@@ -100,7 +94,7 @@ const ROWS: [Row; 9] = [
         style: b"ENTRY {title}{}{} FUNCTION {misc}{} READ FUNCTION {f} {cite$ write$ \"=\" write$ title write$ newline$} ITERATE {f}",
         budget: 1_000,
         bbl: b"K=a b\n",
-        log: &[FOUND, b"Ended: finished, warnings 0, errors 0, steps 8\n"],
+        log: &[FOUND],
         ending: Ending::Finished(0, 8, 1),
     },
 ];

@@ -4,7 +4,7 @@ use crate::jobs::{
     job_of, run_named, run_over, status_of, status_with,
 };
 use btx_run::{Limit, RunFault, budget_law};
-use btx_tests::texts::{Run, joined, text_of};
+use btx_tests::texts::{joined, text_of};
 use btx_tests::worked_lines;
 use btx_text::Fault;
 use std::alloc::{AllocError, Global};
@@ -23,90 +23,44 @@ fn run_body(alloc: Global, body: &[u8], budget: u64) -> Result<Outputs, Fault> {
     run_over(alloc, &job_of(AUX, &style, DATABASE), budget)
 }
 
-// A body, a budget, the `.bbl`, the log's last line, and how the run ends.
-type Body = (&'static [u8], u64, &'static [u8], &'static [u8], Ending);
+// A body, a budget, the `.bbl`, and how the run ends.
+type Body = (&'static [u8], u64, &'static [u8], Ending);
 
 const ONE: &[u8] = b"\"a\" write$ newline$";
 
 const THREE: &[u8] = b"\"abc\" write$ newline$";
 
-// The log's last line of runs that write a line.
-const DONE: &[u8] = b"Ended: finished, warnings 0, errors 0, steps 4\n";
+// A line that is written in two pieces, and its lines.
+const IN_PIECES: &[u8] =
+    b"\"aaaaaaaaaaaaaaaaaaaaaaaaaaaaaaaaaaaaaaaaaaaaaaaaaaaaaaaaaaaaaaaaaaaaaaaaaaaaaaaa \" write$ \" b\" write$ newline$";
+
+const BROKEN: &[u8] =
+    b"aaaaaaaaaaaaaaaaaaaaaaaaaaaaaaaaaaaaaaaaaaaaaaaaaaaaaaaaaaaaaaaaaaaaaaaaaaaaaaaa\n  b\n";
 
 // Short bodies, with budgets that cover them and that don't.
-const BODIES: [Body; 14] = [
-    (
-        ONE,
-        0,
-        b"",
-        b"Ended: stopped, warnings 0, errors 0, steps 0\n",
-        Ending::Stopped(0, 0),
-    ),
-    (
-        ONE,
-        1,
-        b"",
-        b"Ended: stopped, warnings 0, errors 0, steps 1\n",
-        Ending::Stopped(1, 1),
-    ),
-    (
-        ONE,
-        2,
-        b"",
-        b"Ended: stopped, warnings 0, errors 0, steps 2\n",
-        Ending::Stopped(2, 1),
-    ),
-    (
-        ONE,
-        3,
-        b"",
-        b"Ended: stopped, warnings 0, errors 0, steps 3\n",
-        Ending::Stopped(3, 1),
-    ),
-    (ONE, 4, b"a\n", DONE, Ending::Finished(0, 4, 1)),
-    (ONE, 5, b"a\n", DONE, Ending::Finished(0, 4, 1)),
-    (
-        THREE,
-        3,
-        b"",
-        b"Ended: stopped, warnings 0, errors 0, steps 3\n",
-        Ending::Stopped(3, 1),
-    ),
-    (THREE, 4, b"abc\n", DONE, Ending::Finished(0, 4, 1)),
-    (
-        b"",
-        1,
-        b"",
-        b"Ended: finished, warnings 0, errors 0, steps 1\n",
-        Ending::Finished(0, 1, 1),
-    ),
-    (
-        b"newline$",
-        9,
-        b"\n",
-        b"Ended: finished, warnings 0, errors 0, steps 2\n",
-        Ending::Finished(0, 2, 1),
-    ),
-    (
-        b"\" \" write$ newline$",
-        9,
-        b"",
-        DONE,
-        Ending::Finished(0, 4, 1),
-    ),
+const BODIES: [Body; 16] = [
+    (ONE, 0, b"", Ending::Stopped(0, 0)),
+    (ONE, 1, b"", Ending::Stopped(1, 1)),
+    (ONE, 2, b"", Ending::Stopped(2, 1)),
+    (ONE, 3, b"", Ending::Stopped(3, 1)),
+    (ONE, 4, b"a\n", Ending::Finished(0, 4, 1)),
+    (ONE, 5, b"a\n", Ending::Finished(0, 4, 1)),
+    (THREE, 3, b"", Ending::Stopped(3, 1)),
+    (THREE, 4, b"abc\n", Ending::Finished(0, 4, 1)),
+    (b"", 1, b"", Ending::Finished(0, 1, 1)),
+    (b"newline$", 9, b"\n", Ending::Finished(0, 2, 1)),
+    (b"\" \" write$ newline$", 9, b"", Ending::Finished(0, 4, 1)),
     // What is pending at the end is a line, unless it is whitespace alone.
     (
         b"\"a\" write$ \"b \" write$",
         9,
         b"ab\n",
-        b"Ended: finished, warnings 0, errors 0, steps 5\n",
         Ending::Finished(0, 5, 1),
     ),
     (
         b"\"\t\" write$ \"\r\" write$",
         9,
         b"",
-        b"Ended: finished, warnings 0, errors 0, steps 5\n",
         Ending::Finished(0, 5, 1),
     ),
     // A line that ended is written before the budget stops the next.
@@ -114,19 +68,27 @@ const BODIES: [Body; 14] = [
         b"newline$ newline$ \"a\" write$",
         4,
         b"\n\n",
-        b"Ended: stopped, warnings 0, errors 0, steps 4\n",
         Ending::Stopped(4, 1),
+    ),
+    // A line is broken in the same way where it is written in two pieces.
+    (IN_PIECES, 6, BROKEN, Ending::Finished(0, 6, 1)),
+    // Where function literals stand before `if$` alone, no more bodies are open at once than the style has functions: here two of three.
+    (
+        b"#1 { newline$ } 'skip$ if$",
+        9,
+        b"\n",
+        Ending::Finished(0, 7, 2),
     ),
 ];
 
 // Asserts what comes of each body.
 fn bodies_end(rt: &(impl Abort + AllocGlobal), bodies: &[Body]) -> Result<(), Fail> {
-    for (text, budget, bbl, last, ending) in bodies {
+    for (text, budget, bbl, ending) in bodies {
         ends_as(
             rt,
             run_body(rt.alloc(), text, *budget),
             bbl,
-            &[FOUND, last],
+            &[FOUND],
             *ending,
         )?;
     }
@@ -135,17 +97,18 @@ fn bodies_end(rt: &(impl Abort + AllocGlobal), bodies: &[Body]) -> Result<(), Fa
 
 #[test]
 fn takes_steps(rt: HostRuntime) -> Result<(), Fail> {
+    btx_run::steps_law();
+    btx_run::direct_law();
     bodies_end(&rt, &BODIES)
 }
 
-// A string that is written behind a front and ends its line, a budget, the `.bbl`, the log's last line, and how the run ends.
+// A string that is written behind a front and ends its line, a budget, the `.bbl`, and how the run ends. The string and the `.bbl` are as `text_of` takes them.
 #[derive(Clone, Copy)]
 struct Writing<'a> {
     front: &'a [u8],
-    string: &'a [Run],
+    string: &'a [u8],
     budget: u64,
-    bbl: &'a [Run],
-    last: &'a [u8],
+    bbl: &'a [u8],
     ending: Ending,
 }
 
@@ -169,13 +132,7 @@ fn run_string(alloc: Global, row: &Writing<'_>) -> Result<Outputs, Fault> {
 // Asserts what comes of a string.
 fn is_written(rt: &(impl Abort + AllocGlobal), row: &Writing<'_>) -> Result<(), Fail> {
     let bbl = text_of(rt.alloc(), row.bbl)?;
-    ends_as(
-        rt,
-        run_string(rt.alloc(), row),
-        &bbl,
-        &[FOUND, row.last],
-        row.ending,
-    )
+    ends_as(rt, run_string(rt.alloc(), row), &bbl, &[FOUND], row.ending)
 }
 
 // Asserts what comes of each string.
@@ -187,31 +144,30 @@ fn all_written(rt: &(impl Abort + AllocGlobal), rows: &[Writing<'_>]) -> Result<
 }
 
 // A row's line is written whole where the budget covers it, and what is sure where it covers all but the end of the line.
-fn is_broken(rt: &(impl Abort + AllocGlobal), row: &worked_lines::Row<'_>) -> Result<(), Fail> {
+fn is_broken(rt: &(impl Abort + AllocGlobal), row: worked_lines::Row) -> Result<(), Fail> {
+    let (_, string, sure, lines) = row;
     let whole = Writing {
         front: b"",
-        string: row.literal,
+        string,
         budget: 4,
-        bbl: row.lines,
-        last: DONE,
+        bbl: lines,
         ending: Ending::Finished(0, 4, 1),
     };
     is_written(rt, &whole)?;
-    let sure = Writing {
+    let stopped = Writing {
         budget: 3,
-        bbl: row.sure,
-        last: b"Ended: stopped, warnings 0, errors 0, steps 3\n",
+        bbl: sure,
         ending: Ending::Stopped(3, 1),
         ..whole
     };
-    is_written(rt, &sure)
+    is_written(rt, &stopped)
 }
 
 // Asserts what comes of each line that is as long as a line may be where nothing is said.
-fn all_broken(rt: &(impl Abort + AllocGlobal), rows: &[worked_lines::Row<'_>]) -> Result<(), Fail> {
+fn all_broken(rt: &(impl Abort + AllocGlobal), rows: &[worked_lines::Row]) -> Result<(), Fail> {
     for row in rows {
-        if row.line_length == 79 {
-            is_broken(rt, row)?;
+        if row.0 == 79 {
+            is_broken(rt, *row)?;
         }
     }
     Ok(())
@@ -222,27 +178,12 @@ fn breaks_lines(rt: HostRuntime) -> Result<(), Fail> {
     all_broken(&rt, &worked_lines::ROWS)
 }
 
-const IN_PIECES: [Body; 1] = [(
-    b"\"aaaaaaaaaaaaaaaaaaaaaaaaaaaaaaaaaaaaaaaaaaaaaaaaaaaaaaaaaaaaaaaaaaaaaaaaaaaaaaaa \" write$ \" b\" write$ newline$",
-    6,
-    b"aaaaaaaaaaaaaaaaaaaaaaaaaaaaaaaaaaaaaaaaaaaaaaaaaaaaaaaaaaaaaaaaaaaaaaaaaaaaaaaa\n  b\n",
-    b"Ended: finished, warnings 0, errors 0, steps 6\n",
-    Ending::Finished(0, 6, 1),
-)];
-
-// A line is broken in the same way where it is written in two pieces.
-#[test]
-fn breaks_lines_in_pieces(rt: HostRuntime) -> Result<(), Fail> {
-    bodies_end(&rt, &IN_PIECES)
-}
-
 // A string may have 1,000,000 bytes.
 const LONGEST: [Writing<'static>; 1] = [Writing {
     front: b"",
-    string: &[(b'a', 1_000_000)],
+    string: b"1000000a",
     budget: 9,
-    bbl: &[(b'a', 1_000_000), (b'\n', 1)],
-    last: DONE,
+    bbl: b"1000000a\n",
     ending: Ending::Finished(0, 4, 1),
 }];
 
@@ -251,7 +192,7 @@ fn writes_the_longest_string(rt: HostRuntime) -> Result<(), Fail> {
     all_written(&rt, &LONGEST)
 }
 
-const TOO_LONG: &[Run] = &[(b'a', 1_000_001)];
+const TOO_LONG: &[u8] = b"1000001a";
 
 // The push of a string that is too long is the last step, and the pending line isn't written.
 const BEFORE_TOO_LONG: [Writing<'static>; 4] = [
@@ -259,32 +200,28 @@ const BEFORE_TOO_LONG: [Writing<'static>; 4] = [
         front: b"",
         string: TOO_LONG,
         budget: 9,
-        bbl: &[],
-        last: b"Ended: limit string, warnings 0, errors 0, steps 2\n",
+        bbl: b"",
         ending: Ending::Past(Limit::String, 2, 1),
     },
     Writing {
         front: b"",
         string: TOO_LONG,
         budget: 2,
-        bbl: &[],
-        last: b"Ended: limit string, warnings 0, errors 0, steps 2\n",
+        bbl: b"",
         ending: Ending::Past(Limit::String, 2, 1),
     },
     Writing {
         front: b"",
         string: TOO_LONG,
         budget: 1,
-        bbl: &[],
-        last: b"Ended: stopped, warnings 0, errors 0, steps 1\n",
+        bbl: b"",
         ending: Ending::Stopped(1, 1),
     },
     Writing {
         front: b"newline$ \"b\" write$ ",
         string: TOO_LONG,
         budget: 9,
-        bbl: &[(b'\n', 1)],
-        last: b"Ended: limit string, warnings 0, errors 0, steps 5\n",
+        bbl: b"\n",
         ending: Ending::Past(Limit::String, 5, 1),
     },
 ];
@@ -305,7 +242,7 @@ const IN_ORDER: [Row; 2] = [
         style: SHARED,
         budget: 11,
         bbl: b"y\nxy\n",
-        log: &[FOUND, b"Ended: finished, warnings 0, errors 0, steps 11\n"],
+        log: &[FOUND],
         ending: Ending::Finished(0, 11, 1),
     },
     Row {
@@ -314,7 +251,7 @@ const IN_ORDER: [Row; 2] = [
         style: SHARED,
         budget: 10,
         bbl: b"y\n",
-        log: &[FOUND, b"Ended: stopped, warnings 0, errors 0, steps 10\n"],
+        log: &[FOUND],
         ending: Ending::Stopped(10, 1),
     },
 ];
@@ -324,18 +261,22 @@ fn executes_in_order(rt: HostRuntime) -> Result<(), Fail> {
     all_end(&rt, &IN_ORDER)
 }
 
+// Asserts what comes of a job's files.
+fn files_end(
+    rt: &(impl Abort + AllocGlobal),
+    files: &[File<'_>],
+    bbl: &[u8],
+    log: &[&[u8]],
+    ending: Ending,
+) -> Result<(), Fail> {
+    ends_as(rt, run_over(rt.alloc(), files, 9), bbl, log, ending)
+}
+
 const NO_TOP: [File<'static>; 2] = [(b"s.bst", STYLE), (b"d.bib", DATABASE)];
 
 #[test]
 fn needs_a_top_file(rt: HostRuntime) -> Result<(), Fail> {
-    let log: &[u8] = b"Ended: no top file, warnings 0, errors 0, steps 0\n";
-    ends_as(
-        &rt,
-        run_over(rt.alloc(), &NO_TOP, 9),
-        b"",
-        &[log],
-        Ending::NoTopFile,
-    )
+    files_end(&rt, &NO_TOP, b"", &[], Ending::NoTopFile)
 }
 
 // A job's name, and the status of its run. A name may have its ending, which is then not put on again; its case counts.
@@ -371,231 +312,154 @@ const TOP: &[u8] = b"The top-level auxiliary file: job.aux\n";
 
 const FILES: &[u8] = b"The style file: s.bst\nDatabase file #1: d.bib\n";
 
+// A top file, what the log has of what is wrong in it, and how many errors that is.
+type Wrong = (&'static [u8], &'static [u8], u64);
+
+// What such jobs have in common: the database, the list, what the log has behind what is wrong, and how many steps are taken, with how many bodies open at
+// once.
+#[derive(Clone, Copy)]
+struct Common {
+    database: &'static [u8],
+    bbl: &'static [u8],
+    found: &'static [u8],
+    taken: (u64, usize),
+}
+
 // Top files with a line that is wrong before those of the base job.
-const WRONG: [Row; 7] = [
-    Row {
-        aux: b"\\citation{k,K}\n\\citation{k}\n\\bibdata{d}\n\\bibstyle{s}\n",
-        database: DATABASE,
-        style: STYLE,
-        budget: 9,
-        bbl: b"a\n",
-        log: &[
-            TOP,
-            b"Error--Case mismatch error between cite keys k and K--line 1 of file job.aux\n",
-            FILES,
-            b"Ended: finished, warnings 0, errors 1, steps 4\n",
-        ],
-        ending: Ending::Finished(1, 4, 1),
-    },
-    Row {
-        aux: b"\\citation{k, j}\n\\citation{k}\n\\bibdata{d}\n\\bibstyle{s}\n",
-        database: DATABASE,
-        style: STYLE,
-        budget: 9,
-        bbl: b"a\n",
-        log: &[
-            TOP,
-            b"Error--White space in argument--line 1 of file job.aux\n",
-            FILES,
-            b"Ended: finished, warnings 0, errors 1, steps 4\n",
-        ],
-        ending: Ending::Finished(1, 4, 1),
-    },
-    Row {
-        aux: b"\\citation{k,j}x\n\\citation{k}\n\\bibdata{d}\n\\bibstyle{s}\n",
-        database: DATABASE,
-        style: STYLE,
-        budget: 9,
-        bbl: b"a\n",
-        log: &[
-            TOP,
-            b"Error--Stuff after \"}\"--line 1 of file job.aux\n",
-            FILES,
-            b"Ended: finished, warnings 0, errors 1, steps 4\n",
-        ],
-        ending: Ending::Finished(1, 4, 1),
-    },
-    Row {
-        aux: b"\\citation{k,j\n\\citation{k}\n\\bibdata{d}\n\\bibstyle{s}\n",
-        database: DATABASE,
-        style: STYLE,
-        budget: 9,
-        bbl: b"a\n",
-        log: &[
-            TOP,
-            b"Error--No \"}\"--line 1 of file job.aux\n",
-            FILES,
-            b"Ended: finished, warnings 0, errors 1, steps 4\n",
-        ],
-        ending: Ending::Finished(1, 4, 1),
-    },
-    Row {
-        aux: b"\\bibdata{d.bib,d}\n\\citation{k}\n\\bibdata{d}\n\\bibstyle{s}\n",
-        database: DATABASE,
-        style: STYLE,
-        budget: 9,
-        bbl: b"a\n",
-        log: &[
-            TOP,
-            b"Error--This database file appears more than once: d.bib--line 1 of file job.aux\nError--Illegal, another \\bibdata command--line 3 of file job.aux\n",
-            FILES,
-            b"Ended: finished, warnings 0, errors 2, steps 4\n",
-        ],
-        ending: Ending::Finished(2, 4, 1),
-    },
-    Row {
-        aux: b"\\bibstyle{s.bst}\n\\citation{k}\n\\bibdata{d}\n\\bibstyle{s}\n",
-        database: DATABASE,
-        style: STYLE,
-        budget: 9,
-        bbl: b"a\n",
-        log: &[
-            TOP,
-            b"Error--Illegal, another \\bibstyle command--line 4 of file job.aux\n",
-            FILES,
-            b"Ended: finished, warnings 0, errors 1, steps 4\n",
-        ],
-        ending: Ending::Finished(1, 4, 1),
-    },
-    Row {
-        aux: b"\\@input{x}\n\\citation{k}\n\\bibdata{d}\n\\bibstyle{s}\n",
-        database: DATABASE,
-        style: STYLE,
-        budget: 9,
-        bbl: b"a\n",
-        log: &[
-            TOP,
-            b"Error--x has a wrong extension--line 1 of file job.aux\n",
-            FILES,
-            b"Ended: finished, warnings 0, errors 1, steps 4\n",
-        ],
-        ending: Ending::Finished(1, 4, 1),
-    },
+const WRONG: [Wrong; 7] = [
+    (
+        b"\\citation{k,K}\n\\citation{k}\n\\bibdata{d}\n\\bibstyle{s}\n",
+        b"Error--Case mismatch error between cite keys k and K--line 1 of file job.aux\n",
+        1,
+    ),
+    (
+        b"\\citation{k, j}\n\\citation{k}\n\\bibdata{d}\n\\bibstyle{s}\n",
+        b"Error--White space in argument--line 1 of file job.aux\n",
+        1,
+    ),
+    (
+        b"\\citation{k,j}x\n\\citation{k}\n\\bibdata{d}\n\\bibstyle{s}\n",
+        b"Error--Stuff after \"}\"--line 1 of file job.aux\n",
+        1,
+    ),
+    (
+        b"\\citation{k,j\n\\citation{k}\n\\bibdata{d}\n\\bibstyle{s}\n",
+        b"Error--No \"}\"--line 1 of file job.aux\n",
+        1,
+    ),
+    (
+        b"\\bibdata{d.bib,d}\n\\citation{k}\n\\bibdata{d}\n\\bibstyle{s}\n",
+        b"Error--This database file appears more than once: d.bib--line 1 of file job.aux\nError--Illegal, another \\bibdata command--line 3 of file job.aux\n",
+        2,
+    ),
+    (
+        b"\\bibstyle{s.bst}\n\\citation{k}\n\\bibdata{d}\n\\bibstyle{s}\n",
+        b"Error--Illegal, another \\bibstyle command--line 4 of file job.aux\n",
+        1,
+    ),
+    (
+        b"\\@input{x}\n\\citation{k}\n\\bibdata{d}\n\\bibstyle{s}\n",
+        b"Error--x has a wrong extension--line 1 of file job.aux\n",
+        1,
+    ),
 ];
+
+// Asserts that the jobs of these top files finish, and that the log has what is wrong.
+fn all_finish(rt: &(impl Abort + AllocGlobal), rows: &[Wrong], common: Common) -> Result<(), Fail> {
+    for (aux, said, errors) in rows {
+        let files = job_of(aux, STYLE, common.database);
+        let log = [TOP, said, common.found];
+        let (steps, deepest) = common.taken;
+        let ending = Ending::Finished(*errors, steps, deepest);
+        files_end(rt, &files, common.bbl, &log, ending)?;
+    }
+    Ok(())
+}
+
+// The base job is run.
+const RUN: Common = Common {
+    database: DATABASE,
+    bbl: b"a\n",
+    found: FILES,
+    taken: (4, 1),
+};
 
 #[test]
 fn runs_past_errors(rt: HostRuntime) -> Result<(), Fail> {
-    all_end(&rt, &WRONG)
+    all_finish(&rt, &WRONG, RUN)
 }
 
 // Top files of jobs that end without a style. These runs finish: their databases aren't looked for.
-const WITHOUT_STYLE: [Row; 6] = [
-    Row {
-        aux: b"\\citation{k}\n\\bibdata{d}\n\\bibstyle{t}",
-        database: b"outside",
-        style: STYLE,
-        budget: 9,
-        bbl: b"",
-        log: &[
-            TOP,
-            b"Error--I couldn't open style file t.bst\n",
-            b"Ended: finished, warnings 0, errors 1, steps 0\n",
-        ],
-        ending: Ending::Finished(1, 0, 0),
-    },
-    Row {
-        aux: b"\\citation{k,*,j}\n\\bibdata{d,e}\n\\bibstyle{}",
-        database: b"outside",
-        style: STYLE,
-        budget: 9,
-        bbl: b"",
-        log: &[
-            TOP,
-            b"Error--I couldn't open style file .bst\n",
-            b"Ended: finished, warnings 0, errors 1, steps 0\n",
-        ],
-        ending: Ending::Finished(1, 0, 0),
-    },
-    Row {
-        aux: b"\\citation{k}\n\\bibdata{d}",
-        database: b"outside",
-        style: STYLE,
-        budget: 9,
-        bbl: b"",
-        log: &[
-            TOP,
-            b"Error--I found no \\bibstyle command\n",
-            b"Ended: finished, warnings 0, errors 1, steps 0\n",
-        ],
-        ending: Ending::Finished(1, 0, 0),
-    },
-    Row {
-        aux: b"\\citation{k,j}\n\\bibdata{e}",
-        database: b"outside",
-        style: STYLE,
-        budget: 9,
-        bbl: b"",
-        log: &[
-            TOP,
-            b"Error--I found no \\bibstyle command\n",
-            b"Ended: finished, warnings 0, errors 1, steps 0\n",
-        ],
-        ending: Ending::Finished(1, 0, 0),
-    },
-    Row {
-        aux: b"\\citation{k}\n\\bibdata{d}\n\\bibstyle{s s}",
-        database: b"outside",
-        style: STYLE,
-        budget: 9,
-        bbl: b"",
-        log: &[
-            TOP,
-            b"Error--White space in argument--line 3 of file job.aux\n",
-            b"Ended: finished, warnings 0, errors 1, steps 0\n",
-        ],
-        ending: Ending::Finished(1, 0, 0),
-    },
-    Row {
-        aux: b"",
-        database: b"outside",
-        style: STYLE,
-        budget: 9,
-        bbl: b"",
-        log: &[
-            TOP,
-            b"Error--I found no \\citation commands\nError--I found no \\bibdata command\nError--I found no \\bibstyle command\n",
-            b"Ended: finished, warnings 0, errors 3, steps 0\n",
-        ],
-        ending: Ending::Finished(3, 0, 0),
-    },
+const WITHOUT_STYLE: [Wrong; 6] = [
+    (
+        b"\\citation{k}\n\\bibdata{d}\n\\bibstyle{t}",
+        b"Error--I couldn't open style file t.bst\n",
+        1,
+    ),
+    (
+        b"\\citation{k,*,j}\n\\bibdata{d,e}\n\\bibstyle{}",
+        b"Error--I couldn't open style file .bst\n",
+        1,
+    ),
+    (
+        b"\\citation{k}\n\\bibdata{d}",
+        b"Error--I found no \\bibstyle command\n",
+        1,
+    ),
+    (
+        b"\\citation{k,j}\n\\bibdata{e}",
+        b"Error--I found no \\bibstyle command\n",
+        1,
+    ),
+    (
+        b"\\citation{k}\n\\bibdata{d}\n\\bibstyle{s s}",
+        b"Error--White space in argument--line 3 of file job.aux\n",
+        1,
+    ),
+    (
+        b"",
+        b"Error--I found no \\citation commands\nError--I found no \\bibdata command\nError--I found no \\bibstyle command\n",
+        3,
+    ),
 ];
+
+// No style is run.
+const NOT_RUN: Common = Common {
+    database: b"outside",
+    bbl: b"",
+    found: b"",
+    taken: (0, 0),
+};
 
 #[test]
 fn ends_without_a_style(rt: HostRuntime) -> Result<(), Fail> {
-    all_end(&rt, &WITHOUT_STYLE)
+    all_finish(&rt, &WITHOUT_STYLE, NOT_RUN)
 }
+
+// The base job's top file behind a line that inputs another file.
+const THROUGH_A: &[u8] = b"\\@input{a.aux}\n\\citation{k}\n\\bibdata{d}\n\\bibstyle{s}\n";
+
+const THROUGH_F1: &[u8] = b"\\@input{f1.aux}\n\\citation{k}\n\\bibdata{d}\n\\bibstyle{s}\n";
 
 // The base job, whose top file inputs another that inputs the top file.
 const LOOP: [File<'static>; 4] = [
-    (
-        b"job.aux",
-        b"\\@input{a.aux}\n\\citation{k}\n\\bibdata{d}\n\\bibstyle{s}\n",
-    ),
+    (b"job.aux", THROUGH_A),
     (b"s.bst", STYLE),
     (b"d.bib", DATABASE),
     (b"a.aux", b"\\citation{k}\n\\@input{job.aux}\n"),
 ];
 
 const LOOP_FOUND: &[u8] =
-    b"The top-level auxiliary file: job.aux\nA level-1 auxiliary file: a.aux\nError--Already encountered file job.aux--line 2 of file a.aux\nThe style file: s.bst\nDatabase file #1: d.bib\nEnded: finished, warnings 0, errors 1, steps 4\n";
+    b"The top-level auxiliary file: job.aux\nA level-1 auxiliary file: a.aux\nError--Already encountered file job.aux--line 2 of file a.aux\nThe style file: s.bst\nDatabase file #1: d.bib\n";
 
 #[test]
 fn reads_through_a_loop(rt: HostRuntime) -> Result<(), Fail> {
-    ends_as(
-        &rt,
-        run_over(rt.alloc(), &LOOP, 9),
-        b"a\n",
-        &[LOOP_FOUND],
-        Ending::Finished(1, 4, 1),
-    )
+    files_end(&rt, &LOOP, b"a\n", &[LOOP_FOUND], Ending::Finished(1, 4, 1))
 }
 
 // The base job, whose top file inputs the first of a chain of files. Each of these inputs the next.
 const CHAIN: [File<'static>; 23] = [
-    (
-        b"job.aux",
-        b"\\@input{f1.aux}\n\\citation{k}\n\\bibdata{d}\n\\bibstyle{s}\n",
-    ),
+    (b"job.aux", THROUGH_F1),
     (b"s.bst", STYLE),
     (b"d.bib", DATABASE),
     (b"f1.aux", b"\\@input{f2.aux}\n"),
@@ -647,27 +511,13 @@ const LAST_MISSING: &[u8] =
 
 // Runs the whole chain, and the chain without its last file.
 fn chains_end(rt: &(impl Abort + AllocGlobal), chain: &[File<'_>]) -> Result<(), Fail> {
-    let past: &[u8] = b"Ended: limit files, warnings 0, errors 0, steps 0\n";
     let ending = Ending::Past(Limit::Files, 0, 0);
-    ends_as(
-        rt,
-        run_over(rt.alloc(), chain, 9),
-        b"",
-        &[TWENTY_FOUND, past],
-        ending,
-    )?;
+    files_end(rt, chain, b"", &[TWENTY_FOUND], ending)?;
     let Some((_, fewer)) = chain.split_last() else {
         return Ok(());
     };
-    let last: &[u8] = b"Ended: finished, warnings 0, errors 1, steps 4\n";
-    let log = [TWENTY_FOUND, LAST_MISSING, FILES, last];
-    ends_as(
-        rt,
-        run_over(rt.alloc(), fewer, 9),
-        b"a\n",
-        &log,
-        Ending::Finished(1, 4, 1),
-    )
+    let log = [TWENTY_FOUND, LAST_MISSING, FILES];
+    files_end(rt, fewer, b"a\n", &log, Ending::Finished(1, 4, 1))
 }
 
 // Twenty files may be open at once.
@@ -712,20 +562,4 @@ fn says_what_failed(rt: HostRuntime) -> Result<(), Fail> {
             && is_reported(alloc, RunFault::Device, "device error")?
     );
     Ok(())
-}
-
-// Where function literals stand before `if$` alone, no more bodies are open at once than the style has functions: here two of three.
-const TWO_OPEN: [Body; 1] = [(
-    b"#1 { newline$ } 'skip$ if$",
-    9,
-    b"\n",
-    b"Ended: finished, warnings 0, errors 0, steps 7\n",
-    Ending::Finished(0, 7, 2),
-)];
-
-#[test]
-fn keeps_the_laws_of_runs(rt: HostRuntime) -> Result<(), Fail> {
-    btx_run::steps_law();
-    btx_run::direct_law();
-    bodies_end(&rt, &TWO_OPEN)
 }

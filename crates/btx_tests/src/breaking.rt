@@ -5,6 +5,8 @@ use crate::worked_lines::{ROWS, Row};
 use btx_out::{Breaker, LineLength, Over};
 use btx_text::Fault;
 use std::alloc::{AllocError, Global};
+use std::process::Abort;
+use std::test::Fail;
 
 // Whether a byte is whitespace.
 fn is_white(byte: u8) -> bool {
@@ -325,12 +327,13 @@ fn way_holds(alloc: Global, way: Way, texts: Texts<'_>) -> bool {
 }
 
 // Whether a row is broken so in a way.
-fn row_holds(alloc: Global, row: &Row<'_>, way: Way) -> Result<bool, AllocError> {
-    let literal = text_of(alloc, row.literal)?;
-    let sure = text_of(alloc, row.sure)?;
-    let lines = text_of(alloc, row.lines)?;
+fn row_holds(alloc: Global, row: Row, way: Way) -> Result<bool, AllocError> {
+    let (line_length, literal, sure, lines) = row;
+    let literal = text_of(alloc, literal)?;
+    let sure = text_of(alloc, sure)?;
+    let lines = text_of(alloc, lines)?;
     let texts = Texts {
-        line_length: row.line_length,
+        line_length,
         literal: &literal,
         sure: &sure,
         lines: &lines,
@@ -339,9 +342,9 @@ fn row_holds(alloc: Global, row: &Row<'_>, way: Way) -> Result<bool, AllocError>
 }
 
 // The number of the first row that isn't broken so in a way, which is that of all where each is.
-fn first_wrong_row(alloc: Global, rows: &[Row<'_>], way: Way) -> usize {
+fn first_wrong_row(alloc: Global, rows: &[Row], way: Way) -> usize {
     for (number, row) in rows.iter().enumerate() {
-        if row_holds(alloc, row, way) != Ok(true) {
+        if row_holds(alloc, *row, way) != Ok(true) {
             return number;
         }
     }
@@ -352,28 +355,20 @@ fn wrong_row(alloc: Global, way: Way) -> usize {
     first_wrong_row(alloc, &ROWS, way)
 }
 
-#[test]
-fn rows(rt: HostRuntime) {
-    let row = wrong_row(rt.alloc(), Way::Whole);
-    assert!(rt; row == 19, "row {row}");
+const WAYS: [Way; 4] = [Way::Whole, Way::Cuts, Way::ShortWrites, Way::FailedWrites];
+
+// Asserts that each row is broken so in each of these ways.
+fn all_break(rt: &(impl Abort + AllocGlobal), ways: &[Way]) -> Result<(), Fail> {
+    for (number, way) in ways.iter().enumerate() {
+        let row = wrong_row(rt.alloc(), *way);
+        assert!(rt; row == 19, "row {row}, way {number}");
+    }
+    Ok(())
 }
 
 #[test]
-fn cuts(rt: HostRuntime) {
-    let row = wrong_row(rt.alloc(), Way::Cuts);
-    assert!(rt; row == 19, "row {row}");
-}
-
-#[test]
-fn short_writes(rt: HostRuntime) {
-    let row = wrong_row(rt.alloc(), Way::ShortWrites);
-    assert!(rt; row == 19, "row {row}");
-}
-
-#[test]
-fn failed_writes(rt: HostRuntime) {
-    let row = wrong_row(rt.alloc(), Way::FailedWrites);
-    assert!(rt; row == 19, "row {row}");
+fn rows(rt: HostRuntime) -> Result<(), Fail> {
+    all_break(&rt, &WAYS)
 }
 
 // Whether each of these steps holds over a sink that takes 1,000 bytes at a time, and this text stands first in what they write.

@@ -1,14 +1,26 @@
 //! Texts that tests are made of.
 use std::alloc::{AllocError, Global};
 
-/// A byte, and how often it stands there.
-pub type Run = (u8, usize);
+// The digit that a byte is in decimal, if it is one.
+fn digit_of(byte: u8) -> Option<usize> {
+    if byte.is_ascii_digit() {
+        return Some(usize::from(byte.wrapping_sub(b'0')));
+    }
+    None
+}
 
-/// Makes the text of `runs`: each byte as often as it says.
-pub fn text_of(alloc: Global, runs: &[Run]) -> Result<Vec<u8>, AllocError> {
+/// Makes the text that `short` stands for: a byte behind a decimal number stands there as often as that says, and any other once.
+pub fn text_of(alloc: Global, short: &[u8]) -> Result<Vec<u8>, AllocError> {
     let mut text = Vec::new(alloc);
-    for (byte, count) in runs {
-        text.extend_from_slice(&vec![in alloc; *byte; *count]?)?;
+    let mut count: usize = 0;
+    for byte in short {
+        match digit_of(*byte) {
+            Some(digit) => count = count.saturating_mul(10).saturating_add(digit),
+            None => {
+                text.extend_from_slice(&vec![in alloc; *byte; count.max(1)]?)?;
+                count = 0;
+            }
+        }
     }
     Ok(text)
 }
