@@ -26,7 +26,7 @@ KINDS = {
     "a count": ("warnings", r"\bwarnings\b", ("crates/btx_step/specs/", "examples/", "CHANGELOG.md")),
     "a field of the report": ("deepest", r"\bdeepest\b", ("crates/btx_step/", "docs/book/chapters.py")),
     "a limit": ("4,096 open bodies", r"\b4096\b|4_096|4,096",
-                ("crates/btx_command_tests/src/directory.rt", "crates/btx_names/", "crates/btx_text/", "crates/btx_bst/", "docs/SERVICES.md", "library/")),
+                ("crates/btx_command_tests/src/tests/directory.rt", "crates/btx_names/", "crates/btx_text/", "crates/btx_bst/", "docs/SERVICES.md", "library/")),
     "a function of the language": ("add.period$", r"AddPeriod|\badd_period|add\.period\$", ()),
     "a command of styles": ("REVERSE", r"\bREVERSE\b|\bReverse\b|\"reverse\"", ()),
     "a predefined name": ("sort.key$", r"sort\.key\$|\bsort_key|SORT_KEY", ()),

@@ -2,14 +2,4 @@
 #![tactic(auto)]
 
 #[cfg(test)]
-mod command_line;
-#[cfg(test)]
-mod directory;
-#[cfg(test)]
-mod job;
-#[cfg(test)]
-mod outcome;
-#[cfg(test)]
-mod program;
-#[cfg(test)]
-mod scratch;
+mod tests;

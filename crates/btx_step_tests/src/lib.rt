@@ -3,12 +3,4 @@
 #![tactic(auto)]
 
 #[cfg(test)]
-mod limits;
-#[cfg(test)]
-mod missing;
-#[cfg(test)]
-mod plays;
-#[cfg(test)]
-mod rows;
-#[cfg(test)]
-mod sorts;
+mod tests;

@@ -1,5 +1,5 @@
 //! Each function with too few operands, and with operands of each wrong kind.
-use crate::plays::{play, usual};
+use super::plays::{play, usual};
 use std::alloc::{AllocError, Global};
 use std::process::Abort;
 use std::test::Fail;

@@ -1,5 +1,5 @@
 //! Takes the tokens of a function one after another, and makes one text of all that they answer.
-use crate::sorts::order_of;
+use super::sorts::order_of;
 use btx_aux::{AuxJob, MemoryFinder, read_aux};
 use btx_bib::{Library, Source, read_databases};
 use btx_bst::{Style, Token, read_style};

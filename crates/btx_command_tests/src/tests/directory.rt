@@ -1,5 +1,5 @@
 //! Files of a real folder, as they are fetched for a run.
-use crate::scratch::{make_folder, write_file};
+use super::scratch::{make_folder, write_file};
 use btx_command::{DirectoryFinder, History, RealSystem};
 use btx_run::{FetchFault, Finder};
 use std::alloc::{AllocError, Global};

@@ -1,5 +1,5 @@
 //! The order that SORT gives to entries.
-use crate::plays::{Outcome, Trial, last_body, tried, usual};
+use super::plays::{Outcome, Trial, last_body, tried, usual};
 use btx_bst::Token;
 use btx_step::sorting::sort;
 use btx_step::{Job, Next, Said, Store};

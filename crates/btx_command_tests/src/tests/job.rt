@@ -1,5 +1,5 @@
 //! A job of a real folder, with the files that it writes, and what is printed of a log.
-use crate::scratch::{make_folder, write_file};
+use super::scratch::{make_folder, write_file};
 use btx_command::{History, RealSystem, Settings, SystemOutputs, path_of, printed_log, run_job};
 use btx_run::{KeptBytes, LineLength, Options, Report, RunFault, TextMode};
 use std::test::Fail;

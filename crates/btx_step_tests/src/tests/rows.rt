@@ -1,6 +1,6 @@
 //! What each function does with operands that fit, in rows: a body, and what its tokens answer. The rows are from the rules, and no output of
 //! this program.
-use crate::plays::{Setting, play, usual};
+use super::plays::{Setting, play, usual};
 use std::alloc::Global;
 use std::process::Abort;
 use std::test::Fail;

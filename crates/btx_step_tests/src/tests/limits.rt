@@ -1,5 +1,5 @@
 //! Each limit at its number and one past; cuts; and both text modes.
-use crate::plays::{Setting, play, usual};
+use super::plays::{Setting, play, usual};
 use btx_step::KeptBytes;
 use btx_text::TextMode;
 use std::alloc::{AllocError, Global};

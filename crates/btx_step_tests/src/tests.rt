@@ -1,0 +1,6 @@
+//! The tests, by module.
+mod limits;
+mod missing;
+mod plays;
+mod rows;
+mod sorts;
