@@ -80,14 +80,6 @@ fn add_possible(work: &Work, out: &mut Vec<State>, a: State) -> Result<(), Alloc
     Ok(())
 }
 
-/// Adds a description as it is.
-pub fn add_same(work: &Work, b: &State, out: &mut Vec<State>) -> Result<(), AllocError>
-    ensures { IfOk result (λ _. Added b.now out.old.items out.new.items) }
-{
-    let a = b.copy()?;
-    add_sure(work, out, a)
-}
-
 /// Adds a description with a number pushed.
 pub fn add_pushed(work: &Work, b: State, i: usize, out: &mut Vec<State>) -> Result<(), AllocError>
     ensures { IfOk result (λ _. Added (pushing i b) out.old.items out.new.items) }

@@ -107,14 +107,6 @@ impl State {
         }
     }
 
-    /// The same with its numbers in the order of their places, and no others: those that say the same of the same places become equal.
-    pub fn renumbered(self, alloc: Global) -> Result<State, AllocError> {
-        match self.both(alloc, &self, false)? {
-            None => Ok(self),
-            Some(both) => Ok(both.state),
-        }
-    }
-
     /// The same, with the numbers of both.
     pub fn both(
         &self,

@@ -1,25 +1,27 @@
-//! What functions of the style led to in the search for places: where one is met again in an equal description, it leads to the same. No proof rests on it.
+//! What functions of the style led to in the search for places: where one is met again and what it can touch is the same, it leads to the same. No proof rests on it.
+use crate::frames::{End, Frame};
 use crate::likeness::mixed;
-use crate::state::State;
-use crate::tracing::Lanes;
 use crate::work::Room;
 use std::alloc::{AllocError, Global};
 
-/// What a function of the style led to from a description.
+/// What a function of the style led to from what it can touch of a description.
 #[derive(Drop)]
 pub struct Trace {
-    /// The mark of the function and the description.
+    /// The mark of the function and the frame.
     pub mark: u64,
     /// The function.
     pub function: u32,
     /// Whether there was no fault before it.
     pub is_first: bool,
-    /// How deep the search could go, and how many loops could be opened.
+    /// How deep the search went in it, and how many loops were opened in one another.
     pub room: Room,
-    /// The description before it.
-    pub from: State,
-    /// The descriptions after it.
-    pub to: Lanes,
+    /// How many literals on top it touched.
+    pub depth: usize,
+    /// What it can touch of the description before it.
+    pub from: Frame,
+    /// What became of that, where there was no fault before or in the function, and after one.
+    pub good: Vec<End>,
+    pub spoilt: Vec<End>,
     /// How many steps it took.
     pub steps: u64,
     /// The numbers of what was found in it, whether it was known before or not.
@@ -36,16 +38,17 @@ pub struct Traces {
 }
 
 // How many places there are.
-const PLACES: u64 = 4096;
+const PLACES: u64 = 16384;
 
 // The place of what has this mark.
 fn place_of(mark: u64) -> usize {
     (mark % PLACES) as usize
 }
 
-/// A mark of a function of the style and a description, before any fault or after one: that of an equal one is the same.
-pub fn mark_of(a: &State, i: u32, is_first: bool) -> u64 {
-    mixed(a.mark_with(i), if is_first { 1 } else { 2 })
+/// A mark of a function of the style and a frame, before any fault or after one: that of an equal one is the same.
+pub fn mark_of(frame: &Frame, i: u32, is_first: bool) -> u64 {
+    let mark = mixed(mixed(frame.mark(), i as u64), if is_first { 1 } else { 2 });
+    mark ^ (mark >> 31)
 }
 
 impl Traces {
@@ -67,33 +70,31 @@ impl Traces {
         }
     }
 
-    /// The number of what a function led to from an equal description, if that is remembered, where the search could go no deeper than here, and enough steps
-    /// are left.
+    /// The number of what a function led to from an equal frame, if that is remembered, where the search can go as deep as it went, and enough steps are left.
     pub fn recall(
         &self,
-        alloc: Global,
         room: Room,
         steps: u64,
-        a: &State,
+        frame: &Frame,
         i: u32,
         is_first: bool,
         mark: u64,
-    ) -> Result<Option<usize>, AllocError> {
+    ) -> Option<usize> {
         let number = self.number(mark);
         if number == 0 || number > self.entries.len() {
-            return Ok(None);
+            return None;
         }
         let entry = &self.entries[number - 1];
         if entry.mark != mark || entry.function != i || entry.is_first != is_first {
-            return Ok(None);
+            return None;
         }
-        if room.fuel < entry.room.fuel || room.loops < entry.room.loops || steps < entry.steps {
-            return Ok(None);
+        if room.fuel <= entry.room.fuel || room.loops < entry.room.loops || steps < entry.steps {
+            return None;
         }
-        if !a.is_same(alloc, &entry.from)? || !entry.from.is_same(alloc, a)? {
-            return Ok(None);
+        if !entry.from.is_same(frame) {
+            return None;
         }
-        Ok(Some(number - 1))
+        Some(number - 1)
     }
 
     /// Remembers what a function led to, in place of what has its place.

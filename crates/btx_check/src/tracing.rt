@@ -1,11 +1,13 @@
 //! The search for all places where a style may go wrong: it executes functions on descriptions as `running` does, and goes on after a fault. No proof rests on it.
-use crate::adding::{add, add_known, add_same, add_sure};
+use crate::adding::{add, add_known, add_sure};
 use crate::bounds::{not_positive, positive};
 use crate::description::{Upper, Value};
 use crate::findings::{Condition, Fault, Finding, Growth, Operand};
+use crate::frames::{End, Framed};
 use crate::loops::{all_in, copies_of, proposed};
 use crate::memo::LEAST_TOKENS;
 use crate::name_rules::assign;
+use crate::reach::Reaches;
 use crate::rules::{one_step, push_token};
 use crate::state::State;
 use crate::traces::{Trace, Traces, mark_of};
@@ -50,6 +52,50 @@ pub struct Fork {
     pub no: Option<Growth>,
 }
 
+/// The least that was met.
+#[derive(Clone, Copy)]
+pub struct Least {
+    pub fuel: usize,
+    pub loops: usize,
+    pub literals: usize,
+}
+
+impl Least {
+    /// Before a function, where so much can be opened.
+    pub fn new(room: Room) -> Least {
+        Least {
+            fuel: room.fuel,
+            loops: room.loops,
+            literals: usize::MAX,
+        }
+    }
+
+    // Notes that so much could be opened.
+    fn met(&mut self, fuel: usize, loops: usize) {
+        if fuel < self.fuel {
+            self.fuel = fuel;
+        }
+        if loops < self.loops {
+            self.loops = loops;
+        }
+    }
+
+    // Notes that so many literals were left untouched.
+    fn left(&mut self, literals: usize) {
+        if literals < self.literals {
+            self.literals = literals;
+        }
+    }
+
+    // Notes that of so many literals those on top were touched.
+    fn touched(&mut self, height: usize, count: usize) {
+        self.left(height.saturating_add(SPARE_LITERALS).saturating_sub(count));
+    }
+}
+
+// More literals than a function of one step touches, so that it is seen where they are too few.
+const SPARE_LITERALS: usize = 8;
+
 /// What the search goes by.
 #[derive(Drop)]
 pub struct Search {
@@ -65,6 +111,10 @@ pub struct Search {
     pub uneven: Vec<bool>,
     /// What functions of the style led to.
     pub traces: Traces,
+    /// What functions of the style can touch.
+    pub reaches: Reaches,
+    /// The least that was met in the function that is open: how much could still be opened, and how many literals were left untouched, with `SPARE_LITERALS`.
+    pub least: Least,
     /// The numbers of what was found in the functions that are open, whether it was known before or not.
     pub noted: Vec<usize>,
     /// How often the type of the entry was asked for.
@@ -140,6 +190,7 @@ impl Search {
         if !self.work.step() {
             return Ok(());
         }
+        self.least.met(room.fuel, room.loops);
         let room = Room {
             fuel: room.fuel - 1,
             deep: room.deep,
@@ -196,33 +247,59 @@ impl Search {
             let ends = self.body(style, room, a, is_first, i)?;
             return add_ends(&self.work, ends, out);
         }
-        let a = a.renumbered(self.work.alloc)?;
-        let mark = mark_of(&a, i, is_first);
-        match self.traces.recall(
-            self.work.alloc,
-            room,
-            self.work.steps,
-            &a,
-            i,
-            is_first,
-            mark,
-        )? {
-            Some(k) => self.again(k, out),
-            None => self.anew(style, room, a, is_first, i, mark, out),
+        self.reaches.learn(self.work.alloc, style, i)?;
+        let framed = Framed::new(self.work.alloc, &self.reaches, &a, i)?;
+        let mark = mark_of(&framed.frame, i, is_first);
+        match self
+            .traces
+            .recall(room, self.work.steps, &framed.frame, i, is_first, mark)
+        {
+            Some(k) => self.again(k, room, &a, &framed, i, out),
+            None => self.anew(style, room, a, is_first, i, out),
         }
     }
 
     // What a function of the style led to, once more: its steps, what was found in it, and its ends.
-    fn again(&mut self, k: usize, out: &mut Lanes) -> Result<(), AllocError> {
+    fn again(
+        &mut self,
+        k: usize,
+        room: Room,
+        a: &State,
+        framed: &Framed,
+        i: u32,
+        out: &mut Lanes,
+    ) -> Result<(), AllocError> {
         if k >= self.traces.entries.len() {
             return Ok(());
         }
         let entry_type = self.entry_type;
         let trace = &self.traces.entries[k];
         self.work.steps = self.work.steps.saturating_sub(trace.steps);
+        self.least.met(
+            room.fuel.saturating_sub(trace.room.fuel),
+            room.loops.saturating_sub(trace.room.loops),
+        );
+        self.least.touched(a.height(), trace.depth);
         add_types(&mut self.found, &trace.found, entry_type)?;
         self.noted.extend_from_slice(&trace.found)?;
-        add_copies(&self.work, &trace.to, out)
+        put_back(
+            &self.work,
+            &self.reaches,
+            &trace.good,
+            framed,
+            a,
+            i,
+            &mut out.good,
+        )?;
+        put_back(
+            &self.work,
+            &self.reaches,
+            &trace.spoilt,
+            framed,
+            a,
+            i,
+            &mut out.spoilt,
+        )
     }
 
     // A function of the style, of which nothing is remembered. What it leads to is remembered, if the search wasn't given up in it and the type of the entry
@@ -236,7 +313,6 @@ impl Search {
         a: State,
         is_first: bool,
         i: u32,
-        mark: u64,
         out: &mut Lanes,
     ) -> Result<(), AllocError> {
         let steps = self.work.steps;
@@ -244,23 +320,53 @@ impl Search {
         let gave_up = self.work.gave_up;
         self.work.gave_up = false;
         let noted = self.noted.len();
+        let before = mem::replace(&mut self.least, Least::new(room));
         let from = a.copy()?;
         let to = self.body(style, room, a, is_first, i)?;
-        add_copies(&self.work, &to, out)?;
         let found = self.noted_from(noted)?;
-        if self.work.gave_up || self.types_asked != types_asked {
-            self.work.gave_up = self.work.gave_up || gave_up;
-            return Ok(());
+        let least = mem::replace(&mut self.least, before);
+        self.least.met(least.fuel, least.loops);
+        self.least.left(least.literals);
+        if !self.work.gave_up && self.types_asked == types_asked {
+            let used = steps.saturating_sub(self.work.steps);
+            self.remember(room, least, &from, is_first, i, &to, used, found)?;
         }
-        self.work.gave_up = gave_up;
+        self.work.gave_up = self.work.gave_up || gave_up;
+        add_ends(&self.work, to, out)
+    }
+
+    // Remembers what a function of the style led to.
+    fn remember(
+        &mut self,
+        room: Room,
+        least: Least,
+        from: &State,
+        is_first: bool,
+        i: u32,
+        to: &Lanes,
+        steps: u64,
+        found: Vec<usize>,
+    ) -> Result<(), AllocError> {
+        let height = from.height().saturating_add(SPARE_LITERALS);
+        let depth = height.saturating_sub(least.literals);
+        self.reaches.touched(i, depth);
+        let framed = Framed::new(self.work.alloc, &self.reaches, from, i)?;
+        let good = ends_of(&self.work, &self.reaches, &framed, from, &to.good, i)?;
+        let spoilt = ends_of(&self.work, &self.reaches, &framed, from, &to.spoilt, i)?;
         self.traces.keep(Trace {
-            mark,
+            mark: mark_of(&framed.frame, i, is_first),
             function: i,
             is_first,
-            room,
-            from,
-            to,
-            steps: steps.saturating_sub(self.work.steps),
+            room: Room {
+                fuel: room.fuel.saturating_sub(least.fuel),
+                deep: 0,
+                loops: room.loops.saturating_sub(least.loops),
+            },
+            depth,
+            from: framed.frame,
+            good,
+            spoilt,
+            steps,
             found,
         })
     }
@@ -328,6 +434,7 @@ impl Search {
         f: Callee,
         out: &mut Lanes,
     ) -> Result<(), AllocError> {
+        self.touch(&a, f);
         let mut now = a;
         for _ in 0..4 {
             let is_done = match f {
@@ -349,6 +456,14 @@ impl Search {
             }
         }
         Ok(())
+    }
+
+    // Notes how many literals a function of one step touches.
+    fn touch(&mut self, a: &State, f: Callee) {
+        match f {
+            Callee::BuiltIn(BuiltIn::Stack) => self.least.left(0),
+            _ => self.least.touched(a.height(), wants_of(f).count),
+        }
     }
 
     // Notes the fault of a function: the operand that is the reason, if one is.
@@ -402,6 +517,7 @@ impl Search {
         is_first: bool,
         out: &mut Lanes,
     ) -> Result<(), AllocError> {
+        self.least.touched(a.height(), 3);
         let third = number_at(&a, 2);
         match (value_at(&a, 0), value_at(&a, 1), value_of(&a, third), third) {
             (
@@ -514,12 +630,14 @@ impl Search {
         is_first: bool,
         out: &mut Lanes,
     ) -> Result<(), AllocError> {
+        self.least.touched(a.height(), 2);
         match (value_at(&a, 0), value_at(&a, 1)) {
             (Some(Value::Function(g)), Some(Value::Function(f))) => {
                 if room.loops == 0 {
                     self.work.gave_up = true;
                     return Ok(());
                 }
+                self.least.met(room.fuel, room.loops - 1);
                 let inside = Room {
                     fuel: room.fuel,
                     deep: room.deep,
@@ -585,6 +703,7 @@ impl Search {
         ends: &mut Vec<State>,
     ) -> Result<(), AllocError> {
         for a in tests {
+            self.least.touched(a.height(), 1);
             let mut below = a.copy()?;
             let top = below.pop();
             match (value_of(a, top), top) {
@@ -668,15 +787,38 @@ fn add_ends(work: &Work, ends: Lanes, out: &mut Lanes) -> Result<(), AllocError>
     Ok(())
 }
 
-// Adds copies of them.
-fn add_copies(work: &Work, ends: &Lanes, out: &mut Lanes) -> Result<(), AllocError> {
-    for b in ends.good.iter() {
-        add_same(work, b, &mut out.good)?;
-    }
-    for b in ends.spoilt.iter() {
-        add_same(work, b, &mut out.spoilt)?;
+// Adds what became of a frame, in another description.
+fn put_back(
+    work: &Work,
+    reaches: &Reaches,
+    ends: &[End],
+    framed: &Framed,
+    a: &State,
+    i: u32,
+    out: &mut Vec<State>,
+) -> Result<(), AllocError> {
+    for end in ends {
+        let b = end.put_back(work.alloc, reaches, framed, a, i)?;
+        add_sure(work, out, b)?;
     }
     Ok(())
+}
+
+// What became of a frame, in each of these.
+fn ends_of(
+    work: &Work,
+    reaches: &Reaches,
+    framed: &Framed,
+    from: &State,
+    states: &[State],
+    i: u32,
+) -> Result<Vec<End>, AllocError> {
+    let mut ends: Vec<End> = Vec::with_capacity(work.alloc, states.len())?;
+    for a in states {
+        let end = End::new(work.alloc, reaches, framed, from, a, i)?;
+        ends.push(end)?;
+    }
+    Ok(ends)
 }
 
 // Adds a type to others.

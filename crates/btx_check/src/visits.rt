@@ -2,9 +2,10 @@
 use crate::entries::{Known, entries_of, starts_of, unknown_entries};
 use crate::findings::{Cause, Fault, Finding};
 use crate::lasting::{globals_of, lasting};
+use crate::reach::Reaches;
 use crate::state::State;
 use crate::traces::Traces;
-use crate::tracing::{Lanes, Search, mark};
+use crate::tracing::{Lanes, Least, Search, mark};
 use crate::types::meant_types;
 use crate::work::{MOST_LOOPS, MOST_NESTED, Place, Room, Work};
 use btx_bst::{Callee, Item, Style, Token};
@@ -26,6 +27,8 @@ pub fn trace(before: Work, style: &Style) -> Result<Traced, AllocError> {
     let alloc = before.alloc;
     let mut work = Work::new(alloc, before.all_steps);
     work.flags = before.flags;
+    let reaches = Reaches::new(alloc, style, &work.flags)?;
+    let room = most_room();
     let mut search = Search {
         work,
         allowed: meant_types(alloc, style)?,
@@ -35,6 +38,8 @@ pub fn trace(before: Work, style: &Style) -> Result<Traced, AllocError> {
         forks: Vec::new(alloc),
         uneven: vec![in alloc; false; style.functions()]?,
         traces: Traces::new(alloc)?,
+        reaches,
+        least: Least::new(room),
         noted: Vec::new(alloc),
         types_asked: 0,
     };
@@ -77,11 +82,7 @@ impl Search {
 
     // A function, executed for a command, from each of these: where it ends.
     fn visit(&mut self, style: &Style, f: Callee, starts: &[State]) -> Result<Lanes, AllocError> {
-        let room = Room {
-            fuel: MOST_NESTED,
-            deep: 4096,
-            loops: MOST_LOOPS,
-        };
+        let room = most_room();
         let mut out = Lanes::new(self.work.alloc);
         for start in starts {
             self.entry_type = None;
@@ -146,6 +147,15 @@ impl Search {
             causes,
             is_whole: !self.work.gave_up,
         })
+    }
+}
+
+// What can be opened in a command.
+fn most_room() -> Room {
+    Room {
+        fuel: MOST_NESTED,
+        deep: 4096,
+        loops: MOST_LOOPS,
     }
 }
 
