@@ -148,6 +148,7 @@ def judged(crate, body, said):
     if open_goal:
         return Judged(body, goal=goal_of(body, said, open_goal[1]))
     errors = re.findall(rf"(?m)^(?:\./)?(proofs/{folder_of(body)}/\S+?:\d+:\d+: error.*)$", said)
+    errors = [it for it in errors if is_own(body, it)]
     if body.changes_definitions:
         others = re.findall(r"(?m)^(?:\./)?(proofs/\w+\.antt:\d+:\d+: error.*)$", said)
         errors += [it for it in others if not body.is_slip or it.split(":")[0] in reached_by(body)]
@@ -167,6 +168,12 @@ def folder_of(body):
     """The folder of a function's proof, as a pattern: its own, or the one of the functions that it is proved with."""
     *modules, name = map(re.escape, body.function.split("::"))
     return "/".join([*modules, rf"(?:{name}|\+\w+)"])
+
+
+def is_own(body, error):
+    """Whether an error is one of the body's own function: functions that are proved with one another share a folder, and the goals there begin with their names."""
+    goal = re.search(r"/\+\w+/\S+: error: `([^`]*)`", error)
+    return not goal or re.match(rf"(?:\w+::)*{re.escape(body.function.rpartition('::')[2])}-", goal[1]) is not None
 
 
 def checked(kit, crate, texts, functions, kept, over_stand_ins):
