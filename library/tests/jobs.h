@@ -47,7 +47,7 @@ typedef struct {
     outcome whole;
 } asked;
 
-/* Reads the words FOLDER JOB .. OPTION.., of which so many stand between the job and the options, and runs the job. Where there are too few, the test ends with
+/* Reads the words FOLDER JOB .. OPTION.., of which `between` stand between the job and the options, and runs the job. Where there are too few, the test ends with
    a line that says which words it takes. */
 void ask(asked *found, int count, char **words, int between, const char *taken);
 void free_asked(asked *found);

@@ -86,7 +86,7 @@ def iterates(body):
 
 
 def last_error(message, line, file, errors=1):
-    """What is expected where all errors have one message: so many of them, of which the last names this line of this file."""
+    """What is expected where all of `errors` errors have one message, of which the last names this line of this file."""
     return Expected(errors=errors, log={b"Error--%s--line %d of file %s" % (message, line, file): 1})
 
 

@@ -149,7 +149,7 @@ STRINGS_OF_TENS = b"@string{p0={x}}" + b"".join(b"@string{p%d=%s}" % (place + 1,
 
 
 def of_bytes(size):
-    """A value of so many bytes, which joins these strings."""
+    """A value of `size` bytes, which joins these strings."""
     digits = b"%d" % size
     return b" # ".join(b"p%d" % (len(digits) - 1 - place) for place, digit in enumerate(digits) for _ in range(digit - 48))
 

@@ -133,7 +133,7 @@ impl Frame {
 }
 
 impl Framed {
-    /// The frame of a function, where so many literals on top can be touched.
+    /// The frame of the function `i` in the description `a`: the literals on top down to `reaches.depth(i)`, and the names that it reaches.
     pub fn new(alloc: Global, reaches: &Reaches, a: &State, i: u32) -> Result<Framed, AllocError> {
         let touched = reaches.depth(i);
         let is_whole = reaches.is_whole(i) || has_function(a, touched);

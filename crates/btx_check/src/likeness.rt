@@ -1,4 +1,4 @@
-//! Marks by which descriptions that aren't alike are told apart without a look at each literal. No proof rests on them.
+//! Marks that differ for descriptions that aren't alike, so that not each literal need be compared. No proof rests on them.
 use crate::description::{Upper, Value};
 use crate::joining::{Sign, sign_of};
 use btx_bst::Callee;

@@ -1,4 +1,4 @@
-//! What functions of the style can touch: names in the functions that they lead to, and so many literals on top as they were seen to. No proof rests on it.
+//! What functions of the style can touch: names in the functions that they lead to, and as many literals on top as a run touched. No proof rests on it.
 use crate::frames::KINDS;
 use btx_bst::{Callee, Style, Token};
 use std::alloc::{AllocError, Global};
@@ -90,7 +90,7 @@ impl Reaches {
         }
     }
 
-    /// By what a name outside a frame is told apart.
+    /// The mark of the name `k` of a kind outside a frame: names with one mark count as the same.
     pub fn flag(&self, kind: usize, k: usize) -> usize {
         let number = self.number_of(kind, k);
         if number < self.flags.len() {
@@ -109,7 +109,7 @@ impl Reaches {
         }
     }
 
-    /// Notes that a function was seen to touch so many literals.
+    /// Notes that the function `i` touched `depth` literals on top of the stack.
     pub fn touched(&mut self, i: u32, depth: usize) {
         if (i as usize) < self.functions.len() && self.functions[i as usize].depth < depth {
             self.functions[i as usize].depth = depth;

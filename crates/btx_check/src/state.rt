@@ -32,7 +32,7 @@ pub struct State {
     pub(crate) entry_strings: RcSlice<Option<usize>>,
     pub(crate) fields: RcSlice<Option<usize>>,
     pub(crate) entry: bool,
-    // By which those that aren't like it are told apart. No clause speaks of it.
+    // Differs from the mark of a description that isn't like it. No clause speaks of it.
     pub(crate) likeness: Likeness,
 }
 

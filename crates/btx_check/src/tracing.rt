@@ -61,7 +61,7 @@ pub struct Least {
 }
 
 impl Least {
-    /// Before a function, where so much can be opened.
+    /// Before a function, where `room` says how many bodies and loops can be opened.
     pub fn new(room: Room) -> Least {
         Least {
             fuel: room.fuel,
@@ -70,7 +70,7 @@ impl Least {
         }
     }
 
-    // Notes that so much could be opened.
+    // Notes that `fuel` bodies and `loops` loops could be opened.
     fn met(&mut self, fuel: usize, loops: usize) {
         if fuel < self.fuel {
             self.fuel = fuel;
@@ -80,14 +80,14 @@ impl Least {
         }
     }
 
-    // Notes that so many literals were left untouched.
+    // Notes that the lowest `literals` of the stack were left untouched.
     fn left(&mut self, literals: usize) {
         if literals < self.literals {
             self.literals = literals;
         }
     }
 
-    // Notes that of so many literals those on top were touched.
+    // Notes that of `height` literals the `count` on top were touched.
     fn touched(&mut self, height: usize, count: usize) {
         self.left(height.saturating_add(SPARE_LITERALS).saturating_sub(count));
     }
@@ -371,7 +371,7 @@ impl Search {
         })
     }
 
-    // The numbers of what was found since there were so many of them, each once.
+    // The numbers of what was found behind the first `before` notes, each once.
     fn noted_from(&mut self, before: usize) -> Result<Vec<usize>, AllocError> {
         let mut found: Vec<usize> = Vec::new(self.work.alloc);
         if self.noted.len() <= before {

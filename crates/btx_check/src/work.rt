@@ -64,7 +64,7 @@ pub struct Notes {
 }
 
 impl Notes {
-    /// The same where so many more bodies could be opened.
+    /// The same where `bodies` more bodies could be opened.
     pub fn with_room(self, bodies: usize) -> Notes {
         Notes {
             steps: self.steps,
