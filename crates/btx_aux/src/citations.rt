@@ -26,7 +26,8 @@ pub fn read_aux<F: Finder>(alloc: Global, finder: &mut F, top: &[u8]) -> Result<
 
     // Of every finder, whether it shows its content or not: it gave an answer for no name twice, and the job is that of all files that agree with the
     // answers that it gave. After a fault too it had given an answer for no name twice.
-    ensures answered { IfOk result (λ job. ByAnswers (F.content finder.old) (F.answers finder.old) (F.answers finder.new) (AsksTop top.now) (λ files. job ≡ job_of_files files top.now)) }
+    ensures answered { IfOk result (λ job. ByAnswers (F.content finder.old) (F.answers finder.old) (F.answers finder.new) (AsksTop top.now)
+        (λ files. job ≡ job_of_files files top.now)) }
     ensures asked { OnErr result (Answered (F.content finder.old) (F.answers finder.old) (F.answers finder.new) (AsksTopAtMost top.now)) }
     ensures counts { CountsOfOne result (F.failures finder.old, F.failures finder.new) }
     ensures stays { F.content finder.new ≡ F.content finder.old }
@@ -44,7 +45,8 @@ fn read_top<F: Finder>(
     top: &[u8],
 ) -> Result<(), Fault>
     requires { draft.old ≡ blank }
-    ensures draft { OnOk result (ByAnswers (F.content finder.old) (F.answers finder.old) (F.answers finder.new) (AsksTop top.now) (λ files. draft.new ≡ topped files top.now (files top.now))) }
+    ensures draft { OnOk result (ByAnswers (F.content finder.old) (F.answers finder.old) (F.answers finder.new) (AsksTop top.now)
+        (λ files. draft.new ≡ topped files top.now (files top.now))) }
     ensures asked { OnErr result (Answered (F.content finder.old) (F.answers finder.old) (F.answers finder.new) (AsksTopAtMost top.now)) }
     ensures counts { CountsOfOne result (F.failures finder.old, F.failures finder.new) }
     ensures stays { F.content finder.new ≡ F.content finder.old }
@@ -89,7 +91,10 @@ fn close(alloc: Global, draft: Draft) -> Result<AuxJob, Fault>
 
 // Logs what is missing: keys and `*`, a `\bibdata` line, a `\bibstyle` line.
 fn log_missing(alloc: Global, draft: &mut Draft) -> Result<(), AllocError>
-    ensures { OnOk result (draft.new ≡ record draft.old { log = draft.old.log ++ map aux_note_line (missing_notes draft.old.keys draft.old.all draft.old.has_bibdata draft.old.has_bibstyle) }) }
+    ensures { OnOk result (draft.new ≡ record draft.old {
+      log = draft.old.log
+          ++ map aux_note_line (missing_notes draft.old.keys draft.old.all draft.old.has_bibdata draft.old.has_bibstyle);
+    }) }
 {
     let has_citation = !draft.keys.is_empty() || draft.all.is_some();
     log_unless(alloc, draft, has_citation, Note::NoCitations)?;

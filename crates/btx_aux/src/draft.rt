@@ -85,7 +85,10 @@ impl Draft {
         complaint: Complaint<'_>,
         place: Place<'_>,
     ) -> Result<(), AllocError>
-        ensures { OnOk result (self.new ≡ record self.old { log = self.old.log ++ aux_note_line (Wrong (complaint_view complaint.entry) place.entry.line place.entry.file.now) ∷ [] }) }
+        ensures { OnOk result (self.new ≡ record self.old {
+          log = self.old.log
+              ++ aux_note_line (Wrong (complaint_view complaint.entry) place.entry.line place.entry.file.now) ∷ [];
+        }) }
     {
         self.log_note(alloc, Note::Wrong(complaint, place))
     }

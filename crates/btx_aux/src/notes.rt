@@ -104,7 +104,8 @@ fn push_wrong(
     complaint: Complaint<'_>,
     place: Place<'_>,
 ) -> Result<(), AllocError>
-    ensures { OnOk result (text.new.items ≡ text.old.items ++ (aux_complaint_text (complaint_view complaint.entry) ++ place_text place.entry.line place.entry.file.now)) }
+    ensures { OnOk result (text.new.items ≡ text.old.items ++ (aux_complaint_text (complaint_view complaint.entry)
+        ++ place_text place.entry.line place.entry.file.now)) }
 {
     push_complaint(text, complaint)?;
     push_place(text, place)

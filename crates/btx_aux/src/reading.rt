@@ -28,7 +28,8 @@ fn include<F: Finder>(
 ) -> Result<(), Fault>
     requires whole { is_whole draft.old.ending ≡ true }
     requires room { room ≤ 19 }
-    ensures draft { OnOk result (ByAnswers (F.content finder.old) (F.answers finder.old) (F.answers finder.new) (AsksFirst name.now draft.old.files draft.new.files)
+    ensures draft { OnOk result (ByAnswers (F.content finder.old) (F.answers finder.old) (F.answers finder.new)
+        (AsksFirst name.now draft.old.files draft.new.files)
         (λ files. draft.new ≡ included (opened_by files room) draft.old place.entry.file.now place.entry.line name.now (files name.now))) }
     ensures asked { OnErr result (Answered (F.content finder.old) (F.answers finder.old) (F.answers finder.new) (AsksOneAtMost name.now draft.old.files)) }
     ensures counts { CountsOfOne result (F.failures finder.old, F.failures finder.new) }
@@ -54,9 +55,11 @@ pub fn open_file<F: Finder>(
 ) -> Result<(), Fault>
     requires whole { is_whole draft.old.ending ≡ true }
     requires room { room ≤ MOST_OPEN }
-    ensures draft { OnOk result (ByAnswers (F.content finder.old) (F.answers finder.old) (F.answers finder.new) (AddsNames (names_opened draft.old.files name.now room) draft.new.files)
+    ensures draft { OnOk result (ByAnswers (F.content finder.old) (F.answers finder.old) (F.answers finder.new)
+        (AddsNames (names_opened draft.old.files name.now room) draft.new.files)
         (λ files. draft.new ≡ opened_by files room draft.old name.now text.now)) }
-    ensures asked { OnErr result (Answered (F.content finder.old) (F.answers finder.old) (F.answers finder.new) (AsksNew (names_opened draft.old.files name.now room))) }
+    ensures asked { OnErr result (Answered (F.content finder.old) (F.answers finder.old) (F.answers finder.new)
+        (AsksNew (names_opened draft.old.files name.now room))) }
     ensures counts { CountsOfOne result (F.failures finder.old, F.failures finder.new) }
     ensures stays { F.content finder.new ≡ F.content finder.old }
 {

@@ -60,7 +60,8 @@ deeper depth b stays = at (eqb b 123) (eqb b 125) refl where
   at false true is = down depth (ap (λ v. eqb depth 0 && v) (sym is) ∙ stays)
   at false false is = refl
 
-closes : (depth : ℕ) (s : List ℕ) → fold depth_after (suc depth) s ≡ 0 → run_len Closing depth s < length s
+-- so a text whose braces match one depth further in has a brace that closes that depth
+pub closes : (depth : ℕ) (s : List ℕ) → fold depth_after (suc depth) s ≡ 0 → run_len Closing depth s < length s
 unfolding run_len
 closes depth [] low = absurd (omega (arith, low))
 closes depth (b ∷ bs) low = at (eqb depth 0 && eqb b 125) refl (closes (depth_after depth b) bs) where

@@ -36,7 +36,8 @@ no_letter : (b : ℕ) (bs : List ℕ) → length (take_while is_alpha (b ∷ bs)
 no_letter b bs none = at (is_alpha b) refl where
   at : (t : Bool) → is_alpha b ≡ t → t ≡ false
   at false is = refl
-  at true is = let more : length (take_while is_alpha (b ∷ bs)) ≡ suc (length (take_while is_alpha bs)) = ap length (take_while-cons is_alpha b bs) ∙ rw is refl in absurd (omega (arith, none, more))
+  at true is = let more : length (take_while is_alpha (b ∷ bs)) ≡ suc (length (take_while is_alpha bs)) =
+      ap length (take_while-cons is_alpha b bs) ∙ rw is refl in absurd (omega (arith, none, more))
 
 -- a sequence of one byte that is no letter isn't foreign, and the first letter stands behind it
 one_byte : (b : ℕ) (bs : List ℕ) → is_alpha b ≡ false → says (b ∷ []) (b ∷ bs) ≡ begins_lower (b ∷ bs)

@@ -58,7 +58,8 @@ formatted mode names number format text = record { mode = mode; asked = record {
 
 abbrev formatted_names : List Formatted
 formatted_names =
-    formatted Bytes (codes "Charles Louis Xavier Joseph de la Vall{\\'e}e Poussin") (pos 1) (codes "{vv~}{ll}{, jj}{, f}?") (codes "de~la Vall{\\'e}e~Poussin, C. L. X.~J?")
+    formatted Bytes (codes "Charles Louis Xavier Joseph de la Vall{\\'e}e Poussin") (pos 1) (codes "{vv~}{ll}{, jj}{, f}?")
+    (codes "de~la Vall{\\'e}e~Poussin, C. L. X.~J?")
     ∷ formatted Bytes (codes "Jean-Paul Sartre") (pos 1) (codes "{f.~}{ll}") (codes "J.-P. Sartre")
     ∷ formatted Bytes (codes "D. Knuth") (pos 1) (codes "{f.~}{ll}") (codes "D.~Knuth")
     ∷ formatted Bytes (codes "Smith, Jr, John") (pos 1) (codes "{ff }{vv }{ll}{, jj}") (codes "John Smith, Jr")
@@ -79,7 +80,8 @@ formatted_names =
     ∷ formatted Utf8 (0xC3 ∷ 0x89 ∷ codes "lie Cartan") (pos 1) (codes "{f. }{ll}") (codes "Cartan")
     ∷ []
 
-formatted-worked : map (λ row. format_name_text row.mode row.asked.names row.asked.number row.asked.format) formatted_names ≡ map (λ row. row.text) formatted_names
+formatted-worked : map (λ row. format_name_text row.mode row.asked.names row.asked.number row.asked.format) formatted_names
+    ≡ map (λ row. row.text) formatted_names
 unfolding kind_at group_len elements_from elements_of is_separator pieces_from names_of run_len tokens_from tokens_of letters_of is_lower_special first_is_lower
     is_von split_at_comma sections_of ends_in_comma before_final up_to_last before_first part_named piece_item inside_item group_item items_from items_of
     initial_of between_text with_tokens finished piece_text names_before nth_name one_name_text one_name_complaints sequence_size second_fits is_sequence
@@ -104,7 +106,8 @@ complained_names =
     ∷ complained (codes "a, b, c, d,") (pos 1) (codes "{ll}}") (record no_complaints { comma_at_end = true; too_many_commas = true; illegal_format = true })
     ∷ []
 
-complained-worked : map (λ row. format_name_complaints row.asked.names row.asked.number row.asked.format) complained_names ≡ map (λ row. row.wrong) complained_names
+complained-worked : map (λ row. format_name_complaints row.asked.names row.asked.number row.asked.format) complained_names
+    ≡ map (λ row. row.wrong) complained_names
 unfolding kind_at group_len elements_from elements_of is_separator pieces_from names_of run_len tokens_from tokens_of letters_of is_lower_special first_is_lower
     is_von split_at_comma sections_of ends_in_comma before_final up_to_last before_first part_named piece_item inside_item group_item items_from items_of
     initial_of between_text with_tokens finished piece_text names_before nth_name one_name_text one_name_complaints

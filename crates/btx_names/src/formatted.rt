@@ -8,13 +8,11 @@ ghost use Rattle.btx_names.specs.language.Formats.{is_legal};
 ghost use Rattle.btx_names.specs.language.Answered as spec;
 ghost use Rattle.btx_names.specs.language.FormattedNames.{item_text};
 ghost use Rattle.btx_names.specs.refinement.ItemViews.{item_view};
-ghost use Rattle.btx_names.specs.refinement.KeptItems.{kept_view};
 ghost use Rattle.btx_names.specs.refinement.KeptNames.{kept_bytes, kept_parts};
 ghost use Rattle.btx_names.specs.refinement.FormattedNames.{formatted};
 
 use crate::format_items::{Item, Items, is_legal};
 use crate::kept_formats::{KeptFormat, KeptFormats};
-use crate::kept_item::KeptItem;
 use crate::kept_name::KeptName;
 use crate::pieces::{push_literal, push_piece, push_plain};
 use crate::writer::Writer;
@@ -79,31 +77,13 @@ fn write_format(
 #[tactic(auto, using(crate::proofs::KeptItemLemmas::kept_items))]
 fn write_items(writer: &mut Writer, name: &KeptName, format: &KeptFormat) -> Result<bool, Fault>
     requires { writer.old.text.items ≡ [] }
-    ensures { WritesLegal greatest_string (is_legal format.now.text.items) result writer.new.text.items (formatted writer.old.mode (kept_parts name.now) format.now.text.items) }
+    ensures { WritesLegal greatest_string (is_legal format.now.text.items) result writer.new.text.items
+        (formatted writer.old.mode (kept_parts name.now) format.now.text.items) }
 {
     for item in format.items() {
-        push_kept(writer, item, name)?;
+        push_item(writer, item.as_item(), name)?;
     }
     Ok(true)
-}
-
-// Adds what an item of a format that is kept gives. Many parts have no tokens: their pieces give nothing.
-#[inline(always)]
-fn push_kept(writer: &mut Writer, item: &KeptItem, name: &KeptName) -> Result<(), Fault>
-    ensures text { Becomes greatest_string result writer.new.text.items (writer.old.text.items ++ item_text writer.old.mode (kept_parts name.now) (kept_view item.now)) }
-    ensures mode { writer.new.mode ≡ writer.old.mode }
-{
-    match item {
-        KeptItem::Literal(literal) => push_literal(writer, literal),
-        KeptItem::Plain(inside) => push_plain(writer, inside),
-        KeptItem::Name(piece) => {
-            let part = name.part(piece.part);
-            if part.tokens.is_empty() {
-                return Ok(());
-            }
-            push_piece(writer, piece.as_piece(), part)
-        }
-    }
 }
 
 // Writes a name in a format; false where the format is illegal.
@@ -120,7 +100,8 @@ fn write_legal(writer: &mut Writer, name: &KeptName, format: &[u8]) -> Result<bo
 // Writes a name in a format, which is read once; false where an illegal item is met, which may stand behind too long a text.
 fn write_until_illegal(writer: &mut Writer, name: &KeptName, format: &[u8]) -> Result<bool, Fault>
     requires { writer.old.text.items ≡ [] }
-    ensures { WritesUntilIllegal greatest_string (is_legal format.now) result writer.new.text.items (formatted writer.old.mode (kept_parts name.now) format.now) }
+    ensures { WritesUntilIllegal greatest_string (is_legal format.now) result writer.new.text.items
+        (formatted writer.old.mode (kept_parts name.now) format.now) }
 {
     for item in Items::of(format) {
         if matches!(item, Item::Illegal) {
@@ -131,15 +112,23 @@ fn write_until_illegal(writer: &mut Writer, name: &KeptName, format: &[u8]) -> R
     Ok(true)
 }
 
-// Adds what an item of a format gives.
+// Adds what an item of a format gives. Many parts have no tokens: their pieces give nothing.
+#[inline(always)]
 fn push_item(writer: &mut Writer, item: Item<'_>, name: &KeptName) -> Result<(), Fault>
-    ensures text { Becomes greatest_string result writer.new.text.items (writer.old.text.items ++ item_text writer.old.mode (kept_parts name.now) (item_view item.entry)) }
+    ensures text { Becomes greatest_string result writer.new.text.items
+        (writer.old.text.items ++ item_text writer.old.mode (kept_parts name.now) (item_view item.entry)) }
     ensures mode { writer.new.mode ≡ writer.old.mode }
 {
     match item {
         Item::Literal(literal) => push_literal(writer, literal),
         Item::Plain(inside) => push_plain(writer, inside),
-        Item::Name(piece) => push_piece(writer, piece, name.part(piece.part)),
+        Item::Name(piece) => {
+            let part = name.part(piece.part);
+            if part.tokens.is_empty() {
+                return Ok(());
+            }
+            push_piece(writer, piece, part)
+        }
         Item::Illegal => Ok(()),
     }
 }

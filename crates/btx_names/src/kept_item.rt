@@ -48,6 +48,7 @@ impl KeptPiece {
     }
 
     /// The piece.
+    #[inline(always)]
     pub fn as_piece(&self) -> Piece<'_>
         ensures { piece_view result ≡ kept_piece_view self.now }
     {
@@ -75,6 +76,7 @@ impl KeptItem {
     }
 
     /// The item.
+    #[inline(always)]
     pub fn as_item(&self) -> Item<'_>
         ensures { item_view result ≡ kept_view self.now }
     {

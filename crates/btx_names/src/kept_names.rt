@@ -35,7 +35,8 @@ impl KeptNames {
     /// The name of a list that `before` others precede, if there is one. Mostly it is kept.
     #[inline(always)]
     pub fn find(&mut self, names: &[u8], before: usize) -> Result<Option<&KeptName>, AllocError>
-        ensures { IfOk result (λ found. MatchOption found (slice_get (names_of names.now) before ≡ None) (λ kept. slice_get (names_of names.now) before ≡ Some (kept_bytes kept.now))) }
+        ensures { IfOk result (λ found. MatchOption found (slice_get (names_of names.now) before ≡ None)
+            (λ kept. slice_get (names_of names.now) before ≡ Some (kept_bytes kept.now))) }
     {
         let index = index_of(names, before);
         if !self.is_at(index, names, before) {

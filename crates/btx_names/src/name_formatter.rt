@@ -33,15 +33,10 @@ pub struct NameFormatter {
 impl NameFormatter {
     /// With nothing kept, and room for formats.
     pub fn new(alloc: Global) -> NameFormatter {
-        NameFormatter::with_room_for(alloc, MOST_FORMATS)
-    }
-
-    // With nothing kept, and room for `formats` formats.
-    fn with_room_for(alloc: Global, formats: usize) -> NameFormatter {
         NameFormatter {
             alloc,
             names: KeptNames::new(alloc),
-            formats: KeptFormats::new(alloc, formats),
+            formats: KeptFormats::new(alloc, MOST_FORMATS),
             writer: Writer::new(alloc),
         }
     }
@@ -113,19 +108,6 @@ impl NameFormatter {
     }
 }
 
-/// A name of a string in a format, as [`NameFormatter::format`] gives it, with nothing kept before or after.
-pub fn format_name(
-    alloc: Global,
-    names: &[u8],
-    number: i32,
-    format: &[u8],
-    mode: TextMode,
-) -> Result<Answer, Fault>
-    ensures { Answers result (spec.format_name_text mode names.now number format.now) (spec.format_name_complaints names.now number format.now) }
-{
-    NameFormatter::with_room_for(alloc, 0).format(names, number, format, mode)
-}
-
 // How many names stand before the one of a number.
 #[tactic(auto, using(crate::proofs::FormattedLemmas::before_steps), unfolding(crate::specs::language::Answered::names_before))]
 fn names_before(number: i32) -> Option<usize>
@@ -145,7 +127,8 @@ fn name_numbered<'k>(
     names: &[u8],
     number: i32,
 ) -> Result<Option<&'k KeptName>, AllocError>
-    ensures { IfOk result (λ found. MatchOption found (spec.nth_name names.now number ≡ None) (λ kept. spec.nth_name names.now number ≡ Some (kept_bytes kept.now))) }
+    ensures { IfOk result (λ found. MatchOption found (spec.nth_name names.now number ≡ None)
+        (λ kept. spec.nth_name names.now number ≡ Some (kept_bytes kept.now))) }
 {
     match names_before(number) {
         Some(before) => kept.find(names, before),

@@ -110,7 +110,8 @@ impl Draft {
         requires inside { from ≤ length names.now }
         requires held { All (Hold names.now) self.old.tokens.items }
         ensures len { IfOk result (λ len. len ≡ spec.run_len Break 0 (drop from names.now)) }
-        ensures tokens { OnOk result (tokens_in names.now self.new.tokens.items ≡ tokens_in names.now self.old.tokens.items ++ token_at (drop from names.now) ∷ []) }
+        ensures tokens { OnOk result (tokens_in names.now self.new.tokens.items
+            ≡ tokens_in names.now self.old.tokens.items ++ token_at (drop from names.now) ∷ []) }
         ensures held { OnOk result (All (Hold names.now) self.new.tokens.items) }
         ensures followed { OnOk result (self.new ≡ record self.old { tokens = self.new.tokens; followed = self.old.commas }) }
     {

@@ -21,7 +21,8 @@ use btx_text::Fault;
 /// Adds a piece with the tokens of its part; nothing, where the part has none.
 #[inline(never)]
 pub fn push_piece(writer: &mut Writer, piece: Piece<'_>, part: Part<'_>) -> Result<(), Fault>
-    ensures text { Becomes greatest_string result writer.new.text.items (writer.old.text.items ++ spec.piece_text writer.old.mode (piece_view piece.entry) (part_tokens part.entry)) }
+    ensures text { Becomes greatest_string result writer.new.text.items
+        (writer.old.text.items ++ spec.piece_text writer.old.mode (piece_view piece.entry) (part_tokens part.entry)) }
     ensures mode { writer.new.mode ≡ writer.old.mode }
 {
     if part.tokens.is_empty() {
@@ -57,7 +58,8 @@ pub fn push_plain(writer: &mut Writer, inside: &[u8]) -> Result<(), Fault>
 // Adds the tokens of a piece's part. It takes no more turns than it adds bytes, or one.
 fn push_tokens(writer: &mut Writer, piece: Piece<'_>, part: Part<'_>) -> Result<(), Fault>
     ensures text { Becomes (greatest_string + 1) result writer.new.text.items
-        (take writer.old.start writer.old.text.items ++ spec.with_tokens writer.old.mode (piece_view piece.entry) (drop writer.old.start writer.old.text.items) (part_tokens part.entry)) }
+        (take writer.old.start writer.old.text.items ++ spec.with_tokens writer.old.mode (piece_view piece.entry) (drop writer.old.start writer.old.text.items)
+        (part_tokens part.entry)) }
     ensures start { writer.new.start ≡ writer.old.start }
     ensures mode { writer.new.mode ≡ writer.old.mode }
 {
@@ -104,7 +106,8 @@ fn push_shown(
     is_full: bool,
 ) -> Result<(), Fault>
     requires { Hold bytes.now token.now }
-    ensures text { Becomes (greatest_string + 1) result writer.new.text.items (writer.old.text.items ++ laws.shown writer.old.mode is_full (bytes_at bytes.now token.now.text)) }
+    ensures text { Becomes (greatest_string + 1) result writer.new.text.items
+        (writer.old.text.items ++ laws.shown writer.old.mode is_full (bytes_at bytes.now token.now.text)) }
     ensures start { writer.new.start ≡ writer.old.start }
     ensures mode { writer.new.mode ≡ writer.old.mode }
 {

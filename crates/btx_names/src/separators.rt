@@ -11,7 +11,8 @@ use btx_text::depths::depth_after;
 // Whether `and` in any case stands behind the first byte of a text.
 fn has_and(text: &[u8]) -> bool
     requires { 4 ≤ length text.now }
-    ensures { result ≡ (part.is_letter 97 (slice_index text.now 1) && part.is_letter 110 (slice_index text.now 2) && part.is_letter 100 (slice_index text.now 3)) }
+    ensures { result ≡ (part.is_letter 97 (slice_index text.now 1) && part.is_letter 110 (slice_index text.now 2)
+        && part.is_letter 100 (slice_index text.now 3)) }
 {
     matches!(text[1], b'a' | b'A')
         && matches!(text[2], b'n' | b'N')

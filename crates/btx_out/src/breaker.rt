@@ -1,5 +1,6 @@
 //! The breaker of long lines.
-ghost use Rattle.std.specs.Prelude.{◌≡◌, ◌++◌, ◌+◌, ◌<◌, ◌≤◌, [], ℕ, List, Option, length, drop, take, Some, None, IfOk, IfErr, IfSome, IsSome, IsTrue, OnOk, OnErr, Err, is_err, take_while};
+ghost use Rattle.std.specs.Prelude.{◌≡◌, ◌++◌, ◌+◌, ◌<◌, ◌≤◌, [], ℕ, List, Option, length, drop, take, Some, None, IfOk, IfErr, IfSome, IsSome, IsTrue, OnOk};
+ghost use Rattle.std.specs.Prelude.{OnErr, Err, is_err, take_while};
 ghost use Rattle.std.specs.Io.KnownBytes.{Appends};
 ghost use Rattle.arrayvec.specs.ArrayVec.{array_vec_len};
 ghost use Rattle.btx_text.specs.language.Class.{is_white};

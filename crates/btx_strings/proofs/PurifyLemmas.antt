@@ -58,7 +58,8 @@ unfolding elements_from group_len
 in_group start depth [] = refl
 in_group start depth (b ∷ bs) = rw (kind_inside depth b bs, deeper depth, less_deep depth)
     (at (λ d. in_group (start + 1) d bs) (eqb b 123) (eqb b 125) refl refl) where
-      at : ((d : ℕ) → left_at 0 (start + 1) (suc d) bs ≡ flat_map purified_byte (take (group_len (suc d) bs) bs) ++ left_at 0 0 0 (drop (group_len (suc d) bs) bs))
+      at : ((d : ℕ) → left_at 0 (start + 1) (suc d) bs ≡ flat_map purified_byte (take (group_len (suc d) bs) bs)
+          ++ left_at 0 0 0 (drop (group_len (suc d) bs) bs))
           →
           (t u : Bool) → eqb b 123 ≡ t → eqb b 125 ≡ u →
           let kind : Kind = cond t Open (cond u Close Byte) in

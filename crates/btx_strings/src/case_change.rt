@@ -1,6 +1,7 @@
 //! Letters raised and lowered.
-ghost use Rattle.std.specs.Prelude.{◌≡◌, ◌≤◌, ◌+◌, ◌++◌, length, map, OnOk, IsTrue};
+ghost use Rattle.std.specs.Prelude.{◌≡◌, ◌≤◌, ◌+◌, ◌++◌, ◌∷◌, length, map, OnOk, IsTrue};
 ghost use Rattle.std.specs.List.{prefix_len};
+ghost use Rattle.std.specs.Str.{byte};
 ghost use Rattle.btx_strings.specs.language.Answers.{no_complaints};
 ghost use Rattle.btx_strings.specs.refinement.Answers.{Answers};
 ghost use Rattle.btx_strings.specs.language.Case as spec;
@@ -237,6 +238,22 @@ fn push_glyph(
     }
 }
 
+// Adds a control sequence as it stands.
+fn push_sequence(text: &mut Vec<u8>, name: &[u8]) -> Result<(), AllocError>
+    ensures { OnOk result (text.new.items ≡ text.old.items ++ byte "\\" ∷ name.now) }
+{
+    text.push(b'\\')?;
+    text.extend_from_slice(name)
+}
+
+// Adds the control sequence of a foreign letter, which keeps its backslash, in another case.
+fn push_foreign(text: &mut Vec<u8>, conversion: Conversion, name: &[u8]) -> Result<(), AllocError>
+    ensures { OnOk result (text.new.items ≡ text.old.items ++ byte "\\" ∷ map (spec.case_of conversion) name.now) }
+{
+    text.push(b'\\')?;
+    push_cased(text, conversion, name)
+}
+
 // Adds a control sequence in another case.
 #[tactic(auto, unfolding(crate::specs::language::Case::cased_control))]
 fn push_control(text: &mut Vec<u8>, conversion: Conversion, name: &[u8]) -> Result<(), AllocError>
@@ -245,24 +262,12 @@ fn push_control(text: &mut Vec<u8>, conversion: Conversion, name: &[u8]) -> Resu
     match conversion {
         Conversion::Upper => match name {
             b"i" | b"j" | b"ss" => push_cased(text, conversion, name),
-            b"o" | b"oe" | b"ae" | b"aa" | b"l" => {
-                text.push(b'\\')?;
-                push_cased(text, conversion, name)
-            }
-            _ => {
-                text.push(b'\\')?;
-                text.extend_from_slice(name)
-            }
+            b"o" | b"oe" | b"ae" | b"aa" | b"l" => push_foreign(text, conversion, name),
+            _ => push_sequence(text, name),
         },
         Conversion::Title | Conversion::Lower => match name {
-            b"O" | b"OE" | b"AE" | b"AA" | b"L" => {
-                text.push(b'\\')?;
-                push_cased(text, conversion, name)
-            }
-            _ => {
-                text.push(b'\\')?;
-                text.extend_from_slice(name)
-            }
+            b"O" | b"OE" | b"AE" | b"AA" | b"L" => push_foreign(text, conversion, name),
+            _ => push_sequence(text, name),
         },
     }
 }

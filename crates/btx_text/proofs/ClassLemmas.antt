@@ -16,24 +16,6 @@ class_by white alpha digit sep = cond white White (cond alpha Alpha (cond digit 
 abbrev Disjoint : Bool → Bool → Type 0
 Disjoint p q = p ≡ true → q ≡ false
 
-white_alpha : (b : ℕ) → Disjoint (is_white b) (is_alpha b)
-white_alpha b h = grind (arith, nat_tests)
-
-white_digit : (b : ℕ) → Disjoint (is_white b) (is_ascii_digit b)
-white_digit b h = grind (arith, nat_tests)
-
-white_sep : (b : ℕ) → Disjoint (is_white b) (is_sep b)
-white_sep b h = grind (arith, nat_tests)
-
-alpha_digit : (b : ℕ) → Disjoint (is_alpha b) (is_ascii_digit b)
-alpha_digit b h = grind (arith, nat_tests)
-
-alpha_sep : (b : ℕ) → Disjoint (is_alpha b) (is_sep b)
-alpha_sep b h = grind (arith, nat_tests)
-
-digit_sep : (b : ℕ) → Disjoint (is_ascii_digit b) (is_sep b)
-digit_sep b h = grind (arith, nat_tests)
-
 -- the test of a class, by the four
 abbrev passes : Bool → Bool → Bool → Bool → Class → Bool
 passes white alpha digit sep White = white
@@ -42,55 +24,25 @@ passes white alpha digit sep Digit = digit
 passes white alpha digit sep Sep = sep
 passes white alpha digit sep Other = not (white || alpha || digit || sep)
 
--- a test that only one class passes
-only_one : (right : Class) (p : Class → Bool) → p right ≡ true → ((class : Class) → p class ≡ true → class ≡ right) → (class : Class)
-    → IsTrue (p class) ↔ (class ≡ right)
-only_one right p is one class = (λ h. one class h, λ e. rw e is)
-
 one_by : (white alpha digit sep : Bool) → Disjoint white alpha → Disjoint white digit → Disjoint white sep → Disjoint alpha digit → Disjoint alpha sep
     → Disjoint digit sep →
     (class : Class) → IsTrue (passes white alpha digit sep class) ↔ (class ≡ class_by white alpha digit sep)
-one_by true true digit sep wa wd ws ad as' ds = absurd (false≢true (sym (wa refl)))
-one_by true false true sep wa wd ws ad as' ds = absurd (false≢true (sym (wd refl)))
-one_by true false false true wa wd ws ad as' ds = absurd (false≢true (sym (ws refl)))
-one_by true false false false wa wd ws ad as' ds = only_one White (passes true false false false) refl at where
-  at : (class : Class) → passes true false false false class ≡ true → class ≡ White
-  at White h = refl
-  at Alpha h = absurd (false≢true h)
-  at Digit h = absurd (false≢true h)
-  at Sep h = absurd (false≢true h)
-  at Other h = absurd (false≢true h)
-one_by false true true sep wa wd ws ad as' ds = absurd (false≢true (sym (ad refl)))
-one_by false true false true wa wd ws ad as' ds = absurd (false≢true (sym (as' refl)))
-one_by false true false false wa wd ws ad as' ds = only_one Alpha (passes false true false false) refl at where
-  at : (class : Class) → passes false true false false class ≡ true → class ≡ Alpha
-  at White h = absurd (false≢true h)
-  at Alpha h = refl
-  at Digit h = absurd (false≢true h)
-  at Sep h = absurd (false≢true h)
-  at Other h = absurd (false≢true h)
-one_by false false true true wa wd ws ad as' ds = absurd (false≢true (sym (ds refl)))
-one_by false false true false wa wd ws ad as' ds = only_one Digit (passes false false true false) refl at where
-  at : (class : Class) → passes false false true false class ≡ true → class ≡ Digit
-  at White h = absurd (false≢true h)
-  at Alpha h = absurd (false≢true h)
-  at Digit h = refl
-  at Sep h = absurd (false≢true h)
-  at Other h = absurd (false≢true h)
-one_by false false false true wa wd ws ad as' ds = only_one Sep (passes false false false true) refl at where
-  at : (class : Class) → passes false false false true class ≡ true → class ≡ Sep
-  at White h = absurd (false≢true h)
-  at Alpha h = absurd (false≢true h)
-  at Digit h = absurd (false≢true h)
-  at Sep h = refl
-  at Other h = absurd (false≢true h)
-one_by false false false false wa wd ws ad as' ds = only_one Other (passes false false false false) refl at where
-  at : (class : Class) → passes false false false false class ≡ true → class ≡ Other
-  at White h = absurd (false≢true h)
-  at Alpha h = absurd (false≢true h)
-  at Digit h = absurd (false≢true h)
-  at Sep h = absurd (false≢true h)
-  at Other h = refl
+one_by true true digit sep wa wd ws ad as' ds class = absurd (false≢true (sym (wa refl)))
+one_by true false true sep wa wd ws ad as' ds class = absurd (false≢true (sym (wd refl)))
+one_by true false false true wa wd ws ad as' ds class = absurd (false≢true (sym (ws refl)))
+one_by true false false false wa wd ws ad as' ds White = (λ h. refl, λ e. refl)
+one_by true false false false wa wd ws ad as' ds class = (λ h. absurd (false≢true h), λ e. absurd (cc))
+one_by false true true sep wa wd ws ad as' ds class = absurd (false≢true (sym (ad refl)))
+one_by false true false true wa wd ws ad as' ds class = absurd (false≢true (sym (as' refl)))
+one_by false true false false wa wd ws ad as' ds Alpha = (λ h. refl, λ e. refl)
+one_by false true false false wa wd ws ad as' ds class = (λ h. absurd (false≢true h), λ e. absurd (cc))
+one_by false false true true wa wd ws ad as' ds class = absurd (false≢true (sym (ds refl)))
+one_by false false true false wa wd ws ad as' ds Digit = (λ h. refl, λ e. refl)
+one_by false false true false wa wd ws ad as' ds class = (λ h. absurd (false≢true h), λ e. absurd (cc))
+one_by false false false true wa wd ws ad as' ds Sep = (λ h. refl, λ e. refl)
+one_by false false false true wa wd ws ad as' ds class = (λ h. absurd (false≢true h), λ e. absurd (cc))
+one_by false false false false wa wd ws ad as' ds Other = (λ h. refl, λ e. refl)
+one_by false false false false wa wd ws ad as' ds class = (λ h. absurd (false≢true h), λ e. absurd (cc))
 
 passes-of_class : (b : ℕ) (class : Class) → passes (is_white b) (is_alpha b) (is_ascii_digit b) (is_sep b) class ≡ is_of_class class b
 passes-of_class b White = refl
@@ -101,5 +53,6 @@ passes-of_class b Other = refl
 
 pub one_class : (b : ℕ) (class : Class) → IsTrue (is_of_class class b) ↔ (class ≡ class_of b)
 unfolding class_of
-one_class b class = rw (← passes-of_class b class) (one_by (is_white b) (is_alpha b) (is_ascii_digit b) (is_sep b) (white_alpha b) (white_digit b) (white_sep b)
-    (alpha_digit b) (alpha_sep b) (digit_sep b) class)
+one_class b class = rw (← passes-of_class b class) (one_by (is_white b) (is_alpha b) (is_ascii_digit b) (is_sep b)
+    (λ h. grind (arith, nat_tests)) (λ h. grind (arith, nat_tests)) (λ h. grind (arith, nat_tests)) (λ h. grind (arith, nat_tests))
+    (λ h. grind (arith, nat_tests)) (λ h. grind (arith, nat_tests)) class)

@@ -1,5 +1,5 @@
 //! The lines of a log.
-use std::alloc::{AllocError, Global};
+use crate::list::List;
 use std::marker::Model;
 
 /// What a line of the log is.
@@ -55,43 +55,4 @@ impl LogLine {
 }
 
 /// Lines of the log, in order.
-#[derive(Drop)]
-pub struct LogLines {
-    lines: Vec<LogLine>,
-}
-
-impl Model for LogLines {
-    ghost use Rattle.std.specs.Prelude.{List};
-    ghost use Rattle.btx_text.specs.language.LogLines.{Line};
-
-    ghost Value = { List Line };
-
-    ghost view = { λ log. log.lines.items };
-}
-
-impl LogLines {
-    ghost use Rattle.std.specs.Prelude.{◌≡◌, [], ◌∷◌, ◌++◌, OnOk};
-
-    /// No line.
-    pub fn new(alloc: Global) -> Self
-        ensures { result ≡ [] }
-    {
-        LogLines {
-            lines: Vec::new(alloc),
-        }
-    }
-
-    /// Adds a line.
-    pub fn push(&mut self, line: LogLine) -> Result<(), AllocError>
-        ensures { OnOk result (self.new ≡ self.old ++ line ∷ []) }
-    {
-        self.lines.push(line).map_err(AllocError::from)
-    }
-
-    /// All lines.
-    pub fn as_slice(&self) -> &[LogLine]
-        ensures { result.now ≡ self.now }
-    {
-        self.lines.as_slice()
-    }
-}
+pub type LogLines = List<LogLine>;

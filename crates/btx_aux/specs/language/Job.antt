@@ -1,6 +1,7 @@
 -- What the events of a job come to: keys, the place of `*`, databases, the style, the log and the end. Each is a filter of the list
 -- of events, where an event is judged by those before it (of `*` btxdoc speaks in section 2, at `\nocite{*}`).
-use Rattle.std.specs.Prelude.{ℕ, zero, suc, not, ◌&&◌, Bool, true, false, List, [], ◌∷◌, ◌++◌, map, fold, length, Option, None, Some, is_some, is_none, if◌then◌else◌, codes, option_and_then}
+use Rattle.std.specs.Prelude.{ℕ, zero, suc, not, ◌&&◌, Bool, true, false, List, [], ◌∷◌, ◌++◌, map, fold, length, Option, None, Some, is_some, is_none}
+use Rattle.std.specs.Prelude.{if◌then◌else◌, codes, option_and_then}
 use Rattle.std.specs.List.{flat_map}
 use Rattle.std.specs.Str.{bytes_eq}
 use Rattle.std.specs.Option.{option_map_or}
@@ -11,7 +12,9 @@ use Rattle.btx_aux.specs.language.Names.{has_ending, with_ending, with_name_once
 use Rattle.btx_aux.specs.language.Grammar.{Piece, Taken, Cut, EventKind, Cites, Databases, Styles, Includes, Opens, Absent, end_by, is_whole}
 use Rattle.btx_aux.specs.language.Events.{AuxEvent, files_named, job_events}
 use Rattle.btx_text.specs.language.LogLines.{Line, message}
-use Rattle.btx_aux.specs.language.Notes.{AuxComplaint, Slipped, AnotherBibdata, AnotherBibstyle, CaseMismatch, SecondStar, WrongExtension, AlreadyMet, NotOpened, RepeatedDatabase, AuxNote, TopFile, LevelFile, Wrong, NoCitations, NoBibdata, NoBibstyle, aux_note_kind, aux_note_text}
+use Rattle.btx_aux.specs.language.Notes.{AuxComplaint, Slipped, AnotherBibdata, AnotherBibstyle, CaseMismatch, SecondStar, WrongExtension, AlreadyMet}
+use Rattle.btx_aux.specs.language.Notes.{NotOpened, RepeatedDatabase, AuxNote, TopFile, LevelFile, Wrong, NoCitations, NoBibdata, NoBibstyle, aux_note_kind}
+use Rattle.btx_aux.specs.language.Notes.{aux_note_text}
 use Rattle.btx_text.specs.language.Lists.{only_if, is_among}
 
 -- ---- reading along the events
@@ -101,7 +104,8 @@ slip_complaints (Cut slip) = Slipped slip ∷ []
 
 -- what is wrong with an event, given what the events before it come to: the keys, the place of `*`, whether there were a `\bibdata` and a `\bibstyle`
 -- line, and the file names. Each of these is wrong: an error in a piece; a second `*`; a key that is listed in another spelling (`earlier`); a second
--- line of its kind; a database that is named already; an `\@input` of another ending than `.aux`, or of a file that is named already; and a file that isn't there
+-- line of its kind; a database that is named already; an `\@input` of another ending than `.aux`, or of a file that is named already; and a file that isn't
+-- there
 abbrev pub event_complaints : List (List ℕ) → Option ℕ → Bool → Bool → List (List ℕ) → EventKind → List AuxComplaint
 event_complaints keys all bibdata bibstyle files (Cites (Taken key)) =
     if is_star key then only_if (is_some all) SecondStar

@@ -88,7 +88,8 @@ complaining file line draft complaints = record draft { log = with_notes draft.l
 abbrev pub with_database : List ℕ → ℕ → Draft → List ℕ → Draft
 with_database file line draft name =
     let database = with_ending (codes ".bib") name in
-    complaining file line (record draft { databases = with_name_once draft.databases database }) (only_if (is_among draft.databases database) (RepeatedDatabase database))
+    complaining file line (record draft { databases = with_name_once draft.databases database })
+    (only_if (is_among draft.databases database) (RepeatedDatabase database))
 
 -- a draft with the databases of some pieces, and what is wrong with them
 abbrev pub with_databases : List ℕ → ℕ → Draft → List Piece → Draft

@@ -1,7 +1,8 @@
 -- Names of parts of a job's definition.
 use Rattle.std.specs.Prelude.{ℕ, List, length, Option, not, ◌&&◌, Bool, ◌++◌, is_none, map, codes, option_and_then}
 use Rattle.btx_aux.specs.language.Events.{AuxEvent}
-use Rattle.btx_aux.specs.language.Job.{cited_by, cited_keys, star_by, bibdata_of, databases_in, bibstyle_of, is_empty, all_of, end_of, notes_of, AuxJob, first_of, taken_with}
+use Rattle.btx_aux.specs.language.Job.{cited_by, cited_keys, star_by, bibdata_of, databases_in, bibstyle_of, is_empty, all_of, end_of, notes_of, AuxJob}
+use Rattle.btx_aux.specs.language.Job.{first_of, taken_with}
 use Rattle.btx_aux.specs.language.Notes.{AuxNote, NoCitations, NoBibdata, NoBibstyle, aux_note_kind, aux_note_text}
 use Rattle.btx_text.specs.language.Lists.{only_if}
 use Rattle.btx_text.specs.language.LogLines.{message}

@@ -36,7 +36,8 @@ asked_for files opening draft file line (Some name) = included opening draft fil
 -- what is known after all that is said
 unfoldable pub run : Files → Opening → Draft → List AuxEvent → Draft
 run files opening draft [] = draft
-run files opening draft (event ∷ events) = run files opening (asked_for files opening (after draft event) event.file event.line (asked_of draft.files event.word)) events
+run files opening draft (event ∷ events) = run files opening (asked_for files opening (after draft event) event.file event.line
+    (asked_of draft.files event.word)) events
 
 -- what is known after the inside of an opened file
 unfoldable pub within : Bool → Files → Opening → Draft → List ℕ → List ℕ → Draft
@@ -46,7 +47,8 @@ within false files opening draft name text = run files opening draft (said name 
 -- what is known after a file, where this number of the 20 files that may be open at once are not open yet
 unfoldable pub opened_by : Files → ℕ → Opening
 opened_by files zero draft name text = after draft (event_at name 0 Full)
-opened_by files (suc room) draft name text = within (is_too_long text) files (opened_by files room) (after draft (event_at name 0 (Opens (19 - room)))) name text
+opened_by files (suc room) draft name text = within (is_too_long text) files (opened_by files room)
+    (after draft (event_at name 0 (Opens (19 - room)))) name text
 
 -- what is known after the top file
 unfoldable pub topped : Files → List ℕ → Option (List ℕ) → Draft

@@ -3,7 +3,8 @@ use Rattle.btx_aux.specs.declared.notes.Complaint.{Complaint}
 use Rattle.btx_aux.specs.declared.notes.Complaint.TheVariants as given
 use Rattle.btx_aux.specs.declared.notes.Note.{Note}
 use Rattle.btx_aux.specs.declared.notes.Note.TheVariants as note
-use Rattle.btx_aux.specs.language.Notes.{AuxComplaint, Slipped, AnotherBibdata, AnotherBibstyle, CaseMismatch, SecondStar, WrongExtension, AlreadyMet, NotOpened, RepeatedDatabase, AuxNote, TopFile, LevelFile, Wrong, NoCitations, NoBibdata, NoBibstyle}
+use Rattle.btx_aux.specs.language.Notes.{AuxComplaint, Slipped, AnotherBibdata, AnotherBibstyle, CaseMismatch, SecondStar, WrongExtension, AlreadyMet}
+use Rattle.btx_aux.specs.language.Notes.{NotOpened, RepeatedDatabase, AuxNote, TopFile, LevelFile, Wrong, NoCitations, NoBibdata, NoBibstyle}
 
 -- the complaint with the names that it borrows
 abbrev pub complaint_view : Complaint → AuxComplaint

@@ -1,6 +1,7 @@
 -- Which tokens of a name are von (btxhak, section 5.4): those of which the first letter that decides is lower case. A letter in braces is passed
 -- over, one in a special character isn't.
-use Rattle.std.specs.Prelude.{ℕ, ◌==◌, ◌&&◌, Bool, false, List, [], ◌∷◌, Option, Some, None, unwrap_or, length, drop, find, take_while, slice_index, nat_lt, if◌then◌else◌}
+use Rattle.std.specs.Prelude.{ℕ, ◌==◌, ◌&&◌, Bool, false, List, [], ◌∷◌, Option, Some, None, unwrap_or, length, drop, find, take_while, slice_index, nat_lt}
+use Rattle.std.specs.Prelude.{if◌then◌else◌}
 use Rattle.std.specs.Option.{option_map_or}
 use Rattle.btx_text.specs.language.Class.{is_alpha}
 use Rattle.btx_text.specs.declared.element_kind.Kind.{Kind}

@@ -35,7 +35,8 @@ pub record AppendsPartOfRest (old new : Option (List ℕ)) (done whole : List �
 -- the new bytes together, and their sure bytes were written, those of the text before and the rest now.
 abbrev pub Puts : Held → Held → List ℕ → Option (List ℕ) → Option (List ℕ) → Type 0
 Puts old new bytes before after = (text : List ℕ) → old.pending ≡ Some (left old.line_length text) →
-    (new ≡ holding old.line_length (left old.line_length (text ++ bytes))) × AppendsRest before after (sure old.line_length text) (sure old.line_length (text ++ bytes))
+    (new ≡ holding old.line_length (left old.line_length (text ++ bytes)))
+    × AppendsRest before after (sure old.line_length text) (sure old.line_length (text ++ bytes))
 
 -- At a failure a prefix of those bytes was written.
 abbrev pub PutsPart : Held → List ℕ → Option (List ℕ) → Option (List ℕ) → Type 0

@@ -80,8 +80,8 @@ abbrev pub is_title : Conversion → Bool
 is_title Title = true
 is_title _ = false
 
--- an element in another case, given its kind, depth and text. A byte at depth 0 is put in the case of the conversion. A special character changes glyph by glyph; the whitespace
--- directly after a control sequence that becomes letters is removed. Any other element stays as it is
+-- an element in another case, given its kind, depth and text. A byte at depth 0 is put in the case of the conversion. A special character changes glyph by
+-- glyph; the whitespace directly after a control sequence that becomes letters is removed. Any other element stays as it is
 abbrev pub cased_as : Conversion → Kind → ℕ → List ℕ → List ℕ
 cased_as conversion Byte depth text = if depth == 0 then map (case_of conversion) text else text
 cased_as conversion Special depth text =

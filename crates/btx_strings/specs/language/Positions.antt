@@ -1,5 +1,6 @@
 -- The functions on positions of bytes (btxhak, section 5.3, at `add.period$` and `substring$`).
-use Rattle.std.specs.Prelude.{ℕ, zero, suc, ◌-◌, ◌==◌, ◌||◌, Bool, false, not, ℤ, pos, negsuc, List, [], ◌∷◌, ◌++◌, length, take, drop, find, reverse, Option, Some, None, if◌then◌else◌}
+use Rattle.std.specs.Prelude.{ℕ, zero, suc, ◌-◌, ◌==◌, ◌||◌, Bool, false, not, ℤ, pos, negsuc, List, [], ◌∷◌, ◌++◌, length, take, drop, find, reverse, Option}
+use Rattle.std.specs.Prelude.{Some, None, if◌then◌else◌}
 use Rattle.std.specs.Str.{byte}
 
 -- ---- `add.period$`

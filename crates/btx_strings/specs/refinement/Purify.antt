@@ -15,7 +15,8 @@ purified_byte b = purified_class (class_of b) b
 abbrev pub stays : ℕ → Bool
 stays b = is_ascii_lowercase b || b == 32 || is_ascii_uppercase b || is_ascii_digit b || nat_le 128 b
 
--- what `purify$` leaves of a group in braces at depth 0, or of another byte. If it is no special character, each of its bytes leaves what it does outside of groups
+-- what `purify$` leaves of a group in braces at depth 0, or of another byte. If it is no special character, each of its bytes leaves what it does outside of
+-- groups
 abbrev pub purified_group : List ℕ → List ℕ
 purified_group group =
     if starts_with nat_eq group (open_brace ∷ backslash ∷ []) then flat_map purified_glyph (glyphs_of group)

@@ -1,6 +1,6 @@
 -- Failures of a device. A finder and a sink each count how often a call of theirs has failed, and know whether the last one did; a `u64` holds the count, so
--- that from the greatest value it goes to 0. Whatever works with them stops at the first failure: one count at most changes in it, by one, and the call that failed
--- is the last one.
+-- that from the greatest value it goes to 0. Whatever works with them stops at the first failure: one count at most changes in it, by one, and the call that
+-- failed is the last one.
 use Rattle.std.specs.Prelude.{◌≡◌, ℕ, ◌+◌, ◌%◌, ◌^◌, ◌⊎◌, Bool, true, if◌then◌else◌}
 use Rattle.btx_text.specs.declared.failures.Failures.{Failures}
 

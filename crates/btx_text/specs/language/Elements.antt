@@ -1,7 +1,8 @@
 -- The division of a string into elements (btxhak, section 5.3, at the functions on strings, and 5.4; btxdoc, section 4, at special
 -- characters): braces, special characters, characters of more than one byte where the text is UTF-8, and all other bytes, each by itself.
 -- Here the list is computed; what a division is, without saying how it is found, is stated in `laws/Elements.antt`.
-use Rattle.std.specs.Prelude.{ℕ, zero, suc, ◌+◌, ◌-◌, Bool, true, false, ◌&&◌, ◌==◌, nat_eq, List, [], ◌∷◌, length, take, fold, if◌then◌else◌, slice_index, codes}
+use Rattle.std.specs.Prelude.{ℕ, zero, suc, ◌+◌, ◌-◌, Bool, true, false, ◌&&◌, ◌==◌, nat_eq, List, [], ◌∷◌, length, take, fold, if◌then◌else◌, slice_index}
+use Rattle.std.specs.Prelude.{codes}
 use Rattle.std.specs.List.{starts_with}
 use Rattle.std.specs.Str.{byte}
 use Rattle.btx_text.specs.declared.element_kind.Kind.{Kind}

@@ -8,8 +8,8 @@ use Rattle.btx_names.specs.refinement.KeptNames.{kept_parts}
 use Rattle.btx_names.proofs.KeptItemLemmas.{kept_is_legal, items_at, no_items_left, items_fail}
 use Rattle.btx_names.proofs.formatted.write_items.Goals as goal
 
-pub returns-in_err-push_kept : goal.returns-in_err-push_kept
-returns-in_err-push_kept c =
+pub returns-in_err-push_item : goal.returns-in_err-push_item
+returns-in_err-push_item c =
     let format = c.args.format.now in
     let text = item_text c.args.writer.now.mode (kept_parts c.args.name.now) in
     let items = c.items-item-items.result.now in
@@ -22,8 +22,8 @@ returns-in_err-push_kept c =
     let whole = rw split at kept.1 in
     let p = err_from_is_err_and c.from_residual.result c.from_residual.ensures.1 in
     rw (p.1, p.2)
-    (items_fail format.text.items c.loop-item.writer.text.items (text item) (flat_map text rest) _ _ _ c.in_err-push_kept.field-0.0
-    (kept_is_legal format.items.items format.text.items format.read) whole (rw kept.0 at c.in_err-push_kept.ensures.text))
+    (items_fail format.text.items c.loop-item.writer.text.items (text item) (flat_map text rest) _ _ _ c.in_err-push_item.field-0.0
+    (kept_is_legal format.items.items format.text.items format.read) whole (rw (kept.0, c.as_item.ensures) at c.in_err-push_item.ensures.text))
 
 pub returns : goal.returns
 returns c =

@@ -20,7 +20,8 @@ invariant_of-kept c =
     let found = rw c.deref.ensures.value at c.in-Some.ensures in
     let is : IsNameAt names from c.in_ok-read.read = rw c.deref-2.ensures.value at c.in_ok-read.ensures in
     let onwards : drop c.args.before (names_of names) ≡ names_from names from =
-    found_rest (names_of names) (names_from names c.args.known.from) (names_from names from) c.args.known.before c.args.before c.requires.onwards c.requires.earlier
+    found_rest (names_of names) (names_from names c.args.known.from)
+    (names_from names from) c.args.known.before c.args.before c.requires.onwards c.requires.earlier
     found.1 in
     record {
       inside = rw is.begins found.0;
