@@ -454,10 +454,10 @@ skips_one p q h = at h.2 where
   at (inr k) = ap (skipped_from p.number) k.0 ∙ skipped-to_end p.number p.line h.0 h.1 ∙ sym k.1
 
 -- lines up to an empty one, or all
-abbrev Full : List (List ℕ) → Type 0
+abbrev pub Full : List (List ℕ) → Type 0
 Full all = (lines : List (List ℕ)) × AreFull lines × (((after : List (List ℕ)) × (all ≡ lines ++ [] ∷ after)) ⊎ (all ≡ lines))
 
-full_more : (b : ℕ) (bs : List ℕ) (all : List (List ℕ)) → Full all → Full ((b ∷ bs) ∷ all)
+unfoldable pub full_more : (b : ℕ) (bs : List ℕ) (all : List (List ℕ)) → Full all → Full ((b ∷ bs) ∷ all)
 full_more b bs all h = at h.2 where
   full : AreFull ((b ∷ bs) ∷ h.0)
   full = (λ e. absurd (cc), h.1)
@@ -466,7 +466,7 @@ full_more b bs all h = at h.2 where
   at (inl k) = ((b ∷ bs) ∷ h.0, full, inl (k.0, ap (λ (xs : List (List ℕ)). (b ∷ bs) ∷ xs) k.1))
   at (inr k) = ((b ∷ bs) ∷ h.0, full, inr (ap (λ (xs : List (List ℕ)). (b ∷ bs) ∷ xs) k))
 
-full_lines : (all : List (List ℕ)) → Full all
+unfoldable pub full_lines : (all : List (List ℕ)) → Full all
 full_lines [] = ([], tt, inr refl)
 full_lines ([] ∷ all) = ([], tt, inl (all, refl))
 full_lines ((b ∷ bs) ∷ all) = full_more b bs all (full_lines all)

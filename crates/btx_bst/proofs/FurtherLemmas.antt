@@ -123,43 +123,43 @@ pub further-function : (names : Names) (name : List ℕ) (n : ℕ) → n ≡ len
     → IsFurther names (record names { functions = names.functions ++ Some name ∷ [] }) name (User n)
 unfolding named_lower
 further-function names name n len none m =
-    list_grows (built_in m ∷ []) (field names m ∷ entry_integer names m ∷ entry_string names m ∷ global_integer names m ∷ global_string names m ∷ []) User (has_name m) names.functions (Some name) n len
-    (unknown_too names m name none)
+    list_grows (built_in m ∷ []) (field names m ∷ entry_integer names m ∷ entry_string names m ∷ global_integer names m ∷ global_string names m ∷ []) User
+    (has_name m) names.functions (Some name) n len (unknown_too names m name none)
 
 pub further-field : (names : Names) (name : List ℕ) (n : ℕ) → n ≡ length names.fields → named_lower names name ≡ None
     → IsFurther names (record names { fields = names.fields ++ name ∷ [] }) name (Field n)
 unfolding named_lower
 further-field names name n len none m =
-    list_grows (built_in m ∷ function names m ∷ []) (entry_integer names m ∷ entry_string names m ∷ global_integer names m ∷ global_string names m ∷ []) Field (bytes_eq m) names.fields name n len
-    (unknown_too names m name none)
+    list_grows (built_in m ∷ function names m ∷ []) (entry_integer names m ∷ entry_string names m ∷ global_integer names m ∷ global_string names m ∷ []) Field
+    (bytes_eq m) names.fields name n len (unknown_too names m name none)
 
 pub further-entry_integer : (names : Names) (name : List ℕ) (n : ℕ) → n ≡ length names.entry_integers → named_lower names name ≡ None
     → IsFurther names (record names { entry_integers = names.entry_integers ++ name ∷ [] }) name (EntryInteger n)
 unfolding named_lower
 further-entry_integer names name n len none m =
-    list_grows (built_in m ∷ function names m ∷ field names m ∷ []) (entry_string names m ∷ global_integer names m ∷ global_string names m ∷ []) EntryInteger (bytes_eq m) names.entry_integers name n len
-    (unknown_too names m name none)
+    list_grows (built_in m ∷ function names m ∷ field names m ∷ []) (entry_string names m ∷ global_integer names m ∷ global_string names m ∷ []) EntryInteger
+    (bytes_eq m) names.entry_integers name n len (unknown_too names m name none)
 
 pub further-entry_string : (names : Names) (name : List ℕ) (n : ℕ) → n ≡ length names.entry_strings → named_lower names name ≡ None
     → IsFurther names (record names { entry_strings = names.entry_strings ++ name ∷ [] }) name (EntryString n)
 unfolding named_lower
 further-entry_string names name n len none m =
-    list_grows (built_in m ∷ function names m ∷ field names m ∷ entry_integer names m ∷ []) (global_integer names m ∷ global_string names m ∷ []) EntryString (bytes_eq m) names.entry_strings name n len
-    (unknown_too names m name none)
+    list_grows (built_in m ∷ function names m ∷ field names m ∷ entry_integer names m ∷ []) (global_integer names m ∷ global_string names m ∷ []) EntryString
+    (bytes_eq m) names.entry_strings name n len (unknown_too names m name none)
 
 pub further-global_integer : (names : Names) (name : List ℕ) (n : ℕ) → n ≡ length names.global_integers → named_lower names name ≡ None
     → IsFurther names (record names { global_integers = names.global_integers ++ name ∷ [] }) name (GlobalInteger n)
 unfolding named_lower
 further-global_integer names name n len none m =
-    list_grows (built_in m ∷ function names m ∷ field names m ∷ entry_integer names m ∷ entry_string names m ∷ []) (global_string names m ∷ []) GlobalInteger (bytes_eq m) names.global_integers name n len
-    (unknown_too names m name none)
+    list_grows (built_in m ∷ function names m ∷ field names m ∷ entry_integer names m ∷ entry_string names m ∷ []) (global_string names m ∷ []) GlobalInteger
+    (bytes_eq m) names.global_integers name n len (unknown_too names m name none)
 
 pub further-global_string : (names : Names) (name : List ℕ) (n : ℕ) → n ≡ length names.global_strings → named_lower names name ≡ None
     → IsFurther names (record names { global_strings = names.global_strings ++ name ∷ [] }) name (GlobalString n)
 unfolding named_lower
 further-global_string names name n len none m =
-    list_grows (built_in m ∷ function names m ∷ field names m ∷ entry_integer names m ∷ entry_string names m ∷ global_integer names m ∷ []) [] GlobalString (bytes_eq m) names.global_strings name n len
-    (unknown_too names m name none)
+    list_grows (built_in m ∷ function names m ∷ field names m ∷ entry_integer names m ∷ entry_string names m ∷ global_integer names m ∷ []) [] GlobalString
+    (bytes_eq m) names.global_strings name n len (unknown_too names m name none)
 
 -- nameless functions change nothing
 from_pad : {A : Type 0} (p : A → Bool) (i : ℕ) (xs : List A) (k : ℕ) (y : A) → p y ≡ false → position_from p i (xs ++ replicate k y) ≡ position_from p i xs

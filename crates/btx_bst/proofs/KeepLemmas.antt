@@ -15,7 +15,8 @@ use Rattle.btx_bst.specs.language.Names.{Names, named, with_name}
 use Rattle.btx_bst.specs.language.Style.{Style}
 use Rattle.btx_bst.specs.language.BodyText.{body_end}
 use Rattle.btx_bst.specs.language.Turns.{Turn}
-use Rattle.btx_bst.specs.language.Lists.{opening, closing, next_name, quoted_at, letters_at, list_at, Listing, listing, Listed, name_turn, list_turn_in, list_turn, list_end}
+use Rattle.btx_bst.specs.language.Lists.{opening, closing, next_name, quoted_at, letters_at, list_at, Listing, listing, Listed, name_turn, list_turn_in}
+use Rattle.btx_bst.specs.language.Lists.{list_turn, list_end}
 use Rattle.btx_bst.specs.language.Lists.{list_read}
 use Rattle.btx_bst.specs.language.Outcomes.{CommandOutcome, outcome, after_read, with_item}
 use Rattle.btx_bst.specs.language.Commands.{after_list, entry_command, function_command, function_ended, has_read, read_command, run_command, run_of}

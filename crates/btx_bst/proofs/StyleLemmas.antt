@@ -130,25 +130,30 @@ whole-grows names s t e = let h : Adds s.bodies s.texts (inside_of (Whole t)) = 
 
 pub whole-weight : (names : Names) (s t : Inside) → Whole t ≡ body_end names s → size t.place + length t.bodies + length t.texts
     ≤ size s.place + length s.bodies + length s.texts
-whole-weight names s t e = let h : size (inside_of (Whole t)).place + length (inside_of (Whole t)).bodies + length (inside_of (Whole t)).texts ≤ size s.place + length s.bodies + length s.texts = rw (← e) at (body_end-weight names s) in h
+whole-weight names s t e = let h : size (inside_of (Whole t)).place + length (inside_of (Whole t)).bodies + length (inside_of (Whole t)).texts
+    ≤ size s.place + length s.bodies + length s.texts = rw (← e) at (body_end-weight names s) in h
 
 -- ---- what is left after a command, and what the style weighs then
 
 abbrev pub counts : Style → ℕ
 counts style = length style.bodies + length style.texts + names_weight style.names
 
--- the text that is left has a size of at most `n`, the style and it weigh at most `m`, and no function has a name before it has a body
-abbrev pub Within : ℕ → ℕ → CommandOutcome → Type 0
-Within n m o = (size o.place ≤ n) × (weight o.style o.place ≤ m) × (length o.style.names.functions ≤ length o.style.bodies)
+-- no function has a name before it has a body
+abbrev BodiesLead : Style → Type 0
+BodiesLead style = length style.names.functions ≤ length style.bodies
 
-abbrev Base : ℕ → ℕ → Style → Type 0
-Base n m style = (n + counts style ≤ m) × (length style.names.functions ≤ length style.bodies)
+-- the text that is left has a size of at most `n`, the style and it weigh at most `m`, and bodies lead where `F` holds
+abbrev Within : Type 0 → ℕ → ℕ → CommandOutcome → Type 0
+Within F n m o = (size o.place ≤ n) × (weight o.style o.place ≤ m) × (F → BodiesLead o.style)
 
-here : (c : Option Complaint) (style : Style) (p : Place) (n m : ℕ) → size p ≤ n → Base n m style → Within n m (outcome c style p)
+abbrev Base : Type 0 → ℕ → ℕ → Style → Type 0
+Base F n m style = (n + counts style ≤ m) × (F → BodiesLead style)
+
+here : {F : Type 0} (c : Option Complaint) (style : Style) (p : Place) (n m : ℕ) → size p ≤ n → Base F n m style → Within F n m (outcome c style p)
 here c style p n m h b = (h, omega (arith, b.0), b.1)
 
-after_read-within : {A : Type 0} (style : Style) (r : Read A) (go : A → Place → CommandOutcome) (n m : ℕ) → Sized n r → Base n m style
-    → ((x : A) (p : Place) → size p < n → Within n m (go x p)) → Within n m (after_read style r go)
+after_read-within : {F : Type 0} {A : Type 0} (style : Style) (r : Read A) (go : A → Place → CommandOutcome) (n m : ℕ) → Sized n r → Base F n m style
+    → ((x : A) (p : Place) → size p < n → Within F n m (go x p)) → Within F n m (after_read style r go)
 after_read-within style (Took x p) go n m h b k = k x p h
 after_read-within style (Slip c p) go n m h b k = here (Some c) style p n m h b
 
@@ -156,85 +161,85 @@ weaker : {A : Type 0} (m n : ℕ) (r : Read A) → m ≤ n → Sized m r → Siz
 weaker m n (Took x p) h k = omega arith
 weaker m n (Slip c p) h k = omega arith
 
-after_listed-within : (c : Option Complaint) (style : Style) (p : Place) (go : Style → Place → CommandOutcome) (n m : ℕ) → size p ≤ n
-    → size p + counts style ≤ m → length style.names.functions ≤ length style.bodies → Within n m (go style p) → Within n m (after_listed c style p go)
+after_listed-within : {F : Type 0} (c : Option Complaint) (style : Style) (p : Place) (go : Style → Place → CommandOutcome) (n m : ℕ) → size p ≤ n
+    → size p + counts style ≤ m → (F → BodiesLead style) → Within F n m (go style p) → Within F n m (after_listed c style p go)
 after_listed-within None style p go n m h w f k = k
 after_listed-within (Some c) style p go n m h w f k = (h, omega arith, f)
 
-after_list-within : (style : Style) (kind : Kind) (p : Place) (go : Style → Place → CommandOutcome) (n m : ℕ) → size p ≤ n → size p + counts style ≤ m
-    → length style.names.functions ≤ length style.bodies
-    → ((d : Style) (q : Place) → size q ≤ n → size q + counts d ≤ m → length d.names.functions ≤ length d.bodies → Within n m (go d q))
-    → Within n m (after_list style (list_at kind style.names p) go)
-after_list-within style kind p go n m h w f k =
+after_list-within : {F : Type 0} (style : Style) (kind : Kind) (p : Place) (go : Style → Place → CommandOutcome) (n m : ℕ) → size p ≤ n
+    → size p + counts style ≤ m → (F → BodiesLead style)
+    → ((d : Style) (q : Place) → size q ≤ n → size q + counts d ≤ m → (F → BodiesLead d) → Within F n m (go d q))
+    → Within F n m (after_list style (list_at kind style.names p) go)
+after_list-within {F = F} style kind p go n m h w f k =
     let l = list_at kind style.names p in
     let d : Style = record style { names = l.listing.names } in
     let a = list_at-weight kind style.names p in
     let less : size l.listing.place ≤ n = let s = list_at-size kind style.names p in omega arith in
     let heavy : size l.listing.place + counts d ≤ m = omega (arith, a.0) in
-    let named_once : length d.names.functions ≤ length d.bodies = rw a.1 f in
-    after_listed-within l.complaint d l.listing.place go n m less heavy named_once (k d l.listing.place less heavy named_once)
+    let lead : F → BodiesLead d = λ h. rw a.1 (f h) in
+    after_listed-within l.complaint d l.listing.place go n m less heavy lead (k d l.listing.place less heavy lead)
 
-entry-within : (style : Style) (p : Place) → length style.names.functions ≤ length style.bodies → Within (size p) (weight style p) (entry_command style p)
+entry-within : {F : Type 0} (style : Style) (p : Place) → (F → BodiesLead style) → Within F (size p) (weight style p) (entry_command style p)
 unfolding entry_command
-entry-within style p f = at style.has_entry where
-  at : (t : Bool) → Within (size p) (weight style p) (cond t (outcome (Some (Another command.Entry)) style p) (entry_lists style p))
+entry-within {F = F} style p f = at style.has_entry where
+  at : (t : Bool) → Within F (size p) (weight style p) (cond t (outcome (Some (Another command.Entry)) style p) (entry_lists style p))
   at true = (omega arith, omega arith, f)
   at false =
       after_list-within style kind.Field p _ (size p) (weight style p) (omega arith) (omega arith) f (λ d q h w g.
       after_list-within d kind.EntryInteger q _ (size p) (weight style p) h w g (λ d q h w g.
       after_list-within d kind.EntryString q _ (size p) (weight style p) h w g (λ d q h w g. (h, omega arith, g))))
 
-function_ended-within : (style : Style) (name : List ℕ) (s : Inside) (n m : ℕ) → size s.place < n → Base n m style → s.bodies ≡ style.bodies
-    → s.texts ≡ style.texts → Within n m (function_ended style name (body_end style.names s))
-function_ended-within style name s n m h b e g = at (body_end style.names s) (body_end-weight style.names s) (body_end-grows style.names s)
+function_ended-within : {F : Type 0} (style : Style) (name : List ℕ) (s : Inside) (n m : ℕ) → size s.place < n → Base F n m style → s.bodies ≡ style.bodies
+    → s.texts ≡ style.texts → Within F n m (function_ended style name (body_end style.names s))
+function_ended-within {F = F} style name s n m h b e g = at (body_end style.names s) (body_end-weight style.names s) (body_end-grows style.names s)
     (body_end-size style.names s) where
       at : (r : BodyEnd) → size (inside_of r).place + length (inside_of r).bodies + length (inside_of r).texts ≤ size s.place + length s.bodies + length s.texts
-          → Adds s.bodies s.texts (inside_of r) → size (place_of r) ≤ size s.place → Within n m (function_ended style name r)
+          → Adds s.bodies s.texts (inside_of r) → size (place_of r) ≤ size s.place → Within F n m (function_ended style name r)
       at (Broken c i) w a z = (omega arith, omega (arith, b.0), b.1)
       at (Whole i) w a z =
           let eb : length s.bodies ≡ length style.bodies = ap (λ (xs : List FunctionBody). length xs) e in
           let et : length s.texts ≡ length style.texts = ap (λ (xs : List (List ℕ)). length xs) g in
-          let f : length style.names.functions ≤ length i.bodies = omega (arith, a.0.0, eb, b.1) in
+          let f : F → length style.names.functions ≤ length i.bodies = λ h. omega (arith, a.0.0, eb, b.1 h) in
           let l = length-append i.bodies (i.tokens ∷ []) in
-          (omega arith, omega (arith, l, eb, et, b.0), omega (arith, l, padded-len (length i.bodies) style.names.functions name f))
+          (omega arith, omega (arith, l, eb, et, b.0), λ h. omega (arith, l, padded-len (length i.bodies) style.names.functions name (f h)))
 
-function_of-within : (style : Style) (name : List ℕ) (p : Place) (o : Option Callee) (n m : ℕ) → size p < n → Base n m style
-    → Within n m (function_of style name p o)
+function_of-within : {F : Type 0} (style : Style) (name : List ℕ) (p : Place) (o : Option Callee) (n m : ℕ) → size p < n → Base F n m style
+    → Within F n m (function_of style name p o)
 function_of-within style name p (Some other) n m h b = here (Some (Defined name)) style p n m (omega arith) b
 function_of-within style name p None n m h b =
     after_read-within style (closing p) _ n m (weaker (size p) n (closing p) (omega arith) (closing-size p)) b (λ x q k.
     after_read-within style (opening q) _ n m (weaker (size q) n (opening q) (omega arith) (opening-size q)) b (λ x r l.
     function_ended-within style (folded name) (inside_at style r) n m l b refl refl))
 
-function-within : (style : Style) (p : Place) → length style.names.functions ≤ length style.bodies → Within (size p) (weight style p) (function_command style p)
+function-within : {F : Type 0} (style : Style) (p : Place) → (F → BodiesLead style) → Within F (size p) (weight style p) (function_command style p)
 unfolding function_command
-function-within style p f =
-    let b : Base (size p) (weight style p) style = (omega arith, f) in
+function-within {F = F} style p f =
+    let b : Base F (size p) (weight style p) style = (omega arith, f) in
     after_read-within style (opening p) _ (size p) (weight style p) (opening-size p) b (λ x q k.
     after_read-within style (next_name q) _ (size p) (weight style p) (weaker (size q) (size p) (next_name q) (omega arith) (name_at-size q)) b (λ name r l.
     function_of-within style name r (named style.names name) (size p) (weight style p) l b))
 
-read-within : (style : Style) (p : Place) → length style.names.functions ≤ length style.bodies → Within (size p) (weight style p) (read_command style p)
+read-within : {F : Type 0} (style : Style) (p : Place) → (F → BodiesLead style) → Within F (size p) (weight style p) (read_command style p)
 unfolding read_command
-read-within style p f = at (is_some style.before_read) style.has_entry where
-  at : (t u : Bool) → Within (size p) (weight style p)
+read-within {F = F} style p f = at (is_some style.before_read) style.has_entry where
+  at : (t u : Bool) → Within F (size p) (weight style p)
       (cond t (outcome (Some (Another command.Read)) style p)
       (cond u (outcome None (with_item ReadItem (record style { before_read = Some (length style.bodies) })) p) (outcome (Some BeforeEntry) style p)))
   at true u = (omega arith, omega arith, f)
   at false true = (omega arith, omega arith, f)
   at false false = (omega arith, omega arith, f)
 
-run_of-within : (item : Callee → Item) (style : Style) (name : List ℕ) (p : Place) (o : Option Callee) (n m : ℕ) → size p ≤ n → Base n m style
-    → Within n m (run_of item style name p o)
+run_of-within : {F : Type 0} (item : Callee → Item) (style : Style) (name : List ℕ) (p : Place) (o : Option Callee) (n m : ℕ) → size p ≤ n → Base F n m style
+    → Within F n m (run_of item style name p o)
 run_of-within item style name p None n m h b = here (Some (Unknown name)) style p n m h b
 run_of-within item style name p (Some callee) n m h b =
     after_read-within style (closing p) _ n m (weaker (size p) n (closing p) h (closing-size p)) b (λ x q k. (omega arith, omega (arith, b.0), b.1))
 
-run-within : (c : Command) (item : Callee → Item) (style : Style) (p : Place) → length style.names.functions ≤ length style.bodies
-    → Within (size p) (weight style p) (run_command c item style p)
+run-within : {F : Type 0} (c : Command) (item : Callee → Item) (style : Style) (p : Place) → (F → BodiesLead style)
+    → Within F (size p) (weight style p) (run_command c item style p)
 unfolding run_command
-run-within c item style p f = at (is_some style.before_read) where
-  at : (t : Bool) → Within (size p) (weight style p) (cond t (run_name item style p) (outcome (Some (BeforeRead c)) style p))
+run-within {F = F} c item style p f = at (is_some style.before_read) where
+  at : (t : Bool) → Within F (size p) (weight style p) (cond t (run_name item style p) (outcome (Some (BeforeRead c)) style p))
   at true =
       after_read-within style (opening p) _ (size p) (weight style p) (opening-size p) (omega arith, f) (λ x q k.
       after_read-within style (next_name q) _ (size p) (weight style p) (weaker (size q) (size p) (next_name q) (omega arith) (name_at-size q)) (omega arith, f)
@@ -242,20 +247,20 @@ run-within c item style p f = at (is_some style.before_read) where
       run_of-within item style name r (function_in (named style.names name)) (size p) (weight style p) (omega arith) (omega arith, f)))
   at false = (omega arith, omega arith, f)
 
-sort-within : (style : Style) (p : Place) → length style.names.functions ≤ length style.bodies → Within (size p) (weight style p) (sort_command style p)
+sort-within : {F : Type 0} (style : Style) (p : Place) → (F → BodiesLead style) → Within F (size p) (weight style p) (sort_command style p)
 unfolding sort_command
-sort-within style p f = at (is_some style.before_read) where
-  at : (t : Bool) → Within (size p) (weight style p) (cond t (outcome None (with_item SortItem style) p) (outcome (Some (BeforeRead command.Sort)) style p))
+sort-within {F = F} style p f = at (is_some style.before_read) where
+  at : (t : Bool) → Within F (size p) (weight style p) (cond t (outcome None (with_item SortItem style) p) (outcome (Some (BeforeRead command.Sort)) style p))
   at true = (omega arith, omega arith, f)
   at false = (omega arith, omega arith, f)
 
-declare-within : (kind : Kind) (item : Item) (style : Style) (p : Place) → length style.names.functions ≤ length style.bodies
-    → Within (size p) (weight style p) (declare kind item style p)
+declare-within : {F : Type 0} (kind : Kind) (item : Item) (style : Style) (p : Place) → (F → BodiesLead style)
+    → Within F (size p) (weight style p) (declare kind item style p)
 unfolding declare
 declare-within kind item style p f = after_list-within style kind p _ (size p) (weight style p) (omega arith) (omega arith) f (λ d q h w g. (h, omega arith, g))
 
-macro_of-within : (style : Style) (name : List ℕ) (p : Place) (o : Option (List ℕ)) (n m : ℕ) → size p ≤ n → Base n m style
-    → Within n m (macro_of style name p o)
+macro_of-within : {F : Type 0} (style : Style) (name : List ℕ) (p : Place) (o : Option (List ℕ)) (n m : ℕ) → size p ≤ n → Base F n m style
+    → Within F n m (macro_of style name p o)
 macro_of-within style name p (Some other) n m h b = here (Some (Defined name)) style p n m h b
 macro_of-within style name p None n m h b =
     after_read-within style (closing p) _ n m (weaker (size p) n (closing p) h (closing-size p)) b (λ x q k.
@@ -264,10 +269,10 @@ macro_of-within style name p None n m h b =
     after_read-within style (closing s) _ n m (weaker (size s) n (closing s) (omega arith) (closing-size s)) b
     (λ x t u. (omega arith, omega (arith, b.0), b.1)))))
 
-macro-within : (style : Style) (p : Place) → length style.names.functions ≤ length style.bodies → Within (size p) (weight style p) (macro_command style p)
+macro-within : {F : Type 0} (style : Style) (p : Place) → (F → BodiesLead style) → Within F (size p) (weight style p) (macro_command style p)
 unfolding macro_command
-macro-within style p f = at (is_some style.before_read) where
-  at : (t : Bool) → Within (size p) (weight style p) (cond t (outcome (Some AfterRead) style p) (macro_name style p))
+macro-within {F = F} style p f = at (is_some style.before_read) where
+  at : (t : Bool) → Within F (size p) (weight style p) (cond t (outcome (Some AfterRead) style p) (macro_name style p))
   at true = (omega arith, omega arith, f)
   at false =
       after_read-within style (opening p) _ (size p) (weight style p) (opening-size p) (omega arith, f) (λ x q k.
@@ -275,8 +280,8 @@ macro-within style p f = at (is_some style.before_read) where
       (λ name r l.
       macro_of-within style name r (macro_lower style.macros (folded name)) (size p) (weight style p) (omega arith) (omega arith, f)))
 
-command_at-within : (c : Command) (style : Style) (p : Place) → length style.names.functions ≤ length style.bodies
-    → Within (size p) (weight style p) (command_at c style p)
+command_at-within : {F : Type 0} (c : Command) (style : Style) (p : Place) → (F → BodiesLead style)
+    → Within F (size p) (weight style p) (command_at c style p)
 command_at-within command.Entry style p = entry-within style p
 command_at-within command.Function style p = function-within style p
 command_at-within command.Read style p = read-within style p
@@ -288,23 +293,24 @@ command_at-within command.Integers style p = declare-within _ _ style p
 command_at-within command.Strings style p = declare-within _ _ style p
 command_at-within command.Macro style p = macro-within style p
 
-word_outcome-within : (style : Style) (p : Place) (word : List ℕ) (o : Option Command) → length style.names.functions ≤ length style.bodies
-    → Within (size p) (weight style p) (word_outcome style p word o)
+word_outcome-within : {F : Type 0} (style : Style) (p : Place) (word : List ℕ) (o : Option Command) → (F → BodiesLead style)
+    → Within F (size p) (weight style p) (word_outcome style p word o)
 word_outcome-within style p word None f = (omega arith, omega arith, f)
 word_outcome-within style p word (Some c) f = command_at-within c style p f
 
 -- what is left after an item, and the style's weight then
-abbrev StateWithin : ℕ → ℕ → StyleState → Type 0
-StateWithin n m s = (size s.place ≤ n) × (weight s.style s.place ≤ m) × (length s.style.names.functions ≤ length s.style.bodies)
+abbrev StateWithin : Type 0 → ℕ → ℕ → StyleState → Type 0
+StateWithin F n m s = (size s.place ≤ n) × (weight s.style s.place ≤ m) × (F → BodiesLead s.style)
 
-resumed-within : (c : Option Complaint) (style : Style) (p : Place) (n m : ℕ) → Within n m (outcome c style p) → StateWithin n m (resumed c style p)
+resumed-within : {F : Type 0} (c : Option Complaint) (style : Style) (p : Place) (n m : ℕ) → Within F n m (outcome c style p)
+    → StateWithin F n m (resumed c style p)
 resumed-within None style p n m h = h
 resumed-within (Some c) style p n m h = (omega (arith, h.0, skipped-size p), omega (arith, h.1, skipped-size p), h.2)
 
-front_of-within : (style : Style) (p : Place) (n k : ℕ) (go : List ℕ → Place → CommandOutcome) → size p ≤ n → 0 < length p.line → length style.names.functions
-    ≤ length style.bodies → ((word : List ℕ) (q : Place) → Within (size q) (weight style q) (go word q))
+front_of-within : {F : Type 0} (style : Style) (p : Place) (n k : ℕ) (go : List ℕ → Place → CommandOutcome) → size p ≤ n → 0 < length p.line
+    → (F → BodiesLead style) → ((word : List ℕ) (q : Place) → Within F (size q) (weight style q) (go word q))
     → (size (resumed_after (after_read style (front_of NoCommand p p.line k) go)).place < n)
-    × StateWithin n (weight style p) (resumed_after (after_read style (front_of NoCommand p p.line k) go))
+    × StateWithin F n (weight style p) (resumed_after (after_read style (front_of NoCommand p p.line k) go))
 unfolding size
 front_of-within style p n zero go h some f each =
     let a = skipped-size p in (omega arith, (omega arith, omega arith, f))
@@ -315,158 +321,30 @@ front_of-within style p n (suc k) go h some f each =
     let r = resumed-within o.complaint o.style o.place (size q) (weight style q) (each (take (suc k) p.line) q) in
     (omega (arith, l, r.0), (omega (arith, l, r.0), omega (arith, l, r.1), r.2))
 
-item_in-within : (style : Style) (p : Place) (line : List ℕ) (n : ℕ) → p.line ≡ line → size p ≤ n → length style.names.functions ≤ length style.bodies
-    → OnTurn (λ t. (size t.place < n) × StateWithin n (weight style p) t) (λ (r : Style). Unit {0}) (item_in style p line)
+item_in-within : {F : Type 0} (style : Style) (p : Place) (line : List ℕ) (n : ℕ) → p.line ≡ line → size p ≤ n → (F → BodiesLead style)
+    → OnTurn (λ t. (size t.place < n) × StateWithin F n (weight style p) t) (λ (r : Style). Unit {0}) (item_in style p line)
 item_in-within style p [] n e h f = tt
 item_in-within style p (b ∷ bs) n e h f =
     let some : 0 < length p.line = rw e (omega arith) in
     front_of-within style p n (letters_len p.line) _ h some f (λ word q. word_outcome-within style q word (command_named (folded word)) f)
 
--- ---- each item leaves less, whatever the style
-
-after_read-size : {A : Type 0} (style : Style) (r : Read A) (go : A → Place → CommandOutcome) (n : ℕ) → Sized n r
-    → ((x : A) (p : Place) → size p < n → size (go x p).place ≤ n) → size (after_read style r go).place ≤ n
-after_read-size style (Took x p) go n h k = k x p h
-after_read-size style (Slip c p) go n h k = h
-
-after_listed-size : (c : Option Complaint) (style : Style) (p : Place) (go : Style → Place → CommandOutcome) (n : ℕ) → size p ≤ n
-    → ((d : Style) → size (go d p).place ≤ n) → size (after_listed c style p go).place ≤ n
-after_listed-size None style p go n h k = k style
-after_listed-size (Some c) style p go n h k = h
-
-after_list-size : (style : Style) (kind : Kind) (p : Place) (go : Style → Place → CommandOutcome) (n : ℕ) → size p ≤ n
-    → ((d : Style) (q : Place) → size q ≤ n → size (go d q).place ≤ n) → size (after_list style (list_at kind style.names p) go).place ≤ n
-after_list-size style kind p go n h k =
-    let l = list_at kind style.names p in
-    let less : size l.listing.place ≤ n = let s = list_at-size kind style.names p in omega arith in
-    after_listed-size l.complaint (record style { names = l.listing.names }) l.listing.place go n less (λ d. k d l.listing.place less)
-
-entry-size : (style : Style) (p : Place) → size (entry_command style p).place ≤ size p
-unfolding entry_command
-entry-size style p = at style.has_entry where
-  at : (t : Bool) → size (cond t (outcome (Some (Another command.Entry)) style p) (entry_lists style p)).place ≤ size p
-  at true = omega arith
-  at false =
-      after_list-size style kind.Field p _ (size p) (omega arith) (λ d q h.
-      after_list-size d kind.EntryInteger q _ (size p) h (λ d q h.
-      after_list-size d kind.EntryString q _ (size p) h (λ d q h. h)))
-
-function_ended-size : (style : Style) (name : List ℕ) (e : BodyEnd) (n : ℕ) → size (place_of e) ≤ n → size (function_ended style name e).place ≤ n
-function_ended-size style name (Broken c i) n h = h
-function_ended-size style name (Whole i) n h = h
-
-function_of-size : (style : Style) (name : List ℕ) (p : Place) (o : Option Callee) (n : ℕ) → size p ≤ n → size (function_of style name p o).place ≤ n
-function_of-size style name p (Some other) n h = h
-function_of-size style name p None n h =
-    after_read-size style (closing p) _ n (weaker (size p) n (closing p) h (closing-size p)) (λ x q k.
-    after_read-size style (opening q) _ n (weaker (size q) n (opening q) (omega arith) (opening-size q)) (λ x r l.
-    function_ended-size style (folded name) (body_end style.names (inside_at style r)) n (let s = body_end-size style.names (inside_at style r) in
-    omega arith)))
-
-function-size : (style : Style) (p : Place) → size (function_command style p).place ≤ size p
-unfolding function_command
-function-size style p =
-    after_read-size style (opening p) _ (size p) (opening-size p) (λ x q k.
-    after_read-size style (next_name q) _ (size p) (weaker (size q) (size p) (next_name q) (omega arith) (name_at-size q)) (λ name r l.
-    function_of-size style name r (named style.names name) (size p) (omega arith)))
-
-read-size : (style : Style) (p : Place) → size (read_command style p).place ≤ size p
-unfolding read_command
-read-size style p = at (is_some style.before_read) style.has_entry where
-  at : (t u : Bool) → size (cond t (outcome (Some (Another command.Read)) style p)
-      (cond u (outcome None (with_item ReadItem (record style { before_read = Some (length style.bodies) })) p) (outcome (Some BeforeEntry) style p))).place
-      ≤ size p
-  at true u = omega arith
-  at false true = omega arith
-  at false false = omega arith
-
-run_of-size : (item : Callee → Item) (style : Style) (name : List ℕ) (p : Place) (o : Option Callee) (n : ℕ) → size p ≤ n
-    → size (run_of item style name p o).place ≤ n
-run_of-size item style name p None n h = h
-run_of-size item style name p (Some callee) n h =
-    after_read-size style (closing p) _ n (weaker (size p) n (closing p) h (closing-size p)) (λ x q k. omega arith)
-
-run-size : (c : Command) (item : Callee → Item) (style : Style) (p : Place) → size (run_command c item style p).place ≤ size p
-unfolding run_command
-run-size c item style p = at (is_some style.before_read) where
-  at : (t : Bool) → size (cond t (run_name item style p) (outcome (Some (BeforeRead c)) style p)).place ≤ size p
-  at true =
-      after_read-size style (opening p) _ (size p) (opening-size p) (λ x q k.
-      after_read-size style (next_name q) _ (size p) (weaker (size q) (size p) (next_name q) (omega arith) (name_at-size q)) (λ name r l.
-      run_of-size item style name r (function_in (named style.names name)) (size p) (omega arith)))
-  at false = omega arith
-
-sort-size : (style : Style) (p : Place) → size (sort_command style p).place ≤ size p
-unfolding sort_command
-sort-size style p = at (is_some style.before_read) where
-  at : (t : Bool) → size (cond t (outcome None (with_item SortItem style) p) (outcome (Some (BeforeRead command.Sort)) style p)).place ≤ size p
-  at true = omega arith
-  at false = omega arith
-
-declare-size : (kind : Kind) (item : Item) (style : Style) (p : Place) → size (declare kind item style p).place ≤ size p
-unfolding declare
-declare-size kind item style p = after_list-size style kind p _ (size p) (omega arith) (λ d q h. h)
-
-macro_of-size : (style : Style) (name : List ℕ) (p : Place) (o : Option (List ℕ)) (n : ℕ) → size p ≤ n → size (macro_of style name p o).place ≤ n
-macro_of-size style name p (Some other) n h = h
-macro_of-size style name p None n h =
-    after_read-size style (closing p) _ n (weaker (size p) n (closing p) h (closing-size p)) (λ x q k.
-    after_read-size style (opening q) _ n (weaker (size q) n (opening q) (omega arith) (opening-size q)) (λ x r l.
-    after_read-size style (quoted_at r) _ n (weaker (size r) n (quoted_at r) (omega arith) (quoted_at-size r)) (λ text s m.
-    after_read-size style (closing s) _ n (weaker (size s) n (closing s) (omega arith) (closing-size s)) (λ x t o. omega arith))))
-
-macro-size : (style : Style) (p : Place) → size (macro_command style p).place ≤ size p
-unfolding macro_command
-macro-size style p = at (is_some style.before_read) where
-  at : (t : Bool) → size (cond t (outcome (Some AfterRead) style p) (macro_name style p)).place ≤ size p
-  at true = omega arith
-  at false =
-      after_read-size style (opening p) _ (size p) (opening-size p) (λ x q k.
-      after_read-size style (next_name q) _ (size p) (weaker (size q) (size p) (next_name q) (omega arith) (name_at-size q)) (λ name r l.
-      macro_of-size style name r (macro_lower style.macros (folded name)) (size p) (omega arith)))
-
-command_at-size : (c : Command) (style : Style) (p : Place) → size (command_at c style p).place ≤ size p
-command_at-size command.Entry style p = entry-size style p
-command_at-size command.Function style p = function-size style p
-command_at-size command.Read style p = read-size style p
-command_at-size command.Execute style p = run-size _ _ style p
-command_at-size command.Iterate style p = run-size _ _ style p
-command_at-size command.Reverse style p = run-size _ _ style p
-command_at-size command.Sort style p = sort-size style p
-command_at-size command.Integers style p = declare-size _ _ style p
-command_at-size command.Strings style p = declare-size _ _ style p
-command_at-size command.Macro style p = macro-size style p
-
-word_outcome-size : (style : Style) (p : Place) (word : List ℕ) (o : Option Command) → size (word_outcome style p word o).place ≤ size p
-word_outcome-size style p word None = omega arith
-word_outcome-size style p word (Some c) = command_at-size c style p
-
-resumed-size : (c : Option Complaint) (style : Style) (p : Place) → size (resumed c style p).place ≤ size p
-resumed-size None style p = omega arith
-resumed-size (Some c) style p = omega (arith, skipped-size p)
-
-front_of-less : (style : Style) (p : Place) (n k : ℕ) (go : List ℕ → Place → CommandOutcome) → size p ≤ n → 0 < length p.line
-    → ((word : List ℕ) (q : Place) → size (go word q).place ≤ size q) → size (resumed_after (after_read style (front_of NoCommand p p.line k) go)).place < n
-unfolding size
-front_of-less style p n zero go h some each = omega (arith, skipped-size p)
-front_of-less style p n (suc k) go h some each =
-    let q = further p (drop (suc k) p.line) in
-    let o = go (take (suc k) p.line) q in
-    omega (arith, length-drop (suc k) p.line, each (take (suc k) p.line) q, resumed-size o.complaint o.style o.place)
-
-item_in-size : (style : Style) (p : Place) (line : List ℕ) (n : ℕ) → p.line ≡ line → size p ≤ n
-    → OnTurn (λ t. size t.place < n) (λ (r : Style). Unit {0}) (item_in style p line)
-item_in-size style p [] n e h = tt
-item_in-size style p (b ∷ bs) n e h =
-    let some : 0 < length p.line = rw e (omega arith) in
-    front_of-less style p n (letters_len p.line) _ h some (λ word q. word_outcome-size style q word (command_named (folded word)))
-
 abbrev left_in : StyleState → ℕ
 left_in s = size s.place
 
-item_turn-size : (s : StyleState) → OnTurn (λ t. left_in t < left_in s) (λ (r : Style). Unit {0}) (item_turn s)
+-- an item leaves less, and bodies lead as they did
+abbrev ItemTurn : StyleState → Turn StyleState Style → Type 0
+ItemTurn s t =
+    OnTurn (λ u. (size u.place < size s.place) × StateWithin (BodiesLead s.style) (size s.place) (weight s.style (ink s.place)) u) (λ (r : Style). Unit {0}) t
+
+item_turn-within : (s : StyleState) → ItemTurn s (item_turn s)
 unfolding item_turn
-item_turn-size s = item_in-size s.style (ink s.place) (ink s.place).line (size s.place) refl (ink-size s.place)
+item_turn-within s = item_in-within s.style (ink s.place) (ink s.place).line (size s.place) refl (ink-size s.place) (λ h. h)
+
+item_turn-size : (s : StyleState) → OnTurn (λ t. left_in t < left_in s) (λ (r : Style). Unit {0}) (item_turn s)
+item_turn-size s = at (item_turn s) (item_turn-within s) where
+  at : (t : Turn StyleState Style) → ItemTurn s t → OnTurn (λ u. left_in u < left_in s) (λ (r : Style). Unit {0}) t
+  at (Again u) h = h.0
+  at (Ends r) h = tt
 
 pub style_from-next : (s : StyleState) → style_from s ≡ after_turn style_from (item_turn s)
 unfolding style_from
@@ -483,12 +361,8 @@ item_turn-less s t e = let h : OnTurn (λ t. left_in t < left_in s) (λ (r : Sty
 
 -- a style keeps its room, item by item
 pub item_turn-room : (s t : StyleState) → item_turn s ≡ Again t → HasRoom s.style s.place → HasRoom t.style t.place
-unfolding item_turn
 item_turn-room s t e h =
-    let p = ink s.place in
-    let i = ink-size s.place in
-    let k : OnTurn (λ u. (size u.place < size s.place) × StateWithin (size s.place) (weight s.style p) u) (λ (r : Style). Unit {0}) (Again t) =
-    rw e at (item_in-within s.style p p.line (size s.place) refl i h.1) in
-    (omega (arith, h.0, k.1.1), k.1.2)
+    let k : ItemTurn s (Again t) = rw e at (item_turn-within s) in
+    (omega (arith, h.0, k.1.1, ink-size s.place), k.1.2 h.1)
 
 pub ruleset style_steps = (style_from-again, style_from-ends, item_turn-less)

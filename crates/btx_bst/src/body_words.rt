@@ -33,7 +33,8 @@ pub fn body<'a>(
     items: &mut Vec<Item<'a>>,
 ) -> Result<Option<Complaint<'a>>, AllocError>
     requires { body_weight cursor.old bodies.old (texts_view texts.old.items) < 2 ^ 32 }
-    ensures { IfOk result (λ complaint. body_end_view complaint (inside_view cursor.new current.new bodies.new texts.new.items items.new.items) ≡ body_end names.now (inside_view cursor.old current.old bodies.old texts.old.items items.old.items)) }
+    ensures { IfOk result (λ complaint. body_end_view complaint (inside_view cursor.new current.new bodies.new texts.new.items items.new.items)
+        ≡ body_end names.now (inside_view cursor.old current.old bodies.old texts.old.items items.old.items)) }
 {
     loop {
         match turn(alloc, cursor, names, current, bodies, texts, items)? {
@@ -64,7 +65,8 @@ fn turn<'a>(
     items: &mut Vec<Item<'a>>,
 ) -> Result<Turn<'a>, AllocError>
     requires { body_weight cursor.old bodies.old (texts_view texts.old.items) < 2 ^ 32 }
-    ensures { IfOk result (λ turn. body_turn_view turn (inside_view cursor.new current.new bodies.new texts.new.items items.new.items) ≡ body_turn names.now (inside_view cursor.old current.old bodies.old texts.old.items items.old.items)) }
+    ensures { IfOk result (λ turn. body_turn_view turn (inside_view cursor.new current.new bodies.new texts.new.items items.new.items)
+        ≡ body_turn names.now (inside_view cursor.old current.old bodies.old texts.old.items items.old.items)) }
 {
     match cursor.word() {
         Word::Open => current.open()?,
@@ -93,7 +95,9 @@ fn turn<'a>(
 // Takes a `}`: the innermost function is defined, if it is a nameless one.
 fn close<'a>(current: &mut Open, bodies: &mut Bodies) -> Result<Turn<'a>, AllocError>
     requires { length bodies.old < 2 ^ 32 }
-    ensures { IfOk result (λ turn. (place : Place) → (texts : List (List ℕ)) → (items : List spec.Item) → body_turn_view turn (inside_of_reader place current.new bodies.new texts items) ≡ closed_inside (inside_of_reader place current.old bodies.old texts items) current.old.around) }
+    ensures { IfOk result (λ turn. (place : Place) → (texts : List (List ℕ)) → (items : List spec.Item)
+        → body_turn_view turn (inside_of_reader place current.new bodies.new texts items)
+        ≡ closed_inside (inside_of_reader place current.old bodies.old texts items) current.old.around) }
 {
     if !current.is_nested() {
         return Ok(Turn::Whole);

@@ -1,7 +1,7 @@
 //! A place in a style's text, from which words are read.
-ghost use Rattle.std.specs.Prelude.{◌≡◌};
+ghost use Rattle.std.specs.Prelude.{◌≡◌, ◌≤◌, length};
 ghost use Rattle.btx_bst.specs.language.Places.{Place, ink, skipped};
-ghost use Rattle.btx_bst.specs.language.Lists.{brace_in, closing, letters_at, next_name, opening, quoted_at};
+ghost use Rattle.btx_bst.specs.language.Lists.{brace_in, closing, front_of, letters_at, next_name, opening, quoted_at};
 ghost use Rattle.btx_bst.specs.language.Words.{met_at};
 ghost use Rattle.btx_bst.specs.refinement.Views.{complaint_view, read_text, read_unit, word_view};
 ghost use Rattle.btx_bst.specs.laws.Places.{beginning};
@@ -132,6 +132,19 @@ impl<'a> Cursor<'a> {
         self.brace(b'}', Complaint::NoClose)
     }
 
+    // Takes the first `len` bytes of the line, or complains where that is none.
+    fn front(&mut self, len: usize, complaint: Complaint<'a>) -> Result<&'a [u8], Complaint<'a>>
+        requires { len ≤ length self.old.line }
+        ensures { read_text result self.new ≡ front_of (complaint_view complaint.entry) self.old self.old.line len }
+    {
+        if len == 0 {
+            return Err(complaint);
+        }
+        let (front, rest) = self.line.split_at(len);
+        self.line = rest;
+        Ok(front)
+    }
+
     /// Takes a name.
     pub fn name(&mut self) -> Result<&'a [u8], Complaint<'a>>
         ensures { read_text result self.new ≡ next_name self.old }
@@ -140,13 +153,7 @@ impl<'a> Cursor<'a> {
         if self.line.is_empty() {
             return Err(Complaint::EndOfFile);
         }
-        let len = name_len(self.line);
-        if len == 0 {
-            return Err(Complaint::NoName);
-        }
-        let (name, rest) = self.line.split_at(len);
-        self.line = rest;
-        Ok(name)
+        self.front(name_len(self.line), Complaint::NoName)
     }
 
     /// Takes a text in quotes.
@@ -176,13 +183,7 @@ impl<'a> Cursor<'a> {
     pub fn letters(&mut self) -> Result<&'a [u8], Complaint<'a>>
         ensures { read_text result self.new ≡ letters_at self.old }
     {
-        let len = letters_len(self.line);
-        if len == 0 {
-            return Err(Complaint::NoCommand);
-        }
-        let (letters, rest) = self.line.split_at(len);
-        self.line = rest;
-        Ok(letters)
+        self.front(letters_len(self.line), Complaint::NoCommand)
     }
 
     /// What is left of the line.

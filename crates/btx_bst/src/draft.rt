@@ -1,6 +1,7 @@
 //! A style as far as it has been read, command by command.
 ghost use Rattle.std.specs.Prelude.{◌≡◌, IfOk, OnOk, None};
-ghost use Rattle.btx_bst.specs.language.Commands.{command_at, entry_command, run_command, sort_command, declare, macro_command, function_command, function_ended, function_in, read_command, inside_at};
+ghost use Rattle.btx_bst.specs.language.Commands.{command_at, entry_command, run_command, sort_command, declare, macro_command, function_command};
+ghost use Rattle.btx_bst.specs.language.Commands.{function_ended, function_in, read_command, inside_at};
 ghost use Rattle.btx_bst.specs.language.BodyText.{body_end};
 ghost use Rattle.btx_bst.specs.refinement.Views.{item_view, run_item};
 ghost use Rattle.btx_bst.specs.language.Places.{Place};
@@ -29,6 +30,15 @@ macro_rules! taken {
         match $read {
             Ok(value) => value,
             Err(complaint) => return Ok(Some(complaint)),
+        }
+    };
+}
+
+// Takes a part of a command whole. Where something is wrong in it, the function that calls this is left with that.
+macro_rules! whole {
+    ($part:expr) => {
+        if let Some(complaint) = $part? {
+            return Ok(Some(complaint));
         }
     };
 }
@@ -102,15 +112,9 @@ impl<'a> Draft<'a> {
         if self.has_entry {
             return Ok(Some(Complaint::Another(Command::Entry)));
         }
-        if let Some(complaint) = list(alloc, cursor, &mut self.names, Kind::Field)? {
-            return Ok(Some(complaint));
-        }
-        if let Some(complaint) = list(alloc, cursor, &mut self.names, Kind::EntryInteger)? {
-            return Ok(Some(complaint));
-        }
-        if let Some(complaint) = list(alloc, cursor, &mut self.names, Kind::EntryString)? {
-            return Ok(Some(complaint));
-        }
+        whole!(list(alloc, cursor, &mut self.names, Kind::Field));
+        whole!(list(alloc, cursor, &mut self.names, Kind::EntryInteger));
+        whole!(list(alloc, cursor, &mut self.names, Kind::EntryString));
         self.items.push(Item::Entry)?;
         self.has_entry = true;
         Ok(None)
@@ -135,7 +139,8 @@ impl<'a> Draft<'a> {
     // Takes the rest of an EXECUTE, ITERATE or REVERSE.
     #[tactic(auto, unfolding(crate::specs::language::Commands::run_command))]
     fn run(&mut self, alloc: Global, cursor: &mut Cursor<'a>, command: Command) -> Taken<'a>
-        ensures { IfOk result (λ complaint. outcome_view complaint (draft_view self.new) cursor.new ≡ run_command command (run_item command) (draft_view self.old) cursor.old) }
+        ensures { IfOk result (λ complaint. outcome_view complaint (draft_view self.new) cursor.new
+            ≡ run_command command (run_item command) (draft_view self.old) cursor.old) }
     {
         if self.before_read.is_none() {
             return Ok(Some(Complaint::BeforeRead(command)));
@@ -172,11 +177,10 @@ impl<'a> Draft<'a> {
         item: Item<'a>,
     ) -> Taken<'a>
         requires { HasRoom (draft_view self.old) cursor.old }
-        ensures { IfOk result (λ complaint. outcome_view complaint (draft_view self.new) cursor.new ≡ declare kind (item_view item.entry) (draft_view self.old) cursor.old) }
+        ensures { IfOk result (λ complaint. outcome_view complaint (draft_view self.new) cursor.new
+            ≡ declare kind (item_view item.entry) (draft_view self.old) cursor.old) }
     {
-        if let Some(complaint) = list(alloc, cursor, &mut self.names, kind)? {
-            return Ok(Some(complaint));
-        }
+        whole!(list(alloc, cursor, &mut self.names, kind));
         self.items.push(item)?;
         Ok(None)
     }
@@ -225,7 +229,8 @@ impl<'a> Draft<'a> {
     fn define(&mut self, alloc: Global, cursor: &mut Cursor<'a>, lowered: Lowered<'a>) -> Taken<'a>
         requires new { named_lower (draft_view self.old).names lowered ≡ None }
         requires room { HasRoom (draft_view self.old) cursor.old }
-        ensures { IfOk result (λ complaint. outcome_view complaint (draft_view self.new) cursor.new ≡ function_ended (draft_view self.old) lowered.entry (body_end (draft_view self.old).names (inside_at (draft_view self.old) cursor.old))) }
+        ensures { IfOk result (λ complaint. outcome_view complaint (draft_view self.new) cursor.new
+            ≡ function_ended (draft_view self.old) lowered.entry (body_end (draft_view self.old).names (inside_at (draft_view self.old) cursor.old))) }
     {
         let count = self.bodies.len();
         let texts = self.texts.len();

@@ -12,6 +12,18 @@ use crate::integers::integer_at;
 use crate::word::Word;
 use btx_text::classify::{is_name_byte, is_white};
 
+// How many bytes of a line stand before the first at which it ends.
+macro_rules! len_till {
+    ($line:ident, $byte:ident, $ends:expr) => {{
+        for (i, &$byte) in $line.iter().enumerate() {
+            if $ends {
+                return i;
+            }
+        }
+        $line.len()
+    }};
+}
+
 /// A line without the whitespace and the comment that it begins with.
 #[tactic(auto, using(crate::proofs::FrontLemmas::white_steps))]
 pub fn behind_white(line: &[u8]) -> &[u8]
@@ -35,12 +47,16 @@ pub fn letters_len(line: &[u8]) -> usize
     ensures value { result ≡ part.letters_len line.now }
     ensures bound { result ≤ length line.now }
 {
-    for (i, &byte) in line.iter().enumerate() {
-        if !byte.is_ascii_alphabetic() {
-            return i;
-        }
-    }
-    line.len()
+    len_till!(line, byte, !byte.is_ascii_alphabetic())
+}
+
+/// How many digits a line begins with.
+#[tactic(auto, using(crate::proofs::FrontLemmas::len_steps))]
+pub fn digits_len(line: &[u8]) -> usize
+    ensures value { result ≡ spec.digits_len line.now }
+    ensures bound { result ≤ length line.now }
+{
+    len_till!(line, byte, !byte.is_ascii_digit())
 }
 
 // Whether a word of a body ends before this byte.
@@ -56,12 +72,7 @@ fn run_len(line: &[u8]) -> usize
     ensures value { result ≡ spec.len_till kept_spec.ends_name line.now }
     ensures bound { result ≤ length line.now }
 {
-    for (i, &byte) in line.iter().enumerate() {
-        if !is_name_byte(byte) {
-            return i;
-        }
-    }
-    line.len()
+    len_till!(line, byte, !is_name_byte(byte))
 }
 
 /// How many bytes the name has that a line begins with.
@@ -87,12 +98,7 @@ pub fn word_len(line: &[u8]) -> usize
     ensures value { result ≡ spec.word_len line.now }
     ensures bound { result ≤ length line.now }
 {
-    for (i, &byte) in line.iter().enumerate() {
-        if ends_word(byte) {
-            return i;
-        }
-    }
-    line.len()
+    len_till!(line, byte, ends_word(byte))
 }
 
 /// How many bytes stand before the next quote of a line.
@@ -101,12 +107,7 @@ pub fn quote_len(line: &[u8]) -> usize
     ensures value { result ≡ spec.quote_len line.now }
     ensures bound { result ≤ length line.now }
 {
-    for (i, &byte) in line.iter().enumerate() {
-        if byte == b'"' {
-            return i;
-        }
-    }
-    line.len()
+    len_till!(line, byte, byte == b'"')
 }
 
 /// Whether a word of a body may end before this text.

@@ -1,26 +1,12 @@
 //! Integers of a body.
-ghost use Rattle.std.specs.Prelude.{◌≡◌, ◌≤◌, length, min, drop};
+ghost use Rattle.std.specs.Prelude.{◌≡◌, min, drop};
 ghost use Rattle.btx_bst.specs.language.Fronts as fronts;
 ghost use Rattle.btx_bst.specs.language.Words as spec;
 ghost use Rattle.btx_bst.specs.refinement.Views.{word_view};
 
 use crate::complaint::Complaint;
-use crate::fronts::{is_word_end, word_len};
+use crate::fronts::{digits_len, is_word_end, word_len};
 use crate::word::Word;
-
-// How many digits a line begins with.
-#[tactic(auto, using(crate::proofs::FrontLemmas::len_steps))]
-fn digits_len(line: &[u8]) -> usize
-    ensures value { result ≡ fronts.digits_len line.now }
-    ensures bound { result ≤ length line.now }
-{
-    for (i, &byte) in line.iter().enumerate() {
-        if !byte.is_ascii_digit() {
-            return i;
-        }
-    }
-    line.len()
-}
 
 // What digits come to, or 4,294,967,296 where they come to more.
 #[tactic(auto, using(crate::proofs::IntegerLemmas::value_steps))]

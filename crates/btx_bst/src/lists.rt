@@ -2,7 +2,7 @@
 ghost use Rattle.std.specs.Prelude.{◌≡◌, ◌<◌, ◌+◌, ◌^◌, IfOk};
 ghost use Rattle.btx_bst.specs.language.Places.{size};
 ghost use Rattle.btx_bst.specs.refinement.Weights.{names_weight};
-ghost use Rattle.btx_bst.specs.language.Lists.{list_at, list_end, list_turn, listing};
+ghost use Rattle.btx_bst.specs.language.Lists.{list_at, list_turn, listing};
 ghost use Rattle.btx_bst.specs.refinement.Views.{listed_view, list_turn_view};
 
 use crate::callee::Kind;
@@ -14,6 +14,7 @@ use btx_text::Lowered;
 use std::alloc::{AllocError, Global};
 
 /// Takes a list of names in braces, of a kind.
+#[tactic(auto, using(crate::proofs::ListLemmas::list_steps))]
 pub fn list<'a>(
     alloc: Global,
     cursor: &mut Cursor<'a>,
@@ -23,23 +24,9 @@ pub fn list<'a>(
     requires { size cursor.old + names_weight names.old < 2 ^ 32 }
     ensures { IfOk result (λ complaint. listed_view complaint names.new cursor.new ≡ list_at kind names.old cursor.old) }
 {
-    match cursor.opening() {
-        Ok(()) => rest(alloc, cursor, names, kind),
-        Err(complaint) => Ok(Some(complaint)),
+    if let Err(complaint) = cursor.opening() {
+        return Ok(Some(complaint));
     }
-}
-
-// Takes names up to a `}`.
-#[tactic(auto, using(crate::proofs::ListLemmas::list_steps))]
-fn rest<'a>(
-    alloc: Global,
-    cursor: &mut Cursor<'a>,
-    names: &mut Names<'a>,
-    kind: Kind,
-) -> Result<Option<Complaint<'a>>, AllocError>
-    requires { size cursor.old + names_weight names.old < 2 ^ 32 }
-    ensures { IfOk result (λ complaint. listed_view complaint names.new cursor.new ≡ list_end kind (listing names.old cursor.old)) }
-{
     loop {
         match turn(alloc, cursor, names, kind)? {
             Turn::Again => {}

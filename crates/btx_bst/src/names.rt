@@ -33,7 +33,8 @@ impl<'a> Model for Names<'a> {
 
     ghost view = { λ n. known_in n.functions.items n.fields.items n.entry_integers.items n.entry_strings.items n.global_integers.items n.global_strings.items };
 
-    ghost invariant = { λ n. IsTable n.table.entries (known_in n.functions.items n.fields.items n.entry_integers.items n.entry_strings.items n.global_integers.items n.global_strings.items) };
+    ghost invariant = { λ n. IsTable n.table.entries
+        (known_in n.functions.items n.fields.items n.entry_integers.items n.entry_strings.items n.global_integers.items n.global_strings.items) };
 }
 
 impl<'a> Names<'a> {

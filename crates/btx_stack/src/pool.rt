@@ -35,7 +35,8 @@ pub fn append_two(pool: &mut Vec<u8>, bytes: &[u8], more: &[u8]) -> Result<(), A
 pub fn exchange(pool: &mut Vec<u8>, start: usize, count: usize) -> Result<(), AllocError>
     requires { start + count ≤ vec_len pool.old }
     ensures len { length pool.new.items ≡ length pool.old.items }
-    ensures items { let made = drop start pool.old.items in pool.new.items ≡ (if is_ok result then take start pool.old.items ++ (drop count made ++ take count made) else pool.old.items) }
+    ensures items { let made = drop start pool.old.items in pool.new.items
+        ≡ (if is_ok result then take start pool.old.items ++ (drop count made ++ take count made) else pool.old.items) }
 {
     let size = pool.len();
     if count == 0 || start + count == size {

@@ -3,7 +3,9 @@ ghost use Rattle.std.specs.Prelude.{◌≡◌, ◌≤◌, ◌<◌, ◌+◌, [], 
 ghost use Rattle.btx_text.specs.language.Limits.{greatest_string};
 ghost use Rattle.btx_code.specs.refinement.Ops.{callee_of, Runs};
 ghost use Rattle.btx_stack.specs.refinement.Slots.{greatest_short};
-ghost use Rattle.btx_stack.specs.refinement.Steps.{Steps, Partly, GivesString, compared, cut, put_for_integers, replaced, below_choice, one_if, large_on, integer_on, has_function, has_missing, plain_on, plain_off, with_pushed, below_top, has_text, top_joined, swapped, duplicated};
+ghost use Rattle.btx_stack.specs.refinement.Steps.{Steps, Partly, GivesString, compared, cut, put_for_integers, replaced, below_choice, one_if, large_on};
+ghost use Rattle.btx_stack.specs.refinement.Steps.{integer_on, has_function, has_missing, plain_on, plain_off, with_pushed, below_top, has_text, top_joined};
+ghost use Rattle.btx_stack.specs.refinement.Steps.{swapped, duplicated};
 ghost use Rattle.btx_stack.specs.refinement.Content as content;
 
 use crate::literal::Literal;

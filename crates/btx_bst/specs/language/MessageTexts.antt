@@ -2,7 +2,8 @@
 use Rattle.std.specs.Prelude.{ℕ, List, ◌++◌, codes}
 use Rattle.btx_text.specs.declared.log_line.LineKind.TheVariants.{Error}
 use Rattle.btx_text.specs.language.LogLines.{Line, message, place_text}
-use Rattle.btx_bst.specs.language.Complaints.{Complaint, NoCommand, NotCommand, NoOpen, NoClose, NoName, Defined, Unknown, BadInteger, TextAfter, NoQuoteEnd, Another, BeforeRead, BeforeEntry, AfterRead, NoQuote, EndOfFile}
+use Rattle.btx_bst.specs.language.Complaints.{Complaint, NoCommand, NotCommand, NoOpen, NoClose, NoName, Defined, Unknown, BadInteger, TextAfter, NoQuoteEnd}
+use Rattle.btx_bst.specs.language.Complaints.{Another, BeforeRead, BeforeEntry, AfterRead, NoQuote, EndOfFile}
 use Rattle.btx_bst.specs.language.CommandWords.{command_word_of}
 
 -- the text of a complaint, as the log shows it between the mark of an error and the place

@@ -1,6 +1,7 @@
 -- The names that are known, each with what it names. Case is ignored (btxhak, section 5.1), so names are kept in lower case. Functions,
 -- fields and variables share one set of names; those of each kind are numbered from 0, in the order in which they are declared.
-use Rattle.std.specs.Prelude.{ℕ, ◌-◌, Bool, false, List, [], ◌∷◌, ◌++◌, length, Option, None, Some, option_map, slice_index_or, position, replicate, codes, unwrap_or}
+use Rattle.std.specs.Prelude.{ℕ, ◌-◌, Bool, false, List, [], ◌∷◌, ◌++◌, length, Option, None, Some, option_map, slice_index_or, position, replicate, codes}
+use Rattle.std.specs.Prelude.{unwrap_or}
 use Rattle.std.specs.Option.{option_or, option_map_or}
 use Rattle.std.specs.Str.{bytes_eq}
 use Rattle.btx_text.specs.language.Keys.{folded}

@@ -1,5 +1,6 @@
 -- The words of a body.
-use Rattle.std.specs.Prelude.{ℕ, zero, suc, ◌+◌, ◌-◌, ◌*◌, ◌^◌, ◌==◌, ℤ, pos, negsuc, nat_lt, fold, Option, None, Some, Bool, true, false, List, [], ◌∷◌, take, drop, if◌then◌else◌}
+use Rattle.std.specs.Prelude.{ℕ, zero, suc, ◌+◌, ◌-◌, ◌*◌, ◌^◌, ◌==◌, ℤ, pos, negsuc, nat_lt, fold, Option, None, Some, Bool, true, false, List, [], ◌∷◌, take}
+use Rattle.std.specs.Prelude.{drop, if◌then◌else◌}
 use Rattle.std.specs.Str.{byte}
 use Rattle.btx_bst.specs.language.Places.{Place, ink, further}
 use Rattle.btx_bst.specs.language.Fronts.{word_len, quote_len, digits_len, is_word_end}

@@ -89,11 +89,13 @@ abbrev pub EndsList : Names → Place → Listed → Type 0
 EndsList known from l =
     ((to : Place) × BehindGap (StyleSignHere close_brace NoClose) from (Took tt to) × (l ≡ listed None known to))
     ⊎ (((complaint : Complaint) × (to : Place) × Gap from to × IsMissing is_list_byte NoName complaint to.line × (l ≡ listed (Some complaint) known to))
-    ⊎ ((name : List ℕ) × (to : Place) × (old : Callee) × BehindGap StyleNameHere from (Took name to) × (named known name ≡ Some old) × (l ≡ listed (Some (Defined name)) known to)))
+    ⊎ ((name : List ℕ) × (to : Place) × (old : Callee) × BehindGap StyleNameHere from (Took name to) × (named known name ≡ Some old)
+    × (l ≡ listed (Some (Defined name)) known to)))
 
 -- the inside of a list: names that are all new, which are declared, and its end
 abbrev pub InList : Kind → Names → Place → Listed → Type 0
-InList kind known from l = (names : List (List ℕ)) × (end : Place) × AreNames names from end × AreNew kind names known × EndsList (declared kind names known) end l
+InList kind known from l = (names : List (List ℕ)) × (end : Place) × AreNames names from end × AreNew kind names known
+    × EndsList (declared kind names known) end l
 
 -- a list of names in braces, and the rest; where a list has a fault, the names before it stay
 abbrev pub Lists : Kind → Rule → Rule
@@ -107,7 +109,8 @@ Lists kind rest = Opened (λ style from o.
 -- a body up to its `}`, which defines a function; or one that breaks off, of which the messages stay
 abbrev pub HasBody : List ℕ → Rule
 HasBody name style from o =
-    ((parts : Parts) × (to : Place) × AreParts parts from to × (o ≡ outcome None (with_made_function name (made_by style.names parts (made_in style)) style) to))
+    ((parts : Parts) × (to : Place) × AreParts parts from to
+    × (o ≡ outcome None (with_made_function name (made_by style.names parts (made_in style)) style) to))
     ⊎ ((fragment : Fragment) × (to : Place) × BreakOff fragment from to
     × (o ≡ outcome (Some (complaint_in fragment)) (record style { items = (made_till style.names fragment (made_in style)).items }) to))
 
@@ -175,8 +178,10 @@ IsStyle (o ∷ more) from end =
 
 -- The style of each text is what its commands come to.
 abbrev pub ReadingLaw : Type 0
-ReadingLaw = (file text : List ℕ) → (commands : List CommandOutcome) × IsStyle commands (style_state (unread_style file predefined) (beginning text)) (style_of file text)
+ReadingLaw = (file text : List ℕ) → (commands : List CommandOutcome) × IsStyle commands (style_state (unread_style file predefined) (beginning text))
+    (style_of file text)
 
 -- A text has one reading: nothing that stands in it can be read as anything else.
 abbrev pub OneReadingLaw : Type 0
-OneReadingLaw = (from : StyleState) (first second : List CommandOutcome) (a b : Style) → IsStyle first from a → IsStyle second from b → (first ≡ second) × (a ≡ b)
+OneReadingLaw = (from : StyleState) (first second : List CommandOutcome) (a b : Style) → IsStyle first from a → IsStyle second from b
+    → (first ≡ second) × (a ≡ b)

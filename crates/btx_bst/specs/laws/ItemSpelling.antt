@@ -20,7 +20,8 @@ IsEnd place = (ink place).line ≡ []
 -- from `from` on the text is these commands, and then its end, where the style is `end`
 abbrev pub GivesStyle : List SpelledCommand → StyleState → Style → Type 0
 GivesStyle [] from end = IsEnd from.place × (from.style ≡ end)
-GivesStyle (Whole ∷ more) from end = (next : StyleState) × (IsEnd from.place → ⊥) × (command_outcome from.style (ink from.place) ≡ outcome None next.style next.place) × GivesStyle more next end
+GivesStyle (Whole ∷ more) from end = (next : StyleState) × (IsEnd from.place → ⊥)
+    × (command_outcome from.style (ink from.place) ≡ outcome None next.style next.place) × GivesStyle more next end
 GivesStyle (Faulty complaint line ∷ more) from end =
     (next : StyleState) × (IsEnd from.place → ⊥) × (command_outcome from.style (ink from.place) ≡ outcome (Some complaint) next.style next.place)
     × (line ≡ next.place.number) × GivesStyle more (style_state (with_item (Message complaint line) next.style) (skipped next.place)) end
@@ -40,8 +41,10 @@ AreFull (line ∷ lines) = (line ≡ [] → ⊥) × AreFull lines
 
 -- What stands behind a fault up to the next empty line, or up to the end, changes nothing but the number of the line.
 abbrev pub SkippedLaw : Type 0
-SkippedLaw = (number : ℕ) (line : List ℕ) (lines after : List (List ℕ)) → AreFull lines → skipped (place_at number line (lines ++ [] ∷ after)) ≡ place_at (number + length lines + 1) [] after
+SkippedLaw = (number : ℕ) (line : List ℕ) (lines after : List (List ℕ)) → AreFull lines
+    → skipped (place_at number line (lines ++ [] ∷ after)) ≡ place_at (number + length lines + 1) [] after
 
 -- Where no empty line stands behind a fault, all up to the end of the text is skipped, and the end has the number of the last line.
 abbrev pub SkippedToEndLaw : Type 0
-SkippedToEndLaw = (number : ℕ) (line : List ℕ) (lines : List (List ℕ)) → AreFull lines → skipped (place_at number line lines) ≡ place_at (number + length lines) [] []
+SkippedToEndLaw = (number : ℕ) (line : List ℕ) (lines : List (List ℕ)) → AreFull lines
+    → skipped (place_at number line lines) ≡ place_at (number + length lines) [] []

@@ -20,7 +20,8 @@ needs _ = None
 
 -- ENTRY and READ take effect at most once.
 abbrev pub OnceLaw : Type 0
-OnceLaw = (file text : List ℕ) (item : Item) (j k : ℕ) → IsOnce item → slice_get (style_of file text).items j ≡ Some item → slice_get (style_of file text).items k ≡ Some item → j ≡ k
+OnceLaw = (file text : List ℕ) (item : Item) (j k : ℕ) → IsOnce item → slice_get (style_of file text).items j ≡ Some item
+    → slice_get (style_of file text).items k ≡ Some item → j ≡ k
 
 -- READ takes effect only after ENTRY, and what is executed only after READ.
 abbrev pub OrderLaw : Type 0

@@ -44,7 +44,8 @@ IsKnownItem functions _ = Unit {0}
 
 -- each token of the function of a number refers to strings, fields and variables of the style, and to functions of smaller numbers alone
 abbrev pub BodiesRefer : Style → Type 0
-BodiesRefer style = (number place : ℕ) (token : Token) → slice_get (slice_index_or style.bodies number []) place ≡ Some token → Refers style.names (length style.texts) number token
+BodiesRefer style = (number place : ℕ) (token : Token) → slice_get (slice_index_or style.bodies number []) place ≡ Some token
+    → Refers style.names (length style.texts) number token
 
 -- each command defines or executes a function of the style, or executes a built-in one
 abbrev pub ItemsRefer : Style → Type 0
@@ -82,5 +83,6 @@ function_executed _ = None
 
 -- A function of the style is executed only behind the FUNCTION that defines it.
 abbrev pub ExecutedLaw : Type 0
-ExecutedLaw = (file text : List ℕ) (item : Item) (number k : ℕ) → slice_get (style_of file text).items k ≡ Some item → function_executed item ≡ Some (User number)
+ExecutedLaw = (file text : List ℕ) (item : Item) (number k : ℕ) → slice_get (style_of file text).items k ≡ Some item
+    → function_executed item ≡ Some (User number)
     → (j : ℕ) × (j < k) × (slice_get (style_of file text).items j ≡ Some (Function number))

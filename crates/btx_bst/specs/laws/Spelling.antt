@@ -52,7 +52,8 @@ breaks _ = None
 abbrev pub Breaks : Fragment → Place → Place → Type 0
 Breaks (Here complaint) from to = (word : BodyWord) × (met_at from ≡ met word to) × (breaks word ≡ Some complaint)
 Breaks (After line word more) from to = (next : Place) × (met_at from ≡ met word next) × (line ≡ next.number) × IsPlain word × Breaks more next to
-Breaks (AfterGroup inside more) from to = (first : Place) × (second : Place) × (met_at from ≡ met Open first) × Spells inside first second × Breaks more second to
+Breaks (AfterGroup inside more) from to = (first : Place) × (second : Place) × (met_at from ≡ met Open first) × Spells inside first second
+    × Breaks more second to
 Breaks (Inner inside) from to = (first : Place) × (met_at from ≡ met Open first) × Breaks inside first to
 
 -- what parts come to: the tokens of their function, and, of the whole style so far, the bodies of the functions, the strings and the items
@@ -82,7 +83,12 @@ nameless_begun made = record made { tokens = [] }
 
 -- a `}`: the nameless function is defined by the next number, and stands as a literal in the function round it
 abbrev pub nameless_defined : List Token → Made → Made
-nameless_defined outer inner = record { tokens = outer ++ Quote (User (length inner.bodies)) ∷ []; bodies = inner.bodies ++ inner.tokens ∷ []; texts = inner.texts; items = inner.items }
+nameless_defined outer inner = record {
+  tokens = outer ++ Quote (User (length inner.bodies)) ∷ [];
+  bodies = inner.bodies ++ inner.tokens ∷ [];
+  texts = inner.texts;
+  items = inner.items;
+}
 
 -- what parts of a body add to what is made of it so far
 unfoldable pub made_by : Names → Parts → Made → Made

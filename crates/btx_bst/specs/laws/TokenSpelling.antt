@@ -58,7 +58,8 @@ AllWhite (b ∷ bs) = (is_white b ≡ true) × AllWhite bs
 
 -- behind whitespace something stands in the line that is no comment, and `to` is the place before it
 abbrev pub InkIn : ℕ → List ℕ → List (List ℕ) → Place → Type 0
-InkIn number line after to = (white : List ℕ) × (rest : List ℕ) × AllWhite white × (line ≡ white ++ rest) × Begins ends_gap rest × (to ≡ place_at number rest after)
+InkIn number line after to = (white : List ℕ) × (rest : List ℕ) × AllWhite white × (line ≡ white ++ rest) × Begins ends_gap rest
+    × (to ≡ place_at number rest after)
 
 -- something that is no comment stands in this line or, behind lines without such a thing, in a later one, and `to` is the place before it; or
 -- nothing does, and `to` is the end of the text, in its last line

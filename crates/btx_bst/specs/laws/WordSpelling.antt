@@ -1,5 +1,6 @@
 -- How the words of a body are spelled, and bodies of them.
-use Rattle.std.specs.Prelude.{ℕ, zero, suc, ◌^◌, ◌<◌, ◌≤◌, ◌≡◌, ◌==◌, ◌||◌, ◌⊎◌, ℤ, pos, negsuc, if◌then◌else◌, Bool, true, false, not, List, [], ◌∷◌, ◌++◌, Some}
+use Rattle.std.specs.Prelude.{ℕ, zero, suc, ◌^◌, ◌<◌, ◌≤◌, ◌≡◌, ◌==◌, ◌||◌, ◌⊎◌, ℤ, pos, negsuc, if◌then◌else◌, Bool, true, false, not, List, [], ◌∷◌, ◌++◌}
+use Rattle.std.specs.Prelude.{Some}
 use Rattle.btx_bst.specs.language.Places.{Place, further}
 use Rattle.btx_bst.specs.language.Complaints.{BadInteger, TextAfter}
 use Rattle.btx_bst.specs.language.Fronts.{ends_word}
@@ -37,7 +38,8 @@ number_of true (suc n) = negsuc n
 
 -- the word behind a `#` is the integer `value`: perhaps a minus, then digits and nothing else, of a number of 32 bits
 abbrev pub IsInteger : ℤ → List ℕ → Type 0
-IsInteger value word = (minus : Bool) × (digits : List ℕ) × IsNumeral minus digits [] word × Fits minus (digits_value digits) × (value ≡ number_of minus (digits_value digits))
+IsInteger value word = (minus : Bool) × (digits : List ℕ) × IsNumeral minus digits [] word × Fits minus (digits_value digits)
+    × (value ≡ number_of minus (digits_value digits))
 
 -- the word behind a `#` is an integer of 32 bits with something directly behind it
 abbrev pub IsOverlong : List ℕ → Type 0
@@ -90,7 +92,8 @@ AreParts (Group inside more) from to = (first : Place) × (second : Place) × Ne
 abbrev pub BreakOff : Fragment → Place → Place → Type 0
 BreakOff (Here complaint) from to = (word : BodyWord) × NextWord word from to × (breaks word ≡ Some complaint)
 BreakOff (After line word more) from to = (next : Place) × NextWord word from next × (line ≡ next.number) × IsPlain word × BreakOff more next to
-BreakOff (AfterGroup inside more) from to = (first : Place) × (second : Place) × NextWord Open from first × AreParts inside first second × BreakOff more second to
+BreakOff (AfterGroup inside more) from to = (first : Place) × (second : Place) × NextWord Open from first × AreParts inside first second
+    × BreakOff more second to
 BreakOff (Inner inside) from to = (first : Place) × NextWord Open from first × BreakOff inside first to
 
 -- ---- the law

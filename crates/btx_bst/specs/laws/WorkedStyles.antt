@@ -8,7 +8,8 @@ use Rattle.btx_bst.specs.declared.callee.Callee.TheVariants as callee
 use Rattle.btx_bst.specs.declared.command.Command.TheVariants as command
 use Rattle.btx_bst.specs.declared.token.Token.TheVariants.{Text, Quote, Run}
 use Rattle.btx_bst.specs.declared.token.Token.TheVariants as token
-use Rattle.btx_bst.specs.language.Complaints.{Complaint, NoCommand, NotCommand, NoOpen, NoClose, NoName, Defined, Unknown, BadInteger, TextAfter, NoQuoteEnd, Another, BeforeRead, BeforeEntry, AfterRead, NoQuote, EndOfFile}
+use Rattle.btx_bst.specs.language.Complaints.{Complaint, NoCommand, NotCommand, NoOpen, NoClose, NoName, Defined, Unknown, BadInteger, TextAfter, NoQuoteEnd}
+use Rattle.btx_bst.specs.language.Complaints.{Another, BeforeRead, BeforeEntry, AfterRead, NoQuote, EndOfFile}
 use Rattle.btx_bst.specs.language.Items.{Item, Message}
 use Rattle.btx_bst.specs.language.Items as item
 use Rattle.btx_bst.specs.language.MessageTexts.{complaint_text}
@@ -104,7 +105,8 @@ faults =
     ∷ style_row (codes "FUNCTION {f} {\"a\"b}") (Message TextAfter 1 ∷ item.Function 0 ∷ [])
     ∷ style_row (codes "FUNCTION {f} {\n\n#1x\n}") (Message TextAfter 3 ∷ item.Function 0 ∷ [])
     -- a string has no end on its line; the messages of the body stay
-    ∷ style_row (codes "FUNCTION {f} {nosuch\n\"a\n\"}\n\nSORT") (Message (Unknown (codes "nosuch")) 1 ∷ Message NoQuoteEnd 2 ∷ Message (BeforeRead command.Sort) 5 ∷ [])
+    ∷ style_row (codes "FUNCTION {f} {nosuch\n\"a\n\"}\n\nSORT") (Message (Unknown (codes "nosuch")) 1 ∷ Message NoQuoteEnd 2
+    ∷ Message (BeforeRead command.Sort) 5 ∷ [])
     -- a command stands again
     ∷ style_row (codes "ENTRY {} {} {}\nENTRY {} {} {}") (item.Entry ∷ Message (Another command.Entry) 2 ∷ [])
     ∷ style_row (codes "ENTRY {} {} {} READ\nREAD") (item.Entry ∷ item.Read ∷ Message (Another command.Read) 2 ∷ [])
@@ -149,18 +151,21 @@ abbrev pub bodies : List WorkedBody
 bodies =
     -- a body has integers, strings, names behind a quote, and names; strings are numbered through the style
     body_row (codes "FUNCTION {f} {#10 #-2 #0 \"x\" 'skip$ POP$}")
-    ((token.Integer (pos 10) ∷ token.Integer (negsuc 1) ∷ token.Integer (pos 0) ∷ Text 0 ∷ Quote (callee.BuiltIn Skip) ∷ Run (callee.BuiltIn Pop) ∷ []) ∷ []) ((codes "x") ∷ [])
+    ((token.Integer (pos 10) ∷ token.Integer (negsuc 1) ∷ token.Integer (pos 0) ∷ Text 0 ∷ Quote (callee.BuiltIn Skip) ∷ Run (callee.BuiltIn Pop) ∷ []) ∷ [])
+    ((codes "x") ∷ [])
     ∷ body_row (codes "FUNCTION {f} {\"a\"} FUNCTION {g} {\"\"}") ((Text 0 ∷ []) ∷ (Text 1 ∷ []) ∷ []) ((codes "a") ∷ [] ∷ [])
     -- the least and the greatest integer
     ∷ body_row (codes "FUNCTION {f} {#-2147483648 #2147483647}") ((token.Integer (negsuc 2147483647) ∷ token.Integer (pos 2147483647) ∷ []) ∷ []) []
     -- nameless functions come innermost first, and stand where they stood as literals
     ∷ body_row (codes "FUNCTION {f} {{#1} {\"a\" {}} if$}")
-    ((token.Integer (pos 1) ∷ []) ∷ [] ∷ (Text 0 ∷ Quote (callee.User 1) ∷ []) ∷ (Quote (callee.User 0) ∷ Quote (callee.User 2) ∷ Run (callee.BuiltIn If) ∷ []) ∷ []) ((codes "a") ∷ [])
+    ((token.Integer (pos 1) ∷ []) ∷ [] ∷ (Text 0 ∷ Quote (callee.User 1) ∷ []) ∷ (Quote (callee.User 0) ∷ Quote (callee.User 2) ∷ Run (callee.BuiltIn If) ∷ [])
+    ∷ []) ((codes "a") ∷ [])
     -- a function that broke off leaves neither a body nor a string
     ∷ body_row (codes "FUNCTION {f} {{\"a\"} \"b\n\nFUNCTION {g} {\"c\"}") ((Text 0 ∷ []) ∷ []) ((codes "c") ∷ [])
     -- names are numbered behind those that are known before the style
     ∷ body_row (codes "INTEGERS {n} STRINGS {s} ENTRY {t} {i} {l} FUNCTION {f} {n s t i l}")
-    ((Run (callee.GlobalInteger 2) ∷ Run (callee.GlobalString 0) ∷ Run (callee.Field 1) ∷ Run (callee.EntryInteger 0) ∷ Run (callee.EntryString 1) ∷ []) ∷ []) []
+    ((Run (callee.GlobalInteger 2) ∷ Run (callee.GlobalString 0) ∷ Run (callee.Field 1) ∷ Run (callee.EntryInteger 0) ∷ Run (callee.EntryString 1) ∷ [])
+    ∷ []) []
     ∷ body_row (codes "FUNCTION {f} {crossref sort.key$ Entry.Max$ 'global.max$}")
     ((Run (callee.Field 0) ∷ Run (callee.EntryString 0) ∷ Run (callee.GlobalInteger 0) ∷ Quote (callee.GlobalInteger 1) ∷ []) ∷ []) []
     -- what is left out of a body leaves no token

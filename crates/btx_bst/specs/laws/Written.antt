@@ -62,11 +62,13 @@ SpellsList names from to = (inside : Place) × (opening from ≡ Took tt inside)
 
 -- a name in braces stands between two places
 abbrev pub SpellsName : List ℕ → Place → Place → Type 0
-SpellsName name from to = (inside : Place) × (behind : Place) × (opening from ≡ Took tt inside) × (next_name inside ≡ Took name behind) × (closing behind ≡ Took tt to)
+SpellsName name from to = (inside : Place) × (behind : Place) × (opening from ≡ Took tt inside) × (next_name inside ≡ Took name behind)
+    × (closing behind ≡ Took tt to)
 
 -- a text in quotes, in braces, stands between two places
 abbrev pub SpellsText : List ℕ → Place → Place → Type 0
-SpellsText text from to = (inside : Place) × (behind : Place) × (opening from ≡ Took tt inside) × (quoted_at inside ≡ Took text behind) × (closing behind ≡ Took tt to)
+SpellsText text from to = (inside : Place) × (behind : Place) × (opening from ≡ Took tt inside) × (quoted_at inside ≡ Took text behind)
+    × (closing behind ≡ Took tt to)
 
 -- a body in braces stands between two places
 abbrev pub SpellsBody : Parts → Place → Place → Type 0
@@ -74,7 +76,8 @@ SpellsBody body from to = (inside : Place) × (opening from ≡ Took tt inside) 
 
 -- the arguments of a command stand between two places
 abbrev pub SpellsArguments : Written → Place → Place → Type 0
-SpellsArguments (Entry fields integers strings) from to = (second : Place) × (third : Place) × SpellsList fields from second × SpellsList integers second third × SpellsList strings third to
+SpellsArguments (Entry fields integers strings) from to = (second : Place) × (third : Place) × SpellsList fields from second × SpellsList integers second third
+    × SpellsList strings third to
 SpellsArguments (Function name body) from to = (second : Place) × SpellsName name from second × SpellsBody body second to
 SpellsArguments Read from to = from ≡ to
 SpellsArguments (Execute name) from to = SpellsName name from to
@@ -88,7 +91,8 @@ SpellsArguments (Macro name text) from to = (second : Place) × SpellsName name 
 -- a command stands between two places: its word, in any case of letters, and its arguments
 abbrev pub SpellsCommand : Written → Place → Place → Type 0
 SpellsCommand written from to =
-    (word : List ℕ) × (behind : Place) × (letters_at (ink from) ≡ Took word behind) × (command_named (folded word) ≡ Some (command_written written)) × SpellsArguments written behind to
+    (word : List ℕ) × (behind : Place) × (letters_at (ink from) ≡ Took word behind) × (command_named (folded word) ≡ Some (command_written written))
+    × SpellsArguments written behind to
 
 -- ---- what a command does where it may stand
 
@@ -130,7 +134,8 @@ with_made_function name made style = record style {
 
 -- READ stands before `style`, and `end` is `style` with the command that executes the function `name`
 abbrev pub ExecutesFunction : (Callee → Item) → List ℕ → Style → Style → Type 0
-ExecutesFunction item name style end = (callee : Callee) × (has_read style ≡ true) × (function_in (named style.names name) ≡ Some callee) × (with_item (item callee) style ≡ end)
+ExecutesFunction item name style end = (callee : Callee) × (has_read style ≡ true) × (function_in (named style.names name) ≡ Some callee)
+    × (with_item (item callee) style ≡ end)
 
 -- the command may stand behind `style`, and makes `end` of it
 abbrev pub MakesStyle : Written → Style → Style → Type 0
@@ -146,20 +151,25 @@ MakesStyle (Entry fields integers strings) style end =
     }) ≡ end)
 MakesStyle (Function name body) style end =
     (named style.names name ≡ None) × IsGoodBody style.names body × (with_made_function name (made_by style.names body (made_in style)) style ≡ end)
-MakesStyle Read style end = (has_read style ≡ false) × (style.has_entry ≡ true) × (with_item item.Read (record style { before_read = Some (length style.bodies) }) ≡ end)
+MakesStyle Read style end = (has_read style ≡ false) × (style.has_entry ≡ true)
+    × (with_item item.Read (record style { before_read = Some (length style.bodies) }) ≡ end)
 MakesStyle (Execute name) style end = ExecutesFunction item.Execute name style end
 MakesStyle (Iterate name) style end = ExecutesFunction item.Iterate name style end
 MakesStyle (Reverse name) style end = ExecutesFunction item.Reverse name style end
 MakesStyle Sort style end = (has_read style ≡ true) × (with_item item.Sort style ≡ end)
-MakesStyle (Integers names) style end = AreNew kind.GlobalInteger names style.names × (with_item item.Integers (record style { names = declared kind.GlobalInteger names style.names }) ≡ end)
-MakesStyle (Strings names) style end = AreNew kind.GlobalString names style.names × (with_item item.Strings (record style { names = declared kind.GlobalString names style.names }) ≡ end)
+MakesStyle (Integers names) style end = AreNew kind.GlobalInteger names style.names
+    × (with_item item.Integers (record style { names = declared kind.GlobalInteger names style.names }) ≡ end)
+MakesStyle (Strings names) style end = AreNew kind.GlobalString names style.names
+    × (with_item item.Strings (record style { names = declared kind.GlobalString names style.names }) ≡ end)
 MakesStyle (Macro name text) style end =
-    (has_read style ≡ false) × (macro_lower style.macros (folded name) ≡ None) × (with_item item.Macro (record style { macros = style.macros ++ (folded name, text) ∷ [] }) ≡ end)
+    (has_read style ≡ false) × (macro_lower style.macros (folded name) ≡ None)
+    × (with_item item.Macro (record style { macros = style.macros ++ (folded name, text) ∷ [] }) ≡ end)
 
 -- from `from` on the text is these commands, each where it may stand, and then its end, where the style is `end`
 abbrev pub IsWritten : List Written → StyleState → Style → Type 0
 IsWritten [] from end = IsEnd from.place × (from.style ≡ end)
-IsWritten (written ∷ more) from end = (next : StyleState) × SpellsCommand written from.place next.place × MakesStyle written from.style next.style × IsWritten more next end
+IsWritten (written ∷ more) from end = (next : StyleState) × SpellsCommand written from.place next.place × MakesStyle written from.style next.style
+    × IsWritten more next end
 
 -- ---- the laws
 

@@ -1,7 +1,8 @@
 //! Texts that were cut or spoilt: each is read.
 use super::showing::look_over;
+use btx_tests::texts::spoilt;
 use btx_text::Fault;
-use std::alloc::{AllocError, Global};
+use std::alloc::Global;
 
 // A style of about 2,000 bytes.
 const TEXT: &[u8] = b"ENTRY {author title year note}{seen}{label}\n\
@@ -37,15 +38,6 @@ fn cuts(alloc: Global, text: &[u8]) -> Result<usize, Fault> {
         sum = sum.saturating_add(size(alloc, &text[..len])?);
     }
     Ok(sum)
-}
-
-// A text with a byte in the place of another.
-fn spoilt(alloc: Global, text: &[u8], place: usize, byte: u8) -> Result<Vec<u8>, AllocError> {
-    let mut bytes = Vec::from_slice(alloc, text)?;
-    if let Some(old) = bytes.get_mut(place) {
-        *old = byte;
-    }
-    Ok(bytes)
 }
 
 // How many items and functions a text has, together, with a byte in the place of another.

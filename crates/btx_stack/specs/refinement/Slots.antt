@@ -68,21 +68,14 @@ pub record IsMade (v : Slot) (from : ℕ) : Type 0 where
 
 -- a string whose bytes the slot or the pool knows
 abbrev pub is_text_kind : Kind → Bool
-is_text_kind kind.Integer = false
-is_text_kind kind.Function = false
-is_text_kind kind.Missing = false
 is_text_kind kind.Lent = true
 is_text_kind kind.Made = true
-is_text_kind kind.Large = false
+is_text_kind _ = false
 
 -- a long string
 abbrev pub is_large_kind : Kind → Bool
-is_large_kind kind.Integer = false
-is_large_kind kind.Function = false
-is_large_kind kind.Missing = false
-is_large_kind kind.Lent = false
-is_large_kind kind.Made = false
 is_large_kind kind.Large = true
+is_large_kind _ = false
 
 abbrev pub are_large_kinds : Kind → Kind → Bool
 are_large_kinds a b = if is_large_kind a then is_large_kind b else false
