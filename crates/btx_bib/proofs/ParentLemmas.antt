@@ -91,7 +91,8 @@ spelled-found slots slot views key None shows has at other seen some found =
     let nothing : shown_at views other ≡ None = subst (λ (k : List ℕ). shown_at views k ≡ None) same (shown-by slots views key None shows at) in
     absurd (let both : Some seen ≡ None = sym found ∙ nothing in cc)
 spelled-found slots slot views key (Some parent) shows has at other seen some found =
-    let same : parent.key ≡ other = let both : Some parent.key ≡ Some other = sym (parent-given key parent.key slot.body (body_values parent.body) has) ∙ some in cc in
+    let same : parent.key ≡ other = let both : Some parent.key ≡ Some other = sym (parent-given key parent.key slot.body (body_values parent.body) has)
+    ∙ some in cc in
     let there : shown_at views other ≡ Some (view parent) = subst (λ (k : List ℕ). shown_at views k ≡ Some (view parent)) same
     (shown-by slots views parent.key (Some parent) shows (slot_at-own slots key parent at)) in
     let both : Some (view parent) ≡ Some seen = sym there ∙ found in

@@ -107,11 +107,13 @@ stays-there wanted stored parent none has (key ∷ keys) there =
       more true rest = or-right (is_same_key parent (spelled wanted stored key)) (is_any_key others parent) rest
       more false rest = rest
 
-      by_same : (b : Bool) → is_same_key parent key ≡ b → (b || is_any_key keys parent) ≡ true → (is_any_key keys parent ≡ true → is_any_key others parent ≡ true)
+      by_same : (b : Bool) → is_same_key parent key ≡ b → (b || is_any_key keys parent) ≡ true
+          → (is_any_key keys parent ≡ true → is_any_key others parent ≡ true)
           → is_any_key (shown (keeps_entry wanted stored key)) parent ≡ true
       by_same true same there rest =
           ap (λ (b : Bool). is_any_key (shown b) parent) (first same)
-          ∙ or-left (is_same_key parent (spelled wanted stored key)) (is_any_key others parent) (same_key_equiv.congr parent key (spelled wanted stored key) same
+          ∙ or-left (is_same_key parent (spelled wanted stored key)) (is_any_key others parent)
+          (same_key_equiv.congr parent key (spelled wanted stored key) same
           ∙ spelled-same wanted stored key)
       by_same false differs there rest = more (keeps_entry wanted stored key) (rest there)
 

@@ -71,7 +71,8 @@ place_of-some [] key place at = cc
 place_of-some (k ∷ keys) key place at = by_test (is_same_key key k) (first_place (bytes_eq (folded key)) (map folded keys)) refl at
     (λ before there. place_of-some keys key before there) where
       by_test : (b : Bool) (o : Option ℕ) → o ≡ first_place (bytes_eq (folded key)) (map folded keys) → (if b then Some 0 else option_map suc o) ≡ Some place
-          → ((before : ℕ) → first_place (bytes_eq (folded key)) (map folded keys) ≡ Some before → is_any_key keys key ≡ true) → (b || is_any_key keys key) ≡ true
+          → ((before : ℕ) → first_place (bytes_eq (folded key)) (map folded keys) ≡ Some before → is_any_key keys key ≡ true)
+          → (b || is_any_key keys key) ≡ true
       by_test true o is h rest = refl
       by_test false None is h rest = cc
       by_test false (Some before) is h rest = rest before (sym is)

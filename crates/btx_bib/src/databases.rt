@@ -1,7 +1,7 @@
 //! The reading of databases.
 use crate::draft::Draft;
 use crate::end::End;
-use crate::gathering::Gathering;
+use crate::gathering::{Gathering, fitting};
 use crate::grammar::line_counter::LineCounter;
 use crate::grammar::value_texts::squeezed_text;
 use crate::library::Library;
@@ -31,7 +31,8 @@ impl<'a> Gathering<'a> {
     ghost use Rattle.btx_bib.specs.declared.grammar.commands.Wanted.TheVariants as next;
     ghost use Rattle.btx_bib.specs.refinement.Gatherings.{closed, events_with, kept_along, kept_messages};
     ghost use Rattle.btx_bib.specs.language.Known.{goes_on};
-    ghost use Rattle.btx_bib.specs.refinement.Readings.{IsListed, kept_macro, kept_macros, nothing_gathered, library_kept, listed_draft, kept_by_all, kept_one, messages_of_all, messages_of_one};
+    ghost use Rattle.btx_bib.specs.refinement.Readings.{IsListed, kept_macro, kept_macros, nothing_gathered, library_kept, listed_draft, kept_by_all, kept_one};
+    ghost use Rattle.btx_bib.specs.refinement.Readings.{messages_of_all, messages_of_one};
     ghost use Rattle.btx_bib.specs.refinement.Requests.{wanted};
     ghost use Rattle.btx_bib.specs.refinement.Sources.{source_database, source_databases};
 
@@ -44,8 +45,10 @@ impl<'a> Gathering<'a> {
         messages: &mut Messages<'a>,
     ) -> Result<(), AllocError>
         requires { goes_on self.old.ending ≡ true }
-        ensures state { OnOk result (self.new ≡ closed (wanted request.now) (kept_along (wanted request.now) self.old (events_with (wanted request.now) self.old next.Item source.now.bytes.now))) }
-        ensures logged { OnOk result (messages.new ≡ messages.old ++ kept_messages (wanted request.now) (source_database source.now) self.old (events_with (wanted request.now) self.old next.Item source.now.bytes.now)) }
+        ensures state { OnOk result (self.new ≡ closed (wanted request.now)
+            (kept_along (wanted request.now) self.old (events_with (wanted request.now) self.old next.Item source.now.bytes.now))) }
+        ensures logged { OnOk result (messages.new ≡ messages.old ++ kept_messages (wanted request.now) (source_database source.now) self.old
+            (events_with (wanted request.now) self.old next.Item source.now.bytes.now)) }
     {
         let site = Site {
             file: Word::new(source.name),
@@ -127,18 +130,9 @@ impl<'a> Gathering<'a> {
         if self.has_ended() {
             return Ok(());
         }
-        match squeezed_text(alloc, text) {
-            Ok(text) => {
-                let text = text.share()?;
-                self.strings.define(alloc, name, text)
-            }
-            Err(Fault::StringLimit) => {
-                self.ending = End::StringLimit;
-                Ok(())
-            }
-            Err(Fault::Memory) => Err(AllocError),
-            Err(Fault::Device | Fault::FileLimit) => unreachable!(),
-        }
+        let text = fitting!(self, squeezed_text(alloc, text));
+        let text = text.share()?;
+        self.strings.define(alloc, name, text)
     }
 
     // The macros of the style.

@@ -33,7 +33,8 @@ pub enum Standing {
 impl<'a> Draft<'a> {
     ghost use Rattle.std.specs.Prelude.{◌≡◌, ◌++◌, OnOk, IfOk};
     ghost use Rattle.btx_aux.specs.refinement.Entries.{texts_of};
-    ghost use Rattle.btx_bib.specs.refinement.Drafts.{cited_all, cited_at, empty, has_entry, place_in, put_at, referred, referred_at, settled_all, standing_at, stored_at};
+    ghost use Rattle.btx_bib.specs.refinement.Drafts.{cited_all, cited_at, empty, has_entry, place_in, referred, referred_at, settled_all, standing_at};
+    ghost use Rattle.btx_bib.specs.refinement.Drafts.{stored_at};
     ghost use Rattle.btx_bib.specs.refinement.Readings.{IsListed, library_listed, listed_draft};
     ghost use Rattle.btx_bib.specs.language.Passes.{entries_of, reference_messages};
     ghost use Rattle.btx_bib.specs.refinement.Requests.{wanted};
@@ -75,7 +76,8 @@ impl<'a> Draft<'a> {
         mut messages: Messages<'a>,
     ) -> Result<Library<'a>, AllocError>
         requires { IsListed (listed_draft (wanted request.now) self) }
-        ensures { IfOk result (λ library. library ≡ library_listed (settled_all (listed_draft (wanted request.now) self.entry).slots) preamble.entry messages.entry) }
+        ensures { IfOk result (λ library. library
+            ≡ library_listed (settled_all (listed_draft (wanted request.now) self.entry).slots) preamble.entry messages.entry) }
     {
         let mut draft = self;
         draft.cite_all(alloc, request, request.last_cited())?;
@@ -156,7 +158,7 @@ impl<'a> Draft<'a> {
         }
     }
 
-    /// Stores an entry.
+    /// Stores an entry, at the place of its key or at a new one, and counts its reference.
     #[tactic(auto, unfolding(crate::specs::refinement::Drafts::stored_at))]
     pub fn store(
         &mut self,
@@ -168,29 +170,18 @@ impl<'a> Draft<'a> {
         ensures { OnOk result (self.new ≡ stored_at (wanted request.now) key.now body.entry self.old (place_in self.old key.now)) }
     {
         let parent = body.values.parent(alloc)?;
-        self.put(alloc, request, key, body)?;
-        self.refer(alloc, request, parent)
-    }
-
-    // Puts an entry at the place of its key, or at a new one.
-    fn put(
-        &mut self,
-        alloc: Global,
-        request: &Request<'_, 'a>,
-        key: &Word<'a>,
-        body: Body<'a>,
-    ) -> Result<(), AllocError>
-        ensures { OnOk result (self.new ≡ put_at (wanted request.now) key.now body.entry self.old (place_in self.old key.now)) }
-    {
         let lowered = Lowered::of(alloc, key.as_bytes())?;
-        if let Some(place) = self.names.position(lowered.as_bytes()) {
-            let key = Spelling::of_file(key.as_bytes());
-            self.slots.fill(place, key, body);
-            return Ok(());
+        match self.names.position(lowered.as_bytes()) {
+            Some(place) => self
+                .slots
+                .fill(place, Spelling::of_file(key.as_bytes()), body),
+            None => {
+                let slot = request.late_slot(key, lowered.as_bytes(), body);
+                self.names.add(alloc, lowered)?;
+                self.slots.push(slot)?;
+            }
         }
-        let slot = request.late_slot(key, lowered.as_bytes(), body);
-        self.names.add(alloc, lowered)?;
-        self.slots.push(slot)
+        self.refer(alloc, request, parent)
     }
 
     // Counts the reference of an entry, if it has one. With `*` it doesn't count.

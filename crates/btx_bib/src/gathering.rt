@@ -18,6 +18,23 @@ use crate::values::Values;
 use btx_text::{Fault, GREATEST_STRING, Text, same_key};
 use std::alloc::{AllocError, Global};
 
+// The text that was made for a string of what is known. Where it is too long, the reading has ended, and the function that calls this is left.
+macro_rules! fitting {
+    ($gathering:ident, $made:expr) => {
+        match $made {
+            Ok(text) => text,
+            Err(Fault::StringLimit) => {
+                $gathering.ending = End::StringLimit;
+                return Ok(());
+            }
+            Err(Fault::Memory) => return Err(AllocError),
+            Err(Fault::Device | Fault::FileLimit) => unreachable!(),
+        }
+    };
+}
+
+pub(crate) use fitting;
+
 /// An entry that is being read: its key, and what the list has of it.
 #[derive(Drop)]
 pub struct Pending<'a> {
@@ -59,7 +76,8 @@ impl<'a> Pending<'a> {
         reading: &mut Reading<'_, 'a>,
     ) -> Result<bool, AllocError>
         ensures entry { IfOk result (λ fits. (self.new, fits) ≡ taken_by (asked_in reading.old) strings.now self.old (field_view field.now)) }
-        ensures logged { OnOk result (reading.new ≡ reported reading.old (messages_of_field (asked_in reading.old) (database_read reading.old) strings.now self.old (field_view field.now) rest.now)) }
+        ensures logged { OnOk result (reading.new ≡ reported reading.old
+            (messages_of_field (asked_in reading.old) (database_read reading.old) strings.now self.old (field_view field.now) rest.now)) }
     {
         let alloc = reading.alloc;
         let Some(number) = reading.request.field(alloc, field.name)? else {
@@ -93,7 +111,8 @@ impl<'a> Pending<'a> {
         field: &PlainField<'a>,
     ) -> Result<bool, AllocError>
         requires { IsPlainPart (part_in_view field.now.value) }
-        ensures entry { IfOk result (λ taken. IfTaken taken ((self.new, true) ≡ taken_by (wanted request.now) strings.now self.old (plain_field_view field.now)) (self.new ≡ self.old)) }
+        ensures entry { IfOk result (λ taken. IfTaken taken ((self.new, true) ≡ taken_by (wanted request.now) strings.now self.old (plain_field_view field.now))
+            (self.new ≡ self.old)) }
         ensures logged { IfOk result (λ taken. taken ≡ true → IsSilent (wanted request.now) strings.now (plain_field_view field.now) (Some self.old)) }
     {
         let Some(number) = request.field(alloc, field.name)? else {
@@ -115,7 +134,9 @@ impl<'a> Pending<'a> {
 impl<'a> Gathering<'a> {
     ghost use Rattle.std.specs.Prelude.{◌≡◌, ◌≤◌, ◌++◌, None, Some, true, not, length, IfOk, OnOk};
     ghost use Rattle.btx_bib.specs.declared.draft.Standing.TheVariants as standing;
-    ghost use Rattle.btx_bib.specs.refinement.Gatherings.{GoesOn, IfTaken, IsSilent, all_kept, all_messages, closed, begun, begun_by, entered, events_with, fielded_by, kept_after, kept_along, kept_messages, messages_of, messages_of_current, messages_of_entry, messages_of_standing, read_on, with_preamble, with_kept_string};
+    ghost use Rattle.btx_bib.specs.refinement.Gatherings.{GoesOn, IfTaken, IsSilent, all_kept, all_messages, closed, begun, begun_by, entered, events_with};
+    ghost use Rattle.btx_bib.specs.refinement.Gatherings.{fielded_by, kept_after, kept_along, kept_messages, messages_of, messages_of_current};
+    ghost use Rattle.btx_bib.specs.refinement.Gatherings.{messages_of_entry, messages_of_standing, read_on, with_preamble, with_kept_string};
     ghost use Rattle.btx_bib.specs.refinement.Sites.{asked_in, database_read, reported};
     ghost use Rattle.btx_bib.specs.language.Messages.{Database, value_messages};
     ghost use Rattle.btx_bib.specs.refinement.Grammar.FieldViews.{field_view};
@@ -165,7 +186,8 @@ impl<'a> Gathering<'a> {
         reading: &mut Reading<'_, 'a>,
     ) -> Result<(), AllocError>
         ensures state { OnOk result (self.new ≡ begun_by (asked_in reading.old) self.old kind.now key.entry.now standing.Wanted) }
-        ensures logged { OnOk result (reading.new ≡ reported reading.old (messages_of_standing (asked_in reading.old) (database_read reading.old) kind.now key.entry.now rest.now standing.Wanted)) }
+        ensures logged { OnOk result (reading.new ≡ reported reading.old
+            (messages_of_standing (asked_in reading.old) (database_read reading.old) kind.now key.entry.now rest.now standing.Wanted)) }
     {
         let kind = reading.request.kind(reading.alloc, kind)?;
         reading.report_kind(kind, key, rest)?;
@@ -181,7 +203,8 @@ impl<'a> Gathering<'a> {
         reading: &mut Reading<'_, 'a>,
     ) -> Result<(), AllocError>
         ensures state { OnOk result (self.new ≡ entered (asked_in reading.old) self.old kind.now key.entry.now) }
-        ensures logged { OnOk result (reading.new ≡ reported reading.old (messages_of_entry (asked_in reading.old) (database_read reading.old) self.old kind.now key.entry.now rest.now)) }
+        ensures logged { OnOk result (reading.new ≡ reported reading.old
+            (messages_of_entry (asked_in reading.old) (database_read reading.old) self.old kind.now key.entry.now rest.now)) }
     {
         self.close(reading.alloc, reading.request)?;
         match self.draft.standing(reading.alloc, reading.request, key)? {
@@ -198,7 +221,8 @@ impl<'a> Gathering<'a> {
         reading: &mut Reading<'_, 'a>,
     ) -> Result<(), AllocError>
         ensures state { OnOk result (self.new ≡ fielded_by (asked_in reading.old) self.old (field_view field.now) self.old.current) }
-        ensures logged { OnOk result (reading.new ≡ reported reading.old (messages_of_current (asked_in reading.old) (database_read reading.old) self.old.strings (field_view field.now) rest.now self.old.current)) }
+        ensures logged { OnOk result (reading.new ≡ reported reading.old
+            (messages_of_current (asked_in reading.old) (database_read reading.old) self.old.strings (field_view field.now) rest.now self.old.current)) }
     {
         let Some(pending) = &mut self.current else {
             return Ok(());
@@ -218,7 +242,8 @@ impl<'a> Gathering<'a> {
         reading: &mut Reading<'_, 'a>,
     ) -> Result<(), AllocError>
         ensures state { OnOk result (self.new ≡ with_kept_string self.old name.entry.now value.now) }
-        ensures logged { OnOk result (reading.new ≡ reported reading.old (value_messages (database_read reading.old) self.old.strings (Some name.entry.now) value.now)) }
+        ensures logged { OnOk result (reading.new ≡ reported reading.old
+            (value_messages (database_read reading.old) self.old.strings (Some name.entry.now) value.now)) }
     {
         let alloc = reading.alloc;
         reading.report_names(value, &self.strings, Some(name))?;
@@ -226,18 +251,9 @@ impl<'a> Gathering<'a> {
             strings: &self.strings,
             own: name,
         };
-        match value_text(alloc, value, &others, Ends::Kept) {
-            Ok(text) => {
-                let text = text.share()?;
-                self.strings.define(alloc, name, text)
-            }
-            Err(Fault::StringLimit) => {
-                self.ending = End::StringLimit;
-                Ok(())
-            }
-            Err(Fault::Memory) => Err(AllocError),
-            Err(Fault::Device | Fault::FileLimit) => unreachable!(),
-        }
+        let text = fitting!(self, value_text(alloc, value, &others, Ends::Kept));
+        let text = text.share()?;
+        self.strings.define(alloc, name, text)
     }
 
     // A `@preamble`.
@@ -274,7 +290,8 @@ impl<'a> Gathering<'a> {
         reading: &mut Reading<'_, 'a>,
     ) -> Result<(), AllocError>
         ensures state { OnOk result (self.new ≡ kept_after (asked_in reading.old) self.old (event_view event.now)) }
-        ensures logged { OnOk result (reading.new ≡ reported reading.old (messages_of (asked_in reading.old) (database_read reading.old) self.old (event_view event.now) rest.now)) }
+        ensures logged { OnOk result (reading.new ≡ reported reading.old
+            (messages_of (asked_in reading.old) (database_read reading.old) self.old (event_view event.now) rest.now)) }
     {
         match event {
             Event::Comment | Event::End => Ok(()),
@@ -328,7 +345,8 @@ impl<'a> Gathering<'a> {
         requires { goes_on self.old.ending ≡ true }
         ensures whole { OnOk result (goes_on self.new.ending ≡ true) }
         ensures state { OnOk result (all_kept (wanted request.now) self.new reader.new ≡ all_kept (wanted request.now) self.old reader.old) }
-        ensures logged { OnOk result ((database : Database) → all_messages (wanted request.now) database self.new reader.new ≡ all_messages (wanted request.now) database self.old reader.old) }
+        ensures logged { OnOk result ((database : Database) → all_messages (wanted request.now) database self.new reader.new
+            ≡ all_messages (wanted request.now) database self.old reader.old) }
         ensures shorter { OnOk result (left reader.new.0 (length reader.new.1) ≤ left reader.old.0 (length reader.old.1)) }
     {
         let None = self.current else {
@@ -383,7 +401,8 @@ impl<'a> Gathering<'a> {
         field: &PlainField<'a>,
     ) -> Result<bool, AllocError>
         requires { IsPlainPart (part_in_view field.now.value) }
-        ensures state { IfOk result (λ taken. IfTaken taken (self.new ≡ fielded_by (wanted request.now) self.old (plain_field_view field.now) self.old.current) (self.new ≡ self.old)) }
+        ensures state { IfOk result (λ taken. IfTaken taken (self.new ≡ fielded_by (wanted request.now) self.old (plain_field_view field.now) self.old.current)
+            (self.new ≡ self.old)) }
         ensures logged { IfOk result (λ taken. taken ≡ true → IsSilent (wanted request.now) self.old.strings (plain_field_view field.now) self.old.current) }
         ensures same { IfOk result (λ taken. self.new.ending ≡ self.old.ending) }
     {
@@ -404,7 +423,8 @@ impl<'a> Gathering<'a> {
         requires { goes_on self.old.ending ≡ true }
         ensures whole { OnOk result (goes_on self.new.ending ≡ true) }
         ensures state { OnOk result (all_kept (wanted request.now) self.new reader.new ≡ all_kept (wanted request.now) self.old reader.old) }
-        ensures logged { OnOk result ((database : Database) → all_messages (wanted request.now) database self.new reader.new ≡ all_messages (wanted request.now) database self.old reader.old) }
+        ensures logged { OnOk result ((database : Database) → all_messages (wanted request.now) database self.new reader.new
+            ≡ all_messages (wanted request.now) database self.old reader.old) }
         ensures shorter { OnOk result (left reader.new.0 (length reader.new.1) ≤ left reader.old.0 (length reader.old.1)) }
     {
         while let Some(field) = reader.plain_field() {

@@ -1,8 +1,7 @@
 //! The messages of databases.
 use crate::grammar::slip::Slip;
 use crate::spelling::{Spelling, Word};
-use std::alloc::{AllocError, Global};
-use std::marker::Model;
+use btx_text::List;
 
 /// The file and the line that a message is about.
 #[derive(Drop)]
@@ -11,6 +10,20 @@ pub struct Spot<'a> {
     pub file: Word<'a>,
     /// The line, from 1 up.
     pub line: usize,
+}
+
+impl<'a> Spot<'a> {
+    ghost use Rattle.std.specs.Prelude.{◌≡◌};
+
+    /// A line of this file.
+    pub fn of(file: &Word<'a>, line: usize) -> Spot<'a>
+        ensures { result ≡ record { file = file.now; line = line } }
+    {
+        Spot {
+            file: file.copy(),
+            line,
+        }
+    }
 }
 
 /// A message of READ, as data: its line is made when it is logged.
@@ -35,44 +48,4 @@ pub enum Message<'a> {
 }
 
 /// Messages, in order.
-#[derive(Drop)]
-pub struct Messages<'a> {
-    list: Vec<Message<'a>>,
-}
-
-impl<'a> Model for Messages<'a> {
-    ghost use Rattle.std.specs.Prelude.{List};
-    ghost use Rattle.btx_bib.specs.declared.message.Message.{Message};
-
-    ghost Value = { List Message };
-
-    ghost view = { λ messages. messages.list.items };
-}
-
-impl<'a> Messages<'a> {
-    ghost use Rattle.std.specs.Prelude.{◌≡◌, [], ◌∷◌, ◌++◌, OnOk};
-
-    /// No message.
-    pub fn new(alloc: Global) -> Self
-        ensures { result ≡ [] }
-    {
-        Messages {
-            list: Vec::new(alloc),
-        }
-    }
-
-    /// Adds a message.
-    pub fn push(&mut self, message: Message<'a>) -> Result<(), AllocError>
-        ensures { OnOk result (self.new ≡ self.old ++ message.entry ∷ []) }
-    {
-        self.list.push(message)?;
-        Ok(())
-    }
-
-    /// The messages, in order.
-    pub fn as_slice(&self) -> &[Message<'a>]
-        ensures { result.now ≡ self.now }
-    {
-        self.list.as_slice()
-    }
-}
+pub type Messages<'a> = List<Message<'a>>;

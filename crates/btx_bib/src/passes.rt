@@ -2,7 +2,8 @@
 ghost use Rattle.std.specs.Prelude.{◌≡◌, ◌++◌, [], OnOk, IfOk, option_copied, slice_get};
 ghost use Rattle.std.specs.List.{flat_map};
 ghost use Rattle.btx_bib.specs.refinement.Finding.{changed_at};
-ghost use Rattle.btx_bib.specs.language.Passes.{after_first, after_second, check_messages, checked, entries_of, entry_at, inherited, is_parent, parent_messages, reference_messages, pass_messages};
+ghost use Rattle.btx_bib.specs.language.Passes.{after_first, after_second, check_messages, checked, entries_of, entry_at, inherited, is_parent};
+ghost use Rattle.btx_bib.specs.language.Passes.{parent_messages, reference_messages, pass_messages};
 ghost use Rattle.btx_bib.specs.refinement.Steps.{lower_keys, messages_by};
 ghost use Rattle.btx_bib.specs.refinement.Passes.{absence_messages};
 

@@ -37,7 +37,8 @@ impl<'r, 'a> Reading<'r, 'a> {
         strings: &StringTable<'a>,
         own: Option<&[u8]>,
     ) -> Result<(), AllocError>
-        ensures { OnOk result (self.new ≡ reported self.old (spec.name_messages (database_read self.old) strings.now (option_copied own.entry) (part_view part.entry))) }
+        ensures { OnOk result (self.new ≡ reported self.old (spec.name_messages (database_read self.old) strings.now (option_copied own.entry)
+            (part_view part.entry))) }
     {
         let Part::Named(string) = part else {
             return Ok(());

@@ -49,28 +49,31 @@ impl<'r, 'a> Request<'r, 'a> {
         })
     }
 
-    /// The cited keys with which the list begins: those before `*`, if it was cited.
+    // The keys that were cited before `*`, and those after it. Where it wasn't cited, all stand before it.
     #[tactic(auto, using(crate::proofs::RequestLemmas::cited_parts))]
-    pub fn first_cited(&self) -> &'a [Vec<u8>]
-        ensures { texts_of result.now ≡ first_cited self.now.all self.now.job.now.keys }
+    fn cited_parts(&self) -> (&'a [Vec<u8>], &'a [Vec<u8>])
+        ensures first { texts_of result.0.now ≡ first_cited self.now.all self.now.job.now.keys }
+        ensures last { texts_of result.1.now ≡ last_cited self.now.all self.now.job.now.keys }
     {
         let cited = self.job.keys();
         match self.all {
-            Some(place) if place < cited.len() => cited.split_at(place).0,
-            Some(_) | None => cited,
+            Some(place) if place < cited.len() => cited.split_at(place),
+            Some(_) | None => (cited, &[]),
         }
     }
 
+    /// The cited keys with which the list begins: those before `*`, if it was cited.
+    pub fn first_cited(&self) -> &'a [Vec<u8>]
+        ensures { texts_of result.now ≡ first_cited self.now.all self.now.job.now.keys }
+    {
+        self.cited_parts().0
+    }
+
     /// The keys that were cited after `*`.
-    #[tactic(auto, using(crate::proofs::RequestLemmas::cited_parts))]
     pub fn last_cited(&self) -> &'a [Vec<u8>]
         ensures { texts_of result.now ≡ last_cited self.now.all self.now.job.now.keys }
     {
-        let cited = self.job.keys();
-        match self.all {
-            Some(place) if place < cited.len() => cited.split_at(place).1,
-            Some(_) | None => &[],
-        }
+        self.cited_parts().1
     }
 
     /// The number of a declared field by its name.

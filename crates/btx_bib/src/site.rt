@@ -22,11 +22,7 @@ impl<'a> Site<'a> {
         ensures spot { result ≡ spot_at (site_database self.old) rest.now }
         ensures same { self.new ≡ self.old }
     {
-        let line = self.lines.line_at(rest);
-        Spot {
-            file: self.file.copy(),
-            line,
-        }
+        Spot::of(&self.file, self.lines.line_at(rest))
     }
 
     /// The line of the last byte before this rest of the text.
@@ -34,10 +30,6 @@ impl<'a> Site<'a> {
         ensures spot { result ≡ spot_before (site_database self.old) rest.now }
         ensures same { self.new ≡ self.old }
     {
-        let line = self.lines.line_before(rest);
-        Spot {
-            file: self.file.copy(),
-            line,
-        }
+        Spot::of(&self.file, self.lines.line_before(rest))
     }
 }

@@ -8,7 +8,8 @@ use Rattle.btx_bib.specs.declared.grammar.byte_sets.Delimiter.TheVariants.{Brace
 use Rattle.btx_bib.specs.declared.grammar.slip.Slip.{Slip}
 use Rattle.btx_bib.specs.declared.grammar.slip.Slip.TheVariants.{NoName, NoDelimiter, NoComma, NoEquals, NoClosing, NoValue, Unbalanced, EndOfFile, Repeated}
 use Rattle.btx_bib.specs.declared.message.Message.{Message}
-use Rattle.btx_bib.specs.declared.message.Message.TheVariants.{Wrong, UnknownKind, ExtraField, UndefinedString, OwnString, BadReference, NestedReference, NoEntry}
+use Rattle.btx_bib.specs.declared.message.Message.TheVariants.{Wrong, UnknownKind, ExtraField, UndefinedString, OwnString, BadReference, NestedReference}
+use Rattle.btx_bib.specs.declared.message.Message.TheVariants.{NoEntry}
 use Rattle.btx_bib.specs.declared.message.Spot.{Spot}
 use Rattle.std.specs.Option.{option_map_or}
 

@@ -27,7 +27,8 @@ database_events wanted known database = events_from (keeping wanted) known Item 
 
 -- where the reading ends at a limit, the library has the messages until then
 abbrev pub MessagesStay : Type 0
-MessagesStay = (wanted : Request) (macros : List (List ℕ × List ℕ)) (databases : List Database) → goes_on (read_all wanted macros databases).known.ending ≡ false
+MessagesStay = (wanted : Request) (macros : List (List ℕ × List ℕ)) (databases : List Database)
+    → goes_on (read_all wanted macros databases).known.ending ≡ false
     → (library_of wanted macros databases).messages ≡ (read_all wanted macros databases).messages
 
 -- a database that is too long ends the reading: the messages are those of the databases before it, and none is read behind it

@@ -23,7 +23,8 @@ list_of library = map (λ (entry : Entry). entry.key) library.entries
 
 -- no two entries of a list have one key, whose case is ignored
 abbrev pub KeysDiffer : Type 0
-KeysDiffer = (wanted : Request) (macros : List (List ℕ × List ℕ)) (databases : List Database) → IsDistinct is_same_key (list_of (library_of wanted macros databases))
+KeysDiffer = (wanted : Request) (macros : List (List ℕ × List ℕ)) (databases : List Database)
+    → IsDistinct is_same_key (list_of (library_of wanted macros databases))
 
 -- the entries that some databases store
 abbrev pub stored_by : Request → List (List ℕ × List ℕ) → List Database → List Given

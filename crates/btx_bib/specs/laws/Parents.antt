@@ -20,12 +20,14 @@ use Rattle.btx_bib.specs.laws.Stored.{is_any_key}
 -- what stands as an entry's `crossref` is the key of an entry of the list, spelled as the list spells it
 abbrev pub NoReferenceDangles : Type 0
 NoReferenceDangles = (wanted : Request) (macros : List (List ℕ × List ℕ)) (databases : List Database) (entry : Entry) (parent : List ℕ)
-    → (let library = library_of wanted macros databases in Contains library.entries entry → parent_in entry.values ≡ Some parent → Contains (list_of library) parent)
+    → (let library = library_of wanted macros databases in Contains library.entries entry → parent_in entry.values ≡ Some parent
+    → Contains (list_of library) parent)
 
 -- if `fewest` is 0, as with `--min-crossrefs 0` or with `*`, a parent that has an entry stays in the list
 abbrev pub NoParentLeaves : Type 0
 NoParentLeaves = (wanted : Request) (macros : List (List ℕ × List ℕ)) (databases : List Database) (parent : List ℕ)
-    → (read_all wanted macros databases).known.ending ≡ Whole → wanted.fewest ≡ 0 → is_any_key (parents_in wanted (stored_by wanted macros databases)) parent ≡ true
+    → (read_all wanted macros databases).known.ending ≡ Whole → wanted.fewest ≡ 0
+    → is_any_key (parents_in wanted (stored_by wanted macros databases)) parent ≡ true
     → is_some (entry_with_key (stored_by wanted macros databases) parent) ≡ true → is_any_key (list_of (library_of wanted macros databases)) parent ≡ true
 
 -- ---- what an entry takes from its parent
@@ -49,7 +51,8 @@ OwnStands given key field found = (value : List ℕ) → declared_value given ke
 
 -- if the entry of `key` has no value of its own for a field, and its parent has one of its own, then `found` is the parent's value
 abbrev pub IsParentsOwn : ℕ → List Slot → List ℕ → ℕ → Option (List ℕ) → Type 0
-IsParentsOwn count given key field found = (parent value : List ℕ) → suc field < count → declared_value given key field ≡ None → parent_by_key given key ≡ Some parent
+IsParentsOwn count given key field found = (parent value : List ℕ) → suc field < count → declared_value given key field ≡ None
+    → parent_by_key given key ≡ Some parent
     → declared_value given parent field ≡ Some value → found ≡ Some value
 
 -- if the entry of `key` has no value of its own for a field, and `found` is a value, then its parent has that value after the first pass
@@ -59,6 +62,7 @@ IsParents given key field found = (value : List ℕ) → declared_value given ke
 
 -- the value of an entry of the library is its own, or its parent's
 abbrev pub InheritsFromParent : Type 0
-InheritsFromParent = (wanted : Request) (macros : List (List ℕ × List ℕ)) (databases : List Database) (entry : Entry) (field : ℕ) → Contains (library_of wanted macros databases).entries entry
+InheritsFromParent = (wanted : Request) (macros : List (List ℕ × List ℕ)) (databases : List Database) (entry : Entry) (field : ℕ)
+    → Contains (library_of wanted macros databases).entries entry
     → (let given = slots_of wanted (stored_by wanted macros databases) in let found = field_value (suc field) entry.values in
     OwnStands given entry.key field found × IsParentsOwn wanted.count given entry.key field found × IsParents given entry.key field found)

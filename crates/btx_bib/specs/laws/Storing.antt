@@ -76,4 +76,5 @@ is_entry _ = false
 
 -- an event that isn't the key of an entry changes no stored entry's key, and stores none
 abbrev pub OthersStoreNone : Type 0
-OthersStoreNone = (wanted : Request) (known : Known) (event : Event) → is_entry event ≡ false → keys_in (stored_in (known_after wanted known event)) ≡ keys_in (stored_in known)
+OthersStoreNone = (wanted : Request) (known : Known) (event : Event) → is_entry event ≡ false
+    → keys_in (stored_in (known_after wanted known event)) ≡ keys_in (stored_in known)

@@ -82,7 +82,8 @@ abbrev pub entries : List WorkedLibrary
 entries =
     -- a string that names itself, a name that stands for no string, and whitespace over parts
     library_row (citing (codes "k" ∷ []) 2) (codes "@string{s = \"x\" # s}\n@misc{k, title = s # \" y \" # zz # {  z}}")
-    (whole_library (worked_entry misc (codes "k") None (Some (codes "x y z")) None ∷ []) (message.OwnString (codes "s") (at_line 1) ∷ message.UndefinedString (codes "zz") (at_line 2) ∷ []))
+    (whole_library (worked_entry misc (codes "k") None (Some (codes "x y z")) None ∷ [])
+    (message.OwnString (codes "s") (at_line 1) ∷ message.UndefinedString (codes "zz") (at_line 2) ∷ []))
     -- the case of a string's name doesn't count, in its own definition either
     ∷ library_row (citing (codes "k" ∷ []) 2) (codes "@string{s = {x}}\n@string{S = s # {y}}\n@misc{k, title = s}")
     (whole_library (worked_entry misc (codes "k") None (Some (codes "y")) None ∷ []) (message.OwnString (codes "s") (at_line 2) ∷ []))
@@ -111,7 +112,8 @@ entries =
     -- a name that stands for no string has a message each time; a string that is made of it alone is empty
     ∷ library_row (citing (codes "k" ∷ []) 2) (codes "@string{s = zz}\n@misc{k, title = s, booktitle = yy # {B} # yy}")
     (whole_library (worked_entry misc (codes "k") None (Some []) (Some (codes "B")) ∷ [])
-    (message.UndefinedString (codes "zz") (at_line 1) ∷ message.UndefinedString (codes "yy") (at_line 2) ∷ message.UndefinedString (codes "yy") (at_line 2) ∷ []))
+    (message.UndefinedString (codes "zz") (at_line 1) ∷ message.UndefinedString (codes "yy") (at_line 2) ∷ message.UndefinedString (codes "yy") (at_line 2)
+    ∷ []))
     -- and so in a preamble
     ∷ library_row (citing (codes "k" ∷ []) 2) (codes "@preamble{zz}\n@preamble{{x} # yy}@misc{k}") (record {
       entries = worked_entry misc (codes "k") None None None ∷ [];
@@ -147,7 +149,8 @@ reference_rows =
     library_row (citing (codes "c" ∷ []) 2) (codes "@misc{c, crossref={p}}\n@misc{p, title={P}, crossref={g}}\n@book{g, booktitle={G}}")
     (whole_library (worked_entry misc (codes "c") None (Some (codes "P")) None ∷ []) (message.NestedReference (codes "c") (codes "p") ∷ []))
     ∷ library_row (citing (codes "c" ∷ []) 1) (codes "@misc{c, crossref={p}}\n@misc{p, title={P}, crossref={g}}\n@book{g, booktitle={G}}")
-    (whole_library (worked_entry misc (codes "c") (Some (codes "p")) (Some (codes "P")) None ∷ worked_entry misc (codes "p") (Some (codes "g")) (Some (codes "P")) (Some (codes "G"))
+    (whole_library (worked_entry misc (codes "c") (Some (codes "p")) (Some (codes "P")) None
+    ∷ worked_entry misc (codes "p") (Some (codes "g")) (Some (codes "P")) (Some (codes "G"))
     ∷ worked_entry book_type (codes "g") None None (Some (codes "G")) ∷ [])
     (message.NestedReference (codes "c") (codes "p") ∷ []))
     -- a parent that stands before its child and isn't cited is not stored
@@ -158,11 +161,14 @@ reference_rows =
     (whole_library (worked_entry misc (codes "c") None None None ∷ [])
     (message.Wrong Repeated (at_line 2) ∷ message.BadReference (codes "c") (codes "p") ∷ message.NoEntry (codes "nope") ∷ message.NoEntry (codes "p") ∷ []))
     -- one reference is fewer than two
-    ∷ library_row (citing (codes "c1" ∷ []) 2) (codes "@misc{c1, title = {One}, crossref = {p}}\n@misc{c2, title = {Two}, crossref = {p}}\n@book{P, booktitle = {Vol}}")
+    ∷ library_row (citing (codes "c1" ∷ []) 2)
+    (codes "@misc{c1, title = {One}, crossref = {p}}\n@misc{c2, title = {Two}, crossref = {p}}\n@book{P, booktitle = {Vol}}")
     (whole_library (worked_entry misc (codes "c1") None (Some (codes "One")) (Some (codes "Vol")) ∷ []) [])
     -- two references keep a parent, which is spelled as its entry has it
-    ∷ library_row (citing (codes "c1" ∷ codes "c2" ∷ []) 2) (codes "@misc{c1, title = {One}, crossref = {p}}\n@misc{c2, title = {Two}, crossref = {p}}\n@book{P, booktitle = {Vol}}")
-    (whole_library (worked_entry misc (codes "c1") (Some (codes "P")) (Some (codes "One")) (Some (codes "Vol")) ∷ worked_entry misc (codes "c2") (Some (codes "P")) (Some (codes "Two")) (Some (codes "Vol"))
+    ∷ library_row (citing (codes "c1" ∷ codes "c2" ∷ []) 2)
+    (codes "@misc{c1, title = {One}, crossref = {p}}\n@misc{c2, title = {Two}, crossref = {p}}\n@book{P, booktitle = {Vol}}")
+    (whole_library (worked_entry misc (codes "c1") (Some (codes "P")) (Some (codes "One")) (Some (codes "Vol"))
+    ∷ worked_entry misc (codes "c2") (Some (codes "P")) (Some (codes "Two")) (Some (codes "Vol"))
     ∷ worked_entry book_type (codes "P") None None (Some (codes "Vol")) ∷ [])
     [])
     -- an empty reference names the empty key
@@ -173,14 +179,17 @@ reference_rows =
     (whole_library (worked_entry misc (codes "k") (Some (codes "k")) None None ∷ []) (message.NestedReference (codes "k") (codes "k") ∷ []))
     -- a parent that is cited later stands at its own place
     ∷ library_row (citing (codes "c" ∷ codes "p" ∷ []) 2) (codes "@misc{c,crossref={P}}@book{p,title={T}}")
-    (whole_library (worked_entry misc (codes "c") (Some (codes "p")) (Some (codes "T")) None ∷ worked_entry book_type (codes "p") None (Some (codes "T")) None ∷ []) [])
+    (whole_library (worked_entry misc (codes "c") (Some (codes "p")) (Some (codes "T")) None ∷ worked_entry book_type (codes "p") None (Some (codes "T")) None
+    ∷ []) [])
     -- with `*` the keys cited before it come first, then all other entries in their order
     ∷ library_row (citing_all (codes "b" ∷ codes "c" ∷ codes "e" ∷ []) 1) (codes "@misc{a}@misc{b}@misc{c}@misc{d}")
-    (whole_library (worked_entry misc (codes "b") None None None ∷ worked_entry misc (codes "a") None None None ∷ worked_entry misc (codes "c") None None None ∷ worked_entry misc (codes "d") None None None ∷ [])
+    (whole_library (worked_entry misc (codes "b") None None None ∷ worked_entry misc (codes "a") None None None ∷ worked_entry misc (codes "c") None None None
+    ∷ worked_entry misc (codes "d") None None None ∷ [])
     (message.NoEntry (codes "e") ∷ []))
     -- with `*` a key that was cited after it stands where its entry does, spelled as it was cited
     ∷ library_row (citing_all (codes "K" ∷ []) 0) (codes "@misc{a}@misc{k}@misc{b}")
-    (whole_library (worked_entry misc (codes "a") None None None ∷ worked_entry misc (codes "K") None None None ∷ worked_entry misc (codes "b") None None None ∷ []) [])
+    (whole_library (worked_entry misc (codes "a") None None None ∷ worked_entry misc (codes "K") None None None ∷ worked_entry misc (codes "b") None None None
+    ∷ []) [])
     -- with `*` a reference adds no key
     ∷ library_row (citing_all [] 0) (codes "@misc{k,crossref={P}}")
     (whole_library (worked_entry misc (codes "k") None None None ∷ []) (message.BadReference (codes "k") (codes "P") ∷ []))
@@ -249,12 +258,17 @@ messages =
     ∷ message_row (message.Wrong Repeated (at_line 1)) line.Error (codes "Error--Repeated entry--line 1 of file d.bib")
     -- what is left out is a warning, with its line
     ∷ message_row (message.UndefinedString (codes "zz") (at_line 2)) line.Warning (codes "Warning--string name \"zz\" is undefined--line 2 of file d.bib")
-    ∷ message_row (message.OwnString (codes "s") (at_line 1)) line.Warning (codes "Warning--string name \"s\" is used in its own definition--line 1 of file d.bib")
-    ∷ message_row (message.ExtraField (codes "k") (codes "TITLE") (at_line 1)) line.Warning (codes "Warning--I'm ignoring k's extra \"TITLE\" field--line 1 of file d.bib")
-    ∷ message_row (message.UnknownKind (codes "k") (at_line 1)) line.Warning (codes "Warning--entry type for \"k\" isn't style-file defined--line 1 of file d.bib")
+    ∷ message_row (message.OwnString (codes "s") (at_line 1)) line.Warning
+    (codes "Warning--string name \"s\" is used in its own definition--line 1 of file d.bib")
+    ∷ message_row (message.ExtraField (codes "k") (codes "TITLE") (at_line 1)) line.Warning
+    (codes "Warning--I'm ignoring k's extra \"TITLE\" field--line 1 of file d.bib")
+    ∷ message_row (message.UnknownKind (codes "k") (at_line 1)) line.Warning
+    (codes "Warning--entry type for \"k\" isn't style-file defined--line 1 of file d.bib")
     -- a reference and a key have no line; a parent without an entry is an error
-    ∷ message_row (message.BadReference (codes "c") (codes "p")) line.Error (codes "Error--A bad cross reference--entry \"c\" refers to entry \"p\", which doesn't exist")
-    ∷ message_row (message.NestedReference (codes "c") (codes "p")) line.Warning (codes "Warning--you've nested cross references--entry \"c\" refers to entry \"p\"")
+    ∷ message_row (message.BadReference (codes "c") (codes "p")) line.Error
+    (codes "Error--A bad cross reference--entry \"c\" refers to entry \"p\", which doesn't exist")
+    ∷ message_row (message.NestedReference (codes "c") (codes "p")) line.Warning
+    (codes "Warning--you've nested cross references--entry \"c\" refers to entry \"p\"")
     ∷ message_row (message.NoEntry (codes "nope")) line.Warning (codes "Warning--I didn't find a database entry for \"nope\"")
     ∷ []
 
@@ -267,7 +281,8 @@ AreGiven (row ∷ rows) = (library_of row.wanted row.macros row.databases ≡ ro
 
 -- a job that cites `k` finds the database cut between items
 abbrev pub IsCut : WorkedCut → Type 0
-IsCut row = IsCutBetweenItems (citing (codes "k" ∷ []) 2) (with_macros []) (database_with (row.first ++ row.second)) (database_with row.first) (database_with row.second)
+IsCut row = IsCutBetweenItems (citing (codes "k" ∷ []) 2) (with_macros []) (database_with (row.first ++ row.second)) (database_with row.first)
+    (database_with row.second)
 
 -- each row is a cut between items
 abbrev pub AreCuts : List WorkedCut → Type 0

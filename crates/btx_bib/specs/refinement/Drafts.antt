@@ -84,7 +84,10 @@ late_slot request key cited = open_slot request (is_some cited) 0 (unwrap_or cit
 -- the list with an entry put where its key has this place, or at a new place
 abbrev pub put_at : Request → List ℕ → Body → Draft → Option ℕ → Draft
 put_at request key body draft (Some place) = record draft { slots = changed_at place (with_entry body key) draft.slots }
-put_at request key body draft None = record { names = draft.names ++ folded key ∷ []; slots = draft.slots ++ with_entry body key (late_slot request key (listed_as request.cited key)) ∷ [] }
+put_at request key body draft None = record {
+  names = draft.names ++ folded key ∷ [];
+  slots = draft.slots ++ with_entry body key (late_slot request key (listed_as request.cited key)) ∷ [];
+}
 
 -- the list after an entry that is stored, whose key has this place
 unfoldable pub stored_at : Request → List ℕ → Body → Draft → Option ℕ → Draft

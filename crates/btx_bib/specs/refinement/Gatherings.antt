@@ -32,14 +32,19 @@ use Rattle.btx_bib.specs.refinement.Sites.{asked_in, database_read, reported}
 
 -- an entry with the value of a field
 abbrev pub with_field_text : Pending → ℕ → List ℕ → Pending
-with_field_text pending field text = record pending { body = record pending.body { values = changed_at field (λ (old : Option (List ℕ)). Some text) pending.body.values } }
+with_field_text pending field text = record pending {
+  body = record pending.body {
+    values = changed_at field (λ (old : Option (List ℕ)). Some text) pending.body.values;
+  };
+}
 
 -- an entry after a field of this number, and whether the field's value is short enough
 abbrev pub taken_at : Strings → Pending → Field → Option ℕ → Pending × Bool
 taken_at strings pending field None = (pending, true)
 taken_at strings pending field (Some number) =
     if is_some (field_value number pending.body.values) then (pending, true)
-    else (let text = value_text Trimmed (string_value strings) field.value in if nat_lt greatest_string (length text) then (pending, false) else (with_field_text pending number text, true))
+    else (let text = value_text Trimmed (string_value strings) field.value in if nat_lt greatest_string (length text) then (pending, false)
+    else (with_field_text pending number text, true))
 
 abbrev pub taken_by : Request → Strings → Pending → Field → Pending × Bool
 taken_by wanted strings pending field = taken_at strings pending field (wanted.field (folded field.name))
@@ -48,7 +53,8 @@ taken_by wanted strings pending field = taken_at strings pending field (wanted.f
 abbrev pub messages_of_number : Database → Strings → Pending → Field → List ℕ → Option ℕ → List Message
 messages_of_number database strings pending field rest None = []
 messages_of_number database strings pending field rest (Some number) =
-    if is_some (field_value number pending.body.values) then message.ExtraField pending.key field.name (spot_before database rest) ∷ [] else value_messages database strings None field.value
+    if is_some (field_value number pending.body.values) then message.ExtraField pending.key field.name (spot_before database rest) ∷ []
+    else value_messages database strings None field.value
 
 abbrev pub messages_of_field : Request → Database → Strings → Pending → Field → List ℕ → List Message
 messages_of_field wanted database strings pending field rest = messages_of_number database strings pending field rest (wanted.field (folded field.name))
@@ -61,7 +67,10 @@ messages_of_current wanted database strings field rest (Some pending) = messages
 -- what is kept once the entry that was being read is at its end
 abbrev pub closed_by : Request → Gathering → Option Pending → Gathering
 closed_by wanted kept None = record kept { current = None }
-closed_by wanted kept (Some pending) = record kept { draft = stored_at wanted pending.key pending.body kept.draft (place_in kept.draft pending.key); current = None }
+closed_by wanted kept (Some pending) = record kept {
+  draft = stored_at wanted pending.key pending.body kept.draft (place_in kept.draft pending.key);
+  current = None;
+}
 
 abbrev pub closed : Request → Gathering → Gathering
 closed wanted kept = closed_by wanted kept kept.current
@@ -155,7 +164,8 @@ kept_along wanted kept (placed ∷ events) = kept_along wanted (kept_next wanted
 
 abbrev pub kept_messages : Request → Database → Gathering → List Placed → List Message
 kept_messages wanted database kept [] = []
-kept_messages wanted database kept (placed ∷ events) = messages_next wanted database kept placed ++ kept_messages wanted database (kept_next wanted kept placed.event) events
+kept_messages wanted database kept (placed ∷ events) = messages_next wanted database kept placed
+    ++ kept_messages wanted database (kept_next wanted kept placed.event) events
 
 -- the events of a text where this is kept and this is wanted first
 abbrev pub keeping_kept : Request → Keeping Gathering

@@ -25,13 +25,15 @@ use Rattle.btx_bib.specs.language.Wanted.{Request}
 abbrev pub kept_one : Request → Gathering → Database → Gathering
 kept_one wanted kept database =
     if goes_on kept.ending then
-    (if is_too_long database.text then record kept { ending = FileLimit } else closed wanted (kept_along wanted kept (events_with wanted kept Item database.text)))
+    (if is_too_long database.text then record kept { ending = FileLimit }
+    else closed wanted (kept_along wanted kept (events_with wanted kept Item database.text)))
     else kept
 
 -- the messages of it
 abbrev pub messages_of_one : Request → Gathering → Database → List Message
 messages_of_one wanted kept database =
-    if goes_on kept.ending then (if is_too_long database.text then [] else kept_messages wanted database kept (events_with wanted kept Item database.text)) else []
+    if goes_on kept.ending then (if is_too_long database.text then [] else kept_messages wanted database kept (events_with wanted kept Item database.text))
+    else []
 
 -- the same of all databases
 abbrev pub kept_by_all : Request → Gathering → List Database → Gathering
@@ -46,13 +48,20 @@ messages_of_all wanted kept (database ∷ databases) = messages_of_one wanted ke
 
 -- what is kept where nothing was read
 abbrev pub nothing_gathered : Request → Gathering
-nothing_gathered wanted = record { draft = cited_all wanted empty (first_cited wanted.all wanted.cited); strings = []; current = None; preamble = []; ending = end.Whole }
+nothing_gathered wanted = record {
+  draft = cited_all wanted empty (first_cited wanted.all wanted.cited);
+  strings = [];
+  current = None;
+  preamble = [];
+  ending = end.Whole;
+}
 
 -- what is kept after a macro of the style
 abbrev pub kept_macro : Gathering → List ℕ × List ℕ → Gathering
 kept_macro kept macro =
     if goes_on kept.ending then
-    (let text = squeezed macro.1 in if nat_lt greatest_string (length text) then record kept { ending = end.StringLimit } else record kept { strings = defined kept.strings macro.0 text })
+    (let text = squeezed macro.1 in if nat_lt greatest_string (length text) then record kept { ending = end.StringLimit }
+    else record kept { strings = defined kept.strings macro.0 text })
     else kept
 
 abbrev pub kept_macros : Gathering → List (List ℕ × List ℕ) → Gathering
@@ -71,7 +80,12 @@ IsListed draft = draft.names ≡ lower_keys (settled_all draft.slots)
 
 -- the library of these places, with this preamble, behind these messages
 abbrev pub library_listed : List Slot → List ℕ → List Message → Library
-library_listed slots preamble messages = record { entries = entries_of slots; preamble = preamble; messages = messages ++ reference_messages slots; ending = end.Whole }
+library_listed slots preamble messages = record {
+  entries = entries_of slots;
+  preamble = preamble;
+  messages = messages ++ reference_messages slots;
+  ending = end.Whole;
+}
 
 -- the library of what is kept, with these messages
 abbrev pub library_kept : End → Request → Gathering → List Message → Library

@@ -30,4 +30,5 @@ IsWithin lent made (Made number) = number < made
 pub record IsAdded (lent made lent' made' : List (List ℕ)) (text : List ℕ) (place : Place) : Type 0 where
   pub there : text_at lent' made' place ≡ Some text
   pub within : IsWithin (length lent') (length made') place
-  pub others : (other : Place) → IsWithin (length lent) (length made) other → (text_at lent' made' other ≡ text_at lent made other) × IsWithin (length lent') (length made') other
+  pub others : (other : Place) → IsWithin (length lent) (length made) other
+      → (text_at lent' made' other ≡ text_at lent made other) × IsWithin (length lent') (length made') other

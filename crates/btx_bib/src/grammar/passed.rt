@@ -11,28 +11,21 @@ use crate::grammar::plain::{BLOCK, lanes_before};
 use btx_text::depths::depth_after;
 use std::simd::prelude::*;
 
-// How many bytes of the block at a place come before the first brace.
+// How many bytes of the block at a place come before the first brace, in quotes also before the first `"`.
 #[inline(always)]
-fn braceless_in_block(text: &[u8], place: usize) -> usize
+fn unmarked_in_block(enclosure: Enclosure, text: &[u8], place: usize) -> usize
     requires { place + 16 ≤ length text.now }
-    ensures unmarked { AreUnmarked enclosed_by.Group text.now place (place + result) }
+    ensures unmarked { AreUnmarked enclosure text.now place (place + result) }
     ensures bound { result ≤ 16 }
 {
     let block = u8x16::from_slice(&text[place..]);
     let braces = block.simd_eq(u8x16::splat(b'{')) | block.simd_eq(u8x16::splat(b'}'));
-    lanes_before(braces.to_bitmask())
-}
-
-// How many bytes of the block at a place come before the first brace or `"`.
-#[inline(always)]
-fn unmarked_in_block(text: &[u8], place: usize) -> usize
-    requires { place + 16 ≤ length text.now }
-    ensures unmarked { AreUnmarked enclosed_by.Quotes text.now place (place + result) }
-    ensures bound { result ≤ 16 }
-{
-    let block = u8x16::from_slice(&text[place..]);
-    let brace = block.simd_eq(u8x16::splat(b'{')) | block.simd_eq(u8x16::splat(b'}'));
-    lanes_before((brace | block.simd_eq(u8x16::splat(b'"'))).to_bitmask())
+    match enclosure {
+        Enclosure::Group => lanes_before(braces.to_bitmask()),
+        Enclosure::Quotes => {
+            lanes_before((braces | block.simd_eq(u8x16::splat(b'"'))).to_bitmask())
+        }
+    }
 }
 
 // How many bytes before a brace, in quotes also before a `"`, stand at a place, as far as one block shows: where less than a block is left, none.
@@ -45,10 +38,7 @@ fn unmarked_len(enclosure: Enclosure, text: &[u8], place: usize) -> usize
     if text.len() - place < BLOCK {
         return 0;
     }
-    match enclosure {
-        Enclosure::Group => braceless_in_block(text, place),
-        Enclosure::Quotes => unmarked_in_block(text, place),
-    }
+    unmarked_in_block(enclosure, text, place)
 }
 
 // How many bytes stand before the first that ends what is enclosed, if there is one.

@@ -43,8 +43,8 @@ fn first_from(bits: u64, place: usize) -> usize
     place + lanes_before(bits >> place)
 }
 
-// The place of a field's value, if the comma before the field stands here, and behind it, within a block, a name of lower-case letters, `=` and the first byte of
-// the value.
+// The place of a field's value, if the comma before the field stands here, and behind it, within a block, a name of lower-case letters, `=` and the first byte
+// of the value.
 #[inline(always)]
 fn value_place(text: &[u8]) -> Option<usize>
     ensures value { IfSome result (λ place. IsValuePlace text.now place) }

@@ -255,7 +255,8 @@ fn push_part<'a, S: Strings<'a>>(
     part: Part<'a>,
     strings: &S,
 ) -> Result<bool, AllocError>
-    ensures text { OnOk result (text.new.items ≡ text.old.items ++ squeezing.squeezed_after was_white (spec.text_of_part (S.values strings.now) (part_view part.entry))) }
+    ensures text { OnOk result (text.new.items ≡ text.old.items ++ squeezing.squeezed_after was_white
+        (spec.text_of_part (S.values strings.now) (part_view part.entry))) }
     ensures white { IfOk result (λ white. white ≡ squeezing.white_after was_white (spec.text_of_part (S.values strings.now) (part_view part.entry))) }
 {
     match part {
@@ -269,7 +270,8 @@ fn push_part<'a, S: Strings<'a>>(
     }
 }
 
-// The text of a value with its whitespace squeezed; `was_white` says whether whitespace stands before it. It has at most `most` bytes, which is checked after each part.
+// The text of a value with its whitespace squeezed; `was_white` says whether whitespace stands before it. It has at most `most` bytes, which is checked after
+// each part.
 fn gathered<'a, S: Strings<'a>>(
     alloc: Global,
     value: &Value<'a>,

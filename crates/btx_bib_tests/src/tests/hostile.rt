@@ -3,8 +3,9 @@ use super::rows::USUAL_STYLE;
 use super::showing::size_of;
 use super::usual::entries;
 use btx_bib::End;
+use btx_tests::texts::spoilt;
 use btx_text::Fault;
-use std::alloc::{AllocError, Global};
+use std::alloc::Global;
 
 // Whether a database gives a whole library to a job that cites one of its entries, and all.
 fn is_read(alloc: Global, text: &[u8]) -> Result<bool, Fault> {
@@ -31,15 +32,6 @@ fn cuts_are_read(alloc: Global) -> Result<bool, Fault> {
 #[test]
 fn every_cut(rt: HostRuntime) {
     assert!(rt; cuts_are_read(rt.alloc()) == Ok(true));
-}
-
-// A text with a byte in the place of another.
-fn spoilt(alloc: Global, text: &[u8], place: usize, byte: u8) -> Result<Vec<u8>, AllocError> {
-    let mut bytes = Vec::from_slice(alloc, text)?;
-    if let Some(old) = bytes.get_mut(place) {
-        *old = byte;
-    }
-    Ok(bytes)
 }
 
 // Whether a database is read that has this byte in the place of another.

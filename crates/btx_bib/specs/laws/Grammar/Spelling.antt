@@ -35,7 +35,8 @@ FirstFails R (Err slip) front rest = R (Err slip) front rest
 
 -- of two things one behind the other, the first is spelled, and `next` says what its value has to be followed by, or what is wrong in that
 abbrev pub Both : {A B : Type 0} → Grammar A → (A → Grammar B) → Grammar B
-Both {A} R next o front rest = (a : A) × (first : List ℕ) × (second : List ℕ) × (front ≡ first ++ second) × R (Ok a) first (second ++ rest) × next a o second rest
+Both {A} R next o front rest = (a : A) × (first : List ℕ) × (second : List ℕ) × (front ≡ first ++ second) × R (Ok a) first (second ++ rest)
+    × next a o second rest
 
 -- a thing as `R` has it, and behind it one as `next` has it, or what is wrong in the first or the second
 abbrev pub Then : {A B : Type 0} → Grammar A → (A → Grammar B) → Grammar B
@@ -103,7 +104,8 @@ abbrev pub IsWrongPart : Slip → List ℕ → List ℕ → Type 0
 IsWrongPart NoValue front rest = (front ≡ []) × (b : ℕ) × (bs : List ℕ) × (rest ≡ b ∷ bs) × (begins_part b ≡ false)
 IsWrongPart Unbalanced front rest = (text : List ℕ) × (bs : List ℕ) × (front ≡ double_quote ∷ text) × (rest ≡ close_brace ∷ bs) × IsEnclosed Quotes text
 IsWrongPart EndOfFile front rest = (rest ≡ []) ×
-    ((front ≡ []) ⊎ (((text : List ℕ) × (front ≡ open_brace ∷ text) × IsInside Group 0 text) ⊎ ((text : List ℕ) × (front ≡ double_quote ∷ text) × IsInside Quotes 0 text)))
+    ((front ≡ []) ⊎ (((text : List ℕ) × (front ≡ open_brace ∷ text) × IsInside Group 0 text)
+    ⊎ ((text : List ℕ) × (front ≡ double_quote ∷ text) × IsInside Quotes 0 text)))
 IsWrongPart _ front rest = ⊥
 
 -- a part of a value: a text in braces, a text in quotes, digits, or the name of a string; or what is wrong
@@ -127,7 +129,8 @@ OthersFollow others part = Both (Spaced (SignHere hash NoValue)) (λ none. Then 
 -- a value of this number of parts, or what is wrong in the last of them
 abbrev pub ValueOf : ℕ → Grammar (List Part)
 ValueOf zero o front rest = ⊥
-ValueOf (suc n) o front rest = Then (Spaced PartHere) (λ part o front rest. EndsThere part o front rest ⊎ OthersFollow (ValueOf n) part o front rest) o front rest
+ValueOf (suc n) o front rest = Then (Spaced PartHere) (λ part o front rest. EndsThere part o front rest
+    ⊎ OthersFollow (ValueOf n) part o front rest) o front rest
 
 -- a value: parts with `#` between them, or what is wrong in the last of them
 abbrev pub ValueSpelling : Grammar (List Part)

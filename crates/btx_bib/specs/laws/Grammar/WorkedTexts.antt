@@ -49,11 +49,13 @@ texts =
     ∷ text_row (codes "jan = {x}\n% y") []
     -- fields have values of one part or of several; a comma may stand behind the last one
     ∷ text_row (codes "@misc{k, title={A{b}},\n TITLE = 1 # b,}")
-    (Entry (codes "misc") (codes "k") ∷ worked_field (codes "title") (Braced (codes "A{b}") ∷ []) ∷ worked_field (codes "TITLE") (Digits (codes "1") ∷ name (codes "b") (codes ",}") ∷ []) ∷ End ∷ [])
+    (Entry (codes "misc") (codes "k") ∷ worked_field (codes "title") (Braced (codes "A{b}") ∷ [])
+    ∷ worked_field (codes "TITLE") (Digits (codes "1") ∷ name (codes "b") (codes ",}") ∷ []) ∷ End ∷ [])
     -- in parentheses a key may have a brace
     ∷ text_row (codes "@a(b}, c = \"d\")") (Entry (codes "a") (codes "b}") ∷ worked_field (codes "c") (Quoted (codes "d") ∷ []) ∷ End ∷ [])
     -- the case of a command is ignored
-    ∷ text_row (codes "@PreAmble({a})@STRING{b = 1}@coMMent") (Preamble (Braced (codes "a") ∷ []) ∷ End ∷ Definition (codes "b") (Digits (codes "1") ∷ []) ∷ End ∷ Comment ∷ [])
+    ∷ text_row (codes "@PreAmble({a})@STRING{b = 1}@coMMent") (Preamble (Braced (codes "a") ∷ []) ∷ End ∷ Definition (codes "b") (Digits (codes "1") ∷ []) ∷ End
+    ∷ Comment ∷ [])
     -- a comment ends with its own name
     ∷ text_row (codes "@comment{@misc{k}}") (Comment ∷ Entry (codes "misc") (codes "k") ∷ End ∷ [])
     -- an `@` is a byte of names
@@ -88,7 +90,8 @@ texts =
     ∷ text_row (codes "@misc{k,t={A} #") (Entry (codes "misc") (codes "k") ∷ Wrong EndOfFile ∷ [])
     ∷ text_row (codes "@misc{k,t={A{b}") (Entry (codes "misc") (codes "k") ∷ Wrong EndOfFile ∷ [])
     -- a second entry of a key, whose case is ignored, is a fault behind its key; nothing of it is read
-    ∷ text_row (codes "@misc{k,t={A}}\n@misc{K,t={B}}") (Entry (codes "misc") (codes "k") ∷ worked_field (codes "t") (Braced (codes "A") ∷ []) ∷ End ∷ Wrong Repeated ∷ [])
+    ∷ text_row (codes "@misc{k,t={A}}\n@misc{K,t={B}}") (Entry (codes "misc") (codes "k") ∷ worked_field (codes "t") (Braced (codes "A") ∷ []) ∷ End
+    ∷ Wrong Repeated ∷ [])
     ∷ []
 
 -- ---- values
@@ -107,7 +110,12 @@ value_texts =
     record { ends = Trimmed; strings = λ name. None; parts = Braced (codes "\n  a  b ") ∷ []; text = codes "a b" }
     ∷ record { ends = Kept; strings = λ name. None; parts = Braced (codes "\n  a  b ") ∷ []; text = codes " a b " }
     -- whitespace over parts is one space
-    ∷ record { ends = Kept; strings = λ name. Some (codes "x\t"); parts = name (codes "s") [] ∷ Quoted (codes " y ") ∷ Braced (codes "  z") ∷ []; text = codes "x y z" }
+    ∷ record {
+      ends = Kept;
+      strings = λ name. Some (codes "x\t");
+      parts = name (codes "s") [] ∷ Quoted (codes " y ") ∷ Braced (codes "  z") ∷ [];
+      text = codes "x y z";
+    }
     -- a name that stands for no string is nothing
     ∷ record { ends = Kept; strings = λ name. None; parts = Digits (codes "1") ∷ name (codes "s") [] ∷ Digits (codes "2") ∷ []; text = codes "12" }
     -- nothing but whitespace

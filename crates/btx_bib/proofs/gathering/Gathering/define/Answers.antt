@@ -4,4 +4,4 @@ use Rattle.btx_bib.proofs.GrammarLemmas.SqueezeLemmas.{squeezed-squeezed}
 use Rattle.btx_bib.proofs.gathering.Gathering.define.Goals as goal
 
 pub define-requires : goal.define-requires
-define-requires c = ap (is_squeezed false) (c.in_ok-text-in-Ok.ensures ∙ c.in-Ok.ensures.0) ∙ squeezed-squeezed _
+define-requires c = ap (is_squeezed false) (c.in_ok-text.ensures ∙ c.in-Ok.ensures.0) ∙ squeezed-squeezed _

@@ -8,12 +8,9 @@ loop-rest-init c = goes-none (wanted c.args.request.now) c.args.self.now c.args.
 
 pub loop-rest-preserved : goal.loop-rest-preserved
 loop-rest-preserved c =
-    let asked = wanted c.args.request.now in
-    let kept = c.args.self.now in
-    let place = c.loop-rest.reader in
     let next = rw c.in-Some.is at c.behind_field.ensures in
-    let goes = goes-field asked kept c.requires.whole c.requires.none place c.in-Some.rest.now next in
-    goes-further asked kept _ place _ c.loop-rest.invariant (rw c.pass.ensures goes)
+    let goes = goes-field _ _ c.requires.whole c.requires.none c.loop-rest.reader c.in-Some.rest.now next in
+    goes-further _ _ _ _ _ c.loop-rest.invariant (rw c.pass.ensures goes)
 
 pub loop-rest-smaller : goal.loop-rest-smaller
 loop-rest-smaller c =

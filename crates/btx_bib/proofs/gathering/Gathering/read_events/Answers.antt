@@ -16,8 +16,8 @@ loop-placed-preserved c =
     let step : Step = record { event = event_view c.in-Some.placed.event; wanted = c.read.new.self.0; rest = c.read.new.self.1 } in
     let taken = c.in_ok-take.ensures in
     let plain = c.in_ok-pass_plainly-2.ensures in
-    let turn = turn-on c.loop-placed.reading c.loop-placed.self c.loop-placed.reader step c.take.new.self c.take.new.reading _ inv.whole next.0 next.1 taken.state
-    taken.logged in
+    let turn = turn-on c.loop-placed.reading c.loop-placed.self c.loop-placed.reader step c.take.new.self c.take.new.reading _ inv.whole
+    next.0 next.1 taken.state taken.logged in
     record { whole = plain.whole; rest = plain-on c.take.new.reading c.take.new.self c.read.new.self _ _ plain.state plain.logged ∙ turn ∙ inv.rest }
 
 pub loop-placed-smaller : goal.loop-placed-smaller

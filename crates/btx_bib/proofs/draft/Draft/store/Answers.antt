@@ -2,7 +2,7 @@ use Rattle.std.proofs.Common.{rules, ◌≡◌, None}
 use Rattle.std.specs.Str.{bytes_eq}
 use Rattle.btx_bib.specs.refinement.Finding.{first_place}
 use Rattle.btx_bib.proofs.PlaceLemmas.{place_of-none}
-use Rattle.btx_bib.proofs.draft.Draft.put.Goals as goal
+use Rattle.btx_bib.proofs.draft.Draft.store.Goals as goal
 
 pub add-requires : goal.add-requires
 add-requires c =
