@@ -2,20 +2,13 @@
 use Rattle.std.proofs.Common.{◌≡◌, ◌≢◌, ◌≤◌, ◌+◌, ◌⊎◌, inl, inr, ℕ, zero, suc, List, [], ◌∷◌, ◌++◌, length, take, drop, replicate, Option, Some, None, refl}
 use Rattle.std.proofs.Common.{sym, ap, subst, ◌∙◌, arith}
 use Rattle.std.specs.Prelude.{option_and_then, MatchOption, ⊤}
-use Rattle.btx_bst.specs.declared.built_in.BuiltIn.{BuiltIn}
+use Rattle.btx_step.proofs.Common.{BuiltIn, Literal, Wanted, Note, Job, Store, Answer, with_literals, Operand, Any, Of, Default, Push, Back, Does, applied}
+use Rattle.btx_step.proofs.Common.{wrong, or_default, row, runs, runs_missing, built_in_run}
 use Rattle.btx_bst.specs.declared.built_in.BuiltIn.TheVariants as built_in
-use Rattle.btx_stack.specs.declared.literal.Literal.{Literal}
 use Rattle.btx_stack.specs.declared.literal.Literal.TheVariants as literal
-use Rattle.btx_step.specs.declared.literal.Wanted.{Wanted}
 use Rattle.btx_step.specs.declared.literal.Wanted.TheVariants as wanted
-use Rattle.btx_step.specs.declared.said.Note.{Note}
 use Rattle.btx_step.specs.declared.said.Note.TheVariants as note
-use Rattle.btx_step.specs.language.Jobs.{Job}
-use Rattle.btx_step.specs.language.Stores.{Store}
-use Rattle.btx_step.specs.language.Answers.{Answer, with_literals}
-use Rattle.btx_step.specs.language.Operands.{Operand, Any, Of, Value, Does, Default, Push, Back, seen_as, applied, absent, wrong, or_else, or_default}
-use Rattle.btx_step.specs.language.Table.{row, runs, runs_missing}
-use Rattle.btx_step.specs.language.Steps.{built_in_run}
+use Rattle.btx_step.specs.language.Operands.{Value, seen_as, absent, or_else}
 use Rattle.btx_step.specs.laws.Applied.{operand_literal, OperandValues, operand_literals, done_on, IsApplied, AreMissing, IsWrong, by_default, IsReported}
 use Rattle.btx_step.specs.laws.Applied.{FollowsRule, AppliedOrReported}
 use Rattle.btx_step.specs.refinement.Operands.{misfit_notes, complaints}

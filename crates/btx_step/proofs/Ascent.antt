@@ -6,9 +6,9 @@ use Rattle.std.specs.List.Sorted.{ties, IsStableBy}
 use Rattle.std.proofs.lemmas.Bool.{cases_Bool}
 use Rattle.std.proofs.lemmas.Cmp.{nat_list_cmp_total}
 use Rattle.std.proofs.lemmas.List.Sorted.{ranks_by}
+use Rattle.btx_step.proofs.Common.{by_key}
 use Rattle.btx_step.specs.language.Sorting.{inserted, sorted_by}
 use Rattle.btx_step.proofs.Order.{Ascends, passed, failed, ascends_from_sorted, one_order}
-use Rattle.btx_step.specs.refinement.Sorting.{by_key}
 
 module _ {X : Type 0} (lt : X → X → Bool) (o : IsStrictWeakOrder lt) where
   later : (x y : X) (ys : List X) → lt y x ≡ true → inserted lt x (y ∷ ys) ≡ y ∷ inserted lt x ys

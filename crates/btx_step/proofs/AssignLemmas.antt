@@ -1,17 +1,9 @@
 -- What an assignment leaves.
 use Rattle.std.proofs.Common.{◌≡◌, ◌≢◌, ℕ, zero, suc, List, [], ◌∷◌, drop, take, slice_get, slice_set, Option, Some, None, refl, ap, arith}
+use Rattle.btx_step.proofs.Common.{Callee, Literal, Integer, Text, Function, Said, Job, Store, EntryVariables, Answer, says, with_literals, on_operands, row}
 use Rattle.btx_bst.specs.declared.built_in.BuiltIn.TheVariants as built_in
-use Rattle.btx_bst.specs.declared.callee.Callee.{Callee}
 use Rattle.btx_bst.specs.declared.callee.Callee.TheVariants as callee
-use Rattle.btx_stack.specs.declared.literal.Literal.{Literal}
-use Rattle.btx_stack.specs.declared.literal.Literal.TheVariants.{Integer, Text, Function}
-use Rattle.btx_step.specs.declared.said.Said.{Said}
-use Rattle.btx_step.specs.language.Jobs.{Job}
-use Rattle.btx_step.specs.language.Stores.{Store, EntryVariables}
-use Rattle.btx_step.specs.language.Answers.{Answer, says, with_literals}
 use Rattle.btx_step.specs.laws.Leaves.{StandUnder, IsOther}
-use Rattle.btx_step.specs.language.Operands.{on_operands}
-use Rattle.btx_step.specs.language.Table.{row}
 use Rattle.btx_step.specs.language.Variables as variables
 
 -- the literals `below` stand, the current entry is `current`, all entries but `changed` are as in `entries`, and `deepest` bodies were open at once

@@ -1,12 +1,12 @@
 -- The variables of all entries, those of an entry behind those of the one before it.
 use Rattle.std.proofs.Common.{◌≡◌, ℕ, zero, suc, ◌+◌, ◌-◌, ◌*◌, ◌<◌, ◌≤◌, ◌^◌, ◌⊎◌, inl, inr, List, [], ◌∷◌, length, take, drop, replicate, get_or, slice_get}
-use Rattle.std.proofs.Common.{slice_set, unwrap_or, Option, Some, None, ℤ, pos, FitsSigned, w32, to_z, of_z, refl, sym, ap, ◌∙◌, arith, suc-mul, zero-mul}
+use Rattle.std.proofs.Common.{slice_set, unwrap_or, ℤ, pos, FitsSigned, w32, to_z, of_z, refl, sym, ap, ◌∙◌, arith, suc-mul, zero-mul}
 use Rattle.std.proofs.lemmas.List.{drop-drop, drop-replicate, drop-set-add, drop-set-lt, get_or-drop, get_or-take, length-take, set-set, set_past}
 use Rattle.std.proofs.lemmas.List.{take-replicate, take-set-le}
 use Rattle.std.proofs.Math.Seq.{take-set-lt}
 use Rattle.std.proofs.lemmas.Option.{unwrap_or-slice_get, slice_get-get_or, slice_get_past}
 use Rattle.std.proofs.lemmas.Int.{to_z-of_z}
-use Rattle.btx_step.specs.language.Stores.{EntryVariables}
+use Rattle.btx_step.proofs.Common.{EntryVariables}
 use Rattle.btx_step.specs.language.Variables.{values_of, integer_of, string_of}
 use Rattle.btx_step.specs.refinement.Variables.{rows, integer_set, string_set}
 

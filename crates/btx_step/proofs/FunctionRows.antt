@@ -1,6 +1,7 @@
 -- Worked functions, computed from the definition.
 use Rattle.std.proofs.Common.{refl, []}
 use Rattle.std.specs.Fmt.{digits}
+use Rattle.btx_step.proofs.Common.{built_in_run, function_run}
 use Rattle.btx_text.specs.declared.element_kind.TextMode.TheVariants.{Bytes, Utf8}
 use Rattle.btx_text.specs.language.Class.{class_of}
 use Rattle.btx_text.specs.language.Elements.{kind_at, group_len, elements_from, elements_of}
@@ -21,7 +22,6 @@ use Rattle.btx_names.specs.language.Answered.{names_before, nth_name, one_name_t
 use Rattle.btx_bst.specs.language.BuiltIns.{built_ins, built_in_of}
 use Rattle.btx_bst.specs.language.Names.{named_lower}
 use Rattle.btx_step.specs.language.Notes.{form_of, place_of, note_text, note_kind, has_place, note_line}
-use Rattle.btx_step.specs.language.Steps.{built_in_run, function_run}
 use Rattle.btx_step.specs.laws.WorkedFunctions as row
 use Rattle.btx_step.specs.laws.WorkedFunctions.{AreSo}
 use Rattle.btx_step.specs.laws.WorkedAssignments as assigned

@@ -1,26 +1,16 @@
 -- What the steps that assign nothing leave: all but the literals, and the literals below their operands.
 use Rattle.std.proofs.Common.{◌≡◌, ℕ, true, false, Bool, cond, nat_lt, List, [], ◌∷◌, length, drop, Option, Some, None, refl, arith}
-use Rattle.btx_bst.specs.declared.built_in.BuiltIn.{BuiltIn}
+use Rattle.btx_step.proofs.Common.{BuiltIn, Literal, Integer, Text, Missing, Next, Said, StandIn, Job, Store, Answer, answer, with_literals, pushes}
+use Rattle.btx_step.proofs.Common.{pushes_text, Operand, Push, Back, Does, on_operands, row, misses_entry}
 use Rattle.btx_bst.specs.declared.built_in.BuiltIn.TheVariants as built_in
-use Rattle.btx_stack.specs.declared.literal.Literal.{Literal}
-use Rattle.btx_stack.specs.declared.literal.Literal.TheVariants.{Integer, Text, Missing}
-use Rattle.btx_step.specs.declared.next.Next.{Next}
 use Rattle.btx_step.specs.declared.next.Next.TheVariants as next
 use Rattle.btx_text.specs.declared.limits.Limit.TheVariants as limit
-use Rattle.btx_step.specs.declared.said.Said.{Said}
 use Rattle.btx_step.specs.declared.said.Said.TheVariants as said
-use Rattle.btx_step.specs.declared.stand_in.StandIn.{StandIn}
-use Rattle.btx_step.specs.language.Jobs.{Job}
-use Rattle.btx_step.specs.language.Stores.{Store}
-use Rattle.btx_step.specs.language.Answers.{Answer, answer, with_literals, pushes, pushes_text}
 use Rattle.btx_step.specs.laws.Leaves.{StandUnder}
-use Rattle.btx_step.specs.language.Operands.{Operand, Does, Push, Back, on_operands}
-use Rattle.btx_step.specs.language.Table.{row}
 use Rattle.btx_step.specs.refinement.Entries as kept_entries
 use Rattle.btx_step.specs.refinement.Stacks as stacks
 use Rattle.btx_step.proofs.RuleLemmas.{Each, Taken, by_rule}
 use Rattle.btx_step.proofs.PlainLemmas.{OfPushes, complains, plain_row}
-use Rattle.btx_step.specs.refinement.Table.{misses_entry}
 
 -- a step left all but the literals of a store, and these literals below its results
 pub record Keeps (all : Store) (below : List Literal) (a : Answer) : Type 0 where

@@ -1,20 +1,14 @@
 -- What a step leaves, over all tokens.
 use Rattle.std.proofs.Common.{◌≡◌, ℕ, true, false, length, drop, slice_get, Option, Some, None, refl, ap, true≢false, []}
-use Rattle.btx_bst.specs.declared.built_in.BuiltIn.{BuiltIn}
+use Rattle.btx_step.proofs.Common.{BuiltIn, Callee, Job, Store, with_literals, finds_missing, row, runs_missing, built_in_run, function_run}
 use Rattle.btx_bst.specs.declared.built_in.BuiltIn.TheVariants as built_in
-use Rattle.btx_bst.specs.declared.callee.Callee.{Callee}
 use Rattle.btx_bst.specs.declared.callee.Callee.TheVariants as callee
 use Rattle.btx_bst.specs.declared.token.Token.{Token}
 use Rattle.btx_bst.specs.declared.token.Token.TheVariants as token
 use Rattle.btx_step.specs.declared.next.Next.TheVariants as next
 use Rattle.btx_step.specs.declared.said.Said.TheVariants as said
 use Rattle.btx_step.specs.declared.stand_in.StandIn.TheVariants as stand_in
-use Rattle.btx_step.specs.language.Jobs.{Job}
-use Rattle.btx_step.specs.language.Stores.{Store}
-use Rattle.btx_step.specs.language.Answers.{with_literals}
-use Rattle.btx_step.specs.language.Entries.{finds_missing}
-use Rattle.btx_step.specs.language.Table.{row, runs_missing}
-use Rattle.btx_step.specs.language.Steps.{built_in_run, function_run, step_of}
+use Rattle.btx_step.specs.language.Steps.{step_of}
 use Rattle.btx_step.specs.laws.Leaves.{is_assignment, is_listing, operands_taken, VariablesStay, OtherEntriesStay, CurrentStays, DeepestStays}
 use Rattle.btx_step.specs.laws.Leaves.{LowerLiteralsStay, ListingEmpties}
 use Rattle.btx_step.proofs.AssignLemmas.{assigned}

@@ -1,3 +1,4 @@
+pub mod Common
 pub mod ValueLemmas
 pub mod Replicas
 pub mod Order
@@ -18,3 +19,4 @@ pub mod FunctionRows
 pub mod StartLemmas
 pub mod ApartLemmas
 pub mod LowLemmas
+pub mod OperandLemmas

@@ -2,32 +2,22 @@
 use Rattle.std.proofs.Common.{◌≡◌, ℕ, ℤ, ◌<◌, Bool, true, false, cond, nat_lt, List, [], ◌∷◌, length, take, Option, Some, None, refl, arith, sym}
 use Rattle.std.proofs.Common.{subst}
 use Rattle.std.specs.Prelude.{slice_get, slice_index_or}
+use Rattle.btx_step.proofs.Common.{BuiltIn, Callee, Literal, Wanted, Next, Note, Said, StandIn, Job, Store, Answer, answer, quiet, says, with_literals, pushes}
+use Rattle.btx_step.proofs.Common.{pushes_text, Operand, Push, Back, Does, on_operands, row, runs_missing, built_in_run, function_run, misses_entry}
 use Rattle.btx_text.specs.language.Limits.{greatest_string}
-use Rattle.btx_bst.specs.declared.built_in.BuiltIn.{BuiltIn}
 use Rattle.btx_bst.specs.declared.built_in.BuiltIn.TheVariants as built_in
-use Rattle.btx_bst.specs.declared.callee.Callee.{Callee}
 use Rattle.btx_bst.specs.declared.callee.Callee.TheVariants as callee
 use Rattle.btx_bst.specs.declared.token.Token.{Token}
 use Rattle.btx_bst.specs.declared.token.Token.TheVariants as token
 use Rattle.btx_bst.specs.language.Direct.{is_choice}
-use Rattle.btx_stack.specs.declared.literal.Literal.{Literal}
 use Rattle.btx_stack.specs.declared.literal.Literal.TheVariants as literal
-use Rattle.btx_step.specs.declared.literal.Wanted.{Wanted}
 use Rattle.btx_step.specs.declared.literal.Wanted.TheVariants as wanted
 use Rattle.btx_text.specs.declared.limits.Limit.TheVariants as limit
-use Rattle.btx_step.specs.declared.next.Next.{Next}
 use Rattle.btx_step.specs.declared.next.Next.TheVariants as next
-use Rattle.btx_step.specs.declared.said.Note.{Note}
 use Rattle.btx_step.specs.declared.said.Note.TheVariants as note
-use Rattle.btx_step.specs.declared.said.Said.{Said}
 use Rattle.btx_step.specs.declared.said.Said.TheVariants as said
-use Rattle.btx_step.specs.declared.stand_in.StandIn.{StandIn}
 use Rattle.btx_step.specs.declared.stand_in.StandIn.TheVariants as stand_in
-use Rattle.btx_step.specs.language.Jobs.{Job}
-use Rattle.btx_step.specs.language.Stores.{Store}
-use Rattle.btx_step.specs.language.Answers.{Answer, answer, quiet, says, with_literals, pushes, pushes_text, complains}
-use Rattle.btx_step.specs.language.Operands.{Operand, Does, Push, Back, on_operands}
-use Rattle.btx_step.specs.language.Table.{row, runs_missing}
+use Rattle.btx_step.specs.language.Answers.{complains}
 use Rattle.btx_step.proofs.RuleLemmas.{Each, Taken, by_rule, pushed_by}
 use Rattle.btx_step.proofs.PlainLemmas as plain
 use Rattle.btx_step.proofs.PlainLemmas.{OfPushes}
@@ -37,9 +27,8 @@ use Rattle.btx_step.specs.language.Entries as entries
 use Rattle.btx_step.specs.refinement.Stacks as stacks
 use Rattle.btx_step.specs.language.Variables as variables
 use Rattle.btx_step.specs.refinement.Variables as kept_variables
-use Rattle.btx_step.specs.language.Steps.{built_in_run, function_run, step_of}
+use Rattle.btx_step.specs.language.Steps.{step_of}
 use Rattle.btx_step.specs.refinement.Answers.{outside, refuses}
-use Rattle.btx_step.specs.refinement.Table.{misses_entry}
 
 -- it is so
 abbrev pub So : Bool → Type 0

@@ -11,12 +11,12 @@ use Rattle.std.proofs.lemmas.Bool.Decides.{nat_tests}
 use Rattle.std.proofs.lemmas.Cmp.{nat_list_cmp_total, nat_list_eq_equiv, same_from_slice_cmp}
 use Rattle.std.proofs.lemmas.List.Elements.{filter_agree}
 use Rattle.std.proofs.lemmas.Slice.Eq.{bytes_eq-Decides}
+use Rattle.btx_step.proofs.Common.{by_key}
 use Rattle.btx_step.specs.language.Sorting.{sorted}
 use Rattle.btx_step.specs.laws.Orders.{NoneBefore, Ascends, IsInOrder, ComparesBytes, SortedOnce, precedes}
 use Rattle.btx_step.proofs.Bytes.{precedes_reads}
 use Rattle.btx_step.proofs.Order as order
 use Rattle.btx_step.proofs.Ascent.{by_key_order, sorted_ascends, sorted_passes}
-use Rattle.btx_step.specs.refinement.Sorting.{by_key}
 
 pub compares_bytes : ComparesBytes
 compares_bytes = precedes_reads

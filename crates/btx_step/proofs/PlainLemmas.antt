@@ -1,20 +1,12 @@
 -- What holds of the functions that push one result at most and change nothing else, from what holds of a push.
 use Rattle.std.proofs.Common.{ℕ, ℤ, pos, negsuc, Bool, true, false, cond, nat_lt, List, [], ◌∷◌, Option, Some, None}
-use Rattle.btx_bst.specs.declared.built_in.BuiltIn.{BuiltIn}
+use Rattle.btx_step.proofs.Common.{BuiltIn, Literal, Integer, Text, Missing, Note, Said, StandIn, Job, Store, Answer, says, pushes, pushes_text, row}
 use Rattle.btx_bst.specs.declared.built_in.BuiltIn.TheVariants as built_in
 use Rattle.btx_step.specs.declared.calculation.Calculation.{Calculation}
 use Rattle.btx_step.specs.declared.calculation.Calculation.TheVariants.{Greater, Less, Plus, Minus}
-use Rattle.btx_stack.specs.declared.literal.Literal.{Literal}
-use Rattle.btx_stack.specs.declared.literal.Literal.TheVariants.{Integer, Text, Missing}
-use Rattle.btx_step.specs.declared.said.Note.{Note}
-use Rattle.btx_step.specs.declared.said.Said.{Said}
 use Rattle.btx_step.specs.declared.said.Said.TheVariants as said
-use Rattle.btx_step.specs.declared.stand_in.StandIn.{StandIn}
 use Rattle.btx_step.specs.declared.stand_in.StandIn.TheVariants as stand_in
-use Rattle.btx_step.specs.language.Jobs.{Job}
-use Rattle.btx_step.specs.language.Stores.{Store}
-use Rattle.btx_step.specs.language.Answers.{Answer, says, truth, pushes, pushes_text, complained}
-use Rattle.btx_step.specs.language.Table.{row}
+use Rattle.btx_step.specs.language.Answers.{truth, complained}
 use Rattle.btx_step.specs.language.Arithmetic as arithmetic
 use Rattle.btx_step.specs.refinement.Arithmetic as kept_arithmetic
 use Rattle.btx_step.specs.language.Entries as entries

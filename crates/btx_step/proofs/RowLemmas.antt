@@ -2,25 +2,20 @@
 use Rattle.std.proofs.Common.{◌≡◌, ◌<◌, ◌≤◌, ℕ, ℤ, cond, List, ◌∷◌, ◌++◌, length, take, Option, Some, None, slice_get, slice_set, refl, sym, ap, subst, ◌∙◌}
 use Rattle.std.proofs.lemmas.Bool.{le-ltb, lt-ltb}
 use Rattle.std.proofs.lemmas.List.{take_all}
+use Rattle.btx_step.proofs.Common.{Literal, Integer, Text, Job, Store, EntryVariables, Answer, answer, done, quiet, says, pushed, with_literals, on_operands}
+use Rattle.btx_step.proofs.Common.{row, runs, built_in_run, function_run, duplicates}
 use Rattle.btx_bst.specs.declared.built_in.BuiltIn.TheVariants as built_in
 use Rattle.btx_bst.specs.declared.callee.Callee.TheVariants as callee
-use Rattle.btx_stack.specs.declared.literal.Literal.{Literal}
-use Rattle.btx_stack.specs.declared.literal.Literal.TheVariants.{Integer, Text}
 use Rattle.btx_text.specs.declared.limits.Limit.TheVariants as limit
 use Rattle.btx_step.specs.declared.next.Next.TheVariants as next
 use Rattle.btx_step.specs.declared.said.Said.TheVariants as said
-use Rattle.btx_step.specs.language.Jobs.{Job}
-use Rattle.btx_step.specs.language.Stores.{Store, EntryVariables}
-use Rattle.btx_step.specs.language.Answers.{Answer, answer, done, quiet, says, pushed, pushed_text, with_literals}
-use Rattle.btx_step.specs.language.Operands.{on_operands}
-use Rattle.btx_step.specs.language.Table.{row, runs}
+use Rattle.btx_step.specs.language.Answers.{pushed_text}
 use Rattle.btx_step.specs.language.Variables as variables
 use Rattle.btx_step.specs.refinement.Variables as kept_variables
-use Rattle.btx_step.specs.language.Steps.{built_in_run, function_run}
 use Rattle.btx_step.specs.laws.Laws.{SwapTwice, DuplicatePop, StringsEndAtLimit, InEntry, ReadsBack}
 use Rattle.btx_step.proofs.ValueLemmas.{read_at}
 use Rattle.btx_step.specs.refinement.Strings.{joins}
-use Rattle.btx_step.specs.refinement.Stacks.{duplicates, swaps}
+use Rattle.btx_step.specs.refinement.Stacks.{swaps}
 
 pub swap_twice : SwapTwice
 unfolding built_in_run

@@ -1,14 +1,12 @@
 -- What holds of a function by the rule of operands, from what holds of it on operands that fit.
 use Rattle.std.proofs.Common.{List, [], ◌∷◌, length, drop, Option, Some, None}
-use Rattle.btx_stack.specs.declared.literal.Literal.{Literal}
+use Rattle.btx_step.proofs.Common.{Literal, Note, StandIn, Store, Answer, with_literals, Operand, Any, Of, Default, Push, Back, Does, applied, or_default}
+use Rattle.btx_step.proofs.Common.{on_operands}
 use Rattle.btx_stack.specs.declared.literal.Literal.TheVariants as literal
 use Rattle.btx_step.specs.declared.literal.Wanted.TheVariants as wanted
-use Rattle.btx_step.specs.declared.said.Note.{Note}
-use Rattle.btx_step.specs.declared.stand_in.StandIn.{StandIn}
 use Rattle.btx_step.specs.declared.stand_in.StandIn.TheVariants as stand_in
-use Rattle.btx_step.specs.language.Stores.{Store}
-use Rattle.btx_step.specs.language.Answers.{Answer, with_literals, complained}
-use Rattle.btx_step.specs.language.Operands.{Operand, Any, Of, Value, Does, Default, Push, Back, applied, or_default, on_operands}
+use Rattle.btx_step.specs.language.Answers.{complained}
+use Rattle.btx_step.specs.language.Operands.{Value}
 use Rattle.btx_step.specs.laws.Applied.{operand_literal}
 use Rattle.btx_step.specs.refinement.Operands.{complaints}
 

@@ -40,7 +40,20 @@ fn kind_of(note: &Note<'_>) -> LineKind
     match note {
         Note::Cut(_, _) | Note::Warning(_) => LineKind::Warning,
         Note::Shown(_) => LineKind::Plain,
-        _ => LineKind::Error,
+        Note::EmptyStack
+        | Note::WrongKind(_, _)
+        | Note::Incomparable
+        | Note::Overflow
+        | Note::NotAssignable(_)
+        | Note::NoEntry
+        | Note::NotAscii(_)
+        | Note::NotOneCharacter(_)
+        | Note::NoConversion(_)
+        | Note::NoSuchName(_, _)
+        | Note::FinalComma(_, _)
+        | Note::TooManyCommas(_, _)
+        | Note::IllegalFormat(_)
+        | Note::LeftOver => LineKind::Error,
     }
 }
 

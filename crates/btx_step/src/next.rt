@@ -1,7 +1,6 @@
 //! What follows a step.
 use btx_bst::Callee;
 use btx_text::Limit;
-use std::alloc::AllocError;
 
 /// What follows a step: nothing, the end of the run, the execution of one function, the body of a function, or the turns of a loop,
 /// with its test and its body.
@@ -13,6 +12,3 @@ pub enum Next {
     Open(u32),
     Loop(Callee, Callee),
 }
-
-/// What a step answers: what follows it, unless memory is refused.
-pub type Stepped = Result<Next, AllocError>;

@@ -1,16 +1,15 @@
 //! The literals, the variables and the current entry, and what functions do to them.
 ghost use Rattle.std.specs.Prelude.{◌≡◌, ◌≤◌, ◌==◌, [], ◌∷◌, IfOk, IfSome, IfNone, length};
-ghost use Rattle.btx_step.specs.language.Answers.{answer, quiet, pushes, pushed, pushed_text, complained, complains, truth, with_literals};
-ghost use Rattle.btx_step.specs.refinement.Answers.{silence, lacks, outside, refuses};
+ghost use Rattle.btx_step.specs.language.Answers.{answer, pushes, pushed, pushed_text, complained, complains, truth, with_literals};
+ghost use Rattle.btx_step.specs.refinement.Answers.{gives, outside, quiet_of};
 ghost use Rattle.btx_text.specs.language.Limits.{greatest_string};
-ghost use Rattle.btx_step.specs.language.Control.{tested, tested_as};
+ghost use Rattle.btx_step.specs.laws.Applied.{FollowsRule};
+ghost use Rattle.btx_step.specs.refinement.Operands.{Fit};
 ghost use Rattle.btx_step.specs.refinement.Quick.{next_of_push};
 ghost use Rattle.btx_step.specs.language.Steps.{built_in_run, function_run, step_of};
 ghost use Rattle.btx_step.specs.refinement.Steps.{with_current, with_depth};
 ghost use Rattle.btx_stack.specs.declared.literal.Literal.TheVariants as literal;
 ghost use Rattle.btx_step.specs.declared.said.Said.{Said as Words};
-ghost use Rattle.btx_step.specs.declared.said.Said.TheVariants as words;
-ghost use Rattle.btx_step.specs.declared.next.Next.TheVariants as following;
 
 mod apart;
 mod arithmetic;
@@ -27,8 +26,9 @@ mod variables;
 
 use crate::calculation::Calculation;
 use crate::job::Job;
-use crate::literal::{Literal, Wanted};
-use crate::next::{Next, Stepped};
+use crate::literal::Literal;
+use crate::next::Next;
+use crate::outcome::{Outcome, Stepped};
 use crate::said::{Note, Notes, Said};
 use crate::stand_in::StandIn;
 use crate::values::EntryValues;
@@ -71,80 +71,94 @@ impl<'a> Model for Store<'a> {
 }
 
 impl<'a> Store<'a> {
-    /// Executes a token, and answers what follows. What is to be written or logged goes into `said`, which is empty before.
+    /// Executes a token, and answers what follows and what it says.
     #[tactic(auto, unfolding(crate::specs::language::Steps::step_of))]
-    pub fn step(&mut self, job: &Job<'a>, token: Token, said: &mut Said<'a>) -> Stepped
-        requires { said.old ≡ silence }
-        ensures { IfOk result (λ next. answer next said.new self.new ≡ step_of job.now token self.old) }
+    pub fn step(&mut self, job: &Job<'a>, token: Token) -> Stepped<'a>
+        ensures { IfOk result (λ o. gives o self.new ≡ step_of job.now token self.old) }
     {
         match token {
             Token::Text(number) => Ok(self.push_text(job.style().text(number))),
             Token::Integer(n) => Ok(self.push_number(n)),
             Token::Quote(function) => self.push(Literal::Function(function)),
-            Token::Run(function) => self.run(job, function, said),
+            Token::Run(function) => self.run(job, function),
         }
     }
 
-    /// Executes a function, a field or a variable, and answers what follows. `said` is as for `step`.
+    /// Executes a function, a field or a variable, and answers what follows and what it says.
     #[tactic(auto, unfolding(crate::specs::language::Steps::function_run))]
-    pub fn run(&mut self, job: &Job<'a>, function: Callee, said: &mut Said<'a>) -> Stepped
-        requires { said.old ≡ silence }
-        ensures { IfOk result (λ next. answer next said.new self.new ≡ function_run job.now function self.old) }
+    pub fn run(&mut self, job: &Job<'a>, function: Callee) -> Stepped<'a>
+        ensures { IfOk result (λ o. gives o self.new ≡ function_run job.now function self.old) }
     {
         match function {
-            Callee::BuiltIn(function) => self.run_built_in(job, function, said),
-            Callee::User(number) => Ok(Next::Open(number)),
-            Callee::Field(number) => self.push_field(job, number, said),
-            Callee::EntryInteger(number) => self.push_entry_integer(number, said),
-            Callee::EntryString(number) => self.push_entry_string(number, said),
+            Callee::BuiltIn(function) => self.run_built_in(job, function),
+            Callee::User(number) => Ok(Outcome::quiet(Next::Open(number))),
+            Callee::Field(number) => self.push_field(job, number),
+            Callee::EntryInteger(number) => self.push_entry_integer(number),
+            Callee::EntryString(number) => self.push_entry_string(number),
             Callee::GlobalInteger(number) => Ok(self.push_integer(number)),
             Callee::GlobalString(number) => self.push_string(number),
         }
     }
 
+    // A function gets its operands, or its default follows. `missing$` without an entry is the one exception.
+    #[tactic(auto, using(crate::proofs::OperandLemmas::reported, crate::proofs::OperandLemmas::rule_followed, crate::proofs::OperandLemmas::rule_broken))]
+    fn run_built_in(&mut self, job: &Job<'a>, function: BuiltIn) -> Stepped<'a>
+        ensures { IfOk result (λ o. gives o self.new ≡ built_in_run job.now function self.old) }
+    {
+        if function == BuiltIn::Missing && self.current.is_none() {
+            return self.miss_entry_for_missing();
+        }
+        match self.misfit(function)? {
+            Some(outcome) => Ok(outcome),
+            None => self.apply(job, function),
+        }
+    }
+
+    // What a function does on operands that are there and fit.
     #[tactic(auto, unfolding(crate::specs::language::Steps::built_in_run))]
-    fn run_built_in(&mut self, job: &Job<'a>, function: BuiltIn, said: &mut Said<'a>) -> Stepped
-        requires { said.old ≡ silence }
-        ensures { IfOk result (λ next. answer next said.new self.new ≡ built_in_run job.now function self.old) }
+    fn apply(&mut self, job: &Job<'a>, function: BuiltIn) -> Stepped<'a>
+        requires fit { Fit function self.old }
+        requires rule { FollowsRule function self.old.current }
+        ensures { IfOk result (λ o. gives o self.new ≡ built_in_run job.now function self.old) }
     {
         match function {
-            BuiltIn::Equals => self.equal(said),
-            BuiltIn::Greater => self.calculate(Calculation::Greater, said),
-            BuiltIn::Less => self.calculate(Calculation::Less, said),
-            BuiltIn::Plus => self.calculate(Calculation::Plus, said),
-            BuiltIn::Minus => self.calculate(Calculation::Minus, said),
-            BuiltIn::Concatenate => self.join(said),
-            BuiltIn::Assign => self.assign(job, said),
-            BuiltIn::AddPeriod => self.end_sentence(said),
-            BuiltIn::CallType => self.call_type(job, said),
-            BuiltIn::ChangeCase => self.change_case(said),
-            BuiltIn::ChrToInt => self.push_code(said),
-            BuiltIn::Cite => self.cite(job, said),
-            BuiltIn::Duplicate => self.duplicate(said),
-            BuiltIn::Empty => self.find_empty(said),
-            BuiltIn::FormatName => self.format_name(job, said),
-            BuiltIn::If => self.choose(said),
-            BuiltIn::IntToChr => self.push_character(said),
-            BuiltIn::IntToStr => self.push_decimal(said),
-            BuiltIn::Missing => self.find_missing(said),
-            BuiltIn::NewLine => Ok(end_line(said)),
-            BuiltIn::NumNames => self.count_names(said),
-            BuiltIn::Pop => self.drop_top(said),
+            BuiltIn::Equals => self.equal(),
+            BuiltIn::Greater => self.calculate(Calculation::Greater),
+            BuiltIn::Less => self.calculate(Calculation::Less),
+            BuiltIn::Plus => self.calculate(Calculation::Plus),
+            BuiltIn::Minus => self.calculate(Calculation::Minus),
+            BuiltIn::Concatenate => self.join(),
+            BuiltIn::Assign => self.assign(job),
+            BuiltIn::AddPeriod => self.end_sentence(),
+            BuiltIn::CallType => self.call_type(job),
+            BuiltIn::ChangeCase => self.change_case(),
+            BuiltIn::ChrToInt => self.push_code(),
+            BuiltIn::Cite => self.cite(job),
+            BuiltIn::Duplicate => self.duplicate(),
+            BuiltIn::Empty => self.find_empty(),
+            BuiltIn::FormatName => self.format_name(job),
+            BuiltIn::If => self.choose(),
+            BuiltIn::IntToChr => self.push_character(),
+            BuiltIn::IntToStr => self.push_decimal(),
+            BuiltIn::Missing => self.find_missing(),
+            BuiltIn::NewLine => Ok(Outcome::saying(Next::Nothing, Said::EndedLine)),
+            BuiltIn::NumNames => self.count_names(),
+            BuiltIn::Pop => self.drop_top(),
             BuiltIn::Preamble => Ok(self.push_preamble(job)),
-            BuiltIn::Purify => self.purify(said),
+            BuiltIn::Purify => self.purify(),
             BuiltIn::Quote => Ok(self.push_quote()),
-            BuiltIn::Skip => Ok(Next::Nothing),
-            BuiltIn::Stack => self.show_stack(said),
-            BuiltIn::Substring => self.substring(said),
-            BuiltIn::Swap => self.swap(said),
-            BuiltIn::TextLength => self.measure_text(job, said),
-            BuiltIn::TextPrefix => self.prefix(job, said),
-            BuiltIn::Top => self.show_top(said),
-            BuiltIn::Type => self.push_type(job, said),
-            BuiltIn::Warning => self.warn(said),
-            BuiltIn::While => self.start_loop(said),
-            BuiltIn::Width => self.measure_width(said),
-            BuiltIn::Write => self.write(said),
+            BuiltIn::Skip => Ok(Outcome::quiet(Next::Nothing)),
+            BuiltIn::Stack => self.show_stack(),
+            BuiltIn::Substring => self.substring(),
+            BuiltIn::Swap => self.swap(),
+            BuiltIn::TextLength => self.measure_text(job),
+            BuiltIn::TextPrefix => self.prefix(job),
+            BuiltIn::Top => self.show_top(),
+            BuiltIn::Type => self.push_type(job),
+            BuiltIn::Warning => self.warn(),
+            BuiltIn::While => self.start_loop(),
+            BuiltIn::Width => self.measure_width(),
+            BuiltIn::Write => self.write(),
         }
     }
 
@@ -205,126 +219,93 @@ impl<'a> Store<'a> {
 
     // One more literal, if there is room.
     #[tactic(auto, using(crate::proofs::QuickLemmas::push_answer))]
-    fn push(&mut self, value: Literal<'a>) -> Stepped
-        ensures quiet { IfOk result (λ next. quiet next self.new ≡ pushed value.entry self.old) }
-        ensures aloud { IfOk result (λ next. (saying : Words) → answer next saying self.new ≡ pushes saying value.entry self.old) }
+    fn push(&mut self, value: Literal<'a>) -> Stepped<'a>
+        ensures quiet { IfOk result (λ o. gives o self.new ≡ pushed value.entry self.old) }
+        ensures aloud { IfOk result (λ o. (saying : Words) → answer o.next saying self.new ≡ pushes saying value.entry self.old) }
     {
         Ok(pushed_if(self.literals.push(value)?))
     }
 
     // One more integer, if there is room.
     #[tactic(auto, using(crate::proofs::QuickLemmas::push_answer))]
-    fn push_number(&mut self, n: i32) -> Next
-        ensures quiet { quiet result self.new ≡ pushed (literal.Integer n) self.old }
-        ensures aloud { (saying : Words) → answer result saying self.new ≡ pushes saying (literal.Integer n) self.old }
+    fn push_number(&mut self, n: i32) -> Outcome<'a>
+        ensures quiet { gives result self.new ≡ pushed (literal.Integer n) self.old }
+        ensures aloud { (saying : Words) → answer result.next saying self.new ≡ pushes saying (literal.Integer n) self.old }
     {
         pushed_if(self.literals.push_integer(n))
     }
 
     // One more string that isn't copied, if there is room.
     #[tactic(auto, using(crate::proofs::QuickLemmas::push_answer))]
-    fn push_lent(&mut self, text: &'a [u8]) -> Next
+    fn push_lent(&mut self, text: &'a [u8]) -> Outcome<'a>
         requires { length text.now ≤ greatest_string }
-        ensures quiet { quiet result self.new ≡ pushed (literal.Text text.now) self.old }
-        ensures aloud { (saying : Words) → answer result saying self.new ≡ pushes saying (literal.Text text.now) self.old }
+        ensures quiet { gives result self.new ≡ pushed (literal.Text text.now) self.old }
+        ensures aloud { (saying : Words) → answer result.next saying self.new ≡ pushes saying (literal.Text text.now) self.old }
     {
         pushed_if(self.literals.push_lent(text))
     }
 
     // One more value of a missing field, if there is room.
     #[tactic(auto, using(crate::proofs::QuickLemmas::push_answer))]
-    fn push_missing(&mut self) -> Next
-        ensures { quiet result self.new ≡ pushed literal.Missing self.old }
+    fn push_missing(&mut self) -> Outcome<'a>
+        ensures { gives result self.new ≡ pushed literal.Missing self.old }
     {
         pushed_if(self.literals.push_missing())
     }
 
     // One more string, if it isn't too long.
-    fn push_text(&mut self, text: &'a [u8]) -> Next
-        ensures { quiet result self.new ≡ pushed_text text.now self.old }
+    fn push_text(&mut self, text: &'a [u8]) -> Outcome<'a>
+        ensures { gives result self.new ≡ pushed_text text.now self.old }
     {
         if text.len() > GREATEST_STRING {
-            return Next::End(Limit::String);
+            return Outcome::quiet(Next::End(Limit::String));
         }
         self.push_lent(text)
     }
 
     // The truth as an integer.
-    fn push_truth(&mut self, is_true: bool) -> Next
-        ensures { quiet result self.new ≡ pushed (truth is_true) self.old }
+    fn push_truth(&mut self, is_true: bool) -> Outcome<'a>
+        ensures { gives result self.new ≡ pushed (truth is_true) self.old }
     {
         self.push_number(if is_true { 1 } else { 0 })
     }
 
     // Lines of the log, and what stands in for a result.
-    fn complain_all(&mut self, notes: Notes<'a>, instead: StandIn, said: &mut Said<'a>) -> Next
-        ensures { answer result said.new self.new ≡ complained notes.entry instead self.old }
+    fn complain_all(&mut self, notes: Notes<'a>, instead: StandIn) -> Outcome<'a>
+        ensures { gives result self.new ≡ complained notes.entry instead self.old }
     {
-        *said = Said::Noted(notes);
-        match instead {
+        let next = match instead {
             StandIn::Nothing => Next::Nothing,
-            StandIn::Zero => self.push_number(0),
-            StandIn::Empty => self.push_lent(&[]),
-        }
+            StandIn::Zero => self.push_number(0).next,
+            StandIn::Empty => self.push_lent(&[]).next,
+        };
+        Outcome::saying(next, Said::Noted(notes))
     }
 
     // A line of the log, and what stands in for a result.
     #[cold]
-    fn complain(&mut self, note: Note<'a>, instead: StandIn, said: &mut Said<'a>) -> Stepped
-        ensures { IfOk result (λ next. answer next said.new self.new ≡ complains note.entry instead self.old) }
+    fn complain(&mut self, note: Note<'a>, instead: StandIn) -> Stepped<'a>
+        ensures { IfOk result (λ o. gives o self.new ≡ complains note.entry instead self.old) }
     {
         let notes = Notes::one(self.alloc, note)?;
-        Ok(self.complain_all(notes, instead, said))
-    }
-
-    // The stack was empty `missing` times.
-    #[cold]
-    fn lack(&mut self, missing: usize, instead: StandIn, said: &mut Said<'a>) -> Stepped
-        requires { self.old.literals ≡ [] }
-        ensures { IfOk result (λ next. answer next said.new self.new ≡ lacks missing instead self.old) }
-    {
-        let notes = Notes::empty_stack(self.alloc, missing)?;
-        Ok(self.complain_all(notes, instead, said))
-    }
-
-    // A literal of another kind was wanted.
-    #[cold]
-    fn refuse(
-        &mut self,
-        value: Literal<'a>,
-        wanted: Wanted,
-        instead: StandIn,
-        said: &mut Said<'a>,
-    ) -> Stepped
-        ensures { IfOk result (λ next. answer next said.new self.new ≡ refuses value.entry wanted instead self.old) }
-    {
-        self.complain(Note::WrongKind(value, wanted), instead, said)
+        Ok(self.complain_all(notes, instead))
     }
 
     // There is no current entry.
-    fn miss_entry(&mut self, said: &mut Said<'a>) -> Stepped
-        ensures { IfOk result (λ next. answer next said.new self.new ≡ outside self.old) }
+    fn miss_entry(&mut self) -> Stepped<'a>
+        ensures { IfOk result (λ o. gives o self.new ≡ outside self.old) }
     {
-        self.complain(Note::NoEntry, StandIn::Nothing, said)
+        self.complain(Note::NoEntry, StandIn::Nothing)
     }
-}
-
-// The pending line ends.
-fn end_line(said: &mut Said<'_>) -> Next
-    ensures next { result ≡ following.Nothing }
-    ensures said { said.new ≡ words.EndedLine }
-{
-    *said = Said::EndedLine;
-    Next::Nothing
 }
 
 // What follows a push: nothing where it was done, and the end of the run where there was no room.
-fn pushed_if(done: bool) -> Next
-    ensures { result ≡ next_of_push done }
+fn pushed_if<'a>(done: bool) -> Outcome<'a>
+    ensures { result ≡ quiet_of (next_of_push done) }
 {
-    if done {
+    Outcome::quiet(if done {
         Next::Nothing
     } else {
         Next::End(Limit::Literals)
-    }
+    })
 }

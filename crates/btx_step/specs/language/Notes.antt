@@ -58,7 +58,20 @@ unfoldable pub note_kind : Note → LineKind
 note_kind (note.Cut size most) = Warning
 note_kind (note.Warning text) = Warning
 note_kind (note.Shown v) = Plain
-note_kind _ = Error
+note_kind note.EmptyStack = Error
+note_kind (note.WrongKind v wanted) = Error
+note_kind note.Incomparable = Error
+note_kind note.Overflow = Error
+note_kind (note.NotAssignable f) = Error
+note_kind note.NoEntry = Error
+note_kind (note.NotAscii n) = Error
+note_kind (note.NotOneCharacter text) = Error
+note_kind (note.NoConversion text) = Error
+note_kind (note.NoSuchName n names) = Error
+note_kind (note.FinalComma n names) = Error
+note_kind (note.TooManyCommas n names) = Error
+note_kind (note.IllegalFormat format) = Error
+note_kind note.LeftOver = Error
 
 -- a place follows a message, but not a style's own warning or a literal that is shown
 unfoldable pub has_place : Note → Bool

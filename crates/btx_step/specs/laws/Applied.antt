@@ -13,7 +13,11 @@ use Rattle.btx_step.specs.language.Jobs.{Job}
 use Rattle.btx_step.specs.language.Stores.{Store}
 use Rattle.btx_step.specs.declared.stand_in.StandIn.TheVariants as stand_in
 use Rattle.btx_step.specs.language.Answers.{Answer, with_literals, complained}
-use Rattle.btx_step.specs.language.Operands.{Operand, Any, Of, Value, Does, Default, Push, Back}
+use Rattle.btx_step.specs.declared.operands.Operand.{Operand}
+use Rattle.btx_step.specs.declared.operands.Operand.TheVariants.{Any, Of}
+use Rattle.btx_step.specs.declared.operands.Default.{Default}
+use Rattle.btx_step.specs.declared.operands.Default.TheVariants.{Push, Back}
+use Rattle.btx_step.specs.language.Operands.{Value, Does}
 use Rattle.btx_step.specs.language.Table.{row}
 use Rattle.btx_step.specs.language.Steps.{built_in_run}
 

@@ -1,67 +1,52 @@
 //! Choices and loops.
 ghost use Rattle.std.specs.Prelude.{◌≡◌, IfOk};
 ghost use Rattle.btx_bst.specs.declared.built_in.BuiltIn.TheVariants as built_in;
-ghost use Rattle.btx_step.specs.language.Answers.{answer};
-ghost use Rattle.btx_step.specs.refinement.Answers.{silence};
 ghost use Rattle.btx_step.specs.language.Control as spec;
-ghost use Rattle.btx_step.specs.refinement.Control as kept_spec;
 ghost use Rattle.btx_step.specs.language.Table.{runs};
+ghost use Rattle.btx_step.specs.refinement.Answers.{gives};
+ghost use Rattle.btx_step.specs.refinement.Control as kept_spec;
+ghost use Rattle.btx_step.specs.refinement.Operands.{Fit};
 
 use super::Store;
-use super::operands::{fitting, popped};
 use crate::literal::{Literal, Wanted};
-use crate::next::{Next, Stepped};
+use crate::next::Next;
+use crate::outcome::{Outcome, Stepped};
 use crate::said::{Note, Notes, Said};
-use crate::stand_in::StandIn;
 use std::alloc::AllocError;
 
 impl<'a> Store<'a> {
     // `if$`
-    #[tactic(auto, using(crate::proofs::QuickLemmas::choice_lacks))]
-    pub(super) fn choose(&mut self, said: &mut Said<'a>) -> Stepped
-        requires { said.old ≡ silence }
-        ensures { IfOk result (λ next. answer next said.new self.new ≡ runs built_in.If kept_spec.chooses self.old) }
+    pub(super) fn choose(&mut self) -> Stepped<'a>
+        requires { Fit built_in.If self.old }
+        ensures { IfOk result (λ o. gives o self.new ≡ runs built_in.If kept_spec.chooses self.old) }
     {
-        let otherwise = popped!(self, 3, Nothing, said);
-        let then = popped!(self, 2, Nothing, said);
-        let number = popped!(self, 1, Nothing, said);
-        let otherwise = fitting!(self, otherwise, Function, Nothing, said);
-        let then = fitting!(self, then, Function, Nothing, said);
-        let n = fitting!(self, number, Integer, Nothing, said);
-        Ok(Next::Run(if n > 0 { then } else { otherwise }))
+        let otherwise = self.take_function()?;
+        let then = self.take_function()?;
+        let n = self.take_integer()?;
+        let chosen = if is_positive(n) { then } else { otherwise };
+        Ok(Outcome::quiet(Next::Run(chosen)))
     }
 
     // `while$`
-    pub(super) fn start_loop(&mut self, said: &mut Said<'a>) -> Stepped
-        requires { said.old ≡ silence }
-        ensures { IfOk result (λ next. answer next said.new self.new ≡ runs built_in.While kept_spec.loops self.old) }
+    pub(super) fn start_loop(&mut self) -> Stepped<'a>
+        requires { Fit built_in.While self.old }
+        ensures { IfOk result (λ o. gives o self.new ≡ runs built_in.While kept_spec.loops self.old) }
     {
-        let body = popped!(self, 2, Nothing, said);
-        let test = popped!(self, 1, Nothing, said);
-        let body = fitting!(self, body, Function, Nothing, said);
-        let test = fitting!(self, test, Function, Nothing, said);
-        Ok(Next::Loop(test, body))
+        let body = self.take_function()?;
+        let test = self.take_function()?;
+        Ok(Outcome::quiet(Next::Loop(test, body)))
     }
 
-    /// Pops what a loop's test left, and answers whether the body runs: if it is an integer above 0.
-    pub fn test(&mut self, said: &mut Said<'a>) -> Result<bool, AllocError>
-        requires { said.old ≡ silence }
-        ensures { IfOk result (λ again. spec.tested_as again said.new self.new ≡ spec.tested self.old.literals self.old) }
+    /// Pops what a loop's test left, and answers whether the body runs, if it is an integer above 0, and what is said.
+    pub fn test(&mut self) -> Result<(bool, Said<'a>), AllocError>
+        ensures { IfOk result (λ turn. spec.tested_as turn.0 turn.1 self.new ≡ spec.tested self.old.literals self.old) }
     {
-        match self.literals.pop(self.alloc)? {
-            Some(Literal::Integer(n)) => Ok(n > 0),
-            Some(other) => {
-                *said = Said::Noted(Notes::one(
-                    self.alloc,
-                    Note::WrongKind(other, Wanted::Integer),
-                )?);
-                Ok(false)
-            }
-            None => {
-                *said = Said::Noted(Notes::one(self.alloc, Note::EmptyStack)?);
-                Ok(false)
-            }
-        }
+        let note = match self.literals.pop(self.alloc)? {
+            Some(Literal::Integer(n)) => return Ok((is_positive(n), Said::Nothing)),
+            Some(other) => Note::WrongKind(other, Wanted::Integer),
+            None => Note::EmptyStack,
+        };
+        Ok((false, Said::Noted(Notes::one(self.alloc, note)?)))
     }
 }
 

@@ -1,79 +1,49 @@
 //! Names.
 ghost use Rattle.std.specs.Prelude.{◌≡◌, ◌++◌, IfOk, OnOk};
 ghost use Rattle.btx_bst.specs.declared.built_in.BuiltIn.TheVariants as built_in;
-ghost use Rattle.btx_step.specs.language.Answers.{answer};
-ghost use Rattle.btx_step.specs.refinement.Answers.{silence};
 ghost use Rattle.btx_step.specs.language.Names as spec;
-ghost use Rattle.btx_step.specs.refinement.Names as kept_spec;
 ghost use Rattle.btx_step.specs.language.Table.{runs};
+ghost use Rattle.btx_step.specs.refinement.Answers.{gives};
+ghost use Rattle.btx_step.specs.refinement.Names as kept_spec;
+ghost use Rattle.btx_step.specs.refinement.Operands.{Fit};
 ghost use Rattle.btx_text.specs.language.Lists.{only_if};
 
 use super::Store;
-use super::operands::{fitting, made, popped};
+use super::operands::made;
 use crate::job::Job;
-use crate::literal::{Literal, Wanted};
-use crate::next::{Next, Stepped};
+use crate::literal::Literal;
+use crate::next::Next;
+use crate::outcome::{Outcome, Stepped};
 use crate::said::{Note, Notes, Said};
-use crate::stand_in::StandIn;
 use btx_strings::Complaints;
 use btx_text::{Fault, Limit, Text};
 use std::alloc::{AllocError, Global};
 
-// What `format.name$` is asked for: a list of names, the number of a name in it, and the format of that name.
-#[derive(Drop)]
-struct Asked<'a> {
-    names: Text<'a>,
-    number: i32,
-    format: Text<'a>,
-}
-
 impl<'a> Store<'a> {
     // `num.names$`
-    pub(super) fn count_names(&mut self, said: &mut Said<'a>) -> Stepped
-        requires { said.old ≡ silence }
-        ensures { IfOk result (λ next. answer next said.new self.new ≡ runs built_in.NumNames kept_spec.counts_names self.old) }
+    pub(super) fn count_names(&mut self) -> Stepped<'a>
+        requires { Fit built_in.NumNames self.old }
+        ensures { IfOk result (λ o. gives o self.new ≡ runs built_in.NumNames kept_spec.counts_names self.old) }
     {
-        let value = popped!(self, 1, Zero, said);
-        let names = fitting!(self, value, Text, Zero, said);
-        let count = btx_names::num_names(names.as_bytes());
-        Ok(self.push_number(count))
+        let names = self.take_text()?;
+        Ok(self.push_number(btx_names::num_names(names.as_bytes())))
     }
 
     // `format.name$`
-    #[tactic(auto, using(crate::proofs::QuickLemmas::name_lacks))]
-    pub(super) fn format_name(&mut self, job: &Job<'a>, said: &mut Said<'a>) -> Stepped
-        requires { said.old ≡ silence }
-        ensures { IfOk result (λ next. answer next said.new self.new ≡ runs built_in.FormatName (spec.formats_name job.now) self.old) }
+    pub(super) fn format_name(&mut self, job: &Job<'a>) -> Stepped<'a>
+        requires { Fit built_in.FormatName self.old }
+        ensures { IfOk result (λ o. gives o self.new ≡ runs built_in.FormatName (spec.formats_name job.now) self.old) }
     {
-        let format = popped!(self, 3, Empty, said);
-        let number = popped!(self, 2, Empty, said);
-        let names = popped!(self, 1, Empty, said);
-        let format = fitting!(self, format, Text, Empty, said);
-        let number = fitting!(self, number, Integer, Empty, said);
-        let names = fitting!(self, names, Text, Empty, said);
-        let asked = Asked {
-            names,
-            number,
-            format,
-        };
-        self.push_name(job, asked, said)
-    }
-
-    // A name of this number in a format.
-    fn push_name(&mut self, job: &Job<'a>, asked: Asked<'a>, said: &mut Said<'a>) -> Stepped
-        requires { said.old ≡ silence }
-        ensures { IfOk result (λ next. answer next said.new self.new ≡ spec.formats_name job.now asked.entry.format asked.entry.number asked.entry.names self.old) }
-    {
+        let format = self.take_text()?;
+        let number = self.take_integer()?;
+        let names = self.take_text()?;
         let answer = made!(
-            self.names.format(
-                asked.names.as_bytes(),
-                asked.number,
-                asked.format.as_bytes(),
-                job.mode()
-            )
+            self.names
+                .format(names.as_bytes(), number, format.as_bytes(), job.mode())
         );
-        *said = name_said(self.alloc, answer.complaints, asked)?;
-        self.push(Literal::Text(Text::owned(answer.text)))
+        let said = name_said(self.alloc, answer.complaints, names, number, format)?;
+        let pushed = self.push(Literal::Text(Text::owned(answer.text)))?;
+        Ok(Outcome::saying(pushed.next, said))
     }
 }
 
@@ -81,9 +51,11 @@ impl<'a> Store<'a> {
 fn name_said<'a>(
     alloc: Global,
     complaints: Complaints,
-    asked: Asked<'a>,
+    names: Text<'a>,
+    number: i32,
+    format: Text<'a>,
 ) -> Result<Said<'a>, AllocError>
-    ensures { IfOk result (λ said. said ≡ kept_spec.name_said complaints asked.entry.names asked.entry.number asked.entry.format) }
+    ensures { IfOk result (λ said. said ≡ kept_spec.name_said complaints names.entry number format.entry) }
 {
     if !(complaints.no_such_name
         || complaints.comma_at_end
@@ -92,11 +64,6 @@ fn name_said<'a>(
     {
         return Ok(Said::Nothing);
     }
-    let Asked {
-        names,
-        number,
-        format,
-    } = asked;
     let names = names.share()?;
     let mut notes = Notes::new(alloc);
     push_if(

@@ -206,9 +206,16 @@ fn play_token<'a>(
     token: Token,
     answers: &mut Vec<u8>,
 ) -> Result<bool, AllocError> {
-    let mut said = Said::Nothing;
-    let next = store.step(job, token, &mut said);
-    write_step(alloc, job, store.current(), token, &said, next, answers)
+    let step = store.step(job, token)?;
+    write_step(
+        alloc,
+        job,
+        store.current(),
+        token,
+        &step.said,
+        step.next,
+        answers,
+    )
 }
 
 /// Adds what a step has said and what follows it.
@@ -218,13 +225,12 @@ fn write_step(
     entry: Option<usize>,
     token: Token,
     said: &Said<'_>,
-    next: Result<Next, AllocError>,
+    next: Next,
     answers: &mut Vec<u8>,
 ) -> Result<bool, AllocError> {
     let executed = executed_name(job.style(), token);
     let key = key_of(job, entry);
     write_said(alloc, job.style(), executed, key, said, answers)?;
-    let next = next?;
     write_next(job.style(), next, answers)?;
     Ok(!matches!(next, Next::End(_)))
 }

@@ -2,7 +2,7 @@
 use super::plays::{Outcome, Trial, last_body, tried, usual};
 use btx_bst::Token;
 use btx_step::sorting::sort;
-use btx_step::{Job, Next, Said, Store};
+use btx_step::{Job, Next, Store};
 use btx_text::Fault;
 use std::alloc::{AllocError, Global};
 use std::process::Abort;
@@ -92,8 +92,7 @@ fn give_key<'a>(job: &Job<'a>, store: &mut Store<'a>) -> Result<(), AllocError> 
 }
 
 fn step<'a>(job: &Job<'a>, store: &mut Store<'a>, token: Token) -> Result<Next, AllocError> {
-    let mut said = Said::Nothing;
-    store.step(job, token, &mut said)
+    Ok(store.step(job, token)?.next)
 }
 
 /// Shows numbers below ten, each with a space.

@@ -1,8 +1,9 @@
 use Rattle.std.proofs.Common.{rules}
 use Rattle.std.proofs.lemmas.Fn.{always_returns_same}
+use Rattle.btx_step.proofs.Common.{by_key}
 use Rattle.btx_step.proofs.Ascent.{by_key_order, stable_sort_is}
 use Rattle.btx_step.proofs.sorting.sort.Goals as goal
-use Rattle.btx_step.specs.refinement.Sorting.{sort_key, by_key}
+use Rattle.btx_step.specs.refinement.Sorting.{sort_key}
 
 pub returns-clause-ok : goal.returns-clause-ok
 returns-clause-ok c =
