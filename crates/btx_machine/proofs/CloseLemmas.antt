@@ -3,23 +3,16 @@ use Rattle.std.proofs.Common.{◌≡◌, ℕ, List, [], ◌++◌, Option, sym, a
 use Rattle.std.specs.Io.KnownBytes.{Appends}
 use Rattle.std.specs.List.{flat_map}
 use Rattle.std.proofs.KnownBytes.{Appends-trans, Appends-nil}
-use Rattle.btx_out.specs.language.Breaking.{sure, wrap}
-use Rattle.btx_out.specs.laws.Breaking.{left}
+use Rattle.btx_machine.proofs.Common.{wrap, left, holding, AppendsPrefix, Journal, Outputs, Ending, Out, Start, StandsFor, ended_line, bbl_at, so_far}
+use Rattle.btx_out.specs.language.Breaking.{sure}
 use Rattle.btx_out.specs.language.Breakers.{written_at_end}
-use Rattle.btx_out.specs.refinement.Breakers.{holding, Finishes, FinishesPart, AppendsPartOfRest}
-use Rattle.btx_out.specs.language.Pieces.{AppendsAtLeast, AppendsPrefix}
+use Rattle.btx_out.specs.refinement.Breakers.{Finishes, FinishesPart, AppendsPartOfRest}
+use Rattle.btx_out.specs.language.Pieces.{AppendsAtLeast}
 use Rattle.btx_out.proofs.WrittenLemmas.{written_of-finish, begins-finish}
-use Rattle.btx_machine.specs.refinement.Outputs.{Journal, Outputs}
-use Rattle.btx_machine.specs.declared.ending.Ending.{Ending}
 use Rattle.btx_machine.specs.declared.ending.Ending.TheVariants as ends
-use Rattle.btx_machine.specs.language.States.{Out}
-use Rattle.btx_machine.specs.refinement.Written.{Start, StandsFor}
-use Rattle.btx_machine.specs.language.Saying.{ended_line}
 use Rattle.btx_machine.proofs.LawLemmas.{so_far_begins}
 use Rattle.btx_machine.proofs.OutLemmas.{at_least_less, prefix_more, whole_least, whole_most}
-use Rattle.btx_machine.specs.language.Product.{bbl_at}
 use Rattle.btx_machine.specs.refinement.Closing.{FinishedAt, FinishedPart, Closing}
-use Rattle.btx_machine.specs.refinement.Product.{so_far}
 
 pub finished_at : (old new : Outputs) → Finishes old.breaker old.bbl.received new.bbl.received → FinishedAt old ends.Finished new
 finished_at old new finishes start out h = written_of-finish start.line_length out.lines out.pending old.breaker start.bbl old.bbl.received new.bbl.received

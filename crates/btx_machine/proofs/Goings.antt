@@ -1,12 +1,10 @@
 -- What was written and logged goes on.
 use Rattle.std.proofs.Common.{◌≡◌, ℕ, ◌≤◌, List, [], ◌∷◌, ◌++◌, ◌⊎◌, inl, inr, sym, ap, ◌∙◌, refl, append-nil, append_assoc}
+use Rattle.btx_machine.proofs.Common.{left, Out, IsPrefix, Starts, so_far}
 use Rattle.btx_out.specs.language.Breaking.{written_of}
-use Rattle.btx_out.specs.laws.Breaking.{left}
 use Rattle.btx_out.specs.laws.States.{wrap_after, sure_after}
 use Rattle.btx_out.proofs.WrittenLemmas.{written_of-longer, written_of-more}
-use Rattle.btx_machine.specs.language.States.{Out}
-use Rattle.btx_machine.specs.laws.Goings.{IsPrefix, Grown, Ended, Starts}
-use Rattle.btx_machine.specs.refinement.Product.{so_far}
+use Rattle.btx_machine.specs.laws.Goings.{Grown, Ended}
 
 pub begins_self : (xs : List ℕ) → IsPrefix xs xs
 begins_self xs = ([], sym (append-nil xs))

@@ -2,20 +2,15 @@
 use Rattle.std.proofs.Common.{◌≡◌, ℕ, ap, subst, sym, ◌∙◌}
 use Rattle.std.specs.Io.KnownBytes.{Appends}
 use Rattle.std.proofs.KnownBytes.{Appends-trans}
-use Rattle.btx_out.specs.language.Pieces.{AppendsPrefix}
-use Rattle.btx_machine.specs.refinement.Outputs.{Journal, Outputs, Receiver, Work}
-use Rattle.btx_machine.specs.declared.ending.Ending.{Ending}
-use Rattle.btx_machine.specs.language.States.{Out, state}
-use Rattle.btx_machine.specs.refinement.Written.{Start, StandsFor}
-use Rattle.btx_machine.specs.language.Saying.{ended_line}
+use Rattle.btx_machine.proofs.Common.{AppendsPrefix, Journal, Outputs, Work, Ending, Out, state, Start, StandsFor, ended_line, report_of, last_line, bbl_at}
+use Rattle.btx_machine.proofs.Common.{log_counts}
+use Rattle.btx_machine.specs.refinement.Outputs.{Receiver}
 use Rattle.btx_machine.specs.declared.report.Report.{Report}
 use Rattle.btx_machine.specs.declared.report.LogCounts.{LogCounts}
-use Rattle.btx_machine.specs.language.Reports.{end_as, report_of, last_line}
-use Rattle.btx_machine.specs.language.Product.{bbl_at}
+use Rattle.btx_machine.specs.language.Reports.{end_as}
 use Rattle.btx_machine.specs.refinement.Closing.{FinishedAt, FinishedPart, Closes, ClosesPart}
 use Rattle.btx_machine.proofs.CloseLemmas.{closing_bbl, closing_log}
 use Rattle.btx_machine.specs.refinement.Product.{report_at}
-use Rattle.btx_machine.specs.laws.Reports.{log_counts}
 
 -- the pending line could not be ended
 pub unfinished_part : (work : Work) (end : Ending) (steps : ℕ) (new : Outputs) → new.log ≡ work.outputs.log → FinishedPart work.outputs end new

@@ -1,3 +1,4 @@
+pub mod Common
 pub mod Goings
 pub mod Adds
 pub mod Tracks

@@ -3,18 +3,15 @@ use Rattle.std.proofs.Common.{◌≡◌, ℕ, ◌≤◌, List, [], ◌++◌, Opt
 use Rattle.std.specs.Io.KnownBytes.{Appends}
 use Rattle.std.proofs.KnownBytes.{Appends-trans}
 use Rattle.std.specs.List.{flat_map}
-use Rattle.btx_out.specs.language.Breaking.{sure, wrap}
-use Rattle.btx_out.specs.laws.Breaking.{Collecting, left}
-use Rattle.btx_out.specs.refinement.Breakers.{Held, holding, AppendsPartOfRest, Puts, PutsPart, Ends, EndsPart}
-use Rattle.btx_out.specs.language.Pieces.{AppendsAtLeast, AppendsPrefix}
+use Rattle.btx_machine.proofs.Common.{wrap, left, holding, AppendsPrefix, Journal, Outputs, Out, IsPrefix, Starts, Start, StandsFor, Between, so_far}
+use Rattle.btx_out.specs.language.Breaking.{sure}
+use Rattle.btx_out.specs.laws.Breaking.{Collecting}
+use Rattle.btx_out.specs.refinement.Breakers.{Held, AppendsPartOfRest, Puts, PutsPart, Ends, EndsPart}
+use Rattle.btx_out.specs.language.Pieces.{AppendsAtLeast}
 use Rattle.btx_out.proofs.WrittenLemmas.{written_of-put, begins-put, written_of-newline, begins-newline, left-nil}
-use Rattle.btx_machine.specs.refinement.Outputs.{Journal, Outputs, Receiver}
-use Rattle.btx_machine.specs.language.States.{Out}
-use Rattle.btx_machine.specs.laws.Goings.{IsPrefix, Starts}
-use Rattle.btx_machine.specs.refinement.Written.{Start, StandsFor, Between}
+use Rattle.btx_machine.specs.refinement.Outputs.{Receiver}
 use Rattle.btx_machine.proofs.Goings.{starts_self, written_begins}
 use Rattle.btx_machine.specs.refinement.Saying.{wrote, pending_ended}
-use Rattle.btx_machine.specs.refinement.Product.{so_far}
 
 pub at_least_less : (a n : Option (List ℕ)) (xs ys : List ℕ) → IsPrefix xs ys → AppendsAtLeast a n ys → AppendsAtLeast a n xs
 at_least_less a n xs ys f h = record {

@@ -1,16 +1,12 @@
 -- What a failure leaves, of a run within runs.
 use Rattle.std.proofs.Common.{◌≡◌, ℕ, zero, suc, ◌+◌, ◌≤◌, ◌⊎◌, inl, inr, sym, ap, subst, ◌∙◌, refl, arith}
-use Rattle.btx_machine.specs.refinement.Outputs.{Outputs, Work}
-use Rattle.btx_machine.specs.language.States.{Out, State, state, Outcome}
-use Rattle.btx_machine.specs.laws.States.{final_state}
-use Rattle.btx_machine.specs.language.Meaning.{then_do}
-use Rattle.btx_machine.specs.refinement.Written.{Between, Within, FailsWithin, Fails, Comes, Start}
+use Rattle.btx_machine.proofs.Common.{Outputs, Work, Out, State, state, Outcome, final_state, then_do, Between, FailsWithin, Fails, Comes, Start, Reached}
+use Rattle.btx_machine.proofs.Common.{FailsInStep, Doing}
+use Rattle.btx_machine.specs.refinement.Written.{Within}
 use Rattle.btx_machine.proofs.Goings.{starts_self}
 use Rattle.btx_machine.proofs.OutLemmas.{wider}
 use Rattle.btx_machine.proofs.Adds.{Adds, adds_self}
 use Rattle.btx_machine.proofs.Tracks.{then_appends}
-use Rattle.btx_machine.specs.refinement.Progress.{Reached, FailsInStep}
-use Rattle.btx_machine.specs.refinement.Commands.{Doing}
 
 -- a step failed
 pub in_step : (old : Work) (budget : ℕ) (c : Outputs) (run : Doing) → FailsWithin old budget c run → FailsInStep old budget c run

@@ -1,21 +1,14 @@
 -- How far a run has come, item by item.
 use Rattle.std.proofs.Common.{◌≡◌, ℕ, zero, suc, ◌+◌, sym, ap, subst, ◌∙◌, refl, arith}
-use Rattle.btx_machine.specs.declared.ending.Ending.{Ending}
+use Rattle.btx_machine.proofs.Common.{Ending, Work, Out, State, state, Outcome, Done, Stopped, Limit, final_state, outcome_of, then_do, Starts, Comes, Runs}
+use Rattle.btx_machine.proofs.Common.{Reached, RunEnded, Doing}
 use Rattle.btx_machine.specs.declared.ending.Ending.TheVariants as ends
-use Rattle.btx_machine.specs.refinement.Outputs.{Work}
-use Rattle.btx_machine.specs.language.States.{Out, State, state, Outcome, Done, Stopped, Limit}
-use Rattle.btx_machine.specs.laws.States.{final_state}
-use Rattle.btx_machine.specs.refinement.States.{outcome_of}
-use Rattle.btx_machine.specs.language.Meaning.{then_do}
-use Rattle.btx_machine.specs.laws.Goings.{Starts}
-use Rattle.btx_machine.specs.refinement.Written.{Comes, Runs}
 use Rattle.btx_machine.proofs.Goings.{starts_trans}
 use Rattle.btx_machine.proofs.Tracks.{Tracks}
 use Rattle.btx_machine.proofs.OrderLemmas.{Lasts, Grows}
 use Rattle.btx_machine.proofs.WithinLemmas.{ends_stay}
 use Rattle.btx_machine.proofs.VisitLemmas.{end_code}
-use Rattle.btx_machine.specs.refinement.Progress.{StoppedAt, StoppedBefore, Reached, RunEnded}
-use Rattle.btx_machine.specs.refinement.Commands.{Doing}
+use Rattle.btx_machine.specs.refinement.Progress.{StoppedAt, StoppedBefore}
 
 -- the steps left, by which an outcome with more steps is known from one with none left
 abbrev left_in : Outcome → ℕ

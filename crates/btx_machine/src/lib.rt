@@ -1,21 +1,21 @@
 //! The machine that executes a style, once the files of a job are read: what a style means, both outputs, and the run's report.
 #![tactic(auto)]
 
-pub mod at_once;
+mod at_once;
 pub mod command;
 pub mod ending;
-pub mod items;
-pub mod journal;
-pub mod last;
-pub mod law;
+mod items;
+mod journal;
+mod last;
+mod law;
 pub mod lists;
 pub mod machine;
 pub mod marks;
 pub mod outputs;
 pub mod program;
-pub mod quick;
+mod quick;
 pub mod report;
-pub mod run;
+mod run;
 pub mod visits;
 pub mod work;
 
@@ -24,8 +24,8 @@ pub use ending::Ending;
 pub use journal::Journal;
 pub use last::log_end;
 pub use law::{
-    budget_law, depth_law, direct_law, limits_law, meaning_exists, meaning_is_unique, steps_law,
-    worked_bodies_come_to_this,
+    budget_law, counts_go_up_and_stay, depth_law, direct_law, limits_law, meaning_exists,
+    meaning_is_unique, steps_law, worked_bodies_come_to_this, worked_reports_are_written_so,
 };
 pub use report::{End, LogCounts, Report};
 pub use run::execute_style;

@@ -1,7 +1,6 @@
 use Rattle.std.proofs.Common.{◌-◌, ◌∙◌, ap}
+use Rattle.btx_machine.proofs.Common.{complaint_line, Style}
 use Rattle.btx_bst.specs.refinement.Views.{complaint_view, item_view}
-use Rattle.btx_bst.specs.language.MessageTexts.{complaint_line}
-use Rattle.btx_bst.specs.language.Style.{Style}
 use Rattle.btx_machine.proofs.ComesLemmas.{on_err, err_map, ok_map}
 use Rattle.btx_machine.proofs.DoLemmas.{at_rest, read_fails, message_fails, execute_fails, iterate_fails, iterate_runs, reverse_fails, reverse_runs}
 use Rattle.btx_machine.proofs.items.do_item.Goals as goal

@@ -1,7 +1,8 @@
 use Rattle.std.proofs.Common.{arith, rules, ◌-◌, ◌+◌, ap, drop, []}
 use Rattle.std.proofs.lemmas.List.{drop_all}
+use Rattle.btx_machine.proofs.Common.{items_view}
 use Rattle.btx_machine.proofs.ComesLemmas.{on_err}
-use Rattle.btx_bst.specs.refinement.Views.{item_view, items_view}
+use Rattle.btx_bst.specs.refinement.Views.{item_view}
 use Rattle.btx_machine.proofs.DoLemmas.{all_at_rest, item_ends, item_fails, items_done, one_done}
 use Rattle.btx_machine.proofs.SayLemmas.{drop_step}
 use Rattle.btx_machine.proofs.items.do_items.Goals as goal

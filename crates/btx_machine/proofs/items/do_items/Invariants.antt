@@ -1,8 +1,5 @@
 use Rattle.std.proofs.Common.{◌-◌, [], drop}
-use Rattle.btx_bst.specs.refinement.Views.{items_view}
-use Rattle.btx_machine.specs.refinement.Faults.{NoneFailed}
-use Rattle.btx_machine.specs.language.Items.{do_items}
-use Rattle.btx_machine.specs.refinement.Progress.{Midway, Reached}
+use Rattle.btx_machine.proofs.Common.{items_view, NoneFailed, do_items, Midway, Reached}
 use Rattle.btx_machine.proofs.items.do_items.Given as goal
 
 -- the items that are left remain to be done

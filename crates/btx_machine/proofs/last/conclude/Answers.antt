@@ -1,5 +1,5 @@
 use Rattle.std.proofs.Common.{ap, ◌∙◌}
-use Rattle.btx_machine.specs.language.Reports.{report_of}
+use Rattle.btx_machine.proofs.Common.{report_of}
 use Rattle.btx_machine.proofs.ComesLemmas.{on_err, err_map}
 use Rattle.btx_machine.proofs.SayLemmas.{on_ok_map}
 use Rattle.btx_machine.proofs.LastLemmas.{unfinished_part, line_part, line_whole}

@@ -1,12 +1,10 @@
 use Rattle.std.proofs.Common.{◌-◌, ◌∙◌, ap, arith}
-use Rattle.btx_bst.specs.language.Style.{Style}
-use Rattle.btx_bst.specs.refinement.Views.{items_view}
+use Rattle.btx_machine.proofs.Common.{Style, items_view, log_counts}
 use Rattle.btx_machine.specs.refinement.Written.{received}
 use Rattle.btx_machine.proofs.ComesLemmas.{on_err, err_map}
 use Rattle.btx_machine.proofs.DoLemmas.{ok_both}
 use Rattle.btx_machine.proofs.RunLemmas.{new_stands, items_fail, closes, close_fails}
 use Rattle.btx_machine.proofs.run.do_all.Goals as goal
-use Rattle.btx_machine.specs.laws.Reports.{log_counts}
 
 pub returns-in_err-end-clause-err : goal.returns-in_err-end-clause-err
 returns-in_err-end-clause-err g c =

@@ -1,14 +1,12 @@
 use Rattle.std.proofs.Common.{rules, ap, ◌∙◌, IfOk, OnErr}
+use Rattle.btx_machine.proofs.Common.{Journal, style_product, log_counts}
 use Rattle.btx_out.specs.refinement.Breakers.{Held}
 use Rattle.btx_machine.specs.refinement.Faults.{CountsOfTwo}
 use Rattle.btx_machine.specs.language.KeepingStep.{AtFault, Completes}
-use Rattle.btx_machine.specs.refinement.Outputs.{Journal}
-use Rattle.btx_machine.specs.language.Product.{style_product}
 use Rattle.btx_machine.proofs.ComesLemmas.{on_err}
 use Rattle.btx_machine.proofs.EdgeLemmas.{ends_as, of_equals, pair_is}
 use Rattle.btx_machine.proofs.RunLemmas.{nothing_written}
 use Rattle.btx_machine.proofs.run.execute_style.Goals as goal
-use Rattle.btx_machine.specs.laws.Reports.{log_counts}
 
 pub returns-in_err-store-clause-err : goal.returns-in_err-store-clause-err
 returns-in_err-store-clause-err g c =

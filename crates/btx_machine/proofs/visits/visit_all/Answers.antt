@@ -1,6 +1,6 @@
 use Rattle.std.proofs.Common.{arith, rules, ◌-◌, ◌+◌, drop, Some}
 use Rattle.std.proofs.lemmas.List.{drop_all}
-use Rattle.btx_machine.specs.language.Commands.{visit}
+use Rattle.btx_machine.proofs.Common.{visit}
 use Rattle.btx_machine.proofs.OrderLemmas.{visit_grows}
 use Rattle.btx_machine.proofs.ComesLemmas.{on_err}
 use Rattle.btx_machine.proofs.SayLemmas.{drop_step}

@@ -1,7 +1,5 @@
 use Rattle.std.proofs.Common.{◌-◌, drop, Some}
-use Rattle.btx_machine.specs.language.Commands.{visit}
-use Rattle.btx_machine.specs.refinement.Faults.{NoneFailed}
-use Rattle.btx_machine.specs.refinement.Progress.{Midway}
+use Rattle.btx_machine.proofs.Common.{visit, NoneFailed, Midway}
 use Rattle.btx_machine.proofs.VisitLemmas.{Remains}
 use Rattle.btx_machine.proofs.visits.visit_all.Given as goal
 

@@ -1,6 +1,6 @@
 use Rattle.std.proofs.Common.{arith, rules, ◌+◌, drop, map, refl, ap}
 use Rattle.std.proofs.lemmas.List.{drop_all}
-use Rattle.btx_bib.specs.language.MessageTexts.{message_line}
+use Rattle.btx_machine.proofs.Common.{message_line}
 use Rattle.btx_machine.proofs.ComesLemmas.{on_err}
 use Rattle.btx_machine.proofs.SayLemmas as by
 use Rattle.btx_machine.proofs.SayLemmas.{logging_at}

@@ -1,6 +1,5 @@
 use Rattle.std.proofs.Common.{◌≡◌, drop, map}
-use Rattle.btx_bib.specs.language.MessageTexts.{message_line}
-use Rattle.btx_machine.specs.refinement.Faults.{NoneFailed}
+use Rattle.btx_machine.proofs.Common.{message_line, NoneFailed}
 use Rattle.btx_machine.proofs.SayLemmas.{Logs}
 use Rattle.btx_machine.proofs.outputs.Outputs.log_messages.Given as goal
 

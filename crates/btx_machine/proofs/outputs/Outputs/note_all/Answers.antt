@@ -1,10 +1,10 @@
 use Rattle.std.proofs.Common.{arith, rules, ◌+◌, drop, refl, ap}
 use Rattle.std.proofs.lemmas.List.{drop_all}
+use Rattle.btx_machine.proofs.Common.{note_lines}
 use Rattle.btx_machine.proofs.ComesLemmas.{on_err}
 use Rattle.btx_machine.proofs.SayLemmas as by
 use Rattle.btx_machine.proofs.SayLemmas.{noting_at}
 use Rattle.btx_machine.proofs.outputs.Outputs.note_all.Goals as goal
-use Rattle.btx_machine.specs.refinement.Saying.{note_lines}
 
 pub loop-note-init : goal.loop-note-init
 loop-note-init g c = record {

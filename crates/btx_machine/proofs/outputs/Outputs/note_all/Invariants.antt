@@ -1,8 +1,7 @@
 use Rattle.std.proofs.Common.{◌≡◌, drop}
-use Rattle.btx_machine.specs.refinement.Faults.{NoneFailed}
+use Rattle.btx_machine.proofs.Common.{NoneFailed, note_lines}
 use Rattle.btx_machine.proofs.SayLemmas.{Logs}
 use Rattle.btx_machine.proofs.outputs.Outputs.note_all.Given as goal
-use Rattle.btx_machine.specs.refinement.Saying.{note_lines}
 
 -- the lines of the notes that are left remain to be logged
 abbrev pub invariant-loop-note : goal.invariant-loop-note
