@@ -113,7 +113,8 @@ by_system content given state settings first last at_first at_last path file bef
   first = h.first;
 }
 
-pub does_with : {W : Type 0} (here there : Option Files) (given given' : Given) (state : W → FileState) (settings : Settings) (first last first' last' : Failures)
+pub does_with : {W : Type 0} (here there : Option Files) (given given' : Given) (state : W → FileState) (settings : Settings)
+    (first last first' last' : Failures)
     (at_first at_last : Bool) (path : List ℕ) (file : W) (before after : Done W) (answer : Result Report RunFault)
     → here ≡ there → given.0 ≡ given'.0 → given.1 ≡ given'.1 → first ≡ first' → last ≡ last' → path ≡ log_path settings
     → DoesWith here given state settings (failures_of_fetches first at_first, failures_of_fetches last at_last) path file before after answer

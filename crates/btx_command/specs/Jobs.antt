@@ -50,7 +50,8 @@ both_done (Err fault) second = Err fault
 
 -- A log is handed on, with the failures of the writes that kept it in memory: all of it to the file of this path and then, whatever came of that, what is
 -- printed of it to standard output; nothing else is done. The first fault is answered.
-pub record HandsLog {W : Type 0} (settings : Settings) (path log : List ℕ) (kept : Failures) (before after : Done W) (answer : Result (Unit {0}) RunFault) : Type 0 where
+pub record HandsLog {W : Type 0} (settings : Settings) (path log : List ℕ) (kept : Failures) (before after : Done W)
+    (answer : Result (Unit {0}) RunFault) : Type 0 where
   pub stored : Result (Unit {0}) RunFault
   pub printed : Result (Unit {0}) RunFault
   pub does : WereDone before after (StoredLog path log kept stored ∷ Printed (printed_log settings log) printed ∷ [])
@@ -59,7 +60,8 @@ pub record HandsLog {W : Type 0} (settings : Settings) (path log : List ℕ) (ke
 -- A job's list is written, over this change of its file: the job is run, and then the list's file is ended, also after a fault. The first
 -- fault is answered; that of the run is the device's exactly where, by the failures of the finder, the list's file and the log, one call of one of the three
 -- failed. Where there is no top file, the list's file isn't touched.
-pub record ListsJob {W : Type 0} (content : Option Files) (given : Given) (state : W → FileState) (settings : Settings) (found : Change) (before after : ListFile W)
+pub record ListsJob {W : Type 0} (content : Option Files) (given : Given) (state : W → FileState) (settings : Settings) (found : Change)
+    (before after : ListFile W)
     (log : Held × Held) (logged : Change) (answer : Result Report RunFault) : Type 0 where
   pub ran : Result Report RunFault
   pub written : ListFile W
@@ -73,7 +75,8 @@ pub record ListsJob {W : Type 0} (content : Option Files) (given : Given) (state
 -- A job is done with its list's file, which was opened: its list is written, over a finder of this content and these failures, and the file is closed; then
 -- the log that was kept is handed on to the file of this path, also after a fault. Nothing else is done. The first fault is answered. The failures that the
 -- run's fault is told by are those that the acts show: of the list's file as it was opened and as it is closed, and of the log as it is stored.
-pub record DoesWith {W : Type 0} (content : Option Files) (given : Given) (state : W → FileState) (settings : Settings) (found : Change) (path : List ℕ) (file : W)
+pub record DoesWith {W : Type 0} (content : Option Files) (given : Given) (state : W → FileState) (settings : Settings) (found : Change) (path : List ℕ)
+    (file : W)
     (before after : Done W) (answer : Result Report RunFault) : Type 0 where
   pub listed : Result Report RunFault
   pub list : ListFile W

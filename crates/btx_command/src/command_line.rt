@@ -2,7 +2,8 @@
 ghost use Rattle.std.specs.Prelude.{◌≡◌, ◌⊎◌, if◌then◌else◌, is_ok, IfOk, codes, map, string_bytes, unwrap_or};
 ghost use Rattle.clap.specs.Words.{FailsBy, fault_of, first_of, found_of, kind_of, matches_of, one_of, rows_of};
 ghost use Rattle.clap.specs.Simple.{App};
-ghost use Rattle.btx_command.specs.CommandLine.{AreOptionsOf, HasNumbers, IsBibtex, IsFlag, IsGivenFrom, IsNameOf, IsSettingsOf, Refuses, mode_of, most_steps, number_or};
+ghost use Rattle.btx_command.specs.CommandLine.{AreOptionsOf, HasNumbers, IsBibtex, IsFlag, IsGivenFrom, IsNameOf, IsSettingsOf, Refuses, mode_of, most_steps};
+ghost use Rattle.btx_command.specs.CommandLine.{number_or};
 ghost use Rattle.btx_command.specs.Status.{fault_exit, refusal_exit, refused_memory};
 
 use crate::given::{Refusal, Settings};

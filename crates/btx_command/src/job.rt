@@ -26,8 +26,10 @@ fn run_over<F: Finder, W: Sink, L: Sink>(
     bbl: &mut W,
     log: &mut L,
 ) -> Result<Report, RunFault>
-    ensures runs { RunsJob (F.content finder.old) (F.answers finder.old, F.answers finder.new) settings.now (W.received bbl.old, L.received log.old) (W.received bbl.new, L.received log.new) result }
-    ensures counts { CountsOfRun result (F.failures finder.old, F.failures finder.new) (W.failures bbl.old, W.failures bbl.new) (L.failures log.old, L.failures log.new) }
+    ensures runs { RunsJob (F.content finder.old) (F.answers finder.old, F.answers finder.new) settings.now (W.received bbl.old, L.received log.old)
+        (W.received bbl.new, L.received log.new) result }
+    ensures counts { CountsOfRun result (F.failures finder.old, F.failures finder.new) (W.failures bbl.old, W.failures bbl.new)
+        (L.failures log.old, L.failures log.new) }
     ensures untouched { keeps_old result ≡ true → bbl.new ≡ bbl.old }
 {
     let name = settings.job.as_bytes();
@@ -86,7 +88,9 @@ fn list_job<F: Finder, W: EmptiedFile, L: Sink>(
     list: &mut ListFile<W>,
     log: &mut L,
 ) -> Result<Report, RunFault>
-    ensures { ListsJob (F.content finder.old) (F.answers finder.old, F.answers finder.new) W.state settings.now (F.failures finder.old, F.failures finder.new) list.old list.new (L.received log.old, L.received log.new) (L.failures log.old, L.failures log.new) result }
+    ensures { ListsJob (F.content finder.old) (F.answers finder.old, F.answers finder.new) W.state settings.now
+        (F.failures finder.old, F.failures finder.new) list.old list.new (L.received log.old, L.received log.new)
+        (L.failures log.old, L.failures log.new) result }
 {
     let ran = run_over(alloc, settings, finder, list, log);
     let finished = list.finish(&ran);
@@ -103,7 +107,8 @@ fn do_job<F: Finder, O: Outputs>(
     outputs: &mut O,
     log_path: &str,
 ) -> Result<Report, RunFault>
-    ensures { DoesWith (F.content finder.old) (F.answers finder.old, F.answers finder.new) O.List.state settings.now (F.failures finder.old, F.failures finder.new) log_path.now file (O.acts outputs.old) (O.acts outputs.new) result }
+    ensures { DoesWith (F.content finder.old) (F.answers finder.old, F.answers finder.new) O.List.state settings.now
+        (F.failures finder.old, F.failures finder.new) log_path.now file (O.acts outputs.old) (O.acts outputs.new) result }
 {
     let mut log = Over::new(Vec::new(alloc));
     let mut list = ListFile::new(file);
@@ -134,7 +139,8 @@ pub fn run_job<S: System + Drop, O: Outputs>(
     history: &mut History,
     outputs: &mut O,
 ) -> (S, Result<Report, RunFault>)
-    ensures does { DoesJob (S.content system) (history.old, history.new) O.List.state settings.now (S.failures system, S.failures result.0) (O.acts outputs.old) (O.acts outputs.new) result.1 }
+    ensures does { DoesJob (S.content system) (history.old, history.new) O.List.state settings.now (S.failures system, S.failures result.0) (O.acts outputs.old)
+        (O.acts outputs.new) result.1 }
     ensures bound { IfOk result.1 (λ report. report.steps ≤ settings.now.options.budget) }
     ensures product { IfOk result.1 (IsReportOfSome settings.now) }
 {

@@ -78,7 +78,8 @@ fn answer<S: System + Drop, O: Outputs>(
     outputs: &mut O,
     words: &[String],
 ) -> (S, Exit)
-    ensures { ComesTo (S.content system) (history.old, history.new) (S.failures system, S.failures result.0) O.List.state (map (λ word. string_bytes word) words.now) (hint_of words.now) (O.acts outputs.old) (O.acts outputs.new) result.1 }
+    ensures { ComesTo (S.content system) (history.old, history.new) (S.failures system, S.failures result.0) O.List.state
+        (map (λ word. string_bytes word) words.now) (hint_of words.now) (O.acts outputs.old) (O.acts outputs.new) result.1 }
 {
     match settings(alloc, words) {
         Ok(settings) => {
@@ -110,7 +111,8 @@ fn end_of<S: System + Drop, O: Outputs>(
     outputs: &mut O,
     words: io::Result<Vec<String>>,
 ) -> (S, Exit)
-    ensures { EndsFor (S.content system) (history.old, history.new) (S.failures system, S.failures result.0) O.List.state words (O.acts outputs.old) (O.acts outputs.new) result.1 }
+    ensures { EndsFor (S.content system) (history.old, history.new) (S.failures system, S.failures result.0) O.List.state words (O.acts outputs.old)
+        (O.acts outputs.new) result.1 }
 {
     match words {
         Ok(words) => answer(alloc, system, history, outputs, words.as_slice()),
@@ -134,7 +136,8 @@ pub fn run_command_line<S: System + Drop, O: Outputs>(
     outputs: &mut O,
     args: io::Result<Args>,
 ) -> (S, ExitCode)
-    ensures { ExitsWith (S.content system) (history.old, history.new) (S.failures system, S.failures result.0) O.List.state args (O.acts outputs.old) (O.acts outputs.new) (exit_status result.1) }
+    ensures { ExitsWith (S.content system) (history.old, history.new) (S.failures system, S.failures result.0) O.List.state args (O.acts outputs.old)
+        (O.acts outputs.new) (exit_status result.1) }
 {
     let words = words(alloc, args);
     let (system, end) = end_of(alloc, system, history, outputs, words);

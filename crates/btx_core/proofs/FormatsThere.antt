@@ -19,7 +19,7 @@ use Rattle.btx_names.specs.language.Formats.{split_item, inside_item, group_item
 use Rattle.btx_names.specs.laws.Formats.{has_no_letter}
 use Rattle.btx_names.specs.laws.FormatTexts.{in_braces, in_lower_case, is_brace, letter_of, letters_of_part, text_of_between}
 use Rattle.btx_names.specs.laws.WrittenFormats.{are_items, begin_literal, can_be_between, is_balanced, is_item, is_outer, IsFormatOf, IsTextOf}
-use Rattle.btx_names.proofs.ItemLemmas.{deeper, letter_keeps, named}
+use Rattle.btx_names.proofs.ItemLemmas.{closes, deeper, letter_keeps, named}
 use Rattle.btx_names.proofs.RunLemmas.{run_len-le}
 use Rattle.btx_core.specs.language.Names.{AreDivisions, IsFront}
 use Rattle.btx_core.proofs.ComputedLemmas.{computed}
@@ -103,18 +103,6 @@ record IsTail (behind : List ℕ) (between : Option (List ℕ)) (after : List �
   joined : behind ≡ text_of_between between ++ after
   can : can_be_between between after ≡ true
   rest : IsBalanced after
-
-closes : (depth : ℕ) (s : List ℕ) → fold depth_after (suc depth) s ≡ 0 → run_len Closing depth s < length s
-unfolding run_len
-closes depth [] low = absurd (omega (arith, low))
-closes depth (b ∷ bs) low = at (depth == 0 && b == 125) refl (closes (depth_after depth b) bs) where
-  at : (t : Bool) → (depth == 0 && b == 125) ≡ t →
-      (fold depth_after (suc (depth_after depth b)) bs ≡ 0 → run_len Closing (depth_after depth b) bs < length bs) →
-      cond t 0 (suc (run_len Closing (depth_after depth b) bs)) < suc (length bs)
-  at true is on = omega arith
-  at false is on =
-      let more = on (ap (λ n. fold depth_after n bs) (sym (deeper depth b is)) ∙ low) in
-      omega (arith, more)
 
 -- one depth further in
 further : (depth : ℕ) (s : List ℕ) → run_len Closing depth s ≡ length s → fold depth_after (suc depth) s ≡ suc (fold depth_after depth s)

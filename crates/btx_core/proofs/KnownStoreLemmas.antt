@@ -32,7 +32,11 @@ use Rattle.btx_step.specs.language.Arithmetic as arithmetic
 use Rattle.btx_step.specs.language.Control as control
 use Rattle.btx_step.specs.language.Entries as entries
 use Rattle.btx_step.specs.language.Jobs.{Job}
-use Rattle.btx_step.specs.language.Operands.{Operand, Any, Of, Value, Does, Default, Push, Back, seen_as, applied, absent, wrong, or_else, or_default}
+use Rattle.btx_step.specs.declared.operands.Operand.{Operand}
+use Rattle.btx_step.specs.declared.operands.Default.{Default}
+use Rattle.btx_step.specs.declared.operands.Operand.TheVariants.{Any, Of}
+use Rattle.btx_step.specs.declared.operands.Default.TheVariants.{Push, Back}
+use Rattle.btx_step.specs.language.Operands.{Value, Does, seen_as, applied, absent, wrong, or_else, or_default}
 use Rattle.btx_step.specs.language.Operands.{on_operands}
 use Rattle.btx_step.specs.language.Steps.{built_in_run, function_run, step_of}
 use Rattle.btx_step.specs.language.Stores.{Store}

@@ -287,7 +287,8 @@ module _ (numbers : Numbers) (R : NumberedRequest) (Q : Request) (h : SameReques
     -- an entry that names no parent that is listed keeps what it has
     alone : (k : ℕ) (s : NumberedSlot) → Own k s → parent C k ≡ None → parent_key C k ≡ own C k (codes "crossref") → Passed k s
     alone k s p none same = with_values _ _ _ _ k s s p refl refl p.body (λ name apart. p.values_are name apart
-        ∙ sym (inherits k name ∙ ap (λ (o : Option ℕ). option_or (own C k name) (option_and_then (λ j. if nat_lt j k then value j name else own C j name) o)) none
+        ∙ sym (inherits k name ∙ ap (λ (o : Option ℕ). option_or (own C k name)
+        (option_and_then (λ j. if nat_lt j k then value j name else own C j name) o)) none
         ∙ plain_or (own C k name)))
         (p.parent_is ∙ sym same)
 

@@ -49,7 +49,8 @@ use Rattle.btx_core.specs.language.Styles.{Body, Built, Command, Declared, Defin
 use Rattle.btx_core.specs.language.StyleTexts.{SoFar, meaning, and_name, and_command, and_says, CommandEnd, ended_at, Rule, Next, Opened, Closed, Where, Makes}
 use Rattle.btx_core.specs.language.StyleTexts.{Names, Lists, body_of, wrong_in, wrong_till, HasBody, is_function, as_type, is_read, Executes, Behind}
 use Rattle.btx_core.specs.language.StyleTexts as in_names
-use Rattle.btx_core.proofs.SameNumberLemmas.{Kept, kept_push, kept_same, last_of, Extends, extends_both, extends_by, still_body, still_meant, still_functions, still_commands}
+use Rattle.btx_core.proofs.SameNumberLemmas.{Kept, kept_push, kept_same, last_of, Extends, extends_both, extends_by, still_body, still_meant, still_functions}
+use Rattle.btx_core.proofs.SameNumberLemmas.{still_commands}
 use Rattle.btx_core.proofs.SameNumberLemmas.{SameNames, functions_length, one_more_function, more_commands, one_more_command, no_more_command}
 use Rattle.btx_core.proofs.SameBodyLemmas.{MeanSame, item_of, said_of, messages_said, parts_items, fragment_items, numbers_at, Comes, parts_come}
 
@@ -307,7 +308,8 @@ further_kind kind.EntryInteger names name e = further_by kind.EntryInteger names
     (further-entry_integer names name (length names.entry_integers) refl e) (λ texts functions. refl) (λ count. refl)
 further_kind kind.EntryString names name e = further_by kind.EntryString names name names.entry_strings (callee.EntryString (length names.entry_strings))
     (further-entry_string names name (length names.entry_strings) refl e) (λ texts functions. refl) (λ count. refl)
-further_kind kind.GlobalInteger names name e = further_by kind.GlobalInteger names name names.global_integers (callee.GlobalInteger (length names.global_integers))
+further_kind kind.GlobalInteger names name e = further_by kind.GlobalInteger names name names.global_integers
+    (callee.GlobalInteger (length names.global_integers))
     (further-global_integer names name (length names.global_integers) refl e) (λ texts functions. refl) (λ count. refl)
 further_kind kind.GlobalString names name e = further_by kind.GlobalString names name names.global_strings (callee.GlobalString (length names.global_strings))
     (further-global_string names name (length names.global_strings) refl e) (λ texts functions. refl) (λ count. refl)

@@ -17,11 +17,10 @@ use Rattle.btx_bst.specs.language.Words.{BodyWord, Open, Close, Unended, Ended, 
 use Rattle.btx_bst.specs.language.Words as words
 use Rattle.btx_bst.specs.language.Commands.{command_named}
 use Rattle.btx_bst.specs.laws.Spelling.{Parts, Nothing, Plain, Group, IsPlain, Spells, Fragment, Here, After, AfterGroup, Inner, Breaks, Division, complaint_in}
-use Rattle.btx_bst.specs.laws.ItemSpelling.{AreFull}
 use Rattle.btx_bst.specs.laws.TokenSpelling.{StyleGrammar, Gap, BehindGap, IsMissing, StyleSignHere, StyleNameHere, TextHere, LettersHere}
 use Rattle.btx_bst.specs.laws.CommandSpelling.{IsWordOf, Skips}
 use Rattle.btx_bst.specs.laws.Places.{beginning}
-use Rattle.btx_bst.proofs.CommandSpellingLemmas.{IsItsWord, named_word, word_named}
+use Rattle.btx_bst.proofs.CommandSpellingLemmas.{Full, IsItsWord, full_lines, named_word, word_named}
 use Rattle.btx_bst.proofs.TokenSpellingLemmas.{gap_met, gap_one, Agrees, spaced, sign_agrees, name_agrees, text_agrees, letters_agrees}
 use Rattle.btx_bst.proofs.WordSpellingLemmas.{spelled-parts, spelled-break}
 use Rattle.btx_bst.proofs.SizeLemmas.{ink-size, skipped-size}
@@ -236,24 +235,6 @@ word_has letters n s p le = by (command_named (folded letters)) refl (named_word
   by (Some c) e w = let k = behind_has c n s p le in (k.0, inl (c, w, k.1), k.2)
 
 -- ---- styles
-
--- lines up to an empty one, or all
-abbrev Full : List (List ℕ) → Type 0
-Full all = (lines : List (List ℕ)) × AreFull lines × (((after : List (List ℕ)) × (all ≡ lines ++ [] ∷ after)) ⊎ (all ≡ lines))
-
-unfoldable pub full_more : (b : ℕ) (bs : List ℕ) (all : List (List ℕ)) → Full all → Full ((b ∷ bs) ∷ all)
-full_more b bs all h = at h.2 where
-  full : AreFull ((b ∷ bs) ∷ h.0)
-  full = (λ e. absurd (cc), h.1)
-
-  at : ((after : List (List ℕ)) × (all ≡ h.0 ++ [] ∷ after)) ⊎ (all ≡ h.0) → Full ((b ∷ bs) ∷ all)
-  at (inl k) = ((b ∷ bs) ∷ h.0, full, inl (k.0, ap (λ (xs : List (List ℕ)). (b ∷ bs) ∷ xs) k.1))
-  at (inr k) = ((b ∷ bs) ∷ h.0, full, inr (ap (λ (xs : List (List ℕ)). (b ∷ bs) ∷ xs) k))
-
-unfoldable pub full_lines : (all : List (List ℕ)) → Full all
-full_lines [] = ([], tt, inr refl)
-full_lines ([] ∷ all) = ([], tt, inl (all, refl))
-full_lines ((b ∷ bs) ∷ all) = full_more b bs all (full_lines all)
 
 unfoldable pub skips_met : (p : Place) → (q : Place) × Skips p q
 skips_met p = split (full_lines p.after) where

@@ -37,7 +37,9 @@ use Rattle.btx_step.specs.language.Entries.{entry_of}
 use Rattle.btx_step.specs.language.Jobs.{Job as NumberedJob}
 use Rattle.btx_step.specs.language.Notes.{note_line, note_text, place_of, note_kind, has_place, form_of}
 use Rattle.btx_step.specs.language.Operands as operands
-use Rattle.btx_step.specs.language.Operands.{Any, Of}
+use Rattle.btx_step.specs.declared.operands.Default.TheVariants.{Push}
+use Rattle.btx_step.specs.declared.operands.Operand.{Operand as Asked}
+use Rattle.btx_step.specs.declared.operands.Operand.TheVariants.{Any, Of}
 use Rattle.btx_step.specs.language.Stores.{Store, EntryVariables}
 use Rattle.btx_core.specs.language.Styles.{set, Declared, Defined, Body, Entry, Function, Built, Integer, Text, Quoted, Missing, Job, Library, Literal, State}
 use Rattle.btx_core.specs.language.Styles.{Style}
@@ -301,7 +303,7 @@ module _ (job : NumberedJob) (style : Style) (library : Library) (naming : Namin
 
   -- ---- operands
 
-  abbrev asked : Operand → operands.Operand
+  abbrev asked : Operand → Asked
   asked AnyLiteral = Any
   asked AnInteger = Of wanted.Integer
   asked AString = Of wanted.Text
@@ -411,11 +413,11 @@ module _ (job : NumberedJob) (style : Style) (library : Library) (naming : Namin
   drop_map (suc k) (x ∷ xs) = drop_map k xs
 
   rule : (os : List Operand) (instead : StandIn) (does : Does os) (now : operands.Does (map asked os)) → Related os does now
-      → Same (by_rule (takes os (stand instead) does)) (λ s. operands.on_operands (map asked os) (operands.Push instead) now s.literals s)
+      → Same (by_rule (takes os (stand instead) does)) (λ s. operands.on_operands (map asked os) (Push instead) now s.literals s)
   rule os instead does now rel frame s =
       ap₂ side (length-map s.literals lit) (drop_map (length os) s.literals)
       ∙ by (nat_lt (length s.literals) (length os)) refl
-      ∙ ap (λ k. answered frame (operands.or_default (operands.applied (map asked os) now s.literals) (operands.Push instead)
+      ∙ ap (λ k. answered frame (operands.or_default (operands.applied (map asked os) now s.literals) (Push instead)
       (operands.or_else (operands.absent (map asked os) s.literals) (operands.wrong (map asked os) s.literals)) s.literals (drop k s.literals) s))
       (sym (length-map os asked)) where
         side : ℕ → List Literal → Effect
@@ -428,7 +430,7 @@ module _ (job : NumberedJob) (style : Style) (library : Library) (naming : Namin
 
         finish : (r : Result (State → Effect) (List ℕ)) (m : Option (Store → Answer)) (ns : List Note) → RelatedResult r m ns
             → or_instead r (stand instead) (in_names frame below)
-            ≡ answered frame (operands.or_default m (operands.Push instead) ns s.literals (drop (length os) s.literals) s)
+            ≡ answered frame (operands.or_default m (Push instead) ns s.literals (drop (length os) s.literals) s)
         finish (Ok does) (Some now) ns h = h frame below
         finish (Err text) None (n ∷ []) h = complains_same n text h instead frame below
         finish (Ok does) None ns h = absurd (true≢false h)
@@ -437,7 +439,7 @@ module _ (job : NumberedJob) (style : Style) (library : Library) (naming : Namin
         finish (Err text) None (n ∷ m ∷ ns) h = absurd (true≢false h)
 
         by : (b : Bool) → nat_lt (length s.literals) (length os) ≡ b → side (length s.literals) (map lit (drop (length os) s.literals))
-            ≡ answered frame (operands.or_default (operands.applied (map asked os) now s.literals) (operands.Push instead)
+            ≡ answered frame (operands.or_default (operands.applied (map asked os) now s.literals) (Push instead)
             (operands.or_else (operands.absent (map asked os) s.literals) (operands.wrong (map asked os) s.literals)) s.literals (drop (length os) s.literals)
             s)
         by true h =
@@ -445,7 +447,7 @@ module _ (job : NumberedJob) (style : Style) (library : Library) (naming : Namin
             else or_instead (on_literals os does (map lit s.literals)) (stand instead) (in_names frame below)) h
             ∙ complained_same (replicate (length os - length s.literals) note.EmptyStack) (replicate (length os - length s.literals) empty_stack)
             (errors_absent (length os - length s.literals)) instead frame below
-            ∙ sym (ap₂ (λ m ns. answered frame (operands.or_default m (operands.Push instead) ns s.literals (drop (length os) s.literals) s))
+            ∙ sym (ap₂ (λ m ns. answered frame (operands.or_default m (Push instead) ns s.literals (drop (length os) s.literals) s))
             (not_applied os now s.literals (ltb-true (length s.literals) (length os) h))
             (are_absent os s.literals (operands.wrong (map asked os) s.literals) (ltb-true (length s.literals) (length os) h)))
         by false h =
@@ -453,7 +455,7 @@ module _ (job : NumberedJob) (style : Style) (library : Library) (naming : Namin
             else or_instead (on_literals os does (map lit s.literals)) (stand instead) (in_names frame below)) h
             ∙ finish (on_literals os does (map lit s.literals)) (operands.applied (map asked os) now s.literals) (operands.wrong (map asked os) s.literals)
             (enough os does now rel s.literals (ltb-false (length s.literals) (length os) h))
-            ∙ sym (ap (λ ns. answered frame (operands.or_default (operands.applied (map asked os) now s.literals) (operands.Push instead)
+            ∙ sym (ap (λ ns. answered frame (operands.or_default (operands.applied (map asked os) now s.literals) (Push instead)
             (operands.or_else ns (operands.wrong (map asked os) s.literals)) s.literals (drop (length os) s.literals) s))
             (none_absent os s.literals (ltb-false (length s.literals) (length os) h)))
 

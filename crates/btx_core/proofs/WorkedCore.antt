@@ -5,8 +5,8 @@ use Rattle.btx_core.proofs.ThereIsProduct.{behind_files_there, holds}
 use Rattle.btx_core.proofs.RuleLemmas.{behind_by}
 use Rattle.btx_core.proofs.StyleThere.{next_has, opened_has, closed_has, named_has, text_has, where_has, makes_has, missing_both, gap_same, names_within}
 use Rattle.btx_core.proofs.StyleThere.{lists_has, met-less, met-most, plain-less, spells-less, breaks-most, body_has, some_function, executes_has, behind_has}
-use Rattle.btx_bst.proofs.CommandSpellingLemmas.{its_word, named_word}
-use Rattle.btx_core.proofs.StyleThere.{no_word, word_has, full_more, full_lines, skips_met, skips-most, follows_by, begun, gap_again}
+use Rattle.btx_bst.proofs.CommandSpellingLemmas.{full_lines, full_more, its_word, named_word}
+use Rattle.btx_core.proofs.StyleThere.{no_word, word_has, skips_met, skips-most, follows_by, begun, gap_again}
 use Rattle.btx_core.proofs.StyleThere.{commands_by, commands_within, there_is_style, plain_divided, rest_divided, open_divided, word_divided, divided_within}
 use Rattle.btx_core.proofs.StyleThere.{divided}
 use Rattle.btx_core.proofs.LibraryLemmas.{events_by, events_there, there_is_reading, all_read, gathering, there_is_library}
@@ -75,8 +75,8 @@ unfolding digits line_pieces trimmed mark_of place_text said learned included op
     command_word visit do_item do_items meaning loop_of end_word last_line lines_logged said_on token_effect turn_of style_line no_style_line database_line
     no_database_line style_read style_named after_job behind_there goes_there come_there executed_there styled_there found_there named_there asked_there
     behind_files_there holds next_has opened_has closed_has named_has text_has where_has makes_has missing_both gap_same names_within lists_has met-less
-    met-most plain-less spells-less breaks-most body_has some_function executes_has behind_by behind_has its_word named_word no_word word_has full_more full_lines
-    skips_met skips-most follows_by begun gap_again commands_by commands_within there_is_style plain_divided rest_divided open_divided word_divided
+    met-most plain-less spells-less breaks-most body_has some_function executes_has behind_by behind_has its_word named_word no_word word_has full_more
+    full_lines skips_met skips-most follows_by begun gap_again commands_by commands_within there_is_style plain_divided rest_divided open_divided word_divided
     divided_within divided events_by events_there there_is_reading all_read gathering there_is_library there_is_order
 computes = tt
 

@@ -1,9 +1,9 @@
 //! Files that were found.
-ghost use Rattle.std.specs.Prelude.{◌≡◌, ◌+◌, ◌++◌, ◌∷◌, [], length, OnOk};
+ghost use Rattle.std.specs.Prelude.{◌≡◌, ◌+◌, length};
 ghost use Rattle.btx_core.specs.refinement.Files.Found.{named_file};
 
 use btx_machine::End;
-use std::alloc::{AllocError, Global};
+use btx_text::List;
 use std::marker::Model;
 
 /// A file that was found: its name, which its job lends, and its bytes.
@@ -45,51 +45,13 @@ impl<'a> FoundFile<'a> {
 }
 
 /// Files that were found, in order.
-#[derive(Drop)]
-pub struct FoundFiles<'a> {
-    files: Vec<FoundFile<'a>>,
-}
+pub type FoundFiles<'a> = List<FoundFile<'a>>;
 
-impl<'a> Model for FoundFiles<'a> {
-    ghost use Rattle.std.specs.Prelude.{List};
-    ghost use Rattle.btx_core.specs.language.Files.Found.{NamedFile};
-
-    ghost Value = { List NamedFile };
-
-    ghost view = { λ found. found.files.items };
-}
-
-impl<'a> FoundFiles<'a> {
-    /// Makes an empty list of files.
-    pub fn new(alloc: Global) -> Self
-        ensures { result ≡ [] }
-    {
-        FoundFiles {
-            files: Vec::new(alloc),
-        }
-    }
-
-    /// Adds a file at the end.
-    pub fn push(&mut self, file: FoundFile<'a>) -> Result<(), AllocError>
-        ensures { OnOk result (self.new ≡ self.old ++ file.entry ∷ []) }
-    {
-        self.files.push(file)?;
-        Ok(())
-    }
-
-    /// Answers the number that the next file will have, from 1 up.
-    pub fn next_number(&self) -> u64
-        ensures { result ≡ length self.now + 1 }
-    {
-        self.files.len() as u64 + 1
-    }
-
-    /// Answers all files, in the order in which they were found.
-    pub fn as_slice(&self) -> &[FoundFile<'a>]
-        ensures { result.now ≡ self.now }
-    {
-        self.files.as_slice()
-    }
+/// Answers the number that the file after these will have, from 1 up.
+pub fn next_number(files: &FoundFiles<'_>) -> u64
+    ensures { result ≡ length files.now + 1 }
+{
+    files.as_slice().len() as u64 + 1
 }
 
 /// The files of a job that are there to be executed: its style, and those of its databases that were found, in the order in which they

@@ -6,5 +6,5 @@ pub mod found;
 pub mod laws;
 pub mod options;
 
-pub use found::{FilesRead, FoundFile, FoundFiles, JobFiles};
+pub use found::{FilesRead, FoundFile, FoundFiles, JobFiles, next_number};
 pub use options::Options;

@@ -115,7 +115,8 @@ module _ (row : RattleType) (one : One row.mir) (T : RattleType) where
   }
 
 -- its contract, which says `Holds` of a ghost that the caller's proof picks, of the value before and of what is returned
-module _ (row : RattleType) (one : One row.mir) (name : Sym) (Ghost : Type 0) (Holds : Ghost → row.Denot → row.Denot → Type 0) (made : Ghost → row.Denot → row.Denot)
+module _ (row : RattleType) (one : One row.mir) (name : Sym) (Ghost : Type 0) (Holds : Ghost → row.Denot → row.Denot → Type 0)
+    (made : Ghost → row.Denot → row.Denot)
     (holds : (g : Ghost) (before : row.Denot) → Holds g before (made g before))
     (pure : (g : Ghost) (before : row.Denot) → Pure (row.own_val (made g before) (vstruct vnil ∷ [])))
     (shown : (g : Ghost) (before : row.Denot) → shadow (row.own_val (made g before) (vstruct vnil ∷ [])))

@@ -35,7 +35,8 @@ pub fn read_library<'a>(
     found: &'a FoundFiles<'_>,
     min_crossrefs: u32,
 ) -> Result<Library<'a>, Fault>
-    ensures library { IfOk result (λ library. library ≡ library_of (asked style.now job.entry.now min_crossrefs) style.now.macros (map database_of found.entry.now)) }
+    ensures library { IfOk result (λ library. library ≡ library_of (asked style.now job.entry.now min_crossrefs) style.now.macros
+        (map database_of found.entry.now)) }
     ensures fault { IfErr result (λ fault. fault ≡ Fault.Memory) }
 {
     let sources = sources(alloc, found)?;

@@ -118,16 +118,19 @@ fn run_job<F: Finder, W: Sink, L: Sink>(
     bbl: &mut W,
     log: &mut L,
 ) -> Result<Report, Fault>
-    ensures ok { IfOk result (λ report. ByAnswers (F.content finder.old) (F.answers finder.old) (F.answers finder.new) (λ asked. AreAmong asked (names_in job.now)) (λ files.
+    ensures ok { IfOk result (λ report. ByAnswers (F.content finder.old) (F.answers finder.old) (F.answers finder.new)
+        (λ asked. AreAmong asked (names_in job.now)) (λ files.
         Completes report (W.received bbl.old, L.received log.old) (W.received bbl.new, L.received log.new)
         (product_of_reading job.now (files_read files job.now) options.now options.now.budget))) }
     ensures bound { IfOk result (λ report. report.steps ≤ options.now.budget) }
     ensures deep { IfOk result (λ report. report.deepest ≤ 4096) }
-    ensures err { OnErr result (ByAnswers (F.content finder.old) (F.answers finder.old) (F.answers finder.new) (λ asked. AreAmong asked (names_in job.now)) (λ files.
+    ensures err { OnErr result (ByAnswers (F.content finder.old) (F.answers finder.old) (F.answers finder.new) (λ asked. AreAmong asked (names_in job.now))
+        (λ files.
         AtFault (W.received bbl.old, L.received log.old) (W.received bbl.new, L.received log.new)
         (product_of_reading job.now (files_read files job.now) options.now) options.now.budget)) }
     ensures untouched { IfOk result (λ report. report.end ≡ NoTopFile → bbl.new ≡ bbl.old) }
-    ensures counts { CountsOfThree result (F.failures finder.old, F.failures finder.new) (W.failures bbl.old, W.failures bbl.new) (L.failures log.old, L.failures log.new) }
+    ensures counts { CountsOfThree result (F.failures finder.old, F.failures finder.new) (W.failures bbl.old, W.failures bbl.new)
+        (L.failures log.old, L.failures log.new) }
     ensures stays { F.content finder.new ≡ F.content finder.old }
 {
     let mut journal = Journal::new(log, LogCounts::NONE);
@@ -151,11 +154,15 @@ fn run_named<F: Finder, W: Sink, L: Sink>(
     ensures bound { IfOk result (λ report. report.steps ≤ options.now.budget) }
     ensures deep { IfOk result (λ report. report.deepest ≤ 4096) }
     ensures err { OnErr result (IfSome (F.content finder.old) (λ files.
-        AtFault (W.received bbl.old, L.received log.old) (W.received bbl.new, L.received log.new) (product_with files name.now options.now) options.now.budget)) }
-    ensures answered { IfOk result (CompletesAsAnswered name.now options.now (F.answers finder.old, F.answers finder.new) (W.received bbl.old, L.received log.old) (W.received bbl.new, L.received log.new)) }
-    ensures begun { OnErr result (FailsAsAnswered name.now options.now (F.answers finder.old, F.answers finder.new) (W.received bbl.old, L.received log.old) (W.received bbl.new, L.received log.new)) }
+        AtFault (W.received bbl.old, L.received log.old) (W.received bbl.new, L.received log.new)
+        (product_with files name.now options.now) options.now.budget)) }
+    ensures answered { IfOk result (CompletesAsAnswered name.now options.now (F.answers finder.old, F.answers finder.new)
+        (W.received bbl.old, L.received log.old) (W.received bbl.new, L.received log.new)) }
+    ensures begun { OnErr result (FailsAsAnswered name.now options.now (F.answers finder.old, F.answers finder.new) (W.received bbl.old, L.received log.old)
+        (W.received bbl.new, L.received log.new)) }
     ensures untouched { IfOk result (λ report. report.end ≡ NoTopFile → bbl.new ≡ bbl.old) }
-    ensures counts { CountsOfThree result (F.failures finder.old, F.failures finder.new) (W.failures bbl.old, W.failures bbl.new) (L.failures log.old, L.failures log.new) }
+    ensures counts { CountsOfThree result (F.failures finder.old, F.failures finder.new) (W.failures bbl.old, W.failures bbl.new)
+        (L.failures log.old, L.failures log.new) }
     ensures stays { F.content finder.new ≡ F.content finder.old }
 {
     let job = read_job(alloc, finder, name)?;
@@ -200,14 +207,18 @@ pub fn run<F: Finder, W: Sink, L: Sink>(
     // After a fault both outputs are prefixes of the product's, and keep step; the log's last line is begun only behind the whole list.
     // The device's fault is answered exactly where one of the three counts of failures rose, by one, and the call that failed is then the last of its device.
     ensures fault { OnErr result (IfSome (F.content finder.old) (λ files.
-        AtFault (W.received bbl.old, L.received log.old) (W.received bbl.new, L.received log.new) (product_with files name.now options.now) options.now.budget)) }
-    ensures counts { CountsOfRun result (F.failures finder.old, F.failures finder.new) (W.failures bbl.old, W.failures bbl.new) (L.failures log.old, L.failures log.new) }
+        AtFault (W.received bbl.old, L.received log.old) (W.received bbl.new, L.received log.new)
+        (product_with files name.now options.now) options.now.budget)) }
+    ensures counts { CountsOfRun result (F.failures finder.old, F.failures finder.new) (W.failures bbl.old, W.failures bbl.new)
+        (L.failures log.old, L.failures log.new) }
 
     // Of every finder, whether it shows its content or not, as one over the files of a disk: it was asked for no name twice, and for all files that
     // agree with each answer that it gave in this run the report is that of their product for this name, and both outputs received its bytes. After a
     // fault both outputs are prefixes of their product's, and keep step.
-    ensures answered { IfOk result (CompletesAsAnswered name.now options.now (F.answers finder.old, F.answers finder.new) (W.received bbl.old, L.received log.old) (W.received bbl.new, L.received log.new)) }
-    ensures begun { OnErr result (FailsAsAnswered name.now options.now (F.answers finder.old, F.answers finder.new) (W.received bbl.old, L.received log.old) (W.received bbl.new, L.received log.new)) }
+    ensures answered { IfOk result (CompletesAsAnswered name.now options.now (F.answers finder.old, F.answers finder.new)
+        (W.received bbl.old, L.received log.old) (W.received bbl.new, L.received log.new)) }
+    ensures begun { OnErr result (FailsAsAnswered name.now options.now (F.answers finder.old, F.answers finder.new) (W.received bbl.old, L.received log.old)
+        (W.received bbl.new, L.received log.new)) }
 
     // Whatever the finder and the sinks are.
     ensures bound { IfOk result (λ report. report.steps ≤ options.now.budget) }

@@ -1,7 +1,7 @@
 //! Names: how many, and in the formats that styles use. A row's helper answers whether it holds, and a test asserts that no row is the first
 //! wrong one: so no test holds an answer.
-use btx_names::{format_name, num_names};
-use btx_strings::Complaints;
+use btx_names::{NameFormatter, num_names};
+use btx_strings::{Answer, Complaints};
 use btx_text::{Fault, TextMode};
 use std::alloc::{AllocError, Global};
 
@@ -68,6 +68,17 @@ fn has_text(
 ) -> bool {
     let name = (names, number);
     has_bytes(alloc, name, format, text.as_bytes(), mode, complaints)
+}
+
+// A name in a format, by a formatter that keeps nothing from before.
+fn format_name(
+    alloc: Global,
+    names: &[u8],
+    number: i32,
+    format: &[u8],
+    mode: TextMode,
+) -> Result<Answer, Fault> {
+    NameFormatter::new(alloc).format(names, number, format, mode)
 }
 
 // Whether a name has these bytes in a format, and these complaints.

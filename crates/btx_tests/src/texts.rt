@@ -33,3 +33,12 @@ pub fn joined(alloc: Global, texts: &[&[u8]]) -> Result<Vec<u8>, AllocError> {
     }
     Ok(whole)
 }
+
+/// Copies a text with `byte` at `place`, where it has a byte there.
+pub fn spoilt(alloc: Global, text: &[u8], place: usize, byte: u8) -> Result<Vec<u8>, AllocError> {
+    let mut bytes = Vec::from_slice(alloc, text)?;
+    if let Some(old) = bytes.get_mut(place) {
+        *old = byte;
+    }
+    Ok(bytes)
+}

@@ -22,7 +22,8 @@ use Rattle.btx_text.specs.language.Lists.{only_if}
 use Rattle.btx_text.specs.language.LogLines.{Line, message, place_text}
 use Rattle.std.specs.List.{find, flat_map, list_any}
 use Rattle.std.specs.Option.{option_map_or}
-use Rattle.std.specs.Prelude.{Bool, List, None, Option, Result, Some, [], codes, false, fold, if◌then◌else◌, is_none, is_some, length, nat_lt, not, option_to_list, true, ℕ, ◌++◌, ◌||◌, ◌∷◌, ◌≡◌}
+use Rattle.std.specs.Prelude.{Bool, List, None, Option, Result, Some, [], codes, false, fold, if◌then◌else◌, is_none, is_some, length, nat_lt, not}
+use Rattle.std.specs.Prelude.{option_to_list, true, ℕ, ◌++◌, ◌||◌, ◌∷◌, ◌≡◌}
 use Rattle.btx_text.specs.declared.limits.Limit.TheVariants as limit
 use Rattle.btx_bib.specs.language.Grammar.Items.{Entry as EntryHead}
 

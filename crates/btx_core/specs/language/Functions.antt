@@ -6,7 +6,8 @@ use Rattle.btx_core.specs.language.Divisions.{Divisions}
 use Rattle.btx_core.specs.language.Names.{formatted_name, name_errors}
 use Rattle.btx_core.specs.language.Notes.{cut_to, empty_stack, error, errors, logs, name_of, no_entry, not_ascii, shown, shows}
 use Rattle.btx_core.specs.language.Strings.{in_case, purified, text_length, text_prefix, width}
-use Rattle.btx_core.specs.language.Styles.{Body, Built, Declared, Defined, Entry, Function, Integer, Job, Literal, Missing, Push, Quoted, Run, State, Text, Word, set}
+use Rattle.btx_core.specs.language.Styles.{Body, Built, Declared, Defined, Entry, Function, Integer, Job, Literal, Missing, Push, Quoted, Run, State, Text}
+use Rattle.btx_core.specs.language.Styles.{Word, set}
 use Rattle.btx_step.specs.language.Arithmetic.{fits}
 use Rattle.btx_strings.specs.declared.conversions.Conversion.{Conversion}
 use Rattle.btx_strings.specs.language.Case.{conversion_of}
@@ -19,7 +20,8 @@ use Rattle.std.specs.Fmt.{signed_decimal}
 use Rattle.std.specs.List.{list_all}
 use Rattle.std.specs.Option.{option_map_or, option_or}
 use Rattle.std.specs.Ordering.{int_eq}
-use Rattle.std.specs.Prelude.{Bool, Err, List, None, Ok, Option, Result, Some, [], codes, drop, false, if◌then◌else◌, int_lt, is_none, length, nat_lt, negsuc, pos, replicate, take, true, ℕ, ℤ, ◌++◌, ◌+ℤ◌, ◌-ℤ◌, ◌-◌, ◌==◌, ◌∷◌}
+use Rattle.std.specs.Prelude.{Bool, Err, List, None, Ok, Option, Result, Some, [], codes, drop, false, if◌then◌else◌, int_lt, is_none, length, nat_lt, negsuc}
+use Rattle.std.specs.Prelude.{pos, replicate, take, true, ℕ, ℤ, ◌++◌, ◌+ℤ◌, ◌-ℤ◌, ◌-◌, ◌==◌, ◌∷◌}
 use Rattle.std.specs.Str.{bytes_eq}
 use Rattle.btx_bst.specs.declared.built_in.BuiltIn.TheVariants as built_in
 use Rattle.btx_bst.specs.declared.callee.Kind.TheVariants as kind

@@ -10,7 +10,8 @@ use Rattle.btx_text.specs.language.Lists.{only_if}
 use Rattle.btx_text.specs.language.LogLines.{Line, message}
 use Rattle.std.specs.List.{flat_map, range_with_len}
 use Rattle.std.specs.Option.{option_map, option_map_or, option_or}
-use Rattle.std.specs.Prelude.{Bool, List, None, Option, Some, [], codes, count_by, drop, false, fold, if◌then◌else◌, is_none, is_some, length, map, nat_le, nat_lt, not, option_and_then, position, slice_get, take, unwrap_or, ℕ, ◌&&◌, ◌++◌, ◌||◌, ◌∷◌, ◌≡◌}
+use Rattle.std.specs.Prelude.{Bool, List, None, Option, Some, [], codes, count_by, drop, false, fold, if◌then◌else◌, is_none, is_some, length, map, nat_le}
+use Rattle.std.specs.Prelude.{nat_lt, not, option_and_then, position, slice_get, take, unwrap_or, ℕ, ◌&&◌, ◌++◌, ◌||◌, ◌∷◌, ◌≡◌}
 
 -- ---- which keys are listed
 
@@ -129,7 +130,8 @@ IsGathered None asked known library =
     × (library ≡ record {
       entries = flat_map (λ i. option_map_or (entry_at slots asked.types value i) (slice_get slots i) []) (places slots);
       preamble = known.preamble;
-      log = known.log ++ flat_map (parent_messages slots) (places slots) ++ flat_map (λ (slot : Slot). only_if (is_none slot.entry) (no_entry_line slot.key)) slots;
+      log = known.log ++ flat_map (parent_messages slots) (places slots)
+          ++ flat_map (λ (slot : Slot). only_if (is_none slot.entry) (no_entry_line slot.key)) slots;
       limit = None;
     })
 

@@ -23,7 +23,8 @@ use Rattle.btx_text.specs.laws.Elements.{IsDivision}
 use Rattle.std.specs.Fmt.{signed_decimal}
 use Rattle.std.specs.List.{flat_map, list_all}
 use Rattle.std.specs.Option.{option_map_or}
-use Rattle.std.specs.Prelude.{Bool, List, None, Option, Some, [], codes, false, if◌then◌else◌, is_none, is_some, length, map, nat_lt, not, option_and_then, slice_get, suc, true, unwrap_or, zero, ℕ, ℤ, ◌++◌, ◌<◌, ◌==◌, ◌||◌, ◌∷◌, ◌≡◌, ◌⊎◌}
+use Rattle.std.specs.Prelude.{Bool, List, None, Option, Some, [], codes, false, if◌then◌else◌, is_none, is_some, length, map, nat_lt, not, option_and_then}
+use Rattle.std.specs.Prelude.{slice_get, suc, true, unwrap_or, zero, ℕ, ℤ, ◌++◌, ◌<◌, ◌==◌, ◌||◌, ◌∷◌, ◌≡◌, ◌⊎◌}
 use Rattle.std.specs.Str.{byte}
 
 -- ---- what stands up to a byte

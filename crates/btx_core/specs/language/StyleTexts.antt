@@ -1,6 +1,6 @@
 -- 11. How a style is written (btxhak, sections 5.1 and 5.2). A text is commands, one after another, each its word and its arguments. Whitespace and
--- comments may stand before each thing. What is wrong ends a command, and then all is skipped up to the first empty line below the line of the mistake. A line of
--- whitespace alone is empty; one with a comment isn't.
+-- comments may stand before each thing. What is wrong ends a command, and then all is skipped up to the first empty line below the line of the mistake. A line
+-- of whitespace alone is empty; one with a comment isn't.
 -- `Place`, `Gap` and the spelling of names, words and bodies are those of `TokenSpelling` and `WordSpelling`.
 use Rattle.btx_bst.specs.declared.callee.Kind.{Kind}
 use Rattle.btx_bst.specs.language.BuiltIns.{built_in_of}
@@ -14,14 +14,16 @@ use Rattle.btx_bst.specs.laws.Places.{beginning}
 use Rattle.btx_bst.specs.laws.Spelling.{After, AfterGroup, Fragment, Group, Here, Inner, Nothing, Parts, Plain, complaint_in}
 use Rattle.btx_bst.specs.laws.TokenSpelling.{BehindGap, Gap, IsMissing, LettersHere, StyleGrammar, StyleNameHere, StyleSignHere, TextHere}
 use Rattle.btx_bst.specs.laws.WordSpelling.{BreakOff}
-use Rattle.btx_core.specs.language.Styles.{Body, Built, Command, Declared, Defined, Empty, Execute, Function, Integer, Iterate, Push, Quoted, Read, Reverse, Run, Says, Sort, Style, Text, Then, set}
+use Rattle.btx_core.specs.language.Styles.{Body, Built, Command, Declared, Defined, Empty, Execute, Function, Integer, Iterate, Push, Quoted, Read, Reverse}
+use Rattle.btx_core.specs.language.Styles.{Run, Says, Sort, Style, Text, Then, set}
 use Rattle.btx_text.specs.language.Class.{begins_name}
 use Rattle.btx_text.specs.language.Keys.{folded}
 use Rattle.btx_text.specs.language.Lists.{only_if}
 use Rattle.btx_text.specs.laws.Bytes.{close_brace, open_brace}
 use Rattle.std.specs.Map.{lookup}
 use Rattle.std.specs.Option.{option_map, option_map_or, option_or}
-use Rattle.std.specs.Prelude.{Bool, List, None, Option, Some, [], codes, false, is_none, is_some, map, not, option_and_then, true, unwrap_or, ℕ, ◌++◌, ◌==◌, ◌||◌, ◌∷◌, ◌≡◌, ◌⊎◌}
+use Rattle.std.specs.Prelude.{Bool, List, None, Option, Some, [], codes, false, is_none, is_some, map, not, option_and_then, true, unwrap_or, ℕ, ◌++◌, ◌==◌}
+use Rattle.std.specs.Prelude.{◌||◌, ◌∷◌, ◌≡◌, ◌⊎◌}
 use Rattle.std.specs.Str.{bytes_eq}
 use Rattle.btx_bst.specs.declared.callee.Kind.TheVariants as kind
 use Rattle.btx_bst.specs.declared.command.Command.TheVariants as command

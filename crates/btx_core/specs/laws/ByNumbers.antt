@@ -1,6 +1,6 @@
 -- The product of a job by relations, where functions, fields, strings and entries keep their numbers: the text of a style, databases, what a style means and
--- SORT are said by relations, and all else is as `product` has it. It holds of `product` and of nothing else (`IsTheProduct` below). For `Meaning`, `IsMeaning`, `IsStyle`
--- and `IsReading` see the laws of btx_machine, btx_bst and btx_bib.
+-- SORT are said by relations, and all else is as `product` has it. It holds of `product` and of nothing else (`IsTheProduct` below). For `Meaning`,
+-- `IsMeaning`, `IsStyle` and `IsReading` see the laws of btx_machine, btx_bst and btx_bib.
 use Rattle.btx_aux.specs.language.Files.{Files}
 use Rattle.btx_aux.specs.language.Job.{AuxJob}
 use Rattle.btx_bib.specs.language.Databases.{library_by}

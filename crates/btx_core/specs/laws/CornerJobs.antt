@@ -3,7 +3,8 @@
 use Prim.Native.String.{String}
 use Rattle.std.specs.Prelude.{ℕ, List, [], codes, ◌++◌, ◌∷◌}
 use Rattle.btx_core.specs.declared.options.Options.{Options}
-use Rattle.btx_core.specs.laws.WorkedJobs.{WorkedJob, aux_citing, comes_to, database_file, files_logged, gathers, lists, options, shows_key, style_file, under, usual, whole_style}
+use Rattle.btx_core.specs.laws.WorkedJobs.{WorkedJob, aux_citing, comes_to, database_file, files_logged, gathers, lists, options, shows_key, style_file, under}
+use Rattle.btx_core.specs.laws.WorkedJobs.{usual, whole_style}
 
 -- ---- rows
 

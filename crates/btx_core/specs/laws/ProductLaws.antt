@@ -28,11 +28,13 @@ SomeProduct = (files : Files) (name : List ℕ) (options : Options) → 3 ≤ op
 
 -- what a job comes to in the relation is what `product` computes, and nothing else
 abbrev pub SameProduct : Type 0
-SameProduct = (files : Files) (name : List ℕ) (options : Options) → 3 ≤ options.line → (one : Product) → IsProduct files name options one ↔ (one ≡ product files name options)
+SameProduct = (files : Files) (name : List ℕ) (options : Options) → 3 ≤ options.line → (one : Product) → IsProduct files name options one
+    ↔ (one ≡ product files name options)
 
 -- what stands in the relation for a worked job of the tree (a list, a log and a status that were worked without any definition) is what is said there
 abbrev pub IsWorked : WorkedJob → Type 0
-IsWorked job = (product : Product) → IsProduct (files_of_pairs job.files) (codes "job") job.options product → outputs_shown product ≡ (job.list, job.log, job.status)
+IsWorked job = (product : Product) → IsProduct (files_of_pairs job.files) (codes "job") job.options product
+    → outputs_shown product ≡ (job.list, job.log, job.status)
 
 -- each of these jobs is one of which that holds
 abbrev pub AreWorked : List WorkedJob → Type 0

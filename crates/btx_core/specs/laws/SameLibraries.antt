@@ -62,7 +62,8 @@ asked_of job style least = record {
 
 -- The library that databases give to a job and the style of a text, in names, is the one that the reader of databases makes of them, with numbers.
 abbrev pub SameLibrary : Type 0
-SameLibrary = (file text : List ℕ) (style : Style) (same : IsSameStyle (style_of file text) style) (job : AuxJob) (least : ℕ) (databases : List Database) (library : Library)
+SameLibrary = (file text : List ℕ) (style : Style) (same : IsSameStyle (style_of file text) style) (job : AuxJob) (least : ℕ) (databases : List Database)
+    (library : Library)
     → IsLibrary (asked_of job style least) style.macros databases library
     → IsSameLibrary (numbers_of (style_of file text) same.functions) (field_of (style_of file text))
     (library_of (asked (style_of file text) job least) (style_of file text).macros databases) library

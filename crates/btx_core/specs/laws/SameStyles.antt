@@ -13,7 +13,8 @@ use Rattle.btx_bst.specs.language.Style.{field_of, type_of}
 use Rattle.btx_bst.specs.language.Style.{Style as NumberedStyle}
 use Rattle.btx_bst.specs.language.StyleText.{style_of}
 use Rattle.btx_core.specs.language.StyleTexts.{IsStyle}
-use Rattle.btx_core.specs.language.Styles.{Body, Built, Command, Declared, Defined, Empty, Execute, Function, Integer, Iterate, Push, Quoted, Read, Reverse, Run, Says, Sort, Style, Text, Then, Word}
+use Rattle.btx_core.specs.language.Styles.{Body, Built, Command, Declared, Defined, Empty, Execute, Function, Integer, Iterate, Push, Quoted, Read, Reverse}
+use Rattle.btx_core.specs.language.Styles.{Run, Says, Sort, Style, Text, Then, Word}
 use Rattle.std.specs.Prelude.{List, None, Option, Some, [], is_some, option_map, slice_get, suc, ℕ, ◌++◌, ◌∷◌, ◌≡◌}
 
 -- what the numbers of a style stand for: the names of its fields and variables, the strings of its bodies, and its functions, each with its body in full

@@ -5,7 +5,8 @@ use Rattle.btx_text.specs.language.Counts.{Change, Stays, OneOfThreeRises}
 use Rattle.btx_run.specs.declared.run_fault.RunFault.{RunFault}
 use Rattle.btx_run.specs.declared.run_fault.RunFault.TheVariants.{Memory, Device}
 
--- the failures of the three during a run: where the device's fault is answered, exactly one call of one of them failed, and none followed it there; else none failed
+-- the failures of the three during a run: where the device's fault is answered, exactly one call of one of them failed, and none followed it there; else none
+-- failed
 abbrev pub CountsOfRun : {T : Type 0} → Result T RunFault → Change → Change → Change → Type 0
 CountsOfRun (Ok value) a b c = Stays a × Stays b × Stays c
 CountsOfRun (Err Memory) a b c = Stays a × Stays b × Stays c

@@ -10,7 +10,7 @@ ghost use Rattle.btx_run.specs.refinement.Files.Readings.{AddsAs, ReadsAs, datab
 use crate::files::fetching::fetch_file;
 use crate::files::lines::{database_line, no_database_line};
 use btx_aux::Finder;
-use btx_core::{FoundFile, FoundFiles};
+use btx_core::{FoundFile, FoundFiles, next_number};
 use btx_machine::Journal;
 use btx_out::Sink;
 use btx_text::{Fault, LogLine};
@@ -40,7 +40,8 @@ fn find_database<'a, F: Finder, L: Sink>(
     journal: &mut Journal<'_, L>,
 ) -> Result<Option<FoundFile<'a>>, Fault>
     ensures reads { ByAnswers (F.content finder.old) (F.answers finder.old) (F.answers finder.new) (λ names. AreAmong names (name.entry.now ∷ [])) (λ files.
-        ReadsAs result (counts_at journal.old, counts_at journal.new) (journal.old.sink.received, journal.new.sink.received) (database_read files number name.entry.now)) }
+        ReadsAs result (counts_at journal.old, counts_at journal.new) (journal.old.sink.received, journal.new.sink.received)
+        (database_read files number name.entry.now)) }
     ensures stays { F.content finder.new ≡ F.content finder.old }
     ensures counts { CountsOfReading result (F.failures finder.old, F.failures finder.new) journal.old journal.new }
 {
@@ -59,11 +60,12 @@ fn add_database<'a, F: Finder, L: Sink>(
     journal: &mut Journal<'_, L>,
 ) -> Result<(), Fault>
     ensures adds { ByAnswers (F.content finder.old) (F.answers finder.old) (F.answers finder.new) (λ names. AreAmong names (name.entry.now ∷ [])) (λ files.
-        AddsAs result found.old found.new (counts_at journal.old, counts_at journal.new) (journal.old.sink.received, journal.new.sink.received) (database_read files (length found.old + 1) name.entry.now)) }
+        AddsAs result found.old found.new (counts_at journal.old, counts_at journal.new) (journal.old.sink.received, journal.new.sink.received)
+        (database_read files (length found.old + 1) name.entry.now)) }
     ensures stays { F.content finder.new ≡ F.content finder.old }
     ensures counts { CountsOfReading result (F.failures finder.old, F.failures finder.new) journal.old journal.new }
 {
-    let number = found.next_number();
+    let number = next_number(found);
     match find_database(alloc, finder, number, name, journal)? {
         Some(database) => Ok(found.push(database)?),
         None => Ok(()),
@@ -77,8 +79,10 @@ pub fn find_databases<'a, F: Finder, L: Sink>(
     names: &'a [Vec<u8>],
     journal: &mut Journal<'_, L>,
 ) -> Result<FoundFiles<'a>, Fault>
-    ensures reads { ByAnswers (F.content finder.old) (F.answers finder.old) (F.answers finder.new) (λ asked. AreAmong asked (texts_of names.entry.now)) (λ files.
-        ReadsAs result (counts_at journal.old, counts_at journal.new) (journal.old.sink.received, journal.new.sink.received) (databases_read files (texts_of names.entry.now))) }
+    ensures reads { ByAnswers (F.content finder.old) (F.answers finder.old) (F.answers finder.new) (λ asked. AreAmong asked (texts_of names.entry.now))
+        (λ files.
+        ReadsAs result (counts_at journal.old, counts_at journal.new) (journal.old.sink.received, journal.new.sink.received)
+        (databases_read files (texts_of names.entry.now))) }
     ensures stays { F.content finder.new ≡ F.content finder.old }
     ensures counts { CountsOfReading result (F.failures finder.old, F.failures finder.new) journal.old journal.new }
 {

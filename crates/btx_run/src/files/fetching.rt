@@ -16,7 +16,8 @@ pub fn fetch_file<'a, F: Finder>(
     name: &'a [u8],
 ) -> Result<Option<FoundFile<'a>>, Fault>
     ensures file { IfSome (F.content finder.old) (λ files. IfOk result (λ found. found ≡ file_at files name.entry.now)) }
-    ensures answered { IfOk result (λ found. ByAnswers (F.content finder.old) (F.answers finder.old) (F.answers finder.new) (λ names. names ≡ name.entry.now ∷ []) (λ files. found ≡ file_at files name.entry.now)) }
+    ensures answered { IfOk result (λ found. ByAnswers (F.content finder.old) (F.answers finder.old) (F.answers finder.new)
+        (λ names. names ≡ name.entry.now ∷ []) (λ files. found ≡ file_at files name.entry.now)) }
     ensures refused { OnErr result (F.answers finder.new ≡ F.answers finder.old) }
     ensures stays { F.content finder.new ≡ F.content finder.old }
     ensures counts { CountsOfOne result (F.failures finder.old, F.failures finder.new) }

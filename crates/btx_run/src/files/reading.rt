@@ -27,7 +27,8 @@ use std::alloc::Global;
 /// Reads the `.aux` files of the job `name`, which may end in `.aux`.
 pub fn read_job<F: Finder>(alloc: Global, finder: &mut F, name: &[u8]) -> Result<AuxJob, Fault>
     ensures job { IfOk result (λ job. IfSome (F.content finder.old) (λ files. job ≡ job_named files name.now)) }
-    ensures answered { IfOk result (λ job. ByAnswers (F.content finder.old) (F.answers finder.old) (F.answers finder.new) (AsksTop (top_name name.now)) (λ files. job ≡ job_named files name.now)) }
+    ensures answered { IfOk result (λ job. ByAnswers (F.content finder.old) (F.answers finder.old) (F.answers finder.new) (AsksTop (top_name name.now))
+        (λ files. job ≡ job_named files name.now)) }
     ensures asked { OnErr result (Answered (F.content finder.old) (F.answers finder.old) (F.answers finder.new) (AsksTopAtMost (top_name name.now))) }
     ensures stays { F.content finder.new ≡ F.content finder.old }
     ensures counts { CountsOfOne result (F.failures finder.old, F.failures finder.new) }
@@ -45,7 +46,8 @@ fn with_style<'a, F: Finder, L: Sink>(
     journal: &mut Journal<'_, L>,
 ) -> Result<FilesRead<'a>, Fault>
     ensures reads { ByAnswers (F.content finder.old) (F.answers finder.old) (F.answers finder.new) (λ asked. AreAmong asked job.entry.now.databases) (λ files.
-        ReadsAs result (counts_at journal.old, counts_at journal.new) (journal.old.sink.received, journal.new.sink.received) (after_style files job.entry.now style.entry)) }
+        ReadsAs result (counts_at journal.old, counts_at journal.new) (journal.old.sink.received, journal.new.sink.received)
+        (after_style files job.entry.now style.entry)) }
     ensures fits { IfOk result (λ read. StyleFits read) }
     ensures stays { F.content finder.new ≡ F.content finder.old }
     ensures counts { CountsOfReading result (F.failures finder.old, F.failures finder.new) journal.old journal.new }
@@ -66,7 +68,8 @@ fn log_style<'a, F: Finder, L: Sink>(
     journal: &mut Journal<'_, L>,
 ) -> Result<FilesRead<'a>, Fault>
     ensures reads { ByAnswers (F.content finder.old) (F.answers finder.old) (F.answers finder.new) (λ asked. AreAmong asked job.entry.now.databases) (λ files.
-        ReadsAs result (counts_at journal.old, counts_at journal.new) (journal.old.sink.received, journal.new.sink.received) (style_read files job.entry.now style.entry.name (Some style.entry))) }
+        ReadsAs result (counts_at journal.old, counts_at journal.new) (journal.old.sink.received, journal.new.sink.received)
+        (style_read files job.entry.now style.entry.name (Some style.entry))) }
     ensures fits { IfOk result (λ read. StyleFits read) }
     ensures stays { F.content finder.new ≡ F.content finder.old }
     ensures counts { CountsOfReading result (F.failures finder.old, F.failures finder.new) journal.old journal.new }
@@ -82,7 +85,8 @@ fn without_style<'a, L: Sink>(
     name: &[u8],
     journal: &mut Journal<'_, L>,
 ) -> Result<FilesRead<'a>, Fault>
-    ensures reads { (files : Files) (job : AuxJob) → ReadsAs result (counts_at journal.old, counts_at journal.new) (journal.old.sink.received, journal.new.sink.received)
+    ensures reads { (files : Files) (job : AuxJob) → ReadsAs result (counts_at journal.old, counts_at journal.new)
+        (journal.old.sink.received, journal.new.sink.received)
         (style_read files job name.now None) }
     ensures fits { IfOk result (λ read. StyleFits read) }
     ensures counts { CountsOfLogging result journal.old journal.new }
@@ -100,8 +104,10 @@ fn find_style<'a, F: Finder, L: Sink>(
     name: &'a [u8],
     journal: &mut Journal<'_, L>,
 ) -> Result<FilesRead<'a>, Fault>
-    ensures reads { ByAnswers (F.content finder.old) (F.answers finder.old) (F.answers finder.new) (λ asked. AreAmong asked (name.entry.now ∷ job.entry.now.databases)) (λ files.
-        ReadsAs result (counts_at journal.old, counts_at journal.new) (journal.old.sink.received, journal.new.sink.received) (style_read files job.entry.now name.entry.now (file_at files name.entry.now))) }
+    ensures reads { ByAnswers (F.content finder.old) (F.answers finder.old) (F.answers finder.new)
+        (λ asked. AreAmong asked (name.entry.now ∷ job.entry.now.databases)) (λ files.
+        ReadsAs result (counts_at journal.old, counts_at journal.new) (journal.old.sink.received, journal.new.sink.received)
+        (style_read files job.entry.now name.entry.now (file_at files name.entry.now))) }
     ensures fits { IfOk result (λ read. StyleFits read) }
     ensures stays { F.content finder.new ≡ F.content finder.old }
     ensures counts { CountsOfReading result (F.failures finder.old, F.failures finder.new) journal.old journal.new }
@@ -120,7 +126,8 @@ fn after_job<'a, F: Finder, L: Sink>(
     journal: &mut Journal<'_, L>,
 ) -> Result<FilesRead<'a>, Fault>
     ensures reads { ByAnswers (F.content finder.old) (F.answers finder.old) (F.answers finder.new) (λ asked. AreAmong asked (names_in job.entry.now)) (λ files.
-        ReadsAs result (counts_at journal.old, counts_at journal.new) (journal.old.sink.received, journal.new.sink.received) (after_job files job.entry.now job.entry.now.ending)) }
+        ReadsAs result (counts_at journal.old, counts_at journal.new) (journal.old.sink.received, journal.new.sink.received)
+        (after_job files job.entry.now job.entry.now.ending)) }
     ensures fits { IfOk result (λ read. StyleFits read) }
     ensures stays { F.content finder.new ≡ F.content finder.old }
     ensures counts { CountsOfReading result (F.failures finder.old, F.failures finder.new) journal.old journal.new }
@@ -144,9 +151,11 @@ pub fn read_files<'a, F: Finder, L: Sink>(
     job: &'a AuxJob,
     journal: &mut Journal<'_, L>,
 ) -> Result<FilesRead<'a>, Fault>
-    ensures reads { IfSome (F.content finder.old) (λ files. ReadsAs result (counts_at journal.old, counts_at journal.new) (journal.old.sink.received, journal.new.sink.received)
+    ensures reads { IfSome (F.content finder.old) (λ files. ReadsAs result (counts_at journal.old, counts_at journal.new)
+        (journal.old.sink.received, journal.new.sink.received)
         (files_read files job.entry.now)) }
-    ensures answered { ByAnswers (F.content finder.old) (F.answers finder.old) (F.answers finder.new) (λ asked. AreAmong asked (names_in job.entry.now)) (λ files.
+    ensures answered { ByAnswers (F.content finder.old) (F.answers finder.old) (F.answers finder.new) (λ asked. AreAmong asked (names_in job.entry.now))
+        (λ files.
         ReadsAs result (counts_at journal.old, counts_at journal.new) (journal.old.sink.received, journal.new.sink.received) (files_read files job.entry.now)) }
     ensures fits { IfOk result (λ read. StyleFits read) }
     ensures stays { F.content finder.new ≡ F.content finder.old }

@@ -16,5 +16,6 @@ returns-in-Ok g c =
     let before = g.O.Outputs.acts c.args.outputs.now in
     let after = g.O.Outputs.acts c.answer.new.outputs in
     subst (λ read. EndsFor files given found state read before after c.answer.result.1) (sym c.in-Ok.is)
-    (subst (λ items. ComesTo files given found state (map (λ word. string_bytes word) items) (hint_of items) before after c.answer.result.1) c.as_slice.ensures.value
+    (subst (λ items. ComesTo files given found state (map (λ word. string_bytes word) items)
+    (hint_of items) before after c.answer.result.1) c.as_slice.ensures.value
     c.answer.ensures)

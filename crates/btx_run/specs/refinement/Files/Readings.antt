@@ -27,7 +27,8 @@ databases_read files names = logged (databases_logged files [] names) (files_fou
 
 -- the reading after the style was found: a style that is too long ends the run, and no database is looked for
 abbrev pub style_found : NamedFile → Logged (List NamedFile) → Logged FilesRead
-style_found style databases = if is_too_long style.bytes then logged [] (Ends (ended.Limit kind.File)) else logged databases.lines (Found (record { style = style; databases = databases.gives }))
+style_found style databases = if is_too_long style.bytes then logged [] (Ends (ended.Limit kind.File))
+    else logged databases.lines (Found (record { style = style; databases = databases.gives }))
 
 -- ---- databases
 

@@ -12,6 +12,8 @@ use Rattle.btx_command.proofs.handed.Calls.and.Code as code
 
 pub and_spec : {M : Type 1} → stated.statement M
 and_spec 𝓤 𝓛 𝓜 𝓡 wired T LT =
-    met_behind the_row tt _ Bool (λ more before made. made.failures ≡ failures_after more before.failures) (λ more before. record { failures = failures_after more before.failures }) (λ more before. refl)
-    (λ more before. ((λ vss. (tt, tt)), tt)) (λ more before. ((tt, (refl, tt)), tt)) T (of.signature T).outlives 𝓛 (λ κs a. (of.clauses T 𝓛 𝓜.mem 𝓡.returns κs a).requires)
+    met_behind the_row tt _ Bool (λ more before made. made.failures ≡ failures_after more before.failures)
+    (λ more before. record { failures = failures_after more before.failures }) (λ more before. refl)
+    (λ more before. ((λ vss. (tt, tt)), tt)) (λ more before. ((tt, (refl, tt)), tt)) T (of.signature T).outlives 𝓛
+    (λ κs a. (of.clauses T 𝓛 𝓜.mem 𝓡.returns κs a).requires)
     𝓜 𝓡 (key (layouts (a_type ∷ []) (T, tt))) (code.unfolded 𝓤 𝓛.H 𝓜 𝓡 wired (T, tt))

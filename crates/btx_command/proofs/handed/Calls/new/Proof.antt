@@ -9,5 +9,6 @@ use Rattle.btx_text.specs.refinement.Counts.{no_failures}
 
 pub new_spec : {M : Type 1} → stated.statement M
 new_spec 𝓤 𝓛 𝓜 𝓡 wired =
-    met the_row _ (Unit {0}) (λ _ made. made.failures ≡ no_failures) (λ _. record { failures = no_failures }) (λ _. refl) (λ _. ((λ vss. (tt, tt)), tt)) (λ _. ((tt, (refl, tt)), tt)) 𝓛
+    met the_row _ (Unit {0}) (λ _ made. made.failures ≡ no_failures) (λ _. record { failures = no_failures }) (λ _. refl) (λ _. ((λ vss. (tt, tt)), tt))
+    (λ _. ((tt, (refl, tt)), tt)) 𝓛
     𝓜 𝓡 key (code.unfolded 𝓤 𝓛.H 𝓜 𝓡 wired)
