@@ -19,7 +19,7 @@ use Rattle.btx_step.specs.language.Jobs.{Job}
 use Rattle.btx_step.specs.language.Stores.{Store, EntryVariables}
 use Rattle.btx_step.specs.language.Answers.{Answer, noted, with_literals}
 use Rattle.btx_step.specs.declared.literal.Wanted.TheVariants as wanted
-use Rattle.btx_step.specs.language.Operands.{Of}
+use Rattle.btx_step.specs.declared.operands.Operand.TheVariants.{Of}
 use Rattle.btx_step.specs.language.Table.{row}
 use Rattle.btx_step.specs.language.Variables.{values_of, integer_of, string_of, with_global_integer, with_global_string, with_entry_integer, with_entry_string}
 use Rattle.btx_step.specs.language.Variables.{assigns, in_entry, stores_integer, stores_string}
@@ -28,7 +28,7 @@ use Rattle.btx_check.specs.declared.description.Mask.{Mask}
 use Rattle.btx_check.specs.declared.description.Value.{Value}
 use Rattle.btx_check.specs.declared.description.Value.TheVariants as value
 use Rattle.btx_check.specs.declared.description.Upper.{Upper}
-use Rattle.btx_check.specs.Promise.{Calm}
+use Rattle.btx_check.specs.Calm.{Calm}
 use Rattle.btx_check.specs.Descriptions.{White, Full, class_of, allows, Is, cut}
 use Rattle.btx_check.specs.States.{Abstract, Values, values_in, named, slot, at, Stands, Holds, In, with_stack, putting, putting_text}
 use Rattle.btx_check.specs.Inclusion.{Into}

@@ -18,19 +18,19 @@ use Rattle.btx_step.specs.language.Control.{is_positive, tested}
 use Rattle.btx_step.specs.language.Operands.{on_operands}
 use Rattle.btx_step.specs.language.Table.{row}
 use Rattle.btx_step.specs.language.Steps.{built_in_run, function_run, step_of}
-use Rattle.btx_machine.specs.language.States.{Out, State, state, Outcome}
+use Rattle.btx_machine.specs.language.States.{State, state, Outcome}
 use Rattle.btx_machine.specs.language.Saying.{said_on}
 use Rattle.btx_machine.specs.language.Steps.{executed_by, token_effect}
 use Rattle.btx_machine.specs.language.MeaningBySteps.{follow, act}
 use Rattle.btx_check.specs.declared.description.Value.{Value}
 use Rattle.btx_check.specs.declared.description.Value.TheVariants as value
 use Rattle.btx_check.specs.declared.description.Upper.{Upper}
-use Rattle.btx_check.specs.Promise.{Calm}
+use Rattle.btx_check.specs.Calm.{Calm, CalmAct, CalmFollow}
 use Rattle.btx_check.specs.Descriptions.{Is}
 use Rattle.btx_check.specs.States.{Abstract, values_in, at, Stack, Holds, In, knowing, with_stack}
 use Rattle.btx_check.specs.Inclusion.{Into}
 use Rattle.btx_check.specs.Bounds.{Splits}
-use Rattle.btx_check.specs.Running.{Sized, Good, RunsFrom, TurnsTo, Turned, Closed}
+use Rattle.btx_check.specs.Running.{Sized, Good, Passes, RunsFrom, TurnsTo, Turned, Closed}
 use Rattle.btx_check.proofs.Later.{in_later}
 use Rattle.btx_check.proofs.Holding.{restack, known}
 use Rattle.btx_check.proofs.RowLemmas.{top_of, stack_at}
@@ -41,10 +41,21 @@ abbrev pub after : Job → ℕ → Callee → Answer → State → ℕ → ℕ �
 after job n f a s bodies running left =
     follow job (act job n) n a.next (state a.store (said_on job (executed_by job.style.names (token.Run f)) a.store.current a.said s.out)) bodies running left
 
-pub act_is : (job : Job) (n : ℕ) (f : Callee) (bodies running left : ℕ) (s : State) → act job (suc n) (token.Run f) bodies running (suc left) s
-    ≡ after job n f (function_run job f s.store) s bodies running left
+-- .. and what is asked of it
+abbrev pub CalmAfter : Job → ℕ → Callee → Answer → State → ℕ → ℕ → ℕ → Type 0
+CalmAfter job n f a s bodies running left = Calm a.said
+    × CalmFollow job (act job n) (CalmAct job n) n a.next
+    (state a.store (said_on job (executed_by job.style.names (token.Run f)) a.store.current a.said s.out)) bodies running left
+
+-- it is without a fault, and good
+abbrev pub PassesAfter : Job → ℕ → ℕ → List Abstract → Callee → Answer → State → ℕ → ℕ → ℕ → Type 0
+PassesAfter job n m to f a s bodies running left = Passes (CalmAfter job n f a s bodies running left) (Good job m to (after job n f a s bodies running left))
+
+pub act_passes : (job : Job) (n m : ℕ) (to : List Abstract) (f : Callee) (bodies running left : ℕ) (s : State)
+    → PassesAfter job n m to f (function_run job f s.store) s bodies running left
+    → Passes (CalmAct job (suc n) (token.Run f) bodies running (suc left) s) (Good job m to (act job (suc n) (token.Run f) bodies running (suc left) s))
 unfolding token_effect step_of
-act_is job n f bodies running left s = refl
+act_passes job n m to f bodies running left s h = record { is_calm = (h.is_calm.0, h.is_calm.1); ends_so = h.ends_so }
 
 -- a row's answer, where these literals stand on the stack
 row_is : (job : Job) (f : BuiltIn) (s : Store) (ls : List Literal) (a : Answer) → built_in_run job f s ≡ on_operands (row f).operands (row f).default
@@ -53,21 +64,24 @@ row_is : (job : Job) (f : BuiltIn) (s : Store) (ls : List Literal) (a : Answer) 
 unfolding function_run
 row_is job f s ls a b e h = b ∙ (ap (λ (k : List Literal). on_operands (row f).operands (row f).default ((row f).does job) k s) e ∙ h)
 
-pub said_nothing : (job : Job) (n : ℕ) (f : Callee) (next : Next) (store : Store) (s : State) (bodies running left : ℕ)
-    → after job n f (quiet next store) s bodies running left ≡ follow job (act job n) n next (record s { store = store }) bodies running left
+pub quiet_passes : (job : Job) (n m : ℕ) (to : List Abstract) (f : Callee) (next : Next) (store : Store) (s : State) (bodies running left : ℕ)
+    → Passes (CalmFollow job (act job n) (CalmAct job n) n next (record s { store = store }) bodies running left)
+    (Good job m to (follow job (act job n) n next (record s { store = store }) bodies running left))
+    → PassesAfter job n m to f (quiet next store) s bodies running left
 unfolding said_on
-said_nothing job n f next store s bodies running left = refl
+quiet_passes job n m to f next store s bodies running left h = record { is_calm = (tt, h.is_calm); ends_so = h.ends_so }
 
-quiet_good : (job : Job) (start : Out) (n m : ℕ) (to : List Abstract) (f : BuiltIn) (ls : List Literal) (next : Next) (store : Store) (bodies running left : ℕ)
-    (s : State)
+quiet_good : (job : Job) (n m : ℕ) (to : List Abstract) (f : BuiltIn) (ls : List Literal) (next : Next) (store : Store) (bodies running left : ℕ) (s : State)
     → built_in_run job f s.store ≡ on_operands (row f).operands (row f).default ((row f).does job) s.store.literals s.store → s.store.literals ≡ ls
     → on_operands (row f).operands (row f).default ((row f).does job) ls s.store ≡ quiet next store
-    → Good job start m to (follow job (act job n) n next (record s { store = store }) bodies running left)
-    → Good job start m to (act job (suc n) (token.Run (callee.BuiltIn f)) bodies running (suc left) s)
-quiet_good job start n m to f ls next store bodies running left s b e h g =
-    subst (Good job start m to) (sym (act_is job n (callee.BuiltIn f) bodies running left s
-    ∙ (ap (λ a. after job n (callee.BuiltIn f) a s bodies running left) (row_is job f s.store ls (quiet next store) b e h)
-    ∙ said_nothing job n (callee.BuiltIn f) next store s bodies running left))) g
+    → Passes (CalmFollow job (act job n) (CalmAct job n) n next (record s { store = store }) bodies running left)
+    (Good job m to (follow job (act job n) n next (record s { store = store }) bodies running left))
+    → Passes (CalmAct job (suc n) (token.Run (callee.BuiltIn f)) bodies running (suc left) s)
+    (Good job m to (act job (suc n) (token.Run (callee.BuiltIn f)) bodies running (suc left) s))
+quiet_good job n m to f ls next store bodies running left s b e h g =
+    act_passes job n m to (callee.BuiltIn f) bodies running left s
+    (subst (λ a. PassesAfter job n m to (callee.BuiltIn f) a s bodies running left) (sym (row_is job f s.store ls (quiet next store) b e h))
+    (quiet_passes job n m to (callee.BuiltIn f) next store s bodies running left g))
 
 -- ---- what a description says of a literal
 
@@ -147,10 +161,12 @@ pub if_runs : (style : Style) (allowed : List ℕ) (a : Abstract) (k j i : ℕ) 
     → RunsFrom style allowed (token.Run g) (knowing i d (with_stack is a) ∷ []) r w to
     → RunsFrom style allowed (token.Run (callee.BuiltIn built_in.If)) (a ∷ []) r w to
 unfolding built_in_run
-if_runs style allowed a k j i is f g lo hi c d r w to e dk dj di splits p q job of zero start m bodies running left s hs fine l1 l2 l3 = fine
-if_runs style allowed a k j i is f g lo hi c d r w to e dk dj di splits p q job of (suc n) start m bodies running zero s hs fine l1 l2 l3 = fine
-if_runs style allowed a k j i is f g lo hi c d r w to e dk dj di splits p q job of (suc n) start m bodies running (suc left) s hs fine l1 l2 l3 =
-    quiet_good job start n m to built_in.If (Function g ∷ Function f ∷ Integer t.n ∷ t.xs) (Run (if is_positive t.n then f else g)) (with_literals t.xs s.store)
+if_runs style allowed a k j i is f g lo hi c d r w to e dk dj di splits p q job of zero m bodies running left s hs fine l1 l2 l3 =
+    record { is_calm = tt; ends_so = fine }
+if_runs style allowed a k j i is f g lo hi c d r w to e dk dj di splits p q job of (suc n) m bodies running zero s hs fine l1 l2 l3 =
+    record { is_calm = tt; ends_so = fine }
+if_runs style allowed a k j i is f g lo hi c d r w to e dk dj di splits p q job of (suc n) m bodies running (suc left) s hs fine l1 l2 l3 =
+    quiet_good job n m to built_in.If (Function g ∷ Function f ∷ Integer t.n ∷ t.xs) (Run (if is_positive t.n then f else g)) (with_literals t.xs s.store)
     bodies running left s refl t.literals_are refl
     (goes (is_positive t.n) (splits left t.n t.is_so))
   where
@@ -161,10 +177,11 @@ if_runs style allowed a k j i is f g lo hi c d r w to e dk dj di splits p q job 
     t = three job left a s.store h k j i is f g lo hi e dk dj di
 
     goes : (b : Bool) → Is left (cond b c d) (Integer t.n)
-        → Good job start m to (act job n (token.Run (cond b f g)) bodies running left (record s { store = with_literals t.xs s.store }))
-    goes true o = p job of n start m bodies running left (record s { store = with_literals t.xs s.store })
+        → Passes (CalmAct job n (token.Run (cond b f g)) bodies running left (record s { store = with_literals t.xs s.store }))
+        (Good job m to (act job n (token.Run (cond b f g)) bodies running left (record s { store = with_literals t.xs s.store })))
+    goes true o = p job of n m bodies running left (record s { store = with_literals t.xs s.store })
         (inl (known_in job left a s.store i is h.0 t.xs (Integer t.n) c t.below h.1 t.stands o)) fine l1 l2 l3
-    goes false o = q job of n start m bodies running left (record s { store = with_literals t.xs s.store })
+    goes false o = q job of n m bodies running left (record s { store = with_literals t.xs s.store })
         (inl (known_in job left a s.store i is h.0 t.xs (Integer t.n) d t.below h.1 t.stands o)) fine l1 l2 l3
 
 -- ---- `while$`
@@ -174,9 +191,11 @@ pub while_runs : (style : Style) (allowed : List ℕ) (a : Abstract) (j i : ℕ)
     → get_or a.values i value.Any ≡ value.Function f → Into (with_stack is a) heads → Closed style allowed heads f g r w tests again ends
     → RunsFrom style allowed (token.Run (callee.BuiltIn built_in.While)) (a ∷ []) r (suc w) ends
 unfolding built_in_run
-while_runs style allowed a j i is f g r w heads tests again ends e dj di go c job of zero start m bodies running left s hs fine l1 l2 l3 = fine
-while_runs style allowed a j i is f g r w heads tests again ends e dj di go c job of (suc n) start m bodies running zero s hs fine l1 l2 l3 = fine
-while_runs style allowed a j i is f g r w heads tests again ends e dj di go c job of (suc n) start m bodies running (suc left) s hs fine l1 l2 l3 =
+while_runs style allowed a j i is f g r w heads tests again ends e dj di go c job of zero m bodies running left s hs fine l1 l2 l3 =
+    record { is_calm = tt; ends_so = fine }
+while_runs style allowed a j i is f g r w heads tests again ends e dj di go c job of (suc n) m bodies running zero s hs fine l1 l2 l3 =
+    record { is_calm = tt; ends_so = fine }
+while_runs style allowed a j i is f g r w heads tests again ends e dj di go c job of (suc n) m bodies running (suc left) s hs fine l1 l2 l3 =
     let h = in_later job left a s.store (one_of job (suc left) a s.store hs) in
     let t = tops job left a s.store h j (i ∷ is) (value.Function g) s.store.literals (stack_at a h.0 s.store.literals j (i ∷ is) e h.1.stack) dj in
     let u = tops job left a s.store h i is (value.Function f) t.xs t.below di in
@@ -185,8 +204,8 @@ while_runs style allowed a j i is f g r w heads tests again ends e dj di go c jo
     let e1 = t.literals_are in
     let e2 = u.literals_are in
     let ls : s.store.literals ≡ Function g ∷ Function f ∷ u.xs = cc in
-    quiet_good job start n m ends built_in.While (Function g ∷ Function f ∷ u.xs) (Loop f g) (with_literals u.xs s.store) bodies running left s refl ls refl
-    (loop_good style allowed heads f g r w tests again ends c job of start n n m bodies running left (record s { store = with_literals u.xs s.store })
+    quiet_good job n m ends built_in.While (Function g ∷ Function f ∷ u.xs) (Loop f g) (with_literals u.xs s.store) bodies running left s refl ls refl
+    (loop_good style allowed heads f g r w tests again ends c job of n n m bodies running left (record s { store = with_literals u.xs s.store })
     (go.into job left (with_literals u.xs s.store) (h.0, restack job left a (values_in s.store) h.0 is s.store.literals u.xs u.below h.1)) fine l1 l2 l3
     (nat_lt running 4096) refl)
 

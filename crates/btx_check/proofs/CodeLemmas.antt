@@ -14,7 +14,7 @@ use Rattle.std.specs.Prelude.{◌+ℤ◌, ◌-ℤ◌, int_lt, IsTrue}
 use Rattle.std.proofs.lemmas.Int.{ints}
 use Rattle.std.specs.Ordering.{int_eq}
 use Rattle.std.proofs.lemmas.Bool.Decides.{Decides-int_eq, Decides-like, same_from_decides}
-use Rattle.btx_step.specs.language.Operands.{Any}
+use Rattle.btx_step.specs.declared.operands.Operand.TheVariants.{Any}
 use Rattle.btx_check.specs.declared.description.Upper.{Upper}
 use Rattle.btx_check.specs.declared.description.Upper.TheVariants as upper
 use Rattle.btx_check.specs.Descriptions.{Is, exactly, blank, filled, followed, gone, nothing, open_end, present, something, Above, Below}

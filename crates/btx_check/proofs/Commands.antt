@@ -5,6 +5,7 @@ use Rattle.std.specs.Prelude.{slice_set, slice_get, unwrap_or, ◌≢◌, replic
 use Rattle.std.specs.List.{range_with_len}
 use Rattle.std.proofs.lemmas.List.{reverse-reverse, length-set, length-replicate, take_more, take_all}
 use Rattle.btx_step.specs.language.Starts.{first_store}
+use Rattle.btx_step.specs.language.Sorting.{sorted}
 use Rattle.btx_step.specs.language.Variables.{string_of, values_of}
 use Rattle.std.specs.Option.{is_some, option_map_or}
 use Rattle.btx_text.specs.declared.limits.Limit.{Limit as Kind}
@@ -27,11 +28,11 @@ use Rattle.btx_step.specs.language.Jobs.{Job}
 use Rattle.btx_step.specs.language.Stores.{Store, EntryVariables}
 use Rattle.btx_machine.specs.declared.command.Command.{Command}
 use Rattle.btx_machine.specs.declared.command.Command.TheVariants as command
-use Rattle.btx_machine.specs.language.States.{Out, State, Outcome, Done, Stopped, Limit}
+use Rattle.btx_machine.specs.language.States.{State, Outcome, Done, Stopped, Limit}
 use Rattle.btx_machine.specs.language.Saying.{logging}
 use Rattle.btx_machine.specs.language.Meaning.{then_do}
 use Rattle.btx_machine.specs.language.MeaningBySteps.{meaning, act}
-use Rattle.btx_machine.specs.language.Commands.{in_order, command_word, cleared, visit}
+use Rattle.btx_machine.specs.language.Commands.{in_order, cleared, visit}
 use Rattle.btx_machine.specs.language.Items.{read_limit, do_item, do_items, list_after}
 use Rattle.btx_step.specs.laws.Leaves.{IsOther}
 use Rattle.btx_check.specs.declared.description.Upper.{Upper}
@@ -40,10 +41,11 @@ use Rattle.btx_check.specs.declared.description.Value.{Value}
 use Rattle.btx_check.specs.declared.description.Value.TheVariants as value
 use Rattle.btx_check.specs.Descriptions.{Below, Is}
 use Rattle.btx_bst.specs.language.MessageTexts.{complaint_line}
-use Rattle.btx_check.specs.Promise.{Begun, Spoken, Complained, Listed, Promised, IsOf, StyleIsClean, most_steps}
+use Rattle.btx_check.specs.Calm.{AfterDone, CalmAct, CalmVisit, CalmInOrder, CalmItem, CalmItems}
+use Rattle.btx_check.specs.Promise.{Promised, IsOf, StyleIsClean, most_steps, first_state}
 use Rattle.btx_check.specs.States.{Abstract, Values, values_in, slot, named, Fits, Stack, Stands, In, Among}
 use Rattle.btx_check.specs.Inclusion.{Sub}
-use Rattle.btx_check.specs.Running.{Sized, Sound, Good, Starts, Each, IsEmpty}
+use Rattle.btx_check.specs.Running.{Sized, Sound, Good, Passes, Starts, Each, IsEmpty}
 use Rattle.btx_check.specs.Between.{IsGlobal, IsLocal, Facts, where_entry, Stays, Clear, Describe, Ended, Visited, FoundOnce, FoundForEach, Forgotten}
 use Rattle.btx_check.specs.Between.{ItemFound, AllFound, Begins, FoundIsClean}
 use Rattle.btx_check.proofs.Orders.{All, all_map, all_both, all_reverse, all_range, all_sorted, Apart, Distinct, turned_round, distinct_reverse, distinct_range}
@@ -196,33 +198,27 @@ pub record Went (job : Job) (ends : List Abstract) (entry : Option ℕ) (most : 
   pub fewer : left ≤ most
   pub others : (e : ℕ) → IsOther entry e → slice_get t.store.entries e ≡ slice_get s.entries e
 
-calm_cleared : (job : Job) (start : Out) (m : ℕ) (word : Command) (s : State) (ls : List Literal) → s.store.literals ≡ ls → ls ≡ [] → Sound job start m s
-    → Sound job start m (cleared job word s)
-calm_cleared job start m word s [] e n f =
-    subst (λ (k : List Literal). Sound job start m (cleared job word (record s { store = record s.store { literals = k } }))) (sym e)
-    (Spoken f.0 (command_word word) s.store.current said.Nothing tt, f.1, f.2)
-calm_cleared job start m word s (x ∷ ls) e n f = absurd (cc)
-
 end_in : (job : Job) (left : ℕ) (ends : List Abstract) (s : Store) (entry : Option ℕ) → s.literals ≡ [] → s.current ≡ entry → Among job left ends s
     → Among job left ends (record s { literals = []; current = entry })
 end_in job left ends s entry e c i = subst (λ (k : Option ℕ). Among job left ends (record s { literals = []; current = k })) c
     (subst (λ (k : List Literal). Among job left ends (record s { literals = k })) e i)
 
-went : (job : Job) (start : Out) (m : ℕ) (word : Command) (entry : Option ℕ) (most : ℕ) (s : Store) (ends : List Abstract) (o : Outcome) → Each IsEmpty ends
-    → Good job start m ends o → Keeps (record s { current = entry }) most o
-    → Ended job start m (Went job ends entry most s) (then_do o (λ left t. Done (cleared job word t) left))
-went job start m word entry most s ends (Done t left) h g k =
-    let none = none_left job left ends t.store h g.1 in (
-      calm_cleared job start m word t t.store.literals refl none g.0,
-      record {
-        literals = refl;
-        ends_in = end_in job left ends t.store entry none k.0.current g.1;
-        fewer = k.1;
-        others = k.0.others;
-      },
-    )
-went job start m word entry most s ends (Stopped t) h g k = g
-went job start m word entry most s ends (Limit kind t left) h g k = g
+went : (job : Job) (m : ℕ) (word : Command) (entry : Option ℕ) (most : ℕ) (s : Store) (ends : List Abstract) (calm : Type 0) (o : Outcome)
+    → Each IsEmpty ends → Passes calm (Good job m ends o) → Keeps (record s { current = entry }) most o
+    → Passes (calm × AfterDone o (λ left t. t.store.literals ≡ []))
+    (Ended job m (Went job ends entry most s) (then_do o (λ left t. Done (cleared job word t) left)))
+went job m word entry most s ends calm (Done t left) h g k =
+    let sound = g.ends_so.0 in
+    let none = none_left job left ends t.store h g.ends_so.1 in
+    let was : Went job ends entry most s left (cleared job word t) = record {
+      literals = refl;
+      ends_in = end_in job left ends t.store entry none k.0.current g.ends_so.1;
+      fewer = k.1;
+      others = k.0.others;
+    } in
+    record { is_calm = (g.is_calm, none); ends_so = (sound, was) }
+went job m word entry most s ends calm (Stopped t) h g k = record { is_calm = (g.is_calm, tt); ends_so = g.ends_so }
+went job m word entry most s ends calm (Limit kind t left) h g k = record { is_calm = (g.is_calm, tt); ends_so = g.ends_so }
 
 sized_at : (job : Job) (n : Values) (entry : Option ℕ) → ((e : ℕ) → entry ≡ Some e → e < length job.library.entries) → Sized job n
     → Sized job (record n { current = entry })
@@ -236,16 +232,16 @@ sized_at job n entry there z = let k = z.entries in record {
 }
 
 visit_went : (style : Style) (allowed : List ℕ) (f : Callee) (m : ℕ) (starts ends : List Abstract) → Visited style allowed f m starts ends → m ≤ 4096
-    → (job : Job) → IsOf style allowed job → (start : Out) (word : Command) (entry : Option ℕ)
+    → (job : Job) → IsOf style allowed job → (word : Command) (entry : Option ℕ)
     → ((e : ℕ) → entry ≡ Some e → e < length job.library.entries) → (left : ℕ) (s : State)
-    → Among job left starts (record s.store { current = entry }) → Sound job start m s
-    → Ended job start m (Went job ends entry left s.store) (visit job word f entry left s)
+    → Among job left starts (record s.store { current = entry }) → Sound job m s
+    → Passes (CalmVisit job f entry left s) (Ended job m (Went job ends entry left s.store) (visit job word f entry left s))
 unfolding visit meaning
-visit_went style allowed f m starts ends h lm job of start word entry there left s i fine =
+visit_went style allowed f m starts ends h lm job of word entry there left s i fine =
     let now = record s { store = record s.store { current = entry } } in
-    let z : Sized job (values_in now.store) = sized_at job (values_in s.store) entry there fine.2 in
-    went job start m word entry left s.store ends (act job (suc left) (token.Run f) 0 0 left now) h.empty
-    (h.runs job of (suc left) start m 0 0 left now i (fine.0, fine.1, z) (omega arith) lm (omega arith))
+    let z : Sized job (values_in now.store) = sized_at job (values_in s.store) entry there fine.1 in
+    went job m word entry left s.store ends (CalmAct job (suc left) (token.Run f) 0 0 left now) (act job (suc left) (token.Run f) 0 0 left now) h.empty
+    (h.runs job of (suc left) m 0 0 left now i (fine.0, z) (omega arith) lm (omega arith))
     (act_keeps job (suc left) (token.Run f) 0 0 left now)
 
 -- what is known of global variables after a visit
@@ -258,17 +254,22 @@ clear_after job b ends entry most s g k kept left t w =
           (switched g k b job left now (only job left (where_entry b g) now (kept job left now w.ends_in)) None false refl),
     )
 
-ended_then : (job : Job) (start : Out) (m : ℕ) (Q R : ℕ → State → Type 0) (o : Outcome) (go : ℕ → State → Outcome) → Ended job start m Q o
-    → ((left : ℕ) (t : State) → Q left t → Sound job start m t → Ended job start m R (go left t)) → Ended job start m R (then_do o go)
-ended_then job start m Q R (Done s left) go h k = k left s h.1 h.0
-ended_then job start m Q R (Stopped s) go h k = h
-ended_then job start m Q R (Limit kind s left) go h k = h
+ended_then : (job : Job) (m : ℕ) (Q R : ℕ → State → Type 0) (first : Type 0) (o : Outcome) (go : ℕ → State → Outcome) (calm : ℕ → State → Type 0)
+    → Passes first (Ended job m Q o) → ((left : ℕ) (t : State) → Q left t → Sound job m t → Passes (calm left t) (Ended job m R (go left t)))
+    → Passes (first × AfterDone o calm) (Ended job m R (then_do o go))
+ended_then job m Q R first (Done s left) go calm h k =
+    let rest = k left s h.ends_so.1 h.ends_so.0 in record { is_calm = (h.is_calm, rest.is_calm); ends_so = rest.ends_so }
+ended_then job m Q R first (Stopped s) go calm h k = record { is_calm = (h.is_calm, tt); ends_so = h.ends_so }
+ended_then job m Q R first (Limit kind s left) go calm h k = record { is_calm = (h.is_calm, tt); ends_so = h.ends_so }
 
-ended_map : (job : Job) (start : Out) (m : ℕ) (Q R : ℕ → State → Type 0) (o : Outcome) → Ended job start m Q o
-    → ((left : ℕ) (t : State) → Q left t → R left t) → Ended job start m R o
-ended_map job start m Q R (Done s left) h k = (h.0, k left s h.1)
-ended_map job start m Q R (Stopped s) h k = h
-ended_map job start m Q R (Limit kind s left) h k = h
+ended_so : (job : Job) (m : ℕ) (Q R : ℕ → State → Type 0) (o : Outcome) → Ended job m Q o → ((left : ℕ) (t : State) → Q left t → R left t) → Ended job m R o
+ended_so job m Q R (Done s left) h k = (h.0, k left s h.1)
+ended_so job m Q R (Stopped s) h k = h
+ended_so job m Q R (Limit kind s left) h k = h
+
+ended_map : (job : Job) (m : ℕ) (Q R : ℕ → State → Type 0) (calm : Type 0) (o : Outcome) → Passes calm (Ended job m Q o)
+    → ((left : ℕ) (t : State) → Q left t → R left t) → Passes calm (Ended job m R o)
+ended_map job m Q R calm o h k = record { is_calm = h.is_calm; ends_so = ended_so job m Q R o h.ends_so k }
 
 -- ---- whole commands
 
@@ -289,12 +290,12 @@ some_is : (x y : ℕ) → Some x ≡ Some y → x ≡ y
 some_is x y e = cc
 
 execute_clean : (style : Style) (allowed : List ℕ) (f : Callee) (m : ℕ) (g h : Facts) → FoundOnce style allowed f m g h → Each IsLocal g.entries → (job : Job)
-    → IsOf style allowed job → (start : Out) (list : List ℕ) (left : ℕ) (s : State) → Full job g list left s → Sound job start m s
-    → Ended job start m (Full job h list) (visit job command.Execute f None left s)
-execute_clean style allowed f m g h found k job of start list left s i fine =
+    → IsOf style allowed job → (list : List ℕ) (left : ℕ) (s : State) → Full job g list left s → Sound job m s
+    → Passes (CalmVisit job f None left s) (Ended job m (Full job h list) (visit job command.Execute f None left s))
+execute_clean style allowed f m g h found k job of list left s i fine =
     let x = found.found in
-    ended_map job start m (Went job x.ends None left s.store) (Full job h list) (visit job command.Execute f None left s)
-    (visit_went style allowed f m (where_entry false g.globals ∷ []) x.ends x.visited x.few_bodies job of start command.Execute None
+    ended_map job m (Went job x.ends None left s.store) (Full job h list) (CalmVisit job f None left s) (visit job command.Execute f None left s)
+    (visit_went style allowed f m (where_entry false g.globals ∷ []) x.ends x.visited x.few_bodies job of command.Execute None
     (λ e q. absurd (cc)) left s (inl i.clear.1) fine)
     (λ l t w. record {
       clear = clear_after job false x.ends None left s.store h.globals x.after_is x.kept l t w;
@@ -310,26 +311,32 @@ pub record Came (job : Job) (k : Facts) (list : List ℕ) (most : ℕ) (s : Stor
   pub others : (e : ℕ) → Apart e list → slice_get t.store.entries e ≡ slice_get s.entries e
 
 module _ (style : Style) (allowed : List ℕ) (f : Callee) (m : ℕ) (g h : Facts) (found : FoundForEach style allowed f m g h) (k : Each IsLocal g.entries)
-    (job : Job) (of : IsOf style allowed job) (start : Out) (word : Command) where
+    (job : Job) (of : IsOf style allowed job) (word : Command) where
+  abbrev CalmEach : List ℕ → ℕ → State → Type 0
+  CalmEach = CalmInOrder (λ entry. visit job word f (Some entry)) (λ entry. CalmVisit job f (Some entry))
+
   one_went : (x left : ℕ) (s : State) → x < length job.library.entries → Clear job h.globals left s → Describe job left g.entries s.store x
-      → Sound job start m s
-      → Ended job start m (Went job found.ends (Some x) left s.store) (visit job word f (Some x) left s)
+      → Sound job m s
+      → Passes (CalmVisit job f (Some x) left s) (Ended job m (Went job found.ends (Some x) left s.store) (visit job word f (Some x) left s))
   one_went x left s l c d fine =
       let now = record s.store { current = Some x } in
       let global : In job left (where_entry true h.globals) now = switched h.globals found.global false job left (record s.store { current = None }) c.1
       (Some x) true refl in
       let local : Among job left g.entries now = subst (λ (ls : List Literal). Among job left g.entries (record s.store { literals = ls; current = Some x }))
       (sym c.0) d in
-      visit_went style allowed f m found.starts found.ends found.visited found.few_bodies job of start word (Some x)
+      visit_went style allowed f m found.starts found.ends found.visited found.few_bodies job of word (Some x)
       (λ y q. subst (λ (z : ℕ). z < length job.library.entries) (some_is x y q) l) left s (found.joint.joint job left now global local) fine
 
   visits_came : (xs : List ℕ) (left : ℕ) (s : State) → AllBelow job xs → Distinct xs → Clear job h.globals left s → AllDescribed job left g.entries s.store xs
-      → Sound job start m s → Ended job start m (Came job h xs left s.store) (in_order (λ entry. visit job word f (Some entry)) xs left s)
-  visits_came [] left s b d c i fine = (fine, record { full = record { clear = c; entries = tt }; fewer = omega arith; others = λ e apart. refl })
+      → Sound job m s → Passes (CalmEach xs left s) (Ended job m (Came job h xs left s.store) (in_order (λ entry. visit job word f (Some entry)) xs left s))
+  visits_came [] left s b d c i fine = record {
+    is_calm = tt;
+    ends_so = (fine, record { full = record { clear = c; entries = tt }; fewer = omega arith; others = λ e apart. refl });
+  }
   visits_came (x ∷ xs) left s b d c i fine =
-      ended_then job start m (Went job found.ends (Some x) left s.store) (Came job h (x ∷ xs) left s.store) (visit job word f (Some x) left s)
-      (in_order (λ entry. visit job word f (Some entry)) xs) (one_went x left s b.0 c i.0 fine)
-      (λ l t w fine1. ended_map job start m (Came job h xs l t.store) (Came job h (x ∷ xs) left s.store)
+      ended_then job m (Went job found.ends (Some x) left s.store) (Came job h (x ∷ xs) left s.store) (CalmVisit job f (Some x) left s)
+      (visit job word f (Some x) left s) (in_order (λ entry. visit job word f (Some entry)) xs) (CalmEach xs) (one_went x left s b.0 c i.0 fine)
+      (λ l t w fine1. ended_map job m (Came job h xs l t.store) (Came job h (x ∷ xs) left s.store) (CalmEach xs l t)
       (in_order (λ entry. visit job word f (Some entry)) xs l t)
       (visits_came xs l t b.1 d.1 (clear_after job true found.ends (Some x) left s.store h.globals found.global found.closes.kept l t w)
       (all_both (λ y. y ≢ x) (Describe job left g.entries s.store) (Describe job l g.entries t.store)
@@ -346,10 +353,11 @@ module _ (style : Style) (allowed : List ℕ) (f : Callee) (m : ℕ) (g h : Fact
       described : (l : ℕ) (t : State) → Went job found.ends (Some x) left s.store l t → Describe job l h.entries t.store x
       described l t w = found.closes.into job l (with_current t.store x) w.ends_in
 
-  each_clean : (list : List ℕ) (left : ℕ) (s : State) → AllBelow job list → Distinct list → Full job g list left s → Sound job start m s
-      → Ended job start m (Full job h list) (in_order (λ entry. visit job word f (Some entry)) list left s)
+  each_clean : (list : List ℕ) (left : ℕ) (s : State) → AllBelow job list → Distinct list → Full job g list left s → Sound job m s
+      → Passes (CalmEach list left s) (Ended job m (Full job h list) (in_order (λ entry. visit job word f (Some entry)) list left s))
   each_clean list left s b d i fine =
-      ended_map job start m (Came job h list left s.store) (Full job h list) (in_order (λ entry. visit job word f (Some entry)) list left s)
+      ended_map job m (Came job h list left s.store) (Full job h list) (CalmEach list left s)
+      (in_order (λ entry. visit job word f (Some entry)) list left s)
       (visits_came list left s b d (i.clear.0, found.closes.weaker.within job left (record s.store { current = None }) i.clear.1) i.entries fine)
       (λ l t c. c.full)
 
@@ -372,45 +380,48 @@ forgotten_full job g k h list left s c = record {
     anything [] = tt
     anything (x ∷ xs) = (tt, anything xs)
 
-read_clean : (job : Job) (start : Out) (m : ℕ) (k : Facts) (list : List ℕ) (left : ℕ) (s : State) → Full job k list left s → Sound job start m s
-    → (ending : LibraryEnd) → Ended job start m (Full job k list) (option_map_or (λ (kind : Kind). Limit kind s left) (read_limit ending) (Done s left))
-read_clean job start m k list left s i f library.Whole = (f, i)
-read_clean job start m k list left s i f library.FileLimit = (f, tt)
-read_clean job start m k list left s i f library.StringLimit = (f, tt)
+read_clean : (job : Job) (m : ℕ) (k : Facts) (list : List ℕ) (left : ℕ) (s : State) → Full job k list left s → Sound job m s
+    → (ending : LibraryEnd) → Ended job m (Full job k list) (option_map_or (λ (kind : Kind). Limit kind s left) (read_limit ending) (Done s left))
+read_clean job m k list left s i f library.Whole = (f, i)
+read_clean job m k list left s i f library.FileLimit = (f, tt)
+read_clean job m k list left s i f library.StringLimit = (f, tt)
 
 full_same : (job : Job) (g h : Facts) (list : List ℕ) (left : ℕ) (s : State) → g ≡ h → Full job g list left s → Full job h list left s
 full_same job g h list left s k i = subst (λ (x : Facts). Full job x list left s) k i
 
 item_clean : (style : Style) (allowed : List ℕ) (m : ℕ) (x : Item) (g h : Facts) → ItemFound style allowed m x g h → Each IsLocal g.entries → (job : Job)
-    → IsOf style allowed job → (start : Out) (list : List ℕ) (left : ℕ) (s : State) → AllBelow job list → Distinct list
-    → Full job g list left s → Sound job start m s → Ended job start m (Full job h (list_after job x list s.store)) (do_item job list x left s)
+    → IsOf style allowed job → (list : List ℕ) (left : ℕ) (s : State) → AllBelow job list → Distinct list
+    → Full job g list left s → Sound job m s
+    → Passes (CalmItem job list x left s) (Ended job m (Full job h (list_after job x list s.store)) (do_item job list x left s))
 unfolding do_item
-item_clean style allowed m (item.Message complaint line) g h k local job of start list left s b d i f =
-    ((Complained f.0 complaint line, f.1, f.2), full_logged (full_same job g h list left s k i))
+item_clean style allowed m (item.Message complaint line) g h k local job of list left s b d i f =
+    record { is_calm = tt; ends_so = (f, full_logged (full_same job g h list left s k i)) }
   where
     full_logged : Full job h list left s → Full job h list left (logging (complaint_line complaint line job.style.file ∷ []) s)
     full_logged j = record { clear = j.clear; entries = j.entries }
-item_clean style allowed m item.Read g h k local job of start list left s b d i f =
+item_clean style allowed m item.Read g h k local job of list left s b d i f =
     let read = logging (map message_line job.library.messages) s in
     let all = range_with_len 0 (length job.library.entries) in
-    read_clean job start m h all left read (forgotten_full job g.globals h k all left read i.clear) (Listed f.0, f.1, f.2) job.library.ending
-item_clean style allowed m (item.Execute c) g h k local job of start list left s b d i f = execute_clean style allowed c m g h k local job of start list left s
-    i f
-item_clean style allowed m (item.Iterate c) g h k local job of start list left s b d i f =
-    each_clean style allowed c m g h k local job of start command.Iterate list left s b d i f
-item_clean style allowed m (item.Reverse c) g h k local job of start list left s b d i f =
-    ended_map job start m (Full job h (reverse list)) (Full job h list) (in_order (λ entry. visit job command.Reverse c (Some entry)) (reverse list) left s)
-    (each_clean style allowed c m g h k local job of start command.Reverse (reverse list) left s (all_reverse (λ e. e < length job.library.entries) list b)
+    record {
+      is_calm = tt;
+      ends_so = read_clean job m h all left read (forgotten_full job g.globals h k all left read i.clear) f job.library.ending;
+    }
+item_clean style allowed m (item.Execute c) g h k local job of list left s b d i f = execute_clean style allowed c m g h k local job of list left s i f
+item_clean style allowed m (item.Iterate c) g h k local job of list left s b d i f =
+    each_clean style allowed c m g h k local job of command.Iterate list left s b d i f
+item_clean style allowed m (item.Reverse c) g h k local job of list left s b d i f =
+    ended_map job m (Full job h (reverse list)) (Full job h list) (CalmItem job list (item.Reverse c) left s)
+    (in_order (λ entry. visit job command.Reverse c (Some entry)) (reverse list) left s)
+    (each_clean style allowed c m g h k local job of command.Reverse (reverse list) left s (all_reverse (λ e. e < length job.library.entries) list b)
     (distinct_reverse list d) (full_reverse job g list left s i) f) (λ l t j. full_back job h list l t j)
-item_clean style allowed m item.Sort g h k local job of start list left s b d i f = (
-  f,
-  record {
-    clear = (full_same job g h list left s k i).clear;
-    entries = all_sorted (Describe job left h.entries s.store) (λ (entry : ℕ). string_of s.store.entries entry 0) list
-        (full_same job g h list left s k i).entries;
-  },
-)
-item_clean style allowed m _ g h k local job of start list left s b d i f = (f, full_same job g h list left s k i)
+item_clean style allowed m item.Sort g h k local job of list left s b d i f =
+    let full : Full job h (sorted (λ (entry : ℕ). string_of s.store.entries entry 0) list) left s = record {
+      clear = (full_same job g h list left s k i).clear;
+      entries = all_sorted (Describe job left h.entries s.store) (λ (entry : ℕ). string_of s.store.entries entry 0) list
+          (full_same job g h list left s k i).entries;
+    } in
+    record { is_calm = tt; ends_so = (f, full) }
+item_clean style allowed m _ g h k local job of list left s b d i f = record { is_calm = tt; ends_so = (f, full_same job g h list left s k i) }
 
 list_below : (job : Job) (x : Item) (list : List ℕ) (s : Store) → AllBelow job list → AllBelow job (list_after job x list s)
 list_below job item.Read list s b = all_range (λ e. e < length job.library.entries) 0 (length job.library.entries) (λ x l g. omega (arith, g))
@@ -441,21 +452,21 @@ item_local style allowed m item.Read g h k l = forgotten_local g.globals h k
 item_local style allowed m _ g h k l = subst (λ (x : Facts). Each IsLocal x.entries) k l
 
 items_clean : (style : Style) (allowed : List ℕ) (m : ℕ) (g : Facts) (xs : List Item) (h : Facts) → AllFound style allowed m g xs h → Each IsLocal g.entries
-    → (job : Job) → IsOf style allowed job → (start : Out) (list : List ℕ) (left : ℕ) (s : State) → AllBelow job list → Distinct list
-    → Full job g list left s → Sound job start m s → Ended job start m (λ l t. Unit {0}) (do_items job xs list left s)
+    → (job : Job) → IsOf style allowed job → (list : List ℕ) (left : ℕ) (s : State) → AllBelow job list → Distinct list → Full job g list left s
+    → Sound job m s → Passes (CalmItems job xs list left s) (Ended job m (λ l t. Unit {0}) (do_items job xs list left s))
 unfolding do_items
-items_clean style allowed m g [] h k local job of start list left s b d i f = (f, tt)
-items_clean style allowed m g (x ∷ xs) h k local job of start list left s b d i f =
-    ended_then job start m (Full job k.0 (list_after job x list s.store)) (λ l t. Unit {0}) (do_item job list x left s)
-    (do_items job xs (list_after job x list s.store))
-    (item_clean style allowed m x g k.0 k.1.0 local job of start list left s b d i f)
-    (λ l t e1 f1. items_clean style allowed m k.0 xs h k.1.1 (item_local style allowed m x g k.0 k.1.0 local) job of start (list_after job x list s.store) l t
+items_clean style allowed m g [] h k local job of list left s b d i f = record { is_calm = tt; ends_so = (f, tt) }
+items_clean style allowed m g (x ∷ xs) h k local job of list left s b d i f =
+    let after = list_after job x list s.store in
+    ended_then job m (Full job k.0 after) (λ l t. Unit {0}) (CalmItem job list x left s) (do_item job list x left s) (do_items job xs after)
+    (CalmItems job xs after) (item_clean style allowed m x g k.0 k.1.0 local job of list left s b d i f)
+    (λ l t e1 f1. items_clean style allowed m k.0 xs h k.1.1 (item_local style allowed m x g k.0 k.1.0 local) job of after l t
     (list_below job x list s.store b) (list_distinct job x list s.store d) e1 f1)
 
-promised : (job : Job) (start : Out) (m : ℕ) (Q : ℕ → State → Type 0) (o : Outcome) → Ended job start m Q o → Promised job start m o
-promised job start m Q (Done s left) h = (h.0.0, h.0.1)
-promised job start m Q (Stopped s) h = (h.0, h.1)
-promised job start m Q (Limit kind s left) h = ((h.0.0, h.0.1), h.1)
+promised : (job : Job) (m : ℕ) (Q : ℕ → State → Type 0) (o : Outcome) → Ended job m Q o → Promised m o
+promised job m Q (Done s left) h = h.0.0
+promised job m Q (Stopped s) h = h.0
+promised job m Q (Limit kind s left) h = (h.0.0, h.1)
 
 -- the first store
 values_at : (n entry : ℕ) (x : EntryVariables) → entry < n → values_of (replicate n x) entry ≡ x
@@ -487,9 +498,10 @@ found_clean style allowed m after h job of counts budget few =
     h.found in
     let z : Stays job budget h.globals (first_store job) = start_in (where_entry false h.globals) (starts_where h.globals h.starts false) job budget
     (record (first_store job) { current = None }) few refl refl in
-    promised job _ m (λ l t. Unit {0}) _ (items_clean style allowed m h.first job.style.items after q (forgotten_local h.globals h.first h.forgotten) job of _
-    []
-    budget _ tt tt (forgotten_full job h.globals h.first h.forgotten [] budget _ (refl, z)) (Begun, omega arith, first_sized job))
+    let run = items_clean style allowed m h.first job.style.items after q (forgotten_local h.globals h.first h.forgotten) job of [] budget
+    (first_state job counts) tt tt (forgotten_full job h.globals h.first h.forgotten [] budget (first_state job counts) (refl, z))
+    (omega arith, first_sized job) in
+    (run.is_calm, promised job m (λ l t. Unit {0}) (do_items job job.style.items [] budget (first_state job counts)) run.ends_so)
 
 -- ---- in the form in which the code meets them
 

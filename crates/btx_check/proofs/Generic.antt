@@ -10,12 +10,13 @@ use Rattle.btx_step.specs.declared.said.Said.{Said}
 use Rattle.btx_step.specs.language.Jobs.{Job}
 use Rattle.btx_step.specs.language.Stores.{Store}
 use Rattle.btx_step.specs.language.Answers.{Answer, with_literals, pushes, pushes_text, says}
-use Rattle.btx_step.specs.language.Operands.{Operand, Value as Operated, Does, absent, wrong, or_else, or_default, on_operands}
+use Rattle.btx_step.specs.declared.operands.Operand.{Operand}
+use Rattle.btx_step.specs.language.Operands.{Value as Operated, Does, absent, wrong, or_else, or_default, on_operands}
 use Rattle.btx_step.specs.language.Table.{row}
 use Rattle.btx_step.specs.language.Steps.{built_in_run, function_run}
 use Rattle.btx_check.specs.declared.description.Value.{Value}
 use Rattle.btx_check.specs.declared.description.Value.TheVariants as value
-use Rattle.btx_check.specs.Promise.{Calm}
+use Rattle.btx_check.specs.Calm.{Calm}
 use Rattle.btx_check.specs.Descriptions.{White, Full, allows, Is, any_text}
 use Rattle.btx_check.specs.States.{Abstract, values_in, In, pushing_new, with_stack}
 use Rattle.btx_check.specs.Inclusion.{Into}

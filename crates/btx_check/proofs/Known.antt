@@ -8,7 +8,9 @@ use Rattle.btx_step.specs.declared.literal.Wanted.TheVariants as wanted
 use Rattle.btx_step.specs.language.Jobs.{Job}
 use Rattle.btx_step.specs.language.Stores.{Store}
 use Rattle.btx_step.specs.language.Answers.{Answer, with_literals}
-use Rattle.btx_step.specs.language.Operands.{Operand, Any, Of, Value as Operated, Does, applied, absent, wrong, or_else, or_default, on_operands}
+use Rattle.btx_step.specs.declared.operands.Operand.{Operand}
+use Rattle.btx_step.specs.declared.operands.Operand.TheVariants.{Any, Of}
+use Rattle.btx_step.specs.language.Operands.{Value as Operated, Does, applied, absent, wrong, or_else, or_default, on_operands}
 use Rattle.btx_step.specs.language.Table.{row}
 use Rattle.btx_step.specs.language.Steps.{built_in_run, function_run}
 use Rattle.btx_step.specs.laws.Applied.{operand_literal}

@@ -24,7 +24,8 @@ use Rattle.btx_step.specs.language.Stores.{Store}
 use Rattle.btx_step.specs.language.Entries.{entry_of, finds_missing}
 use Rattle.btx_step.specs.language.Answers.{with_literals, pushed, pushed_text, pushes, truth}
 use Rattle.btx_step.specs.language.Arithmetic.{equals, gives_character}
-use Rattle.btx_step.specs.language.Operands.{Of, on_operands}
+use Rattle.btx_step.specs.declared.operands.Operand.TheVariants.{Of}
+use Rattle.btx_step.specs.language.Operands.{on_operands}
 use Rattle.btx_step.specs.language.Table.{row, runs_missing}
 use Rattle.btx_step.specs.language.Variables.{integer_of, string_of}
 use Rattle.btx_step.specs.language.Steps.{built_in_run, function_run, step_of}
@@ -32,7 +33,7 @@ use Rattle.btx_step.specs.laws.Applied.{operand_literal}
 use Rattle.btx_check.specs.declared.description.Mask.{Mask}
 use Rattle.btx_check.specs.declared.description.Value.{Value}
 use Rattle.btx_check.specs.declared.description.Value.TheVariants as value
-use Rattle.btx_check.specs.Promise.{is_fault}
+use Rattle.btx_check.specs.Calm.{is_fault}
 use Rattle.btx_check.specs.Descriptions.{Is, exactly, any_text, gone, open_end, present}
 use Rattle.btx_check.specs.States.{Abstract, values_in, named, slot, at, Stands, Holds, In, pushing, pushing_new, knowing, with_stack, putting}
 use Rattle.btx_check.specs.Inclusion.{Into}

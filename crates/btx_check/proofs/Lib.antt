@@ -9,6 +9,7 @@ pub mod PlainRows
 pub mod Orders
 pub mod Spared
 pub mod Commands
+pub mod CalmLemmas
 pub mod Known
 pub mod Assign
 pub mod LastRows

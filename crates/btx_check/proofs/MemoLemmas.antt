@@ -1,5 +1,5 @@
 -- What is remembered of functions of the style: looked up, kept, and handed out again.
-use Rattle.std.proofs.Common.{◌≡◌, ℕ, zero, suc, ◌<◌, ◌≤◌, List, [], ◌∷◌, ◌++◌, length, get_or, sym, subst, arith, inl}
+use Rattle.std.proofs.Common.{◌≡◌, ℕ, zero, suc, ◌<◌, ◌≤◌, List, [], ◌∷◌, ◌++◌, length, get_or, sym, subst, arith, inl, inr}
 use Rattle.std.proofs.Math.ListN.{set}
 use Rattle.std.specs.Prelude.{slice_index_or}
 use Rattle.btx_bst.specs.language.Style.{Style}
@@ -12,6 +12,7 @@ use Rattle.btx_check.specs.States.{Abstract}
 use Rattle.btx_check.specs.Inclusion.{Sub, Within}
 use Rattle.btx_check.specs.Running.{RunsFrom, BodyRuns}
 use Rattle.btx_check.specs.Answers.{Stepped, Reached}
+use Rattle.btx_check.specs.Tables.{IsKept}
 use Rattle.btx_check.specs.Memos.{Holds, AllHold, Keeps, Recalls}
 use Rattle.btx_check.proofs.Covering.{body_none, user_runs, one_of}
 use Rattle.btx_check.proofs.RunLemmas.{runs_sub}
@@ -33,30 +34,28 @@ hold_set style allowed [] k e h g = h
 hold_set style allowed (x ∷ es) zero e h g = (g, h.1)
 hold_set style allowed (x ∷ es) (suc k) e h g = (h.0, hold_set style allowed es k e h.1 g)
 
-pub keeps_push : (e : Remembered) (before after : Memo) → after.entries.items ≡ before.entries.items ++ e ∷ [] → Keeps e before after
-keeps_push e before after q = record {
-  keeps = λ style allowed h g. subst (λ (es : List Remembered). AllHold style allowed es) (sym q) (hold_push style allowed before.entries.items e h g);
+pub keeps_kept : (e : Remembered) (before after : Memo) → IsKept Remembered e before.table.entries.items after.table.entries.items → Keeps e before after
+keeps_kept e before after (inl q) = record {
+  keeps = λ style allowed h g. subst (λ (es : List Remembered). AllHold style allowed es) (sym q) (hold_push style allowed before.table.entries.items e h g);
 }
-
-pub keeps_set : (e : Remembered) (k : ℕ) (before after : Memo) → after.entries.items ≡ set before.entries.items k e → Keeps e before after
-keeps_set e k before after q = record {
-  keeps = λ style allowed h g. subst (λ (es : List Remembered). AllHold style allowed es) (sym q) (hold_set style allowed before.entries.items k e h g);
+keeps_kept e before after (inr (k, q)) = record {
+  keeps = λ style allowed h g. subst (λ (es : List Remembered). AllHold style allowed es) (sym q) (hold_set style allowed before.table.entries.items k e h g);
 }
 
 -- a run from a description that says no more, with no less room
 runs_within : (style : Style) (allowed : List ℕ) (t : Token) (a b : Abstract) (d l deep loops : ℕ) (xs : List Abstract) → Within a b → d ≤ deep → l ≤ loops
     → RunsFrom style allowed t (b ∷ []) d l xs → RunsFrom style allowed t (a ∷ []) deep loops xs
-runs_within style allowed t a b d l deep loops xs w q r h job of n start m bodies running left s i f l1 l2 l3 =
-    h job of n start m bodies running left s (inl (w.within job left s.store (one_of job left a s.store i))) f (omega (arith, l1, q)) l2 (omega (arith, l3, r))
+runs_within style allowed t a b d l deep loops xs w q r h job of n m bodies running left s i f l1 l2 l3 =
+    h job of n m bodies running left s (inl (w.within job left s.store (one_of job left a s.store i))) f (omega (arith, l1, q)) l2 (omega (arith, l3, r))
 
-pub recalls_of : (m : Memo) (k : ℕ) (e : Remembered) (i : ℕ) (a : Abstract) (deep loops : ℕ) (states : List Abstract) → k < length m.entries.items
-    → e ≡ get_or m.entries.items k e → e.function ≡ i → e.deep ≤ deep → e.loops ≤ loops → Within a e.from → states ≡ e.to.items
+pub recalls_of : (m : Memo) (k : ℕ) (e : Remembered) (i : ℕ) (a : Abstract) (deep loops : ℕ) (states : List Abstract) → k < length m.table.entries.items
+    → e ≡ get_or m.table.entries.items k e → e.function ≡ i → e.deep ≤ deep → e.loops ≤ loops → Within a e.from → states ≡ e.to.items
     → Recalls m i a deep loops states
 recalls_of m k e i a deep loops states l q f d r w s = record {
   recalls = λ style allowed h. subst (λ (xs : List Abstract). RunsFrom style allowed (token.Run (callee.User i)) (a ∷ []) deep loops xs) (sym s)
       (subst (λ (j : ℕ). RunsFrom style allowed (token.Run (callee.User j)) (a ∷ []) deep loops e.to.items) f
       (runs_within style allowed (token.Run (callee.User e.function)) a e.from e.deep e.loops deep loops e.to.items w d r
-      (holds_at style allowed m.entries.items k e l q h)));
+      (holds_at style allowed m.table.entries.items k e l q h)));
 }
 
 pub stepped_to : (style : Style) (allowed : List ℕ) (t : Token) (a b : Abstract) (deep loops : ℕ) (xs old new : List Abstract) → Within a b

@@ -3,7 +3,7 @@ use Rattle.std.proofs.Common.{◌≡◌, ℕ, ◌<◌, pos, List, length, Option
 use Rattle.btx_bst.specs.declared.built_in.BuiltIn.TheVariants as built_in
 use Rattle.btx_bst.specs.declared.callee.Callee.{Callee}
 use Rattle.btx_bst.specs.declared.callee.Callee.TheVariants as callee
-use Rattle.btx_step.specs.language.Operands.{Operand}
+use Rattle.btx_step.specs.declared.operands.Operand.{Operand}
 use Rattle.btx_step.specs.language.Table.{row}
 use Rattle.std.specs.Option.{IfSome}
 use Rattle.btx_check.specs.declared.description.Value.{Value}

@@ -26,7 +26,7 @@ use Rattle.btx_names.specs.language.Answered.{format_name_text, format_name_comp
 use Rattle.btx_check.specs.declared.description.Value.{Value}
 use Rattle.btx_check.specs.declared.description.Value.TheVariants as value
 use Rattle.btx_check.specs.declared.description.Upper.TheVariants as upper
-use Rattle.btx_check.specs.Promise.{Calm, is_fault}
+use Rattle.btx_check.specs.Calm.{Calm, is_fault}
 use Rattle.btx_check.specs.Descriptions.{Is, any_text, open_end}
 use Rattle.btx_check.specs.States.{Abstract, pushing_new, with_stack}
 use Rattle.btx_check.specs.Inclusion.{Into}

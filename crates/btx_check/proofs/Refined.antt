@@ -19,7 +19,8 @@ use Rattle.btx_step.specs.language.Stores.{Store}
 use Rattle.btx_step.specs.language.Answers.{with_literals, pushed, pushed_text, truth, complains}
 use Rattle.std.specs.Ordering.{int_eq}
 use Rattle.btx_step.specs.language.Arithmetic.{fits, result_of, equals}
-use Rattle.btx_step.specs.language.Operands.{Of, on_operands}
+use Rattle.btx_step.specs.declared.operands.Operand.TheVariants.{Of}
+use Rattle.btx_step.specs.language.Operands.{on_operands}
 use Rattle.btx_step.specs.language.Table.{row}
 use Rattle.btx_step.specs.language.Steps.{built_in_run, function_run}
 use Rattle.btx_names.specs.language.NameLists.{names_of, pieces_from, is_separator}

@@ -24,7 +24,7 @@ use Rattle.btx_step.specs.language.Steps.{built_in_run, function_run}
 use Rattle.btx_check.specs.declared.description.Mask.{Mask}
 use Rattle.btx_check.specs.declared.description.Value.{Value}
 use Rattle.btx_check.specs.declared.description.Value.TheVariants as value
-use Rattle.btx_check.specs.Promise.{Calm}
+use Rattle.btx_check.specs.Calm.{Calm}
 use Rattle.btx_check.specs.Descriptions.{White, Full, class_of, allows, Is, exactly, blank, filled}
 use Rattle.btx_check.specs.States.{Abstract, values_in, at, Fits, Stack, Holds, In, Among, pushing, pushing_new, knowing, with_stack}
 use Rattle.btx_check.specs.Inclusion.{Into}

@@ -19,6 +19,7 @@ use Rattle.btx_machine.specs.language.MeaningBySteps.{act, in_turn}
 use Rattle.btx_check.specs.declared.description.Value.{Value}
 use Rattle.btx_check.specs.declared.description.Value.TheVariants as value
 use Rattle.btx_check.specs.declared.description.Upper.{Upper}
+use Rattle.btx_check.specs.Calm.{CalmAct, CalmInTurn}
 use Rattle.btx_check.specs.Descriptions.{Is}
 use Rattle.btx_check.specs.States.{Abstract, In, Among, knowing, with_stack}
 use Rattle.btx_check.specs.Inclusion.{Sub, Into, Within, IsImpossible}
@@ -26,7 +27,7 @@ use Rattle.btx_check.specs.Bounds.{Splits}
 use Rattle.btx_check.specs.Running.{RunsFrom, BodyRuns, TurnsTo, RuleNow}
 use Rattle.btx_check.specs.Answers.{Ruled, Stepped, Reached, Added, TopIs, TwoAre, ThreeAre, TurnedInto, Looped}
 use Rattle.btx_check.proofs.AddLemmas.{sub_same, sub_then}
-use Rattle.btx_check.proofs.Covering.{good_sub, rule_runs, body_none, body_next, user_runs, one_of}
+use Rattle.btx_check.proofs.Covering.{passes_sub, rule_runs, body_none, body_next, user_runs, one_of}
 use Rattle.btx_check.proofs.Choices.{if_runs, while_runs, turned}
 use Rattle.btx_check.proofs.Later.{later}
 
@@ -56,8 +57,8 @@ three_are a m b k j i e d c s t =
 
 pub runs_sub : (style : Style) (allowed : List ℕ) (t : Token) (xs : List Abstract) (r w : ℕ) (ys zs : List Abstract) → RunsFrom style allowed t xs r w ys
     → Sub ys zs → RunsFrom style allowed t xs r w zs
-runs_sub style allowed t xs r w ys zs h g job of n start m b run left s i f l1 l2 l3 =
-    good_sub job start m ys zs (act job n t b run left s) g (h job of n start m b run left s i f l1 l2 l3)
+runs_sub style allowed t xs r w ys zs h g job of n m b run left s i f l1 l2 l3 =
+    passes_sub job m ys zs (CalmAct job n t b run left s) (act job n t b run left s) g (h job of n m b run left s i f l1 l2 l3)
 
 pub rule_ran : (style : Style) (allowed : List ℕ) (f : Callee) (a : Abstract) (r w : ℕ) (old new : List Abstract) → Ruled f a old new
     → Stepped style allowed (token.Run f) (a ∷ []) r w old new
@@ -66,10 +67,10 @@ rule_ran style allowed f a r w old new h = record { steps = rule_runs style allo
 pub impossible_ran : (style : Style) (allowed : List ℕ) (t : Token) (a : Abstract) (r w : ℕ) (old : List Abstract) → IsImpossible a
     → Stepped style allowed t (a ∷ []) r w old old
 impossible_ran style allowed t a r w old h =
-    record { steps = λ job of n start m b run left s i f l1 l2 l3. absurd (h.impossible job left s.store (one_of job left a s.store i)); sub = sub_same old }
+    record { steps = λ job of n m b run left s i f l1 l2 l3. absurd (h.impossible job left s.store (one_of job left a s.store i)); sub = sub_same old }
 
 pub stepped_none : (style : Style) (allowed : List ℕ) (t : Token) (r w : ℕ) (old : List Abstract) → Stepped style allowed t [] r w old old
-stepped_none style allowed t r w old = record { steps = λ job of n start m b run left s i f l1 l2 l3. absurd i; sub = sub_same old }
+stepped_none style allowed t r w old = record { steps = λ job of n m b run left s i f l1 l2 l3. absurd i; sub = sub_same old }
 
 among_parts : (xs : List Abstract) (a : Abstract) (job : Job) (left : ℕ) (s : Store) → Among job left (xs ++ a ∷ []) s → Among job left xs s ⊎ In job left a s
 among_parts [] a job left s (inl h) = inr h
@@ -81,9 +82,9 @@ pub stepped_more : (style : Style) (allowed : List ℕ) (t : Token) (xs : List A
     → Stepped style allowed t xs r w old mid → Stepped style allowed t (a ∷ []) r w mid new
     → Stepped style allowed t (xs ++ a ∷ []) r w old new
 stepped_more style allowed t xs a r w old mid new h g = record {
-  steps = λ job of n start m b run left s i f l1 l2 l3. elim (among_parts xs a job left s.store i) [
-    | inl k ↦ good_sub job start m mid new (act job n t b run left s) g.sub (h.steps job of n start m b run left s k f l1 l2 l3)
-    | inr k ↦ g.steps job of n start m b run left s (inl k) f l1 l2 l3
+  steps = λ job of n m b run left s i f l1 l2 l3. elim (among_parts xs a job left s.store i) [
+    | inl k ↦ passes_sub job m mid new (CalmAct job n t b run left s) (act job n t b run left s) g.sub (h.steps job of n m b run left s k f l1 l2 l3)
+    | inr k ↦ g.steps job of n m b run left s (inl k) f l1 l2 l3
   ];
   sub = sub_then old mid new h.sub g.sub;
 }
@@ -130,8 +131,9 @@ user_ran_of style allowed i body rest a r w deep xs old new ed er e h g k =
     })
   where
     body_sub : BodyRuns style allowed body (a ∷ []) r w xs → BodyRuns style allowed body (a ∷ []) r w new
-    body_sub z job of n start m b run left s i f l1 l2 l3 = good_sub job start m xs new (in_turn (act job n) body b run left s) g
-        (z job of n start m b run left s i f l1 l2 l3)
+    body_sub z job of n m b run left s i f l1 l2 l3 =
+        passes_sub job m xs new (CalmInTurn (act job n) (CalmAct job n) body b run left s) (in_turn (act job n) body b run left s) g
+        (z job of n m b run left s i f l1 l2 l3)
 
 -- ---- choices and loops
 

@@ -7,7 +7,7 @@ use Rattle.btx_bst.specs.declared.callee.Callee.{Callee}
 use Rattle.btx_bst.specs.declared.token.Token.TheVariants as token
 use Rattle.btx_step.specs.language.Jobs.{Job}
 use Rattle.btx_step.specs.language.Stores.{Store}
-use Rattle.btx_machine.specs.language.States.{Out, State, Outcome, Done, Stopped, Limit}
+use Rattle.btx_machine.specs.language.States.{State, Outcome, Done, Stopped, Limit}
 use Rattle.btx_check.specs.declared.work.TheConstants.{MOST_LOOPS}
 use Rattle.btx_check.specs.Promise.{IsSpared, StyleIsClean}
 use Rattle.btx_check.specs.States.{Abstract, In, Among}
@@ -50,11 +50,11 @@ Clear job a left s = (s.store.literals ≡ []) × Stays job left a s.store
 abbrev pub Describe : Job → ℕ → List Abstract → Store → ℕ → Type 0
 Describe job left entries s entry = Among job left entries (record s { literals = []; current = Some entry })
 
--- a command ends without a fault, and then this holds of the steps that are left and of the state
-abbrev pub Ended : Job → Out → ℕ → (ℕ → State → Type 0) → Outcome → Type 0
-Ended job start most Q (Done s left) = Sound job start most s × Q left s
-Ended job start most Q (Stopped s) = Sound job start most s
-Ended job start most Q (Limit kind s left) = Sound job start most s × IsSpared kind
+-- how a command ends: where it is done, this holds of the steps that are left and of the state
+abbrev pub Ended : Job → ℕ → (ℕ → State → Type 0) → Outcome → Type 0
+Ended job most Q (Done s left) = Sound job most s × Q left s
+Ended job most Q (Stopped s) = Sound job most s
+Ended job most Q (Limit kind s left) = Sound job most s × IsSpared kind
 
 -- ---- what is known where a function begins for an entry
 
@@ -146,7 +146,8 @@ ItemFound style allowed deepest _ before after = before ≡ after
 -- what is found of commands, one after the other
 abbrev pub AllFound : Style → List ℕ → ℕ → Facts → List Item → Facts → Type 0
 AllFound style allowed deepest before [] after = before ≡ after
-AllFound style allowed deepest before (x ∷ xs) after = (between : Facts) × (ItemFound style allowed deepest x before between × AllFound style allowed deepest between xs after)
+AllFound style allowed deepest before (x ∷ xs) after =
+    (between : Facts) × (ItemFound style allowed deepest x before between × AllFound style allowed deepest between xs after)
 
 -- .. where nothing is known before the first
 pub record Begins (style : Style) (allowed : List ℕ) (deepest : ℕ) (items : List Item) (after : Facts) : Type 0 where
@@ -158,4 +159,5 @@ pub record Begins (style : Style) (allowed : List ℕ) (deepest : ℕ) (items : 
 
 -- THE LAW: a style of whose commands this was found is clean
 abbrev pub FoundIsClean : Type 0
-FoundIsClean = (style : Style) (allowed : List ℕ) (deepest : ℕ) (after : Facts) → Begins style allowed deepest style.items after → StyleIsClean style allowed deepest
+FoundIsClean = (style : Style) (allowed : List ℕ) (deepest : ℕ) (after : Facts) → Begins style allowed deepest style.items after
+    → StyleIsClean style allowed deepest

@@ -1,4 +1,6 @@
+pub mod Calm
 pub mod Promise
+pub mod CalmLaws
 pub mod Descriptions
 pub mod States
 pub mod Inclusion
@@ -7,5 +9,6 @@ pub mod Bounds
 pub mod Running
 pub mod Between
 pub mod Answers
+pub mod Tables
 pub mod Memos
 pub mod Verdicts

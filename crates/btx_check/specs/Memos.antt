@@ -19,7 +19,7 @@ AllHold style allowed (e ∷ es) = Holds style allowed e × AllHold style allowe
 
 -- all that is remembered is so, in each job of the style
 abbrev pub Remembers : Style → List ℕ → Memo → Type 0
-Remembers style allowed m = AllHold style allowed m.entries.items
+Remembers style allowed m = AllHold style allowed m.table.entries.items
 
 -- if what was remembered is so, what is remembered now is so, too, as long as this is
 pub record Keeps (e : Remembered) (before after : Memo) : Type 0 where

@@ -13,10 +13,11 @@ use Rattle.btx_step.specs.language.Answers.{Answer}
 use Rattle.btx_step.specs.language.Variables.{values_of}
 use Rattle.btx_step.specs.language.Control.{tested}
 use Rattle.btx_step.specs.language.Steps.{function_run}
-use Rattle.btx_machine.specs.language.States.{Out, State, Outcome, Done, Stopped, Limit}
+use Rattle.btx_machine.specs.language.States.{State, Outcome, Done, Stopped, Limit}
 use Rattle.btx_machine.specs.language.Meaning.{Action}
 use Rattle.btx_machine.specs.language.MeaningBySteps.{in_turn, act}
-use Rattle.btx_check.specs.Promise.{Calm, Calmly, IsSpared, IsOf}
+use Rattle.btx_check.specs.Calm.{Calm, Asked, CalmInTurn, CalmAct}
+use Rattle.btx_check.specs.Promise.{IsSpared, IsOf}
 use Rattle.btx_check.specs.States.{Abstract, Values, values_in, slot, In, Among}
 
 -- a store of a job: as many variables as the style declares, for each entry too, and the current entry is one of the library's
@@ -28,9 +29,9 @@ pub record Sized (job : Job) (n : Values) : Type 0 where
   pub entry_strings : (entry : ℕ) → entry < length n.entries → length (values_of n.entries entry).strings ≡ length job.style.names.entry_strings
   pub current : (entry : ℕ) → n.current ≡ Some entry → entry < length n.entries
 
--- no fault since `start`, never more than `most` bodies open at once, and the store is one of the job
-abbrev pub Sound : Job → Out → ℕ → State → Type 0
-Sound job start most s = Calmly job start s.out × (s.store.deepest ≤ most) × Sized job (values_in s.store)
+-- never more than `most` bodies open at once, and the store is one of the job
+abbrev pub Sound : Job → ℕ → State → Type 0
+Sound job most s = (s.store.deepest ≤ most) × Sized job (values_in s.store)
 
 -- ---- one step
 
@@ -49,36 +50,47 @@ pub record Leads (job : Job) (left : ℕ) (states : List Abstract) (s : Store) (
 
 -- from each store that `a` stands for, the step of `f` leads to these
 abbrev pub Rule : Callee → Abstract → List Abstract → Type 0
-Rule f a states = (job : Job) → 1 ≤ job.global_max → 1 ≤ job.entry_max → (left : ℕ) (s : Store) → In job (suc left) a s → Leads job left states s (function_run job f s)
+Rule f a states = (job : Job) → 1 ≤ job.global_max → 1 ≤ job.entry_max → (left : ℕ) (s : Store) → In job (suc left) a s
+    → Leads job left states s (function_run job f s)
 
 -- the same, of what needs no step less
 abbrev pub RuleNow : Callee → Abstract → List Abstract → Type 0
-RuleNow f a states = (job : Job) → 1 ≤ job.global_max → 1 ≤ job.entry_max → (left : ℕ) (s : Store) → In job left a s → Leads job left states s (function_run job f s)
+RuleNow f a states = (job : Job) → 1 ≤ job.global_max → 1 ≤ job.entry_max → (left : ℕ) (s : Store) → In job left a s
+    → Leads job left states s (function_run job f s)
 
 -- the same, of what depends on the style, and on how many variables there are
 abbrev pub StyleRule : Style → List ℕ → Callee → Abstract → List Abstract → Type 0
-StyleRule style allowed f a states = (job : Job) → IsOf style allowed job → (left : ℕ) (s : Store) → Sized job (values_in s) → In job left a s → Leads job left states s (function_run job f s)
+StyleRule style allowed f a states = (job : Job) → IsOf style allowed job → (left : ℕ) (s : Store) → Sized job (values_in s) → In job left a s
+    → Leads job left states s (function_run job f s)
 
 -- ---- whole executions
 
--- an execution is without a fault, ends at no limit that matters, and where it is done, one of the descriptions stands for the store
-abbrev pub Good : Job → Out → ℕ → List Abstract → Outcome → Type 0
-Good job start most states (Done s left) = Sound job start most s × Among job left states s.store
-Good job start most states (Stopped s) = Sound job start most s
-Good job start most states (Limit kind s left) = Sound job start most s × IsSpared kind
+-- how an execution ends: at no limit that matters, and where it is done, one of the descriptions stands for the store
+abbrev pub Good : Job → ℕ → List Abstract → Outcome → Type 0
+Good job most states (Done s left) = Sound job most s × Among job left states s.store
+Good job most states (Stopped s) = Sound job most s
+Good job most states (Limit kind s left) = Sound job most s × IsSpared kind
 
--- an execution that begins in what one of `from` stands for, with at most `deep` further bodies and `loops` further loops, is good
-abbrev pub Covers : Job → List Abstract → ℕ → ℕ → List Abstract → Action → Type 0
-Covers job from deep loops states action =
-    (start : Out) (most bodies running left : ℕ) (s : State) → Among job left from s.store → Sound job start most s → bodies + deep ≤ most → most ≤ 4096 → running + loops ≤ 4096 → Good job start most states (action bodies running left s)
+-- an execution goes without a fault, and this is so of its end
+pub record Passes (calm end : Type 0) : Type 0 where
+  pub is_calm : calm
+  pub ends_so : end
+
+-- an execution that begins in what one of `from` stands for, with at most `deep` further bodies and `loops` further loops, is without a fault, and good
+abbrev pub Covers : Job → List Abstract → ℕ → ℕ → List Abstract → Asked → Action → Type 0
+Covers job from deep loops states calm action =
+    (most bodies running left : ℕ) (s : State) → Among job left from s.store → Sound job most s → bodies + deep ≤ most → most ≤ 4096 → running + loops ≤ 4096
+    → Passes (calm bodies running left s) (Good job most states (action bodies running left s))
 
 -- so it is with a token, in each job of the style
 abbrev pub RunsFrom : Style → List ℕ → Token → List Abstract → ℕ → ℕ → List Abstract → Type 0
-RunsFrom style allowed t from deep loops states = (job : Job) → IsOf style allowed job → (n : ℕ) → Covers job from deep loops states (act job n t)
+RunsFrom style allowed t from deep loops states =
+    (job : Job) → IsOf style allowed job → (n : ℕ) → Covers job from deep loops states (CalmAct job n t) (act job n t)
 
 -- so it is with the tokens of a body
 abbrev pub BodyRuns : Style → List ℕ → List Token → List Abstract → ℕ → ℕ → List Abstract → Type 0
-BodyRuns style allowed body from deep loops states = (job : Job) → IsOf style allowed job → (n : ℕ) → Covers job from deep loops states (in_turn (act job n) body)
+BodyRuns style allowed body from deep loops states = (job : Job) → IsOf style allowed job → (n : ℕ)
+    → Covers job from deep loops states (CalmInTurn (act job n) (CalmAct job n) body) (in_turn (act job n) body)
 
 -- ---- loops
 

@@ -1,9 +1,7 @@
 -- What a verdict promises.
-use Rattle.std.specs.Prelude.{◌≡◌, [], List}
 use Rattle.btx_bst.specs.language.Style.{Style}
 use Rattle.btx_check.specs.declared.verdict.Verdict.{Verdict}
 use Rattle.btx_check.specs.declared.verdict.Verdict.TheVariants as verdict
-use Rattle.btx_check.specs.declared.findings.Finding.{Finding}
 use Rattle.btx_check.specs.Promise.{StyleIsClean}
 
 -- a verdict is right: a style that is called clean is clean, for entries of the types that it names and with no more bodies open at once than it says. The
@@ -11,8 +9,3 @@ use Rattle.btx_check.specs.Promise.{StyleIsClean}
 abbrev pub IsRight : Style → Verdict → Type 0
 IsRight style (verdict.Clean c) = StyleIsClean style c.allowed.items c.deepest
 IsRight style _ = Unit {0}
-
--- where a style is called clean, no place is found in which it may go wrong
-abbrev pub NoneIfClean : Verdict → List Finding → Type 0
-NoneIfClean (verdict.Clean c) found = found ≡ []
-NoneIfClean _ found = Unit {0}

@@ -81,7 +81,12 @@ fn add_possible(work: &Work, out: &mut Vec<State>, a: State) -> Result<(), Alloc
 }
 
 /// Adds a description with a number pushed.
-pub fn add_pushed(work: &Work, b: State, i: usize, out: &mut Vec<State>) -> Result<(), AllocError>
+pub(crate) fn add_pushed(
+    work: &Work,
+    b: State,
+    i: usize,
+    out: &mut Vec<State>,
+) -> Result<(), AllocError>
     ensures { IfOk result (λ _. Added (pushing i b) out.old.items out.new.items) }
 {
     let mut a = b;
@@ -90,7 +95,7 @@ pub fn add_pushed(work: &Work, b: State, i: usize, out: &mut Vec<State>) -> Resu
 }
 
 /// Adds a description with two numbers pushed.
-pub fn add_pushed_both(
+pub(crate) fn add_pushed_both(
     work: &Work,
     b: State,
     i: usize,
@@ -106,7 +111,12 @@ pub fn add_pushed_both(
 }
 
 /// Adds a description with a new literal.
-pub fn add_new(work: &Work, b: State, d: Value, out: &mut Vec<State>) -> Result<(), AllocError>
+pub(crate) fn add_new(
+    work: &Work,
+    b: State,
+    d: Value,
+    out: &mut Vec<State>,
+) -> Result<(), AllocError>
     ensures { IfOk result (λ _. Added (pushing_new d b) out.old.items out.new.items) }
 {
     let mut a = b;
@@ -130,7 +140,7 @@ pub fn add_known(
 }
 
 /// Adds a description in which a number is known better, with a new literal.
-pub fn add_found(
+pub(crate) fn add_found(
     work: &Work,
     b: State,
     i: usize,
@@ -154,7 +164,7 @@ pub struct Known {
 }
 
 /// Adds a description in which two numbers are known better, with a new literal.
-pub fn add_tested(
+pub(crate) fn add_tested(
     work: &Work,
     b: State,
     first: Known,
@@ -175,7 +185,7 @@ pub fn add_tested(
 }
 
 /// Adds a description in which a name of which nothing was known has a number, which is pushed.
-pub fn add_recalled(
+pub(crate) fn add_recalled(
     work: &Work,
     b: State,
     name: Callee,
@@ -192,7 +202,7 @@ pub fn add_recalled(
 }
 
 /// Adds a description in which a name's value has another number.
-pub fn add_put(
+pub(crate) fn add_put(
     work: &Work,
     b: State,
     name: Callee,
@@ -207,7 +217,7 @@ pub fn add_put(
 }
 
 /// Adds a description in which a string variable keeps the first bytes of a string.
-pub fn add_text_put(
+pub(crate) fn add_text_put(
     work: &Work,
     b: State,
     name: Callee,
@@ -224,7 +234,11 @@ pub fn add_text_put(
 }
 
 /// Adds a description with nothing on the stack.
-pub fn add_without_stack(work: &Work, b: State, out: &mut Vec<State>) -> Result<(), AllocError>
+pub(crate) fn add_without_stack(
+    work: &Work,
+    b: State,
+    out: &mut Vec<State>,
+) -> Result<(), AllocError>
     ensures { IfOk result (λ _. Added (with_stack [] b) out.old.items out.new.items) }
 {
     let mut a = b;

@@ -11,7 +11,7 @@ ghost use Rattle.btx_check.specs.Descriptions.{Above, Below, Is};
 use crate::description::{Upper, Value};
 
 /// The greater of two lower bounds.
-pub fn raise(low: Option<i32>, to: Option<i32>) -> Option<i32>
+pub(crate) fn raise(low: Option<i32>, to: Option<i32>) -> Option<i32>
     ensures { (n : ℤ) → Above low n → Above to n → Above result n }
 {
     match low {
@@ -24,32 +24,20 @@ pub fn raise(low: Option<i32>, to: Option<i32>) -> Option<i32>
 }
 
 /// The lesser of two upper bounds.
-pub fn lower(high: Upper, to: Upper) -> Upper
+pub(crate) fn lower(high: Upper, to: Upper) -> Upper
     ensures { (left : ℕ) (n : ℤ) → Below left high n → Below left to n → Below left result n }
 {
-    match high {
-        Upper::Counter => match to {
-            Upper::Counter => high,
-            Upper::Number(t) => match t {
-                None => high,
-                Some(_) => to,
-            },
-        },
-        Upper::Number(h) => match h {
-            None => to,
-            Some(a) => match to {
-                Upper::Counter => high,
-                Upper::Number(t) => match t {
-                    None => high,
-                    Some(b) => if b < a { to } else { high },
-                },
-            },
-        },
+    match (high, to) {
+        (_, Upper::Number(None)) => high,
+        (Upper::Number(None), _) => to,
+        (Upper::Counter, Upper::Number(Some(_))) => to,
+        (_, Upper::Counter) => high,
+        (Upper::Number(Some(a)), Upper::Number(Some(b))) => if b < a { to } else { high },
     }
 }
 
 /// A lower bound of what is greater.
-pub fn next(low: Option<i32>) -> Option<i32>
+pub(crate) fn next(low: Option<i32>) -> Option<i32>
     ensures { (x y : ℤ) → Above low y → int_lt y x ≡ true → Above result x }
 {
     match low {
@@ -59,7 +47,7 @@ pub fn next(low: Option<i32>) -> Option<i32>
 }
 
 /// An upper bound of what is less.
-pub fn previous(high: Upper) -> Upper
+pub(crate) fn previous(high: Upper) -> Upper
     ensures { (left : ℕ) (x y : ℤ) → Below left high x → int_lt y x ≡ true → Below left result y }
 {
     match high {
@@ -90,7 +78,7 @@ pub fn not_positive(low: Option<i32>, high: Upper) -> Value
 }
 
 /// A lower bound of a sum.
-pub fn sum_low(a: Option<i32>, b: Option<i32>) -> Option<i32>
+pub(crate) fn sum_low(a: Option<i32>, b: Option<i32>) -> Option<i32>
     ensures { (x y : ℤ) → Above a x → Above b y → Above result (x +ℤ y) }
 {
     match a {
@@ -103,14 +91,14 @@ pub fn sum_low(a: Option<i32>, b: Option<i32>) -> Option<i32>
 }
 
 /// Whether an integer of this upper bound is at most a number.
-pub fn is_at_most(high: Upper, most: i32) -> bool
+pub(crate) fn is_at_most(high: Upper, most: i32) -> bool
     ensures { IsTrue result → (left : ℕ) (x : ℤ) → Below left high x → x ≤ℤ most }
 {
     matches!(high, Upper::Number(Some(n)) if n <= most)
 }
 
 /// Whether an integer of this lower bound is at least a number.
-pub fn is_at_least(low: Option<i32>, least: i32) -> bool
+pub(crate) fn is_at_least(low: Option<i32>, least: i32) -> bool
     ensures { IsTrue result → (x : ℤ) → Above low x → least ≤ℤ x }
 {
     matches!(low, Some(n) if least <= n)
@@ -141,7 +129,7 @@ fn counter_sum(b: Upper) -> Upper
 }
 
 /// An upper bound of a sum, one step later.
-pub fn sum_high(a: Upper, b: Upper) -> Upper
+pub(crate) fn sum_high(a: Upper, b: Upper) -> Upper
     ensures { (left : ℕ) (x y : ℤ) → Below (suc left) a x → Below (suc left) b y → Below left result (x +ℤ y) }
 {
     match a {
@@ -154,7 +142,7 @@ pub fn sum_high(a: Upper, b: Upper) -> Upper
 }
 
 /// A lower bound of a difference.
-pub fn difference_low(a: Option<i32>, b: Upper) -> Option<i32>
+pub(crate) fn difference_low(a: Option<i32>, b: Upper) -> Option<i32>
     ensures { (left : ℕ) (x y : ℤ) → Above a x → Below left b y → Above result (x -ℤ y) }
 {
     match b {
@@ -170,7 +158,7 @@ pub fn difference_low(a: Option<i32>, b: Upper) -> Option<i32>
 }
 
 /// An upper bound of a difference, one step later.
-pub fn difference_high(a: Upper, b: Option<i32>) -> Upper
+pub(crate) fn difference_high(a: Upper, b: Option<i32>) -> Upper
     ensures { (left : ℕ) (x y : ℤ) → Below (suc left) a x → Above b y → Below left result (x -ℤ y) }
 {
     match b {
@@ -190,7 +178,7 @@ pub fn difference_high(a: Upper, b: Option<i32>) -> Upper
 }
 
 /// What is known of an integer that is described twice.
-pub fn both(low: Option<i32>, high: Upper, low2: Option<i32>, high2: Upper) -> Value
+pub(crate) fn both(low: Option<i32>, high: Upper, low2: Option<i32>, high2: Upper) -> Value
     ensures { (left : ℕ) (n : ℤ) → Is left (value.Integer low high) (Integer n) → Is left (value.Integer low2 high2) (Integer n) → Is left result (Integer n) }
 {
     Value::Integer(raise(low, low2), lower(high, high2))
@@ -241,7 +229,7 @@ fn high_without(high: Upper, n: i32) -> Upper
 }
 
 /// What is known of an integer that isn't another one.
-pub fn other_than(low: Option<i32>, high: Upper, low2: Option<i32>, high2: Upper) -> Value
+pub(crate) fn other_than(low: Option<i32>, high: Upper, low2: Option<i32>, high2: Upper) -> Value
     ensures { (left : ℕ) (x y : ℤ) → Is left (value.Integer low high) (Integer x) → Is left (value.Integer low2 high2) (Integer y) → int_eq x y ≡ false → Is left result (Integer x) }
 {
     match only(low2, high2) {

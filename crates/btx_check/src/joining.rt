@@ -1,7 +1,7 @@
 //! Which descriptions are joined, and what is proposed for both: guesses, which `State::is_within` tests.
 use crate::description::{Upper, Value};
 use crate::likeness::{Likeness, mark_of_kind, mark_of_shape, mark_of_value, mixed, mixed_names};
-use crate::state::State;
+use crate::state::{Names, State};
 use crate::work::Work;
 use btx_bst::Callee;
 use std::alloc::{AllocError, Global};
@@ -9,7 +9,7 @@ use std::rc::RcSlice;
 
 impl State {
     /// Whether this and another one are to be joined: they have the same on the stack, as far as that is distinguished, and the flags don't differ.
-    pub fn is_like(&self, work: &Work, other: &State, is_coarse: bool) -> bool {
+    pub(crate) fn is_like(&self, work: &Work, other: &State, is_coarse: bool) -> bool {
         if self.stack.len() != other.stack.len() || self.entry != other.entry {
             return false;
         }
@@ -30,12 +30,12 @@ impl State {
     }
 
     /// The same, where their likenesses don't say already that they aren't alike.
-    pub fn is_alike(&self, work: &Work, other: &State, is_coarse: bool) -> bool {
+    pub(crate) fn is_alike(&self, work: &Work, other: &State, is_coarse: bool) -> bool {
         self.likeness.may_be(other.likeness, is_coarse) && self.is_like(work, other, is_coarse)
     }
 
     /// The likeness of this description: that of all that it is like is the same.
-    pub fn likeness_by(&self, work: &Work) -> Likeness {
+    pub(crate) fn likeness_by(&self, work: &Work) -> Likeness {
         let mut coarse = mixed(self.stack.len() as u64, if self.entry { 1 } else { 2 });
         let mut fine = coarse;
         for k in 0..self.stack.len() {
@@ -51,7 +51,7 @@ impl State {
     }
 
     /// A mark of this description and a function of the style: that of an equal one is the same.
-    pub fn mark_with(&self, function: u32) -> u64 {
+    pub(crate) fn mark_with(&self, function: u32) -> u64 {
         let mut mark = mixed(function as u64, if self.entry { 1 } else { 2 });
         mark = mixed(mark, self.stack.len() as u64);
         for number in self.stack.iter() {
@@ -79,7 +79,11 @@ impl State {
     }
 
     /// Numbers of this state for those of another, as a guess: those that stand in the same places.
-    pub fn numbers_for(&self, alloc: Global, other: &State) -> Result<Vec<usize>, AllocError> {
+    pub(crate) fn numbers_for(
+        &self,
+        alloc: Global,
+        other: &State,
+    ) -> Result<Vec<usize>, AllocError> {
         let mut numbers: Vec<usize> = vec![in alloc; 0; other.values.len()]?;
         for k in 0..other.stack.len() {
             if k < self.stack.len() {
@@ -95,7 +99,7 @@ impl State {
     }
 
     /// A description of all that this and another one describe, as a guess. Where it is to be wide, bounds that grew go to the next threshold.
-    pub fn joined(
+    pub(crate) fn joined(
         &self,
         alloc: Global,
         other: &State,
@@ -108,7 +112,7 @@ impl State {
     }
 
     /// The same, with the numbers of both.
-    pub fn both(
+    pub(crate) fn both(
         &self,
         alloc: Global,
         other: &State,
@@ -129,24 +133,15 @@ impl State {
             values: Vec::with_capacity(alloc, room)?,
         };
         let stack = pairs.stack(alloc, &self.stack, &other.stack)?;
-        let global_integers = pairs.names(alloc, &self.global_integers, &other.global_integers)?;
-        let global_strings = pairs.names(alloc, &self.global_strings, &other.global_strings)?;
-        let entry_integers = pairs.names(alloc, &self.entry_integers, &other.entry_integers)?;
-        let entry_strings = pairs.names(alloc, &self.entry_strings, &other.entry_strings)?;
-        let fields = pairs.names(alloc, &self.fields, &other.fields)?;
-        let state = State {
-            stack,
-            values: pairs.values,
-            global_integers,
-            global_strings,
-            entry_integers,
-            entry_strings,
-            fields,
-            entry: self.entry,
-            likeness: Likeness::unknown(),
+        let names = Names {
+            global_integers: pairs.names(alloc, &self.global_integers, &other.global_integers)?,
+            global_strings: pairs.names(alloc, &self.global_strings, &other.global_strings)?,
+            entry_integers: pairs.names(alloc, &self.entry_integers, &other.entry_integers)?,
+            entry_strings: pairs.names(alloc, &self.entry_strings, &other.entry_strings)?,
+            fields: pairs.names(alloc, &self.fields, &other.fields)?,
         };
         Ok(Some(Both {
-            state,
+            state: State::of(stack, pairs.values, names, self.entry),
             firsts: pairs.firsts,
             seconds: pairs.seconds,
         }))

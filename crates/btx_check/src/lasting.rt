@@ -12,7 +12,7 @@ use std::alloc::{AllocError, Global};
 use std::rc::RcSlice;
 
 /// Whether each says no less than this one.
-pub fn all_within(work: &Work, states: &[State], b: &State) -> Result<bool, AllocError>
+pub(crate) fn all_within(work: &Work, states: &[State], b: &State) -> Result<bool, AllocError>
     ensures { IfOk result (λ ok. IsTrue ok → Sub states.now (b.now ∷ [])) }
 {
     for a in states {
@@ -41,7 +41,7 @@ pub fn globals_of(work: &Work, style: &Style, states: &[State]) -> Result<State,
 }
 
 /// What is known of the global variables that a function can't assign, as a guess.
-pub fn lasting(
+pub fn lasting_globals(
     work: &Work,
     style: &Style,
     allowed: &[u32],

@@ -1,36 +1,32 @@
-//! A checker of styles: a style that it calls clean never logs a fault of its own, whatever the databases and the options.
+//! A checker of styles: a style that it calls clean never logs a fault of its own, for any databases whose entries have types that it allows, and any budget
+//! of at most 1,500,000,000 steps.
 #![tactic(auto)]
 
-mod adding;
-mod bounds;
+pub mod adding;
+pub mod bounds;
 pub mod description;
-mod entries;
-pub mod findings;
-mod frames;
+pub mod entries;
 mod joining;
 mod known_rules;
-mod lasting;
-mod likeness;
-mod loops;
-mod memo;
-mod name_rules;
-mod operands;
+pub mod lasting;
+pub mod laws;
+pub mod likeness;
+pub mod loops;
+pub mod memo;
+pub mod name_rules;
+pub mod operands;
 mod plain_rules;
-mod reach;
-mod rules;
+pub mod rules;
 mod running;
 mod stack_rules;
-mod state;
+pub mod state;
 mod sums;
-mod traces;
-mod tracing;
-mod types;
+pub mod table;
+pub mod types;
 pub mod verdict;
-mod visits;
-mod wants;
 mod within;
 pub mod work;
 
-pub use findings::{Cause, Condition, Fault, Finding, Findings, Growth, Operand, examine};
+pub use state::State;
 pub use verdict::{Clean, Verdict, check};
 pub use work::{Place, Warning};

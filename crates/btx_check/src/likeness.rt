@@ -5,7 +5,7 @@ use btx_bst::Callee;
 
 /// Marks of what `State::is_like` compares: alike descriptions have the same, and others mostly not. 0 is unknown.
 #[derive(Clone, Copy)]
-pub struct Likeness {
+pub(crate) struct Likeness {
     /// Of the whole stack and the flags.
     pub fine: u64,
     /// Of what is compared where there are many descriptions.
@@ -46,7 +46,7 @@ pub fn mixed(mark: u64, other: u64) -> u64 {
 }
 
 /// What tells shapes of literals apart.
-pub fn mark_of_shape(value: Value) -> u64 {
+pub(crate) fn mark_of_shape(value: Value) -> u64 {
     match value {
         Value::Integer(low, high) => match sign_of(low, high) {
             Sign::Positive => 1,
@@ -59,7 +59,7 @@ pub fn mark_of_shape(value: Value) -> u64 {
 }
 
 /// What tells kinds of literals apart, and functions of a style.
-pub fn mark_of_kind(value: Value) -> u64 {
+pub(crate) fn mark_of_kind(value: Value) -> u64 {
     match value {
         Value::Integer(_, _) => 1,
         Value::Text(_) => 4,
@@ -72,7 +72,7 @@ pub fn mark_of_kind(value: Value) -> u64 {
 }
 
 /// A mark, and behind it those of the numbers of names.
-pub fn mixed_names(mark: u64, numbers: &[Option<usize>]) -> u64 {
+pub(crate) fn mixed_names(mark: u64, numbers: &[Option<usize>]) -> u64 {
     let mut mark = mark;
     for number in numbers {
         mark = mixed(mark, mark_of_number(*number));

@@ -13,7 +13,7 @@ use crate::work::{MANY, Work};
 use std::alloc::AllocError;
 
 /// Splits a description by the result of a loop's test: where the loop goes on, and where it ends.
-pub fn turn(
+pub(crate) fn turn(
     work: &Work,
     a: &State,
     again: &mut Vec<State>,
@@ -37,8 +37,8 @@ pub fn turn(
 }
 
 /// The same for several.
-pub fn turn_all(
-    work: &Work,
+pub(crate) fn turn_all(
+    work: &mut Work,
     states: &[State],
     again: &mut Vec<State>,
     ends: &mut Vec<State>,
@@ -46,6 +46,7 @@ pub fn turn_all(
     ensures { IfOk result (λ ok. IsTrue ok → TurnedInto states.now again.old.items ends.old.items again.new.items ends.new.items) }
 {
     for a in states {
+        work.met(a.height());
         if !turn(work, a, again, ends)? {
             return Ok(false);
         }
@@ -77,7 +78,7 @@ pub fn copies_of(work: &Work, states: &[State]) -> Result<Vec<State>, AllocError
 }
 
 /// Whether a description says no less than one of these.
-pub fn is_in(work: &Work, a: &State, states: &[State]) -> Result<bool, AllocError>
+pub(crate) fn is_in(work: &Work, a: &State, states: &[State]) -> Result<bool, AllocError>
     ensures { IfOk result (λ ok. IsTrue ok → Into a.now states.now) }
 {
     for b in states {
@@ -120,7 +121,7 @@ pub fn proposed(
 }
 
 /// Joins a description to the first that it is like, or adds it.
-pub fn propose(
+pub(crate) fn propose(
     work: &Work,
     a: &State,
     out: &mut Vec<State>,

@@ -1,17 +1,18 @@
 //! What functions of the style were found to do: where one is met again in an equal description, the answer is the same.
-ghost use Rattle.std.specs.Prelude.{◌≡◌, ◌<◌, length, slice_set, []};
+ghost use Rattle.std.specs.Prelude.{◌≡◌, []};
 ghost use Rattle.std.specs.Option.{IfSome};
 ghost use Rattle.std.specs.Result.{IfOk};
 ghost use Rattle.btx_check.specs.Memos.{Keeps, Recalls};
 
 use crate::loops::copies_of;
 use crate::state::State;
+use crate::table::Table;
 use crate::work::{Notes, Room, Work};
 use std::alloc::{AllocError, Global};
 
 /// What a function of the style led to from a description.
 #[derive(Drop)]
-pub struct Remembered {
+pub(crate) struct Remembered {
     /// The mark of the function and the description.
     pub mark: u64,
     /// The function.
@@ -31,60 +32,34 @@ pub struct Remembered {
 
 /// What functions of the style led to, in one visit.
 #[derive(Drop)]
-pub struct Memo {
+pub(crate) struct Memo {
     /// What is remembered.
-    pub entries: Vec<Remembered>,
-    // For the last digits of a mark, the number of what is remembered, from 1. 0 is nothing.
-    places: Vec<usize>,
+    pub table: Table<Remembered>,
 }
 
 /// What was found again.
 #[derive(Drop)]
-pub struct Recalled {
+pub(crate) struct Recalled {
     /// The descriptions after the function.
     pub states: Vec<State>,
     /// What was noted.
     pub notes: Notes,
 }
 
-/// How many places there are.
-const PLACES: u64 = 4096;
+// How many places the table has.
+const PLACES: usize = 4096;
 
 /// How many tokens a function has for which it pays to remember it.
 pub const LEAST_TOKENS: usize = 10;
 
-// The place of what has this mark.
-fn place_of(mark: u64) -> usize {
-    (mark % PLACES) as usize
-}
-
-// Sets one of these.
-fn set_at(entries: &mut Vec<Remembered>, k: usize, entry: Remembered)
-    requires { k < length entries.old.items }
-    ensures { entries.new.items ≡ slice_set entries.old.items k entry }
-{
-    entries[k] = entry;
-}
-
 impl Memo {
     /// Nothing is remembered.
     pub fn new(alloc: Global) -> Result<Memo, AllocError>
-        ensures { IfOk result (λ m. m.entries.items ≡ []) }
+        ensures { IfOk result (λ m. m.table.entries.items ≡ []) }
     {
         Ok(Memo {
-            entries: Vec::new(alloc),
-            places: vec![in alloc; 0; PLACES as usize]?,
+            table: Table::new(alloc, PLACES)?,
         })
-    }
-
-    // The number of what has the place of this mark, from 1.
-    fn number(&self, mark: u64) -> usize {
-        let place = place_of(mark);
-        if place < self.places.len() {
-            self.places[place]
-        } else {
-            0
-        }
     }
 
     /// What a function led to from an equal description, if that is remembered, where no more could be opened than here.
@@ -98,11 +73,10 @@ impl Memo {
     ) -> Result<Option<Recalled>, AllocError>
         ensures { IfOk result (λ o. IfSome o (λ r. Recalls self.now i a.now room.deep room.loops r.states.items)) }
     {
-        let number = self.number(mark);
-        if number == 0 || number > self.entries.len() {
+        let Some(number) = self.table.number(mark) else {
             return Ok(None);
-        }
-        let entry = &self.entries[number - 1];
+        };
+        let entry = &self.table.entries[number];
         if entry.mark != mark || entry.function != i {
             return Ok(None);
         }
@@ -118,20 +92,10 @@ impl Memo {
     }
 
     /// Remembers what a function led to, in place of what has its place.
+    #[tactic(auto, using(crate::proofs::MemoLemmas::keeps_kept))]
     pub fn keep(&mut self, entry: Remembered) -> Result<(), AllocError>
         ensures { IfOk result (λ _. Keeps entry self.old self.new) }
     {
-        let place = place_of(entry.mark);
-        let number = self.number(entry.mark);
-        if number > 0 && number <= self.entries.len() {
-            set_at(&mut self.entries, number - 1, entry);
-            return Ok(());
-        }
-        self.entries.push(entry)?;
-        let number = self.entries.len();
-        if place < self.places.len() {
-            self.places[place] = number;
-        }
-        Ok(())
+        self.table.keep(entry.mark, entry)
     }
 }

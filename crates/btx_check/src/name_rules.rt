@@ -16,7 +16,7 @@ use btx_bst::{Callee, Style};
 use std::alloc::AllocError;
 
 /// What is known of a name of which nothing else is known.
-pub fn kind_of(name: Callee) -> Value
+pub(crate) fn kind_of(name: Callee) -> Value
     ensures { result ≡ kind_of name }
 {
     match name {
@@ -28,7 +28,7 @@ pub fn kind_of(name: Callee) -> Value
 }
 
 /// Whether it is a variable or a field.
-pub fn is_name(callee: Callee) -> bool
+pub(crate) fn is_name(callee: Callee) -> bool
     ensures { IsTrue result → IsName callee }
 {
     match callee {
@@ -38,7 +38,7 @@ pub fn is_name(callee: Callee) -> bool
 }
 
 /// Whether the value of a name can be asked for.
-pub fn has_value(a: &State, name: Callee) -> bool
+pub(crate) fn has_value(a: &State, name: Callee) -> bool
     ensures { IsTrue result → NeedsEntry name a.now }
 {
     match name {
@@ -48,7 +48,12 @@ pub fn has_value(a: &State, name: Callee) -> bool
 }
 
 /// A variable or a field.
-pub fn name(work: &Work, a: State, f: Callee, out: &mut Vec<State>) -> Result<bool, AllocError>
+pub(crate) fn name(
+    work: &Work,
+    a: State,
+    f: Callee,
+    out: &mut Vec<State>,
+) -> Result<bool, AllocError>
     ensures { IfOk result (λ ok. IsTrue ok → Ruled f a out.old.items out.new.items) }
 {
     if !a.has_room() {
@@ -73,7 +78,7 @@ pub fn name(work: &Work, a: State, f: Callee, out: &mut Vec<State>) -> Result<bo
 }
 
 /// Whether there is such a variable in the style, and an entry where it needs one.
-pub fn is_integer_variable(style: &Style, a: &State, f: Callee) -> bool
+pub(crate) fn is_integer_variable(style: &Style, a: &State, f: Callee) -> bool
     ensures { IsTrue result → IsIntegerOf style.now f a.now }
 {
     match f {
@@ -84,7 +89,7 @@ pub fn is_integer_variable(style: &Style, a: &State, f: Callee) -> bool
 }
 
 /// Whether there is such a variable in the style, and an entry where it needs one.
-pub fn is_string_variable(style: &Style, a: &State, f: Callee) -> bool
+pub(crate) fn is_string_variable(style: &Style, a: &State, f: Callee) -> bool
     ensures { IsTrue result → IsStringOf style.now f a.now }
 {
     match f {

@@ -2,7 +2,7 @@
 ghost use Rattle.std.specs.Prelude.{◌≡◌, Option, List, [], ◌∷◌, IsTrue};
 ghost use Rattle.std.specs.Option.{IfSome};
 ghost use Rattle.std.specs.Result.{IfOk};
-ghost use Rattle.btx_step.specs.language.Operands.{Of};
+ghost use Rattle.btx_step.specs.declared.operands.Operand.TheVariants.{Of};
 ghost use Rattle.btx_check.specs.Answers.{TopIs, TwoAre, ThreeAre, OpFits, Taken, Pushed, Dropped};
 
 use crate::adding::{add_new, add_sure};
@@ -43,14 +43,14 @@ pub(crate) use taking;
 
 /// The number on top, what is known of it, and what is below it.
 #[derive(Drop)]
-pub struct Top {
+pub(crate) struct Top {
     pub number: usize,
     pub value: Value,
     pub below: State,
 }
 
 /// What stands on top, if there is something.
-pub fn top_of(a: State) -> Option<Top>
+pub(crate) fn top_of(a: State) -> Option<Top>
     ensures { IfSome result (λ t. TopIs a t.number t.value t.below) }
 {
     if !a.has_room() {
@@ -68,7 +68,7 @@ pub fn top_of(a: State) -> Option<Top>
 
 /// The two numbers on top, what is known of them, and what is below them.
 #[derive(Drop)]
-pub struct Pair {
+pub(crate) struct Pair {
     pub first: usize,
     pub first_value: Value,
     pub second: usize,
@@ -78,7 +78,7 @@ pub struct Pair {
 
 /// The two literals on top of the stack, if there are two.
 #[tactic(auto, using(crate::proofs::RunLemmas::two_are))]
-pub fn pair_of(a: State) -> Option<Pair>
+pub(crate) fn pair_of(a: State) -> Option<Pair>
     ensures { IfSome result (λ t. TwoAre a t.first t.second t.first_value t.second_value t.below) }
 {
     let t = top_of(a)?;
@@ -94,7 +94,7 @@ pub fn pair_of(a: State) -> Option<Pair>
 
 /// The three numbers on top, what is known of them, and what is below them.
 #[derive(Drop)]
-pub struct Triple {
+pub(crate) struct Triple {
     pub first: usize,
     pub first_value: Value,
     pub second: usize,
@@ -106,7 +106,7 @@ pub struct Triple {
 
 /// The three literals on top of the stack, if there are three.
 #[tactic(auto, using(crate::proofs::RunLemmas::three_are))]
-pub fn triple_of(a: State) -> Option<Triple>
+pub(crate) fn triple_of(a: State) -> Option<Triple>
     ensures { IfSome result (λ t. ThreeAre a t.first t.second t.third t.first_value t.second_value t.third_value t.below) }
 {
     let p = pair_of(a)?;
@@ -138,7 +138,7 @@ pub fn is_fit(value: Value, wanted: Wanted) -> bool
 }
 
 /// Takes nothing.
-pub fn take_none(a: State) -> Option<State>
+pub(crate) fn take_none(a: State) -> Option<State>
     ensures { IfSome result (λ b. Taken [] a b) }
 {
     if !a.has_room() {
@@ -148,7 +148,7 @@ pub fn take_none(a: State) -> Option<State>
 }
 
 /// Takes an operand, if it is there and fits: what is left below it.
-pub fn take_one(a: State, wanted: Wanted) -> Option<State>
+pub(crate) fn take_one(a: State, wanted: Wanted) -> Option<State>
     ensures { IfSome result (λ b. Taken (Of wanted ∷ []) a b) }
 {
     let t = top_of(a)?;
@@ -159,7 +159,7 @@ pub fn take_one(a: State, wanted: Wanted) -> Option<State>
 }
 
 /// Takes two operands, the first from the top.
-pub fn take_two(a: State, first: Wanted, second: Wanted) -> Option<State>
+pub(crate) fn take_two(a: State, first: Wanted, second: Wanted) -> Option<State>
     ensures { IfSome result (λ b. Taken (Of first ∷ Of second ∷ []) a b) }
 {
     let t = pair_of(a)?;
@@ -170,7 +170,7 @@ pub fn take_two(a: State, first: Wanted, second: Wanted) -> Option<State>
 }
 
 /// Takes three operands, the first from the top.
-pub fn take_three(a: State, first: Wanted, second: Wanted, third: Wanted) -> Option<State>
+pub(crate) fn take_three(a: State, first: Wanted, second: Wanted, third: Wanted) -> Option<State>
     ensures { IfSome result (λ b. Taken (Of first ∷ Of second ∷ Of third ∷ []) a b) }
 {
     let t = triple_of(a)?;
@@ -184,7 +184,7 @@ pub fn take_three(a: State, first: Wanted, second: Wanted, third: Wanted) -> Opt
 }
 
 /// Adds what is left below operands, with a literal of which this is known. False if they weren't taken.
-pub fn pushes(
+pub(crate) fn pushes(
     work: &Work,
     taken: Option<State>,
     value: Value,
@@ -202,7 +202,11 @@ pub fn pushes(
 }
 
 /// Adds what is left below operands. False if they weren't taken.
-pub fn drops(work: &Work, taken: Option<State>, out: &mut Vec<State>) -> Result<bool, AllocError>
+pub(crate) fn drops(
+    work: &Work,
+    taken: Option<State>,
+    out: &mut Vec<State>,
+) -> Result<bool, AllocError>
     ensures { IfOk result (λ ok. IsTrue ok → Dropped taken out.old.items out.new.items) }
 {
     match taken {

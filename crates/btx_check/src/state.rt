@@ -1,5 +1,5 @@
 //! Descriptions of states.
-ghost use Rattle.std.specs.Prelude.{ℕ, ◌≡◌, ◌<◌, List, [], ◌∷◌, length, slice_index_or, slice_set, Option, Some, None, IsTrue};
+ghost use Rattle.std.specs.Prelude.{ℕ, ◌≡◌, ◌<◌, List, [], ◌∷◌, length, slice_get, slice_index_or, slice_set, Option, Some, None, option_map, IsTrue};
 ghost use Rattle.std.specs.Option.{MatchOption, IfSome};
 ghost use Rattle.std.specs.Result.{IfOk};
 ghost use Rattle.std.specs.Rc.{rc_slice_items};
@@ -68,7 +68,42 @@ macro_rules! need_all {
     };
 }
 
+/// The numbers of the values of names, by the kinds of names. Copies of a description share these.
+#[derive(Drop)]
+pub struct Names {
+    pub global_integers: RcSlice<Option<usize>>,
+    pub global_strings: RcSlice<Option<usize>>,
+    pub entry_integers: RcSlice<Option<usize>>,
+    pub entry_strings: RcSlice<Option<usize>>,
+    pub fields: RcSlice<Option<usize>>,
+}
+
 impl State {
+    /// The description that has these parts: `stack`, the numbers of the literals, top first; `values`, what is known of each number; `names`, the number of
+    /// each name's value, if it has one; and `entry`, whether an entry is current.
+    pub fn of(stack: Vec<usize>, values: Vec<Value>, names: Names, entry: bool) -> State
+        ensures stack { result.stack ≡ stack.items }
+        ensures values { result.values ≡ values.items }
+        ensures global_integers { result.global_integers ≡ rc_slice_items names.global_integers }
+        ensures global_strings { result.global_strings ≡ rc_slice_items names.global_strings }
+        ensures entry_integers { result.entry_integers ≡ rc_slice_items names.entry_integers }
+        ensures entry_strings { result.entry_strings ≡ rc_slice_items names.entry_strings }
+        ensures fields { result.fields ≡ rc_slice_items names.fields }
+        ensures entry { result.entry ≡ entry }
+    {
+        State {
+            stack,
+            values,
+            global_integers: names.global_integers,
+            global_strings: names.global_strings,
+            entry_integers: names.entry_integers,
+            entry_strings: names.entry_strings,
+            fields: names.fields,
+            entry,
+            likeness: Likeness::unknown(),
+        }
+    }
+
     /// A state of which nothing is known but whether an entry is current.
     pub fn start(alloc: Global, entry: bool, style: &Style) -> Result<State, AllocError>
         ensures starts { IfOk result (λ a. Starts a) }
@@ -114,7 +149,7 @@ impl State {
     }
 
     /// What this says of global variables, and of nothing else.
-    pub fn globals(&self, alloc: Global) -> Result<State, AllocError>
+    pub(crate) fn globals(&self, alloc: Global) -> Result<State, AllocError>
         ensures { IfOk result (λ a. IsGlobal a) }
     {
         Ok(State {
@@ -131,7 +166,7 @@ impl State {
     }
 
     /// What this says of the entry, and of nothing else.
-    pub fn locals(&self, alloc: Global) -> Result<State, AllocError>
+    pub(crate) fn locals(&self, alloc: Global) -> Result<State, AllocError>
         ensures { IfOk result (λ a. IsLocal a) }
     {
         Ok(State {
@@ -148,7 +183,7 @@ impl State {
     }
 
     /// What this says of all but the entry, and another one of the entry, which is current.
-    pub fn with_entry(&self, other: &State) -> Result<State, AllocError>
+    pub(crate) fn with_entry(&self, other: &State) -> Result<State, AllocError>
         ensures { IfOk result (λ a. Combines self.now other.now a) }
     {
         let alloc = *self.values.allocator();
@@ -168,8 +203,78 @@ impl State {
         })
     }
 
+    /// The numbers of the literals on the stack, top first.
+    pub fn stack(&self) -> &[usize]
+        ensures { result.now ≡ self.now.stack }
+    {
+        &self.stack
+    }
+
+    /// The number of the literal that has `place` on the stack, from 0 on top.
+    pub fn number_at(&self, place: usize) -> Option<usize>
+        ensures { result ≡ slice_get self.now.stack place }
+    {
+        if place < self.stack.len() {
+            Some(self.stack[place])
+        } else {
+            None
+        }
+    }
+
+    /// What is known of the literal that has `place` on the stack, from 0 on top.
+    pub fn value_at(&self, place: usize) -> Option<Value>
+        ensures { result ≡ option_map (λ (n : ℕ). slice_index_or self.now.values n Any) (slice_get self.now.stack place) }
+    {
+        self.value_of(self.number_at(place))
+    }
+
+    /// What is known of a number, if there is one.
+    pub fn value_of(&self, number: Option<usize>) -> Option<Value>
+        ensures { result ≡ option_map (λ (n : ℕ). slice_index_or self.now.values n Any) number }
+    {
+        match number {
+            None => None,
+            Some(number) => Some(self.value(number)),
+        }
+    }
+
+    /// The number of the value of each global integer variable, if it has one.
+    pub fn global_integers(&self) -> &[Option<usize>]
+        ensures { result.now ≡ self.now.global_integers }
+    {
+        &self.global_integers
+    }
+
+    /// The number of the value of each global string variable, if it has one.
+    pub fn global_strings(&self) -> &[Option<usize>]
+        ensures { result.now ≡ self.now.global_strings }
+    {
+        &self.global_strings
+    }
+
+    /// The number of the value of each integer variable of the entry, if it has one.
+    pub fn entry_integers(&self) -> &[Option<usize>]
+        ensures { result.now ≡ self.now.entry_integers }
+    {
+        &self.entry_integers
+    }
+
+    /// The number of the value of each string variable of the entry, if it has one.
+    pub fn entry_strings(&self) -> &[Option<usize>]
+        ensures { result.now ≡ self.now.entry_strings }
+    {
+        &self.entry_strings
+    }
+
+    /// The number of the value of each field of the entry, if it has one.
+    pub fn fields(&self) -> &[Option<usize>]
+        ensures { result.now ≡ self.now.fields }
+    {
+        &self.fields
+    }
+
     /// Pushes a number.
-    pub fn push(&mut self, number: usize) -> Result<(), AllocError>
+    pub(crate) fn push(&mut self, number: usize) -> Result<(), AllocError>
         ensures { IfOk result (λ _. self.new ≡ pushing number self.old) }
     {
         self.stack.insert(0, number)?;
@@ -187,7 +292,7 @@ impl State {
     }
 
     /// A new number for what a variable keeps of a string.
-    pub fn keep(&mut self, mask: Mask) -> Result<(), AllocError>
+    pub(crate) fn keep(&mut self, mask: Mask) -> Result<(), AllocError>
         ensures { IfOk result (λ _. self.new ≡ keeping mask self.old) }
     {
         self.values.push(Value::Text(mask.cut()))?;
@@ -205,7 +310,7 @@ impl State {
     }
 
     /// Takes everything off the stack.
-    pub fn clear(&mut self)
+    pub(crate) fn clear(&mut self)
         ensures { self.new ≡ with_stack [] self.old }
     {
         self.stack.clear();
@@ -245,7 +350,7 @@ impl State {
     }
 
     /// Whether there is room for a literal on the stack.
-    pub fn has_room(&self) -> bool
+    pub(crate) fn has_room(&self) -> bool
         ensures { IsTrue result → length self.now.stack < 1000 }
     {
         self.stack.len() < 1000
@@ -259,7 +364,7 @@ impl State {
     }
 
     /// The number of a name's value, if it has one.
-    pub fn slot(&self, name: Callee) -> Option<usize>
+    pub(crate) fn slot(&self, name: Callee) -> Option<usize>
         ensures { result ≡ slot self.now name }
     {
         match name {
@@ -273,7 +378,12 @@ impl State {
     }
 
     /// Sets the number of a name's value.
-    pub fn put(&mut self, alloc: Global, name: Callee, number: usize) -> Result<(), AllocError>
+    pub(crate) fn put(
+        &mut self,
+        alloc: Global,
+        name: Callee,
+        number: usize,
+    ) -> Result<(), AllocError>
         ensures { IfOk result (λ _. self.new ≡ putting name number self.old) }
     {
         match name {
@@ -287,7 +397,7 @@ impl State {
     }
 
     /// Notes its likeness.
-    pub fn mark(&mut self, likeness: Likeness)
+    pub(crate) fn mark(&mut self, likeness: Likeness)
         ensures { self.new ≡ self.old }
     {
         self.likeness = likeness;
@@ -301,7 +411,7 @@ impl State {
     }
 
     /// Whether no store is described, since one of the literals can't be.
-    pub fn is_impossible(&self) -> bool
+    pub(crate) fn is_impossible(&self) -> bool
         ensures { IsTrue result → IsImpossible self.now }
     {
         for j in 0..self.values.len() {
@@ -323,7 +433,7 @@ impl State {
     }
 
     /// Whether this says no less than the other one: a test for the numbers that stand in the same places.
-    pub fn is_inside(&self, alloc: Global, other: &State) -> Result<bool, AllocError>
+    pub(crate) fn is_inside(&self, alloc: Global, other: &State) -> Result<bool, AllocError>
         ensures { IfOk result (λ ok. IsTrue ok → Within self.now other.now) }
     {
         let numbers = self.numbers_for(alloc, other)?;
@@ -331,7 +441,7 @@ impl State {
     }
 
     /// Whether this says no less than the other one, with these numbers for the other's.
-    pub fn is_within(&self, other: &State, numbers: &[usize]) -> bool
+    pub(crate) fn is_within(&self, other: &State, numbers: &[usize]) -> bool
         ensures { IsTrue result → Within self.now other.now }
     {
         if self.entry != other.entry {
@@ -349,7 +459,7 @@ impl State {
     }
 
     /// Whether this says no less than the other one, number for number: a test for those that are equal.
-    pub fn is_same(&self, alloc: Global, other: &State) -> Result<bool, AllocError>
+    pub(crate) fn is_same(&self, alloc: Global, other: &State) -> Result<bool, AllocError>
         ensures { IfOk result (λ ok. IsTrue ok → Within self.now other.now) }
     {
         let mut numbers: Vec<usize> = Vec::with_capacity(alloc, self.values.len())?;
@@ -376,7 +486,7 @@ impl State {
     }
 
     /// What says no more than this and another one, if there is one.
-    pub fn merged(
+    pub(crate) fn merged(
         &self,
         alloc: Global,
         other: &State,
@@ -401,7 +511,7 @@ impl State {
     }
 
     /// The same without the numbers that nothing has any more, where they are many.
-    pub fn tidied(self, alloc: Global) -> Result<State, AllocError>
+    pub(crate) fn tidied(self, alloc: Global) -> Result<State, AllocError>
         ensures { IfOk result (λ a. Within self a) }
     {
         if !self.is_loose() {
@@ -434,7 +544,7 @@ fn used(numbers: &[Option<usize>]) -> usize {
 }
 
 /// Whether no literal is so.
-pub fn is_nothing(value: Value) -> bool
+pub(crate) fn is_nothing(value: Value) -> bool
     ensures { IsTrue result → (left : ℕ) (x : Literal) → Is left value x → ⊥ }
 {
     match value {

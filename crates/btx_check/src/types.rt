@@ -144,13 +144,13 @@ fn at(flags: &[bool], i: usize) -> bool {
 
 /// Integer variables that are assigned nothing but literals and such variables: of each variable whether it is one.
 #[derive(Drop)]
-pub struct ConstantVariables {
+pub(crate) struct ConstantVariables {
     pub globals: Vec<bool>,
     pub entries: Vec<bool>,
 }
 
 /// Which integer variables are assigned nothing but literals and such variables.
-pub fn constants(alloc: Global, style: &Style) -> Result<ConstantVariables, AllocError> {
+pub(crate) fn constants(alloc: Global, style: &Style) -> Result<ConstantVariables, AllocError> {
     let mut are = ConstantVariables {
         globals: vec![in alloc; true; style.global_integers()]?,
         entries: vec![in alloc; true; style.entry_integers()]?,
@@ -210,11 +210,15 @@ fn is_assigned_literal(body: &[Token], k: usize) -> bool {
 }
 
 /// The most bodies that may be open at once.
-pub const MOST_BODIES: usize = 4096;
+pub(crate) const MOST_BODIES: usize = 4096;
 
 /// How many bodies are open at once at most, as a guess: a quoted function is thought to be executed where it is quoted. It counts only once the check has
 /// gone by with it.
-pub fn likely_depth(alloc: Global, style: &Style, allowed: &[u32]) -> Result<usize, AllocError> {
+pub(crate) fn likely_depth(
+    alloc: Global,
+    style: &Style,
+    allowed: &[u32],
+) -> Result<usize, AllocError> {
     let before = depths(alloc, style, 0)?;
     let mut of_types = match style.type_function(b"default.type") {
         Some(number) => depth_at(&before, number),
@@ -280,13 +284,13 @@ fn depth_at(depths: &[usize], i: u32) -> usize {
 
 /// Which global variables a function can assign: of each, whether it is quoted in what the function reaches.
 #[derive(Drop)]
-pub struct Assigned {
+pub(crate) struct Assigned {
     pub integers: Vec<bool>,
     pub strings: Vec<bool>,
 }
 
 /// What a function can assign, where entries have these types. A function mentions only functions of lower numbers, but for `call.type$`.
-pub fn assigned_by(
+pub(crate) fn assigned_by(
     alloc: Global,
     style: &Style,
     allowed: &[u32],

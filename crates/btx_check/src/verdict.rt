@@ -9,7 +9,7 @@ ghost use Rattle.btx_check.specs.Between.{IsGlobal, Visited, Found, Closes, Foun
 ghost use Rattle.btx_check.specs.Verdicts.{IsRight};
 
 use crate::entries::{Known, entries_of, starts_of, unknown_entries};
-use crate::lasting::{all_within, globals_of, lasting};
+use crate::lasting::{all_within, globals_of, lasting_globals};
 use crate::loops::all_in;
 use crate::memo::Memo;
 use crate::running::run_all;
@@ -159,7 +159,7 @@ fn iterate(
     requires { deepest ≤ 4096 }
     ensures { IfOk result (λ o. IfSome o (λ after. FoundForEach style.now allowed.now f deepest before.now after)) }
 {
-    let globals = lasting(work, style, allowed, f, &before.globals)?;
+    let globals = lasting_globals(work, style, allowed, f, &before.globals)?;
     let starts = starts_of(work.alloc, &globals, &before.entries)?;
     let mut out: Vec<State> = Vec::new(work.alloc);
     if !visit(work, style, allowed, deepest, f, starts, &mut out)? {
@@ -232,8 +232,9 @@ pub fn is_clean(
 // How often a check begins again, with more to keep descriptions apart by.
 const MOST_ROUNDS: usize = 14;
 
-/// Checks `style` in at most `steps` steps of the check. A style is called clean only if no run of it, whatever the databases and the options, logs a fault, ends at a
-/// limit of literals, bodies or loops, or has more bodies open at once than is said. With too few steps the check is incomplete.
+/// Checks `style` in at most `steps` steps of the check. A style is called clean only if no run of it with a budget of at most 1,500,000,000 steps, whatever
+/// databases whose entries have types that it doesn't know or that are allowed, logs a fault, ends at a limit of literals, bodies or loops, or has more bodies
+/// open at once than is said. With too few steps the check is incomplete.
 pub fn check(alloc: Global, style: &Style, steps: u64) -> Result<Verdict, AllocError>
     ensures { IfOk result (λ verdict. IsRight style.now verdict) }
 {

@@ -24,24 +24,12 @@ pub fn low_within(a: Option<i32>, b: Option<i32>) -> bool
 pub fn high_within(a: Upper, b: Upper) -> bool
     ensures { IsTrue result → (left : ℕ) → left ≤ most_steps → (n : ℤ) → Below left a n → Below left b n }
 {
-    match b {
-        Upper::Counter => match a {
-            Upper::Counter => true,
-            Upper::Number(h) => match h {
-                None => false,
-                Some(m) => m <= 500_000_000,
-            },
-        },
-        Upper::Number(t) => match t {
-            None => true,
-            Some(n) => match a {
-                Upper::Counter => false,
-                Upper::Number(h) => match h {
-                    None => false,
-                    Some(m) => m <= n,
-                },
-            },
-        },
+    match (a, b) {
+        (_, Upper::Number(None)) => true,
+        (Upper::Counter, Upper::Counter) => true,
+        (Upper::Number(Some(m)), Upper::Counter) => m <= 500_000_000,
+        (Upper::Number(Some(m)), Upper::Number(Some(n))) => m <= n,
+        _ => false,
     }
 }
 /// Whether a mask allows no more than another.

@@ -54,7 +54,7 @@ pub struct Work {
 
 /// What a part of the search noted: how many steps it took, how many more bodies could always be opened, and the greatest number of literals.
 #[derive(Clone, Copy)]
-pub struct Notes {
+pub(crate) struct Notes {
     /// How many steps.
     pub steps: u64,
     /// How many more bodies could always be opened.
@@ -75,7 +75,7 @@ impl Notes {
 }
 
 /// How many descriptions are kept for one place before they are distinguished by what is on top alone.
-pub const MANY: usize = 48;
+pub(crate) const MANY: usize = 48;
 
 impl Work {
     /// A search of at most `steps` steps.
@@ -96,7 +96,7 @@ impl Work {
     }
 
     /// Begins again, with the steps and the flags that there are. A round with flags may take half of the steps.
-    pub fn begin(&mut self) {
+    pub(crate) fn begin(&mut self) {
         if !self.flags.is_empty() {
             self.floor = self.steps / 2;
         }
@@ -118,22 +118,22 @@ impl Work {
     }
 
     /// Whether this round may take no more steps.
-    pub fn is_out(&self) -> bool {
+    pub(crate) fn is_out(&self) -> bool {
         self.steps <= self.floor
     }
 
     /// Lets what follows take all steps that are left.
-    pub fn release(&mut self) {
+    pub(crate) fn release(&mut self) {
         self.floor = 0;
     }
 
     /// Drops the flags with which no round came to its end.
-    pub fn drop_flags(&mut self) {
+    pub(crate) fn drop_flags(&mut self) {
         self.flags.truncate(self.tried_flags);
     }
 
     /// How many steps were taken.
-    pub fn taken(&self) -> u64 {
+    pub(crate) fn taken(&self) -> u64 {
         self.all_steps.saturating_sub(self.steps)
     }
 
@@ -164,14 +164,14 @@ impl Work {
     }
 
     /// Notes how many literals are on the stack.
-    pub fn met(&mut self, literals: usize) {
+    pub(crate) fn met(&mut self, literals: usize) {
         if self.most_literals < literals {
             self.most_literals = literals;
         }
     }
 
     /// Begins a part of the search, whose notes are its own. What was noted before is answered.
-    pub fn begin_part(&mut self) -> Notes {
+    pub(crate) fn begin_part(&mut self) -> Notes {
         let before = Notes {
             steps: self.steps,
             spare_bodies: self.spare_bodies,
@@ -183,7 +183,7 @@ impl Work {
     }
 
     /// Ends a part of the search: its notes, which are added to what was noted before.
-    pub fn end_part(&mut self, before: Notes) -> Notes {
+    pub(crate) fn end_part(&mut self, before: Notes) -> Notes {
         let part = Notes {
             steps: before.steps.saturating_sub(self.steps),
             spare_bodies: self.spare_bodies,
@@ -204,7 +204,7 @@ impl Work {
     }
 
     /// Notes a part of the search once more, and takes as many steps as it took, if they are left.
-    pub fn again(&mut self, part: Notes) -> bool {
+    pub(crate) fn again(&mut self, part: Notes) -> bool {
         if self.steps.saturating_sub(self.floor) < part.steps {
             self.gave_up = true;
             self.steps = self.floor;
@@ -216,7 +216,11 @@ impl Work {
     }
 
     /// Notes what was executed where something may go wrong, and the field that may be missing there.
-    pub fn warn(&mut self, executed: Callee, missing: Option<Callee>) -> Result<(), AllocError> {
+    pub(crate) fn warn(
+        &mut self,
+        executed: Callee,
+        missing: Option<Callee>,
+    ) -> Result<(), AllocError> {
         if self.warning.is_some() || self.gave_up {
             return Ok(());
         }
@@ -230,7 +234,7 @@ impl Work {
     }
 
     /// The greatest number of bodies that were open at once, where at most `bodies` could be.
-    pub fn deepest(&self, bodies: usize) -> usize {
+    pub(crate) fn deepest(&self, bodies: usize) -> usize {
         if self.spare_bodies < bodies {
             bodies - self.spare_bodies
         } else {
@@ -239,7 +243,7 @@ impl Work {
     }
 
     /// Adds what descriptions should be kept apart by so that this warning may go. False if there is nothing new.
-    pub fn add_flags(
+    pub(crate) fn add_flags(
         &mut self,
         style: &Style,
         warning: &Warning,
@@ -284,7 +288,7 @@ impl Work {
     }
 
     /// Whether descriptions are kept apart by variables of entries.
-    pub fn keeps_entries(&self) -> bool {
+    pub(crate) fn keeps_entries(&self) -> bool {
         for flag in self.flags.iter() {
             match *flag {
                 Callee::EntryInteger(_) => return true,
@@ -306,7 +310,7 @@ impl Work {
 }
 
 /// The field whose value stands on top, or just below, and may be missing.
-pub fn missing_field(a: &State) -> Option<Callee> {
+pub(crate) fn missing_field(a: &State) -> Option<Callee> {
     for k in 0..a.stack.len() {
         if k < 3 {
             let number = a.stack[k];

@@ -1,7 +1,8 @@
 //! Small styles, each beside one that differs from it in what makes it go wrong.
 use btx_bst::read_style;
-use btx_check::{Verdict, check, examine};
-use std::alloc::Global;
+use btx_check::{Verdict, check};
+use btx_lint::examine;
+use std::alloc::{AllocError, Global};
 
 // What stands before the commands of each style.
 const HEAD: &[u8] = b"ENTRY {title editor}{year}{label} INTEGERS {n m} STRINGS {s} ";
@@ -74,12 +75,18 @@ FUNCTION {f} {title empty$ {#0 'year :=} {#1 'year :=} if$} FUNCTION {g} {year {
 FUNCTION {i} {#1 'n :=} FUNCTION {f} {#0 'year :=} FUNCTION {g} {year #0 = {title write$} 'skip$ if$} READ EXECUTE {i} ITERATE {f} ITERATE {g}
 FUNCTION {f} {title empty$ {#0 'n :=} {#1 'n :=} if$} FUNCTION {g} {n {title write$} 'skip$ if$} READ ITERATE {f} ITERATE {g}";
 
+// A style of this head and this rest.
+fn text_of(alloc: Global, rest: &[u8]) -> Result<Vec<u8>, AllocError> {
+    let mut text: Vec<u8> = Vec::from_slice(alloc, HEAD)?;
+    text.extend_from_slice(rest)?;
+    Ok(text)
+}
+
 // Whether a style of this head and this rest is called clean.
 pub(crate) fn is_clean(alloc: Global, rest: &[u8]) -> bool {
-    let mut text: Vec<u8> = Vec::new(alloc);
-    if text.extend_from_slice(HEAD).is_err() || text.extend_from_slice(rest).is_err() {
-        return false;
-    }
+    let Ok(text) = text_of(alloc, rest) else {
+        return false
+    };
     let Ok(style) = read_style(alloc, b"s.bst", &text) else {
         return false
     };
@@ -91,10 +98,9 @@ pub(crate) fn is_clean(alloc: Global, rest: &[u8]) -> bool {
 
 // How many places are found where a style of this head and this rest may go wrong; 100 if it can't be told.
 fn places_of(alloc: Global, rest: &[u8]) -> usize {
-    let mut text: Vec<u8> = Vec::new(alloc);
-    if text.extend_from_slice(HEAD).is_err() || text.extend_from_slice(rest).is_err() {
-        return 100;
-    }
+    let Ok(text) = text_of(alloc, rest) else {
+        return 100
+    };
     let Ok(style) = read_style(alloc, b"s.bst", &text) else {
         return 100
     };
@@ -112,10 +118,6 @@ const NO_PLACE: &[u8] = b"FUNCTION {f} {s write$} READ ITERATE {f}";
 #[test]
 fn places(rt: HostRuntime) {
     assert!(rt; places_of(rt.alloc(), TWO_PLACES) == 2);
-}
-
-#[test]
-fn no_place(rt: HostRuntime) {
     assert!(rt; places_of(rt.alloc(), NO_PLACE) == 0);
 }
 
@@ -130,42 +132,15 @@ fn clean_of(alloc: Global, lines: &[u8]) -> usize {
     count
 }
 
-#[test]
-fn fields(rt: HostRuntime) {
-    assert!(rt; clean_of(rt.alloc(), FIELDS) == 4);
+// Whether so many of the first lines are called clean, and none of the second, in which they are spoilt.
+fn are_told_apart(alloc: Global, lines: &[u8], clean: usize, spoilt: &[u8]) -> bool {
+    clean_of(alloc, lines) == clean && clean_of(alloc, spoilt) == 0
 }
 
 #[test]
-fn spoilt_fields(rt: HostRuntime) {
-    assert!(rt; clean_of(rt.alloc(), SPOILT_FIELDS) == 0);
-}
-
-#[test]
-fn values(rt: HostRuntime) {
-    assert!(rt; clean_of(rt.alloc(), VALUES) == 10);
-}
-
-#[test]
-fn spoilt_values(rt: HostRuntime) {
-    assert!(rt; clean_of(rt.alloc(), SPOILT_VALUES) == 0);
-}
-
-#[test]
-fn loops(rt: HostRuntime) {
-    assert!(rt; clean_of(rt.alloc(), LOOPS) == 5);
-}
-
-#[test]
-fn spoilt_loops(rt: HostRuntime) {
-    assert!(rt; clean_of(rt.alloc(), SPOILT_LOOPS) == 0);
-}
-
-#[test]
-fn entries(rt: HostRuntime) {
-    assert!(rt; clean_of(rt.alloc(), ENTRIES) == 4);
-}
-
-#[test]
-fn spoilt_entries(rt: HostRuntime) {
-    assert!(rt; clean_of(rt.alloc(), SPOILT_ENTRIES) == 0);
+fn spoilt_styles(rt: HostRuntime) {
+    assert!(rt; are_told_apart(rt.alloc(), FIELDS, 4, SPOILT_FIELDS));
+    assert!(rt; are_told_apart(rt.alloc(), VALUES, 10, SPOILT_VALUES));
+    assert!(rt; are_told_apart(rt.alloc(), LOOPS, 5, SPOILT_LOOPS));
+    assert!(rt; are_told_apart(rt.alloc(), ENTRIES, 4, SPOILT_ENTRIES));
 }

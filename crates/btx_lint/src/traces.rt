@@ -1,7 +1,9 @@
-//! What functions of the style led to in the search for places: where one is met again and what it can touch is the same, it leads to the same. No proof rests on it.
+//! What functions of the style led to in the search for places: where one is met again and what it can touch is the same, it leads to the same. No proof rests
+//! on it.
 use crate::frames::{End, Frame};
-use crate::likeness::mixed;
-use crate::work::Room;
+use btx_check::likeness::mixed;
+use btx_check::table::Table;
+use btx_check::work::Room;
 use std::alloc::{AllocError, Global};
 
 /// What a function of the style led to from what it can touch of a description.
@@ -32,18 +34,11 @@ pub struct Trace {
 #[derive(Drop)]
 pub struct Traces {
     /// What is remembered.
-    pub entries: Vec<Trace>,
-    // For the last digits of a mark, the number of what is remembered, from 1. 0 is nothing.
-    places: Vec<usize>,
+    pub table: Table<Trace>,
 }
 
-// How many places there are.
-const PLACES: u64 = 16384;
-
-// The place of what has this mark.
-fn place_of(mark: u64) -> usize {
-    (mark % PLACES) as usize
-}
+// How many places the table has.
+const PLACES: usize = 16384;
 
 /// A mark of a function of the style and a frame, before any fault or after one: that of an equal one is the same.
 pub fn mark_of(frame: &Frame, i: u32, is_first: bool) -> u64 {
@@ -55,19 +50,8 @@ impl Traces {
     /// Nothing is remembered.
     pub fn new(alloc: Global) -> Result<Traces, AllocError> {
         Ok(Traces {
-            entries: Vec::new(alloc),
-            places: vec![in alloc; 0; PLACES as usize]?,
+            table: Table::new(alloc, PLACES)?,
         })
-    }
-
-    // The number of what has the place of this mark, from 1.
-    fn number(&self, mark: u64) -> usize {
-        let place = place_of(mark);
-        if place < self.places.len() {
-            self.places[place]
-        } else {
-            0
-        }
     }
 
     /// The number of what a function led to from an equal frame, if that is remembered, where the search can go as deep as it went, and enough steps are left.
@@ -80,11 +64,8 @@ impl Traces {
         is_first: bool,
         mark: u64,
     ) -> Option<usize> {
-        let number = self.number(mark);
-        if number == 0 || number > self.entries.len() {
-            return None;
-        }
-        let entry = &self.entries[number - 1];
+        let number = self.table.number(mark)?;
+        let entry = &self.table.entries[number];
         if entry.mark != mark || entry.function != i || entry.is_first != is_first {
             return None;
         }
@@ -94,22 +75,11 @@ impl Traces {
         if !entry.from.is_same(frame) {
             return None;
         }
-        Some(number - 1)
+        Some(number)
     }
 
     /// Remembers what a function led to, in place of what has its place.
     pub fn keep(&mut self, entry: Trace) -> Result<(), AllocError> {
-        let place = place_of(entry.mark);
-        let number = self.number(entry.mark);
-        if number > 0 && number <= self.entries.len() {
-            self.entries[number - 1] = entry;
-            return Ok(());
-        }
-        self.entries.push(entry)?;
-        let number = self.entries.len();
-        if place < self.places.len() {
-            self.places[place] = number;
-        }
-        Ok(())
+        self.table.keep(entry.mark, entry)
     }
 }

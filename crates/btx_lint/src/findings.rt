@@ -1,12 +1,15 @@
 //! What may go wrong in a style, as data for whoever shows it to its designer: places, operands and causes.
+ghost use Rattle.std.specs.Prelude.{◌≡◌, []};
 ghost use Rattle.std.specs.Result.{IfOk};
-ghost use Rattle.btx_check.specs.Verdicts.{IsRight, NoneIfClean};
+ghost use Rattle.btx_check.specs.declared.verdict.Verdict.TheVariants as verdict;
+ghost use Rattle.btx_check.specs.Verdicts.{IsRight};
+ghost use Rattle.btx_lint.specs.Findings.{NoneIfClean};
 
-use crate::description::Value;
-use crate::verdict::{Verdict, judged};
 use crate::visits::trace;
-use crate::work::{Place, Work};
 use btx_bst::{Callee, Style};
+use btx_check::description::Value;
+use btx_check::verdict::{Clean, Verdict, judged};
+use btx_check::work::{Place, Work};
 use btx_step::Wanted;
 use std::alloc::{AllocError, Global};
 
@@ -107,37 +110,46 @@ pub struct Findings {
     pub is_whole: bool,
 }
 
-/// Checks a style as `check` does. If it isn't clean, another search, in at most as many steps, goes on after each fault and collects the places. That these
-/// are all, or that each of them can be met, isn't promised.
+/// Checks `style` as `check` does, in at most `steps` steps. If it isn't clean, another search, in at most as many steps, goes on after each fault and collects
+/// the places. That these are all, or that each of them can be met, isn't promised.
 pub fn examine(alloc: Global, style: &Style, steps: u64) -> Result<Findings, AllocError>
     ensures verdict { IfOk result (λ findings. IsRight style.now findings.verdict) }
     ensures none { IfOk result (λ findings. NoneIfClean findings.verdict findings.found.items) }
 {
     let mut work = Work::new(alloc, steps);
     match judged(&mut work, style)? {
-        Verdict::Clean(clean) => Ok(Findings {
-            verdict: Verdict::Clean(clean),
-            found: Vec::new(alloc),
-            causes: Vec::new(alloc),
-            is_whole: true,
-        }),
-        Verdict::NotKnownClean(warning) => {
-            let traced = trace(work, style)?;
-            Ok(Findings {
-                verdict: Verdict::NotKnownClean(warning),
-                found: traced.found,
-                causes: traced.causes,
-                is_whole: traced.is_whole,
-            })
-        }
-        Verdict::Incomplete => {
-            let traced = trace(work, style)?;
-            Ok(Findings {
-                verdict: Verdict::Incomplete,
-                found: traced.found,
-                causes: traced.causes,
-                is_whole: traced.is_whole,
-            })
-        }
+        Verdict::Clean(clean) => Ok(without_places(alloc, clean)),
+        Verdict::NotKnownClean(warning) => with_places(
+            work,
+            style,
+            Verdict::NotKnownClean(warning),
+        ),
+        Verdict::Incomplete => with_places(work, style, Verdict::Incomplete),
     }
+}
+
+// What is found of a style that is clean, as `clean` says.
+fn without_places(alloc: Global, clean: Clean) -> Findings
+    ensures verdict { result.verdict ≡ verdict.Clean clean }
+    ensures none { result.found.items ≡ [] }
+{
+    Findings {
+        verdict: Verdict::Clean(clean),
+        found: Vec::new(alloc),
+        causes: Vec::new(alloc),
+        is_whole: true,
+    }
+}
+
+// What is found of a style by another search, beside `verdict`. The search goes by what `work` says.
+fn with_places(work: Work, style: &Style, verdict: Verdict) -> Result<Findings, AllocError>
+    ensures { IfOk result (λ findings. findings.verdict ≡ verdict) }
+{
+    let traced = trace(work, style)?;
+    Ok(Findings {
+        verdict,
+        found: traced.found,
+        causes: traced.causes,
+        is_whole: traced.is_whole,
+    })
 }

@@ -1,9 +1,9 @@
 //! The part of a description that a function of the style can touch: the literals on top, and the names in the functions that it leads to. No proof rests
 //! on it.
-use crate::description::Value;
-use crate::likeness::{Likeness, mark_of_value, mixed};
 use crate::reach::Reaches;
-use crate::state::State;
+use btx_check::description::Value;
+use btx_check::likeness::{mark_of_value, mixed};
+use btx_check::state::{Names, State};
 use std::alloc::{AllocError, Global};
 use std::rc::RcSlice;
 
@@ -13,12 +13,32 @@ pub const KINDS: usize = 5;
 /// The numbers of the names of a kind.
 pub fn names_of(a: &State, kind: usize) -> &[Option<usize>] {
     match kind {
-        0 => &a.global_integers,
-        1 => &a.global_strings,
-        2 => &a.entry_integers,
-        3 => &a.entry_strings,
-        _ => &a.fields,
+        0 => a.global_integers(),
+        1 => a.global_strings(),
+        2 => a.entry_integers(),
+        3 => a.entry_strings(),
+        _ => a.fields(),
     }
+}
+
+// The numbers of the names that belong to a frame of the function `i`, kind by kind: those that it reaches, or all. None where a name has no number.
+fn names_within(
+    alloc: Global,
+    reaches: &Reaches,
+    is_whole: bool,
+    a: &State,
+    i: u32,
+) -> Result<Vec<Option<usize>>, AllocError> {
+    let mut names = Vec::with_capacity(alloc, 32)?;
+    for kind in 0..KINDS {
+        let numbers = names_of(a, kind);
+        for k in 0..numbers.len() {
+            if is_whole || reaches.has(i, kind, k) {
+                names.push(numbers[k])?;
+            }
+        }
+    }
+    Ok(names)
 }
 
 /// What a function of the style can touch of a description. Its literals have numbers of their own, in the order of their places.
@@ -59,8 +79,9 @@ pub struct Framed {
 
 // Whether one of the literals on top is a function, which may touch anything.
 fn has_function(a: &State, depth: usize) -> bool {
-    for k in 0..a.stack.len() {
-        if k < depth && k < a.stack.len() && matches!(a.value(a.stack[k]), Value::Function(_)) {
+    let stack = a.stack();
+    for k in 0..stack.len() {
+        if k < depth && matches!(a.value(stack[k]), Value::Function(_)) {
             return true;
         }
     }
@@ -77,30 +98,6 @@ fn set(numbers: &mut [usize], k: usize, n: usize) {
     }
 }
 
-fn is_equal(a: &[usize], b: &[usize]) -> bool {
-    if a.len() != b.len() {
-        return false;
-    }
-    for k in 0..a.len() {
-        if k < b.len() && a[k] != b[k] {
-            return false;
-        }
-    }
-    true
-}
-
-fn are_equal(a: &[Value], b: &[Value]) -> bool {
-    if a.len() != b.len() {
-        return false;
-    }
-    for k in 0..a.len() {
-        if k < b.len() && a[k] != b[k] {
-            return false;
-        }
-    }
-    true
-}
-
 impl Frame {
     /// Whether another frame is the same.
     pub fn is_same(&self, other: &Frame) -> bool {
@@ -108,9 +105,9 @@ impl Frame {
             && self.is_bottom == other.is_bottom
             && self.is_whole == other.is_whole
             && self.entry == other.entry
-            && is_equal(&self.places, &other.places)
-            && is_equal(&self.shared, &other.shared)
-            && are_equal(&self.values, &other.values)
+            && self.places == other.places
+            && self.shared == other.shared
+            && self.values == other.values
     }
 
     /// A mark of it: that of an equal one is the same.
@@ -156,9 +153,8 @@ impl Framed {
             anchors: Vec::with_capacity(alloc, 32)?,
         };
         framed.take_stack(a)?;
-        for kind in 0..KINDS {
-            framed.take_names(reaches, a, i, kind)?;
-        }
+        let names = names_within(alloc, reaches, is_whole, a, i)?;
+        framed.take_names(a, names.as_slice())?;
         framed.share_stack(a);
         if !is_whole {
             for kind in 0..KINDS {
@@ -185,28 +181,20 @@ impl Framed {
     }
 
     fn take_stack(&mut self, a: &State) -> Result<(), AllocError> {
+        let stack = a.stack();
         for k in 0..self.frame.depth {
-            if k < a.stack.len() {
-                self.take(a, a.stack[k])?;
+            if k < stack.len() {
+                self.take(a, stack[k])?;
             }
         }
         Ok(())
     }
 
-    fn take_names(
-        &mut self,
-        reaches: &Reaches,
-        a: &State,
-        i: u32,
-        kind: usize,
-    ) -> Result<(), AllocError> {
-        let numbers = names_of(a, kind);
-        for k in 0..numbers.len() {
-            if self.frame.is_whole || reaches.has(i, kind, k) {
-                match numbers[k] {
-                    None => self.frame.places.push(0)?,
-                    Some(number) => self.take(a, number)?,
-                }
+    fn take_names(&mut self, a: &State, names: &[Option<usize>]) -> Result<(), AllocError> {
+        for name in names {
+            match name {
+                None => self.frame.places.push(0)?,
+                Some(number) => self.take(a, *number)?,
             }
         }
         Ok(())
@@ -228,9 +216,10 @@ impl Framed {
     }
 
     fn share_stack(&mut self, a: &State) {
-        for k in self.frame.depth..a.stack.len() {
-            if k < a.stack.len() {
-                self.share(a.stack[k], Anchor::Stack(a.stack.len() - k), 1);
+        let stack = a.stack();
+        for k in self.frame.depth..stack.len() {
+            if k < stack.len() {
+                self.share(stack[k], Anchor::Stack(stack.len() - k), 1);
             }
         }
     }
@@ -252,11 +241,10 @@ fn number_at(a: &State, anchor: Option<Anchor>) -> Option<usize> {
     match anchor {
         None => None,
         Some(Anchor::Stack(height)) => {
-            if height > 0 && height <= a.stack.len() {
-                Some(a.stack[a.stack.len() - height])
-            } else {
-                None
+            if height == 0 || height > a.height() {
+                return None;
             }
+            a.number_at(a.height() - height)
         }
         Some(Anchor::Name(kind, k)) => {
             let numbers = names_of(a, kind);
@@ -300,9 +288,8 @@ impl End {
             inner: vec![in alloc; 0; a.values_len()]?,
         };
         end.take_stack(a, a.height().saturating_sub(below))?;
-        for kind in 0..KINDS {
-            end.take_names(reaches, &framed.frame, a, i, kind)?;
-        }
+        let names = names_within(alloc, reaches, framed.frame.is_whole, a, i)?;
+        end.take_names(a, names.as_slice())?;
         end.take_shared(framed, a)?;
         end.inner.clear();
         Ok(end)
@@ -329,29 +316,20 @@ impl End {
     }
 
     fn take_stack(&mut self, a: &State, count: usize) -> Result<(), AllocError> {
+        let stack = a.stack();
         for k in 0..count {
-            if k < a.stack.len() {
-                let number = self.number(a, a.stack[k])?;
+            if k < stack.len() {
+                let number = self.number(a, stack[k])?;
                 self.stack.push(number)?;
             }
         }
         Ok(())
     }
 
-    fn take_names(
-        &mut self,
-        reaches: &Reaches,
-        frame: &Frame,
-        a: &State,
-        i: u32,
-        kind: usize,
-    ) -> Result<(), AllocError> {
-        let numbers = names_of(a, kind);
-        for k in 0..numbers.len() {
-            if frame.is_whole || reaches.has(i, kind, k) {
-                let number = self.number_or_none(a, numbers[k])?;
-                self.names.push(number)?;
-            }
+    fn take_names(&mut self, a: &State, names: &[Option<usize>]) -> Result<(), AllocError> {
+        for name in names {
+            let number = self.number_or_none(a, *name)?;
+            self.names.push(number)?;
         }
         Ok(())
     }
@@ -380,22 +358,14 @@ impl End {
         };
         back.values.extend_from_slice(&self.values)?;
         let stack = back.stack(alloc, self, framed, a)?;
-        let global_integers = back.names(alloc, self, reaches, framed, a, i, 0)?;
-        let global_strings = back.names(alloc, self, reaches, framed, a, i, 1)?;
-        let entry_integers = back.names(alloc, self, reaches, framed, a, i, 2)?;
-        let entry_strings = back.names(alloc, self, reaches, framed, a, i, 3)?;
-        let fields = back.names(alloc, self, reaches, framed, a, i, 4)?;
-        Ok(State {
-            stack,
-            values: back.values,
-            global_integers,
-            global_strings,
-            entry_integers,
-            entry_strings,
-            fields,
-            entry: self.entry,
-            likeness: Likeness::unknown(),
-        })
+        let names = Names {
+            global_integers: back.names(alloc, self, reaches, framed, a, i, 0)?,
+            global_strings: back.names(alloc, self, reaches, framed, a, i, 1)?,
+            entry_integers: back.names(alloc, self, reaches, framed, a, i, 2)?,
+            entry_strings: back.names(alloc, self, reaches, framed, a, i, 3)?,
+            fields: back.names(alloc, self, reaches, framed, a, i, 4)?,
+        };
+        Ok(State::of(stack, back.values, names, self.entry))
     }
 }
 
@@ -442,18 +412,15 @@ impl Back {
         framed: &Framed,
         a: &State,
     ) -> Result<Vec<usize>, AllocError> {
-        let room = end
-            .stack
-            .len()
-            .saturating_add(a.stack.len())
-            .saturating_add(8);
+        let room = end.stack.len().saturating_add(a.height()).saturating_add(8);
         let mut stack: Vec<usize> = Vec::with_capacity(alloc, room)?;
         for number in end.stack.iter() {
             stack.push(number.saturating_sub(1))?;
         }
-        for k in framed.frame.depth..a.stack.len() {
-            if k < a.stack.len() {
-                let number = self.outer(end, framed, a, a.stack[k])?;
+        let below = a.stack();
+        for k in framed.frame.depth..below.len() {
+            if k < below.len() {
+                let number = self.outer(end, framed, a, below[k])?;
                 stack.push(number)?;
             }
         }

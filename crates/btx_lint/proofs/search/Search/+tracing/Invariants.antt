@@ -1,5 +1,5 @@
 use Rattle.std.proofs.Common.{◌+◌, ◌*◌}
-use Rattle.btx_check.proofs.tracing.Search.+tracing.Given as goal
+use Rattle.btx_lint.proofs.search.Search.+tracing.Given as goal
 
 abbrev pub decreases-anew : goal.decreases-anew
 decreases-anew l = 8 * l.room.fuel + 3

@@ -1,14 +1,15 @@
 //! The commands of a style in the search for places where it may go wrong, and what is found of all of them. No proof rests on it.
-use crate::entries::{Known, entries_of, starts_of, unknown_entries};
 use crate::findings::{Cause, Fault, Finding};
-use crate::lasting::{globals_of, lasting};
+use crate::least::Least;
 use crate::reach::Reaches;
-use crate::state::State;
+use crate::search::{Lanes, Search, mark};
 use crate::traces::Traces;
-use crate::tracing::{Lanes, Least, Search, mark};
-use crate::types::meant_types;
-use crate::work::{MOST_LOOPS, MOST_NESTED, Place, Room, Work};
 use btx_bst::{Callee, Item, Style, Token};
+use btx_check::State;
+use btx_check::entries::{Known, entries_of, starts_of, unknown_entries};
+use btx_check::lasting::{globals_of, lasting_globals};
+use btx_check::types::meant_types;
+use btx_check::work::{MOST_LOOPS, MOST_NESTED, Place, Room, Work};
 use std::alloc::{AllocError, Global};
 
 /// What the search found.
@@ -68,7 +69,7 @@ impl Search {
                 })
             }
             Item::Iterate(f) | Item::Reverse(f) => {
-                let globals = lasting(&self.work, style, &self.allowed, f, &known.globals)?;
+                let globals = lasting_globals(&self.work, style, &self.allowed, f, &known.globals)?;
                 let starts = starts_of(alloc, &globals, &known.entries)?;
                 let mut ends = self.visit(style, f, &starts)?;
                 ends.good.append(&mut ends.spoilt)?;

@@ -1,176 +1,27 @@
-//! The search for all places where a style may go wrong: it executes functions on descriptions as `running` does, and goes on after a fault. No proof rests on it.
-use crate::adding::{add, add_known, add_sure};
-use crate::bounds::{not_positive, positive};
-use crate::description::{Upper, Value};
-use crate::findings::{Condition, Fault, Finding, Growth, Operand};
+//! The search for all places where a style may go wrong: it executes functions on descriptions as `btx_check` does, and goes on after a fault. No proof rests
+//! on it.
+use crate::faults::narrow;
+use crate::findings::{Fault, Finding};
 use crate::frames::{End, Framed};
-use crate::loops::{all_in, copies_of, proposed};
-use crate::memo::LEAST_TOKENS;
-use crate::name_rules::assign;
+use crate::least::{Least, SPARE_LITERALS};
 use crate::reach::Reaches;
-use crate::rules::{one_step, push_token};
-use crate::state::State;
-use crate::traces::{Trace, Traces, mark_of};
-use crate::wants::{Left, Wants, wants_of};
-use crate::work::{Place, Room, Work};
+use crate::search::{Lanes, Search, add_type, is_even, mark};
+use crate::traces::{Trace, mark_of};
+use crate::wants::wants_of;
 use btx_bst::{BuiltIn, Callee, Style, Token};
-use btx_step::Wanted;
-use std::alloc::{AllocError, Global};
+use btx_check::State;
+use btx_check::adding::{add, add_known, add_sure};
+use btx_check::bounds::{not_positive, positive};
+use btx_check::description::Value;
+use btx_check::loops::{all_in, copies_of, proposed};
+use btx_check::memo::LEAST_TOKENS;
+use btx_check::name_rules::assign;
+use btx_check::rules::{one_step, push_token};
+use btx_check::work::{Room, Work};
+use std::alloc::AllocError;
 use std::mem;
 
-/// Descriptions before any fault of a visit, and after one.
-#[derive(Drop)]
-pub struct Lanes {
-    pub good: Vec<State>,
-    pub spoilt: Vec<State>,
-}
-
-impl Lanes {
-    /// No descriptions.
-    pub fn new(alloc: Global) -> Lanes {
-        Lanes {
-            good: Vec::new(alloc),
-            spoilt: Vec::new(alloc),
-        }
-    }
-
-    // Where descriptions go before a fault, or after one.
-    fn lane(&mut self, is_first: bool) -> &mut Vec<State> {
-        if is_first {
-            &mut self.good
-        } else {
-            &mut self.spoilt
-        }
-    }
-}
-
-/// An `if$`, and by how much its branches let the stack grow, where they were executed.
-#[derive(Clone, Copy)]
-pub struct Fork {
-    pub place: Place,
-    pub yes: Option<Growth>,
-    pub no: Option<Growth>,
-}
-
-/// The least that was met.
-#[derive(Clone, Copy)]
-pub struct Least {
-    pub fuel: usize,
-    pub loops: usize,
-    pub literals: usize,
-}
-
-impl Least {
-    /// Before a function, where `room` says how many bodies and loops can be opened.
-    pub fn new(room: Room) -> Least {
-        Least {
-            fuel: room.fuel,
-            loops: room.loops,
-            literals: usize::MAX,
-        }
-    }
-
-    // Notes that `fuel` bodies and `loops` loops could be opened.
-    fn met(&mut self, fuel: usize, loops: usize) {
-        if fuel < self.fuel {
-            self.fuel = fuel;
-        }
-        if loops < self.loops {
-            self.loops = loops;
-        }
-    }
-
-    // Notes that the lowest `literals` of the stack were left untouched.
-    fn left(&mut self, literals: usize) {
-        if literals < self.literals {
-            self.literals = literals;
-        }
-    }
-
-    // Notes that of `height` literals the `count` on top were touched.
-    fn touched(&mut self, height: usize, count: usize) {
-        self.left(height.saturating_add(SPARE_LITERALS).saturating_sub(count));
-    }
-}
-
-// More literals than a function of one step touches, so that it is seen where they are too few.
-const SPARE_LITERALS: usize = 8;
-
-/// What the search goes by.
-#[derive(Drop)]
-pub struct Search {
-    pub work: Work,
-    pub allowed: Vec<u32>,
-    /// The command, by its number.
-    pub item: usize,
-    /// The type of the entry.
-    pub entry_type: Option<u32>,
-    pub found: Vec<Finding>,
-    pub forks: Vec<Fork>,
-    /// Of each function: whether it can leave different numbers of literals from one description.
-    pub uneven: Vec<bool>,
-    /// What functions of the style led to.
-    pub traces: Traces,
-    /// What functions of the style can touch.
-    pub reaches: Reaches,
-    /// The least that was met in the function that is open: how much could still be opened, and how many literals were left untouched, with `SPARE_LITERALS`.
-    pub least: Least,
-    /// The numbers of what was found in the functions that are open, whether it was known before or not.
-    pub noted: Vec<usize>,
-    /// How often the type of the entry was asked for.
-    pub types_asked: u64,
-}
-
 impl Search {
-    /// Notes a fault at the place that was reached, if it isn't known there.
-    pub fn note(
-        &mut self,
-        a: &State,
-        executed: Callee,
-        fault: Fault,
-        operand: Option<Operand>,
-        is_first: bool,
-    ) -> Result<(), AllocError> {
-        let place = match self.work.open.last() {
-            Some(place) => *place,
-            None => Place {
-                function: None,
-                token: 0,
-            },
-        };
-        let entry_type = self.entry_type;
-        for k in 0..self.found.len() {
-            if k < self.found.len()
-                && self.found[k].place == place
-                && self.found[k].fault == fault
-            {
-                if is_first {
-                    self.found[k].is_first = true;
-                }
-                self.noted.push(k)?;
-                return add_type(&mut self.found[k].types, entry_type);
-            }
-        }
-        self.noted.push(self.found.len())?;
-        let mut types: Vec<Option<u32>> = Vec::new(self.work.alloc);
-        types.push(entry_type)?;
-        let conditions = conditions_of(self.work.alloc, a)?;
-        let way = self.work.open.clone()?;
-        self.found.push(Finding {
-            fault,
-            place,
-            executed,
-            operand,
-            literals: a.height(),
-            way,
-            item: self.item,
-            types,
-            conditions,
-            is_first,
-        })?;
-        Ok(())
-    }
-
     /// A function, from a description: what it leads to is added to the others.
     #[cycle(tracing)]
     #[inline(never)]
@@ -245,7 +96,7 @@ impl Search {
         }
         if style.body(i as usize).len() < LEAST_TOKENS {
             let ends = self.body(style, room, a, is_first, i)?;
-            return add_ends(&self.work, ends, out);
+            return out.join_sure(&self.work, ends);
         }
         self.reaches.learn(self.work.alloc, style, i)?;
         let framed = Framed::new(self.work.alloc, &self.reaches, &a, i)?;
@@ -269,11 +120,11 @@ impl Search {
         i: u32,
         out: &mut Lanes,
     ) -> Result<(), AllocError> {
-        if k >= self.traces.entries.len() {
+        if k >= self.traces.table.entries.len() {
             return Ok(());
         }
         let entry_type = self.entry_type;
-        let trace = &self.traces.entries[k];
+        let trace = &self.traces.table.entries[k];
         self.work.steps = self.work.steps.saturating_sub(trace.steps);
         self.least.met(
             room.fuel.saturating_sub(trace.room.fuel),
@@ -332,7 +183,7 @@ impl Search {
             self.remember(room, least, &from, is_first, i, &to, used, found)?;
         }
         self.work.gave_up = self.work.gave_up || gave_up;
-        add_ends(&self.work, to, out)
+        out.join_sure(&self.work, to)
     }
 
     // Remembers what a function of the style led to.
@@ -369,27 +220,6 @@ impl Search {
             steps,
             found,
         })
-    }
-
-    // The numbers of what was found behind the first `before` notes, each once.
-    fn noted_from(&mut self, before: usize) -> Result<Vec<usize>, AllocError> {
-        let mut found: Vec<usize> = Vec::new(self.work.alloc);
-        if self.noted.len() <= before {
-            return Ok(found);
-        }
-        let mut is_there: Vec<bool> = vec![in self.work.alloc; false; self.found.len()]?;
-        for k in before..self.noted.len() {
-            if k < self.noted.len() {
-                let number = self.noted[k];
-                if number < is_there.len() && !is_there[number] {
-                    is_there[number] = true;
-                    found.push(number)?;
-                }
-            }
-        }
-        self.noted.truncate(before);
-        self.noted.extend_from_slice(&found)?;
-        Ok(found)
     }
 
     // The body of a function of the style: what it leads to.
@@ -466,46 +296,6 @@ impl Search {
         }
     }
 
-    // Notes the fault of a function: the operand that is the reason, if one is.
-    fn fault(
-        &mut self,
-        a: &State,
-        f: Callee,
-        is_first: bool,
-    ) -> Result<Option<Operand>, AllocError> {
-        let wants = wants_of(f);
-        if !a.has_entry() && needs_entry(f) {
-            self.note(a, f, Fault::NoEntry, None, is_first)?;
-            return Ok(None);
-        }
-        if a.height() < wants.count {
-            self.note(a, f, Fault::EmptyStack, None, is_first)?;
-            return Ok(None);
-        }
-        if !a.has_entry() && assigns_in_entry(a, f) {
-            self.note(a, f, Fault::NoEntry, None, is_first)?;
-            return Ok(None);
-        }
-        let operand = wrong_operand(a, &wants, f);
-        self.note(a, f, fault_of(f, operand), operand, is_first)?;
-        Ok(operand)
-    }
-
-    // Adds what follows a fault: without the operands, and with what stands for a result.
-    fn recover(&mut self, a: &State, f: Callee, out: &mut Vec<State>) -> Result<(), AllocError> {
-        let wants = wants_of(f);
-        let mut b = a.copy()?;
-        for _ in 0..wants.count {
-            let _ = b.pop();
-        }
-        match wants.left {
-            Left::Nothing => {}
-            Left::Zero => b.push_new(Value::zero())?,
-            Left::EmptyString => b.push_new(Value::Text(crate::rules::mask_of(b"")))?,
-        }
-        add(&self.work, out, b)
-    }
-
     // `if$`.
     #[cycle(tracing)]
     #[inline(never)]
@@ -518,8 +308,8 @@ impl Search {
         out: &mut Lanes,
     ) -> Result<(), AllocError> {
         self.least.touched(a.height(), 3);
-        let third = number_at(&a, 2);
-        match (value_at(&a, 0), value_at(&a, 1), value_of(&a, third), third) {
+        let third = a.number_at(2);
+        match (a.value_at(0), a.value_at(1), a.value_of(third), third) {
             (
                 Some(Value::Function(g)),
                 Some(Value::Function(f)),
@@ -537,8 +327,7 @@ impl Search {
             }
             _ => {
                 let f = Callee::BuiltIn(BuiltIn::If);
-                let _ = self.fault(&a, f, is_first)?;
-                self.recover(&a, f, &mut out.spoilt)
+                self.spoil(&a, f, is_first, &mut out.spoilt)
             }
         }
     }
@@ -564,8 +353,8 @@ impl Search {
         if is_first {
             self.compare(height, &after_yes.good, &after_no.good)?;
         }
-        self.join(after_yes, out)?;
-        self.join(after_no, out)
+        out.join(&self.work, after_yes)?;
+        out.join(&self.work, after_no)
     }
 
     // One of them, where the result of the test has a number: nothing is to be done if it can't be.
@@ -589,36 +378,6 @@ impl Search {
         Ok(after)
     }
 
-    // Adds descriptions to others.
-    fn join(&mut self, from: Lanes, out: &mut Lanes) -> Result<(), AllocError> {
-        for b in from.good {
-            add(&self.work, &mut out.good, b)?;
-        }
-        for b in from.spoilt {
-            add(&self.work, &mut out.spoilt, b)?;
-        }
-        Ok(())
-    }
-
-    // Notes by how much the branches of an `if$` let the stack grow.
-    fn compare(&mut self, height: usize, yes: &[State], no: &[State]) -> Result<(), AllocError> {
-        let Some(place) = self.work.open.last() else {
-            return Ok(());
-        };
-        let place = *place;
-        let yes = growth(height, yes);
-        let no = growth(height, no);
-        for known in self.forks.iter_mut() {
-            if known.place == place {
-                known.yes = both_grown(known.yes, yes);
-                known.no = both_grown(known.no, no);
-                return Ok(());
-            }
-        }
-        self.forks.push(Fork { place, yes, no })?;
-        Ok(())
-    }
-
     // `while$`.
     #[cycle(tracing)]
     #[inline(never)]
@@ -631,7 +390,7 @@ impl Search {
         out: &mut Lanes,
     ) -> Result<(), AllocError> {
         self.least.touched(a.height(), 2);
-        match (value_at(&a, 0), value_at(&a, 1)) {
+        match (a.value_at(0), a.value_at(1)) {
             (Some(Value::Function(g)), Some(Value::Function(f))) => {
                 if room.loops == 0 {
                     self.work.gave_up = true;
@@ -650,8 +409,7 @@ impl Search {
             }
             _ => {
                 let f = Callee::BuiltIn(BuiltIn::While);
-                let _ = self.fault(&a, f, is_first)?;
-                self.recover(&a, f, &mut out.spoilt)
+                self.spoil(&a, f, is_first, &mut out.spoilt)
             }
         }
     }
@@ -706,7 +464,7 @@ impl Search {
             self.least.touched(a.height(), 1);
             let mut below = a.copy()?;
             let top = below.pop();
-            match (value_of(a, top), top) {
+            match (a.value_of(top), top) {
                 (Some(Value::Integer(low, high)), Some(number)) => {
                     let on = positive(low, high);
                     let off = not_positive(low, high);
@@ -776,17 +534,6 @@ fn add_types(
     Ok(())
 }
 
-// Adds the ends of a function to others.
-fn add_ends(work: &Work, ends: Lanes, out: &mut Lanes) -> Result<(), AllocError> {
-    for b in ends.good {
-        add_sure(work, &mut out.good, b)?;
-    }
-    for b in ends.spoilt {
-        add_sure(work, &mut out.spoilt, b)?;
-    }
-    Ok(())
-}
-
 // Adds what became of a frame, in another description.
 fn put_back(
     work: &Work,
@@ -819,252 +566,4 @@ fn ends_of(
         ends.push(end)?;
     }
     Ok(ends)
-}
-
-// Adds a type to others.
-fn add_type(types: &mut Vec<Option<u32>>, entry_type: Option<u32>) -> Result<(), AllocError> {
-    for known in types.iter() {
-        if *known == entry_type {
-            return Ok(());
-        }
-    }
-    types.push(entry_type)?;
-    Ok(())
-}
-
-// The number at a place of the stack, from the top.
-fn number_at(a: &State, k: usize) -> Option<usize> {
-    if k < a.stack.len() {
-        Some(a.stack[k])
-    } else {
-        None
-    }
-}
-
-// What is known of the literal there.
-fn value_at(a: &State, k: usize) -> Option<Value> {
-    value_of(a, number_at(a, k))
-}
-
-// What is known of a number, if there is one.
-fn value_of(a: &State, number: Option<usize>) -> Option<Value> {
-    match number {
-        None => None,
-        Some(number) => Some(a.value(number)),
-    }
-}
-
-// What is known of the fields of the entry.
-fn conditions_of(alloc: Global, a: &State) -> Result<Vec<Condition>, AllocError> {
-    let mut conditions: Vec<Condition> = Vec::new(alloc);
-    for k in 0..a.fields.len() {
-        match value_of(a, a.fields[k]) {
-            Some(Value::Text(m)) => {
-                let is_given = !m.missing && !m.empty && !m.white;
-                if k < u32::MAX as usize && (is_given || !m.full) {
-                    conditions.push(Condition {
-                        field: k as u32,
-                        is_given,
-                    })?;
-                }
-            }
-            _ => {}
-        }
-    }
-    Ok(conditions)
-}
-
-// Whether a function needs an entry.
-fn needs_entry(f: Callee) -> bool {
-    match f {
-        Callee::BuiltIn(b) => matches!(
-            b,
-            BuiltIn::Cite | BuiltIn::Type | BuiltIn::CallType | BuiltIn::Missing
-        ),
-        Callee::Field(_) | Callee::EntryInteger(_) | Callee::EntryString(_) => true,
-        _ => false,
-    }
-}
-
-// What is assigned to, if `f` is `:=`.
-fn assigned(a: &State, f: Callee) -> Option<Callee> {
-    if f != Callee::BuiltIn(BuiltIn::Assign) || a.stack.is_empty() {
-        return None;
-    }
-    match a.value(a.stack[0]) {
-        Value::Function(variable) => Some(variable),
-        _ => None,
-    }
-}
-
-// Whether a function assigns to a variable of an entry.
-fn assigns_in_entry(a: &State, f: Callee) -> bool {
-    match assigned(a, f) {
-        Some(Callee::EntryInteger(_)) | Some(Callee::EntryString(_)) => true,
-        _ => false,
-    }
-}
-
-// The kind of the value that a function assigns, if it assigns to a variable.
-fn assigned_kind(a: &State, f: Callee) -> Option<Wanted> {
-    match assigned(a, f) {
-        Some(Callee::EntryInteger(_)) | Some(Callee::GlobalInteger(_)) => Some(Wanted::Integer),
-        Some(Callee::EntryString(_)) | Some(Callee::GlobalString(_)) => Some(Wanted::Text),
-        _ => None,
-    }
-}
-
-// The first operand that may be wrong.
-fn wrong_operand(a: &State, wants: &Wants, f: Callee) -> Option<Operand> {
-    for k in 0..3 {
-        if k < wants.count && k < a.stack.len() {
-            let number = a.stack[k];
-            let value = a.value(number);
-            let wanted = if k == 1 && wants.kinds[k].is_none() {
-                assigned_kind(a, f)
-            } else {
-                wants.kinds[k]
-            };
-            let is_right = match wanted {
-                Some(wanted) => crate::operands::is_fit(value, wanted),
-                None => is_right_here(a, value, f),
-            };
-            if !is_right {
-                return Some(Operand {
-                    position: k,
-                    value,
-                    name: name_of(a, number),
-                    wanted,
-                });
-            }
-        }
-    }
-    None
-}
-
-// Whether an operand of no kind is right: of `=`.
-fn is_right_here(a: &State, value: Value, f: Callee) -> bool {
-    match (f, value) {
-        (Callee::BuiltIn(BuiltIn::Equals), Value::Text(m)) => !m.missing,
-        (Callee::BuiltIn(BuiltIn::Equals), Value::Integer(_, _)) => {
-            a.stack.len() >= 2
-                && matches!(a.value(a.stack[0]), Value::Integer(_, _))
-                && matches!(a.value(a.stack[1]), Value::Integer(_, _))
-        }
-        (Callee::BuiltIn(BuiltIn::Equals), _) => false,
-        _ => true,
-    }
-}
-
-// The message of a function whose operand is wrong.
-fn fault_of(f: Callee, operand: Option<Operand>) -> Fault {
-    match f {
-        Callee::BuiltIn(BuiltIn::Equals) => Fault::Incomparable,
-        Callee::BuiltIn(BuiltIn::Assign) => match operand {
-            Some(_) => Fault::WrongKind,
-            None => Fault::NotAssignable,
-        },
-        _ => Fault::WrongKind,
-    }
-}
-
-// Takes a missing field from what an operand may be, if it may be a string as well.
-fn narrow(a: &mut State, operand: Option<Operand>) -> bool {
-    match operand {
-        Some(operand) => match operand.value {
-            Value::Text(m) => {
-                if !m.missing || !(m.empty || m.white || m.full) {
-                    return false;
-                }
-                if operand.position < a.stack.len() {
-                    let number = a.stack[operand.position];
-                    a.know(number, Value::Text(m.present()));
-                    return true;
-                }
-                false
-            }
-            _ => false,
-        },
-        None => false,
-    }
-}
-
-// The name whose value a number is.
-fn name_of(a: &State, number: usize) -> Option<Callee> {
-    for k in 0..a.fields.len() {
-        if a.fields[k] == Some(number) && k < u32::MAX as usize {
-            return Some(Callee::Field(k as u32));
-        }
-    }
-    for k in 0..a.global_strings.len() {
-        if a.global_strings[k] == Some(number) && k < u32::MAX as usize {
-            return Some(Callee::GlobalString(k as u32));
-        }
-    }
-    for k in 0..a.global_integers.len() {
-        if a.global_integers[k] == Some(number) && k < u32::MAX as usize {
-            return Some(Callee::GlobalInteger(k as u32));
-        }
-    }
-    None
-}
-
-// Whether all of these have the same number of literals.
-fn is_even(states: &[State]) -> bool {
-    for a in states {
-        if a.height() != states[0].height() {
-            return false;
-        }
-    }
-    true
-}
-
-// By how many literals these have more than there were.
-fn growth(height: usize, states: &[State]) -> Option<Growth> {
-    let mut grown: Option<Growth> = None;
-    for a in states {
-        let by = difference(a.height(), height);
-        grown = both_grown(
-            grown,
-            Some(Growth {
-                least: by,
-                most: by,
-            }),
-        );
-    }
-    grown
-}
-
-// The growth of both.
-fn both_grown(one: Option<Growth>, other: Option<Growth>) -> Option<Growth> {
-    match (one, other) {
-        (Some(g), Some(h)) => Some(Growth {
-            least: if h.least < g.least { h.least } else { g.least },
-            most: if h.most > g.most { h.most } else { g.most },
-        }),
-        (None, _) => other,
-        _ => one,
-    }
-}
-
-// A difference of two heights of the stack.
-fn difference(a: usize, b: usize) -> i64 {
-    if a >= b {
-        match i64::try_from(a - b) {
-            Ok(n) => n,
-            Err(_) => i64::MAX,
-        }
-    } else {
-        match i64::try_from(b - a) {
-            Ok(n) => 0 - n,
-            Err(_) => i64::MIN,
-        }
-    }
-}
-
-/// Sets a mark.
-pub fn mark(marks: &mut [bool], i: u32) {
-    if (i as usize) < marks.len() {
-        marks[i as usize] = true;
-    }
 }
