@@ -15,7 +15,7 @@ module _ {A : Type 0} (x : A) (rest : List A) where
   tail (y ∷ ys) = ys
 
   -- behind one more of them
-  drop_more : (n : ℕ) (xs : List A) → drop n xs ≡ x ∷ rest → drop (suc n) xs ≡ rest
+  pub drop_more : (n : ℕ) (xs : List A) → drop n xs ≡ x ∷ rest → drop (suc n) xs ≡ rest
   unfolding tail
   drop_more zero [] e = absurd (no_more e)
   drop_more zero (y ∷ xs) e = ap tail e

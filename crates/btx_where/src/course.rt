@@ -1,22 +1,29 @@
 //! What is followed of a run, and what is noted of it.
+ghost use Rattle.std.specs.Prelude.{◌≡◌};
+ghost use Rattle.btx_where.specs.Events.{steps_before};
+
 use btx_machine::LogCounts;
 use std::alloc::{AllocError, Global};
 
-/// What logged an error: a step; the test of a loop that ended behind it; or the end of a command that left literals on the stack.
+/// What is noted of a run. An error was logged by a step; by the test of a loop that ended behind it; or by the end of a command that left literals on the
+/// stack. Or it is where the run was stopped, or where it met a limit.
 #[derive(Clone, Copy, PartialEq, Eq, Debug)]
 pub enum Word {
     Step,
     Test,
     Left,
+    Stop,
+    Limit,
 }
 
 impl Word {
-    /// The word.
-    pub fn as_bytes(self) -> &'static [u8] {
+    /// Behind how many steps the run stands that is shown, for an event of this word whose step is the last of `steps`.
+    pub fn steps_before(self, steps: u64) -> u64
+        ensures { result ≡ steps_before self steps }
+    {
         match self {
-            Word::Step => b"step",
-            Word::Test => b"test",
-            Word::Left => b"left",
+            Word::Stop => steps,
+            Word::Step | Word::Test | Word::Left | Word::Limit => steps.saturating_sub(1),
         }
     }
 }
@@ -29,8 +36,8 @@ pub struct Moment {
     pub after: LogCounts,
 }
 
-/// What logged errors: where in the style's items, in which visit of a function, and the place behind its token, 0 if there is none. Of literals that were
-/// left, for each, the uppermost first, the place behind the token since whose step the stack has been as high.
+/// What is noted of a run: what it is, when; where in the style's items, in which visit of a function, and the place behind its token, 0 if there is none. Of
+/// literals that were left, for each, the uppermost first, the place behind the token since whose step the stack has been as high.
 #[derive(Drop)]
 pub struct Event {
     pub word: Word,
@@ -113,9 +120,11 @@ impl Course {
         self.visit = self.visit.saturating_add(1);
     }
 
-    /// The item is done.
-    pub fn end_item(&mut self) {
-        self.item = self.item.saturating_add(1);
+    /// The item of this number is done now.
+    pub fn stand_in(&mut self, number: usize)
+        ensures { self.new.item ≡ number }
+    {
+        self.item = number;
     }
 
     /// Notes that the visit logged errors, if it did.

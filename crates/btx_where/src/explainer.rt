@@ -1,17 +1,19 @@
 //! What explains a run: a pass that finds the visits that log errors, one that finds their steps, and one for each of these.
-ghost use Rattle.std.specs.Prelude.{◌≤◌, IfOk};
+ghost use Rattle.std.specs.Prelude.{◌≡◌, ◌≤◌, ◌++◌, IfOk, IfSome, OnOk};
+ghost use Rattle.btx_where.specs.Events.{AreNotesOf, Explains, GrowsBy, IsNoteOf, head_note, steps_before};
+ghost use Rattle.btx_where.specs.Lines.{lines_found};
+ghost use Rattle.btx_where.specs.Scenes.{IsScene};
 
-use crate::course::{Course, Event, Word};
+use crate::course::{Course, Event, Moment, Word};
 use crate::items::do_items;
 use crate::lines::StyleLines;
 use crate::machine::beginning;
-use crate::notes::{Known, note_event, standing};
-use crate::place::Place;
+use crate::notes::{Known, note_event};
 use crate::scene::Scene;
 use crate::scratch::Scratch;
 use crate::stand::Stand;
 use crate::stops::scene_after;
-use btx_bst::{BuiltIn, Callee, Item};
+use btx_bst::{BuiltIn, Callee, Item, Style};
 use btx_code::Code;
 use btx_machine::marks::Marks;
 use btx_machine::outputs::Outputs;
@@ -24,31 +26,43 @@ use btx_step::{Job, Store};
 use btx_text::Fault;
 use std::alloc::Global;
 
-/// A run that is explained: its job, its options and the counts of its log before the style is executed; outputs that nobody reads; and the notes.
+/// A run that is explained: its job, its options and the counts of its log before the style is executed.
 #[derive(Drop)]
-pub struct Explainer<'j, 'a, 'o, 'w, 'l, 'n, W: Scratch, L: Scratch> {
+pub struct Explainer<'j, 'a, 'o> {
     pub alloc: Global,
     pub job: &'j Job<'a>,
     pub options: &'o Options,
     pub counts: LogCounts,
-    pub list: &'w mut W,
-    pub log: &'l mut L,
-    pub notes: &'n mut Vec<u8>,
 }
 
-impl<'j, 'a, 'o, 'w, 'l, 'n, W: Scratch, L: Scratch> Explainer<'j, 'a, 'o, 'w, 'l, 'n, W, L> {
-    /// Notes the places of the first `most` events that log errors, and of the end; answers the report of the run. `text` is the style's.
-    pub fn explain(&mut self, text: &[u8], most: usize) -> Result<Report, Fault>
-        ensures bound { IfOk result (λ report. report.steps ≤ self.old.options.now.budget) }
+impl<'j, 'a, 'o> Explainer<'j, 'a, 'o> {
+    /// Notes the places of the first `most` events that log errors, and of the end; answers the report of the run. `text` is the style's. What the runs write goes to
+    /// `list` and `log`, and is forgotten.
+    pub fn explain<W: Scratch, L: Scratch>(
+        &self,
+        text: &[u8],
+        most: usize,
+        list: &mut W,
+        log: &mut L,
+        notes: &mut Vec<u8>,
+    ) -> Result<Report, Fault>
+        ensures bound { IfOk result (λ report. report.steps ≤ self.now.options.now.budget) }
+        ensures notes { OnOk result (Explains self.now.job.now self.now.counts notes.old.items notes.new.items) }
     {
-        let budget = self.options.budget;
-        let job = self.job;
-        let style = job.style();
+        let style = self.job.style();
         let code = Code::of(self.alloc, style)?;
-        let mut first = Course::following(self.alloc, budget, Vec::new(self.alloc), most);
-        let program = Program { job, code: &code };
-        let report = self.pass(program, &mut first)?;
-        if first.faulty.is_empty() && report.end == End::Finished {
+        let program = Program {
+            job: self.job,
+            code: &code,
+        };
+        let mut first = Course::following(
+            self.alloc,
+            self.options.budget,
+            Vec::new(self.alloc),
+            most,
+        );
+        let report = self.pass(program, &mut first, list, log)?;
+        if is_quiet(&first, &report) {
             return Ok(report);
         }
         let lines = StyleLines::of(self.alloc, style, text)?;
@@ -57,23 +71,25 @@ impl<'j, 'a, 'o, 'w, 'l, 'n, W: Scratch, L: Scratch> Explainer<'j, 'a, 'o, 'w, '
             code: &code,
             lines: &lines,
         };
-        self.note_events(program, &known, first.faulty.as_slice(), most)?;
-        self.note_end(&known, &first, &report)?;
+        let events = self.events(program, &first, &report, most, list, log)?;
+        self.note_all(&known, events.as_slice(), list, log, notes)?;
         Ok(report)
     }
 
     // Runs the style, notes in `course` what is to be noted on the way, and answers the report.
-    fn pass(&mut self, program: Program<'_, 'a>, course: &mut Course) -> Result<Report, Fault>
-        ensures bound { IfOk result (λ report. report.steps ≤ self.old.options.now.budget) }
+    fn pass<W: Scratch, L: Scratch>(
+        &self,
+        program: Program<'_, 'a>,
+        course: &mut Course,
+        list: &mut W,
+        log: &mut L,
+    ) -> Result<Report, Fault>
+        ensures bound { IfOk result (λ report. report.steps ≤ self.now.options.now.budget) }
     {
-        self.list.forget();
-        self.log.forget();
+        list.forget();
+        log.forget();
         let store = Store::new(self.alloc, program.job)?;
-        let outputs = Outputs::new(
-            self.list,
-            self.options.line,
-            Journal::new(self.log, self.counts),
-        );
+        let outputs = Outputs::new(list, self.options.line, Journal::new(log, self.counts));
         let mut work = Work {
             alloc: self.alloc,
             store,
@@ -99,90 +115,160 @@ impl<'j, 'a, 'o, 'w, 'l, 'n, W: Scratch, L: Scratch> Explainer<'j, 'a, 'o, 'w, '
         ))
     }
 
-    // Finds the events in these visits, and notes them.
-    fn note_events(
-        &mut self,
+    // The events of a run: those that log errors, in the visits that `first` found to do so, and that at its end.
+    fn events<W: Scratch, L: Scratch>(
+        &self,
         program: Program<'_, 'a>,
-        known: &Known<'_>,
+        first: &Course,
+        report: &Report,
+        most: usize,
+        list: &mut W,
+        log: &mut L,
+    ) -> Result<Vec<Event>, Fault> {
+        let mut events = self.faults(program, first.faulty.as_slice(), most, list, log)?;
+        if let Some(end) = end_event(self.alloc, program.job.style(), first, report) {
+            events.push(end)?;
+        }
+        Ok(events)
+    }
+
+    // The events in these visits that log errors.
+    fn faults<W: Scratch, L: Scratch>(
+        &self,
+        program: Program<'_, 'a>,
         faulty: &[u64],
         most: usize,
-    ) -> Result<(), Fault> {
-        if faulty.is_empty() {
-            return Ok(());
-        }
+        list: &mut W,
+        log: &mut L,
+    ) -> Result<Vec<Event>, Fault> {
         let followed = Vec::from_slice(self.alloc, faulty)?;
         let mut second = Course::following(self.alloc, self.options.budget, followed, most);
-        self.pass(program, &mut second)?;
-        for event in &second.events {
-            self.note_one(known, event)?;
+        if !faulty.is_empty() {
+            self.pass(program, &mut second, list, log)?;
         }
-        Ok(())
+        Ok(second.events)
     }
 
-    // Notes an event, and where the run stood before its step.
-    fn note_one(&mut self, known: &Known<'_>, event: &Event) -> Result<(), Fault> {
-        let moment = &event.moment;
-        let (before, behind) = (moment.before.errors, moment.after.errors);
-        let word = event.word.as_bytes();
-        note_event(self.notes, word, moment.steps, before, behind)?;
-        known.note_item(self.notes, event.item)?;
-        if event.word == Word::Left {
-            return Ok(known.note_since(self.notes, event)?);
-        }
-        let steps = moment.steps.saturating_sub(1);
-        if let Some(scene) = self.scene(steps, event.visit)? {
-            self.note_scene(known, scene, known.token_before(event.place))?;
-        }
-        Ok(())
-    }
-
-    // Notes where the run stood that was stopped, or before the step that met a limit.
-    fn note_end(
-        &mut self,
+    // Notes these events, one after another.
+    fn note_all<W: Scratch, L: Scratch>(
+        &self,
         known: &Known<'_>,
-        course: &Course,
-        report: &Report,
-    ) -> Result<(), Fault> {
-        let is_read = matches!(known.style.items().get(course.item), Some(Item::Read));
-        let (word, steps): (&[u8], u64) = match report.end {
-            End::Stopped => (b"stop", report.steps),
-            End::Limit(_) if !is_read => (b"limit", report.steps.saturating_sub(1)),
-            _ => return Ok(()),
-        };
-        note_event(self.notes, word, report.steps, report.errors, report.errors)?;
-        known.note_item(self.notes, course.item)?;
-        if let Some(scene) = self.scene(steps, course.visit)? {
-            let at = standing(scene.levels.as_slice());
-            self.note_scene(known, scene, at)?;
+        events: &[Event],
+        list: &mut W,
+        log: &mut L,
+        notes: &mut Vec<u8>,
+    ) -> Result<(), Fault>
+        ensures { OnOk result (GrowsBy (AreNotesOf known.now.style.now self.now.job.now self.now.counts (lines_found known.now.lines.now) events.now) notes.old.items notes.new.items) }
+    {
+        for event in events {
+            self.note_one(known, event, list, log, notes)?;
         }
         Ok(())
     }
 
-    // Where the run stands behind `steps` steps, in this visit.
-    fn scene(&mut self, steps: u64, visit: u64) -> Result<Option<Scene<'a>>, Fault> {
-        self.list.forget();
-        self.log.forget();
-        scene_after(
+    // Notes an event, and where the run stood before its step, or where it was stopped.
+    fn note_one<W: Scratch, L: Scratch>(
+        &self,
+        known: &Known<'_>,
+        event: &Event,
+        list: &mut W,
+        log: &mut L,
+        notes: &mut Vec<u8>,
+    ) -> Result<(), Fault>
+        ensures { OnOk result (GrowsBy (IsNoteOf known.now.style.now self.now.job.now self.now.counts (lines_found known.now.lines.now) event.now) notes.old.items notes.new.items) }
+    {
+        let found = self.scene_of(event, list, log)?;
+        let since = known.tokens_since(self.alloc, event)?;
+        let began = known.began(event);
+        note_head(known, event, notes)?;
+        known.note_since(notes, since.as_slice())?;
+        known.note_found(self.alloc, notes, self.job, event.word, began, found)?;
+        Ok(())
+    }
+
+    // The scene of an event, in its item: where the run stands before its step, or where it was stopped. Of literals that were left there is none.
+    fn scene_of<W: Scratch, L: Scratch>(
+        &self,
+        event: &Event,
+        list: &mut W,
+        log: &mut L,
+    ) -> Result<Option<Scene<'a>>, Fault>
+        ensures run { IfOk result (λ found. IfSome found (λ scene. IsScene self.now.job.now self.now.counts (steps_before event.now.word event.now.moment.steps) scene)) }
+        ensures item { IfOk result (λ found. IfSome found (λ scene. scene.item ≡ event.now.item)) }
+    {
+        if event.word == Word::Left {
+            return Ok(None);
+        }
+        list.forget();
+        log.forget();
+        let found = scene_after(
             self.alloc,
             self.job,
             self.counts,
             self.options.line,
-            steps,
-            visit,
-            self.list,
-            self.log,
-        )
+            event.word.steps_before(event.moment.steps),
+            event.visit,
+            list,
+            log,
+        )?;
+        Ok(in_item(found, event.item))
     }
+}
 
-    // Notes a scene, whose run stands at this token.
-    fn note_scene(
-        &mut self,
-        known: &Known<'_>,
-        scene: Scene<'a>,
-        at: Option<Place>,
-    ) -> Result<(), Fault> {
-        Ok(known.note_scene(self.alloc, self.notes, self.job, scene, at)?)
+// A scene, if it stands in the item of this number.
+fn in_item(found: Option<Scene<'_>>, item: usize) -> Option<Scene<'_>>
+    ensures same { IfSome result (λ scene. found.entry ≡ Some scene) }
+    ensures item { IfSome result (λ scene. scene.item ≡ item) }
+{
+    let scene = found?;
+    if scene.item == item {
+        Some(scene)
+    } else {
+        None
     }
+}
+
+// Notes what an event is, with its step and its errors, and the command of its item.
+#[tactic(auto, using(btx_text::proofs::JoinLemmas::joins))]
+fn note_head(known: &Known<'_>, event: &Event, notes: &mut Vec<u8>) -> Result<(), Fault>
+    ensures { OnOk result (notes.new.items ≡ notes.old.items ++ head_note known.now.style.now (lines_found known.now.lines.now) event.now) }
+{
+    let moment = &event.moment;
+    let (before, behind) = (moment.before.errors, moment.after.errors);
+    note_event(notes, event.word, moment.steps, before, behind)?;
+    known.note_item(notes, event.item)?;
+    Ok(())
+}
+
+// Whether a run logged no error in its visits, and did all of the style.
+fn is_quiet(course: &Course, report: &Report) -> bool {
+    course.faulty.is_empty() && report.end == End::Finished
+}
+
+// The event at the end of a run: where it was stopped, or met a limit but in READ, which takes no step.
+fn end_event(alloc: Global, style: &Style<'_>, course: &Course, report: &Report) -> Option<Event> {
+    let is_read = matches!(style.items().get(course.item), Some(Item::Read));
+    let word = match report.end {
+        End::Stopped => Word::Stop,
+        End::Limit(_) if !is_read => Word::Limit,
+        _ => return None,
+    };
+    let counts = LogCounts {
+        warnings: report.warnings,
+        errors: report.errors,
+    };
+    Some(Event {
+        word,
+        moment: Moment {
+            steps: report.steps,
+            before: counts,
+            after: counts,
+        },
+        item: course.item,
+        visit: course.visit,
+        place: 0,
+        since: Vec::new(alloc),
+    })
 }
 
 // The end of a run.
@@ -190,6 +276,6 @@ fn end_of(stand: Stand) -> End {
     match stand {
         Stand::Finished => End::Finished,
         Stand::Limit(limit) => End::Limit(limit),
-        Stand::Here | Stand::Somewhere => End::Stopped,
+        Stand::Here(_) | Stand::Somewhere => End::Stopped,
     }
 }

@@ -1,12 +1,13 @@
 //! What the items of a style do, followed step by step or passed over.
 ghost use Rattle.std.specs.Prelude.{◌≡◌, ◌≤◌, ◌-◌, [], IfOk, OnOk};
+ghost use Rattle.btx_bst.specs.declared.callee.Callee.{Callee as AnyCallee};
 ghost use Rattle.btx_bst.specs.refinement.Views.{item_view, items_view};
 ghost use Rattle.btx_machine.specs.declared.ending.Ending.TheVariants as ending;
 ghost use Rattle.btx_machine.specs.language.Items.{do_item, do_items, list_after};
 ghost use Rattle.btx_machine.specs.refinement.Faults.{Writes};
 ghost use Rattle.btx_machine.specs.refinement.Marks.{StandInCode};
 ghost use Rattle.btx_machine.specs.refinement.Written.{Comes, Runs};
-ghost use Rattle.btx_where.specs.Rests.{StandsInCommand, StandsInStyle};
+ghost use Rattle.btx_where.specs.Rests.{IsCommandOf, StandsInCommand, StandsInStyle};
 ghost use Rattle.btx_where.specs.declared.stand.Stand.TheVariants.{Finished, Here};
 
 use crate::course::Course;
@@ -26,7 +27,7 @@ use btx_text::Fault;
 // The first string variable of each entry, `sort.key$`, by which SORT orders the list.
 const SORT_VARIABLE: u32 = 0;
 
-/// Does items, one after another. If it is stopped here, `at` and `marks` are where the machine stands then.
+/// Does items, one after another. If it is stopped here, `at` and `marks` are where the machine stands then, in the item whose number `course` has.
 pub fn do_items<'a, W: Sink, L: Sink>(
     work: &mut Work<'a, '_, W, L>,
     program: Program<'_, 'a>,
@@ -38,17 +39,22 @@ pub fn do_items<'a, W: Sink, L: Sink>(
 ) -> Result<Stand, Fault>
     requires empty { marks.old ≡ [] }
     requires writes { Writes work.old.outputs }
-    ensures stands { IfOk result (λ end. end ≡ Here → Comes work.old work.new (StandsInStyle program.entry.job.now program.entry.code.now at.new marks.new (do_items program.entry.job.now (items_view items.now) []) (left.old - left.new))) }
-    ensures placed { IfOk result (λ end. end ≡ Here → StandInCode program.entry.code.now at.new.place marks.new) }
-    ensures spent { IfOk result (λ end. end ≡ Here → left.new ≡ 0) }
+    ensures stands { IfOk result (λ end. (running : AnyCallee) → end ≡ Here running → Comes work.old work.new (StandsInStyle (items_view items.now) course.new.item running program.entry.job.now program.entry.code.now at.new marks.new (do_items program.entry.job.now (items_view items.now) []) (left.old - left.new))) }
+    ensures placed { IfOk result (λ end. (running : AnyCallee) → end ≡ Here running → StandInCode program.entry.code.now at.new.place marks.new) }
+    ensures spent { IfOk result (λ end. (running : AnyCallee) → end ≡ Here running → left.new ≡ 0) }
     ensures fewer { left.new ≤ left.old }
     ensures writes { OnOk result (Writes work.new.outputs) }
 {
     let mut list = Vec::new(work.alloc);
-    for item in items {
+    for (number, item) in items.iter().enumerate() {
+        course.stand_in(number);
         match do_item(work, program, &mut list, marks, item, at, left, course)? {
-            Stand::Finished => course.end_item(),
-            end => return Ok(end),
+            Stand::Finished => {}
+            end => {
+                // The number is still this one: it is said once more for the contract.
+                course.stand_in(number);
+                return Ok(end);
+            }
         }
     }
     Ok(Stand::Finished)
@@ -70,9 +76,9 @@ fn do_item<'a, W: Sink, L: Sink>(
     requires writes { Writes work.old.outputs }
     ensures finishes { IfOk result (λ end. end ≡ Finished → Comes work.old work.new (Runs (do_item program.entry.job.now list.old.items (item_view item.now)) (left.old - left.new) ending.Finished)) }
     ensures list { IfOk result (λ end. end ≡ Finished → list.new.items ≡ list_after program.entry.job.now (item_view item.now) list.old.items work.old.store) }
-    ensures stands { IfOk result (λ end. end ≡ Here → Comes work.old work.new (StandsInCommand program.entry.job.now program.entry.code.now at.new marks.new (do_item program.entry.job.now list.old.items (item_view item.now)) (left.old - left.new))) }
-    ensures placed { IfOk result (λ end. end ≡ Here → StandInCode program.entry.code.now at.new.place marks.new) }
-    ensures spent { IfOk result (λ end. end ≡ Here → left.new ≡ 0) }
+    ensures stands { IfOk result (λ end. (running : AnyCallee) → end ≡ Here running → Comes work.old work.new (StandsInCommand (IsCommandOf (item_view item.now)) running program.entry.job.now program.entry.code.now at.new marks.new (do_item program.entry.job.now list.old.items (item_view item.now)) (left.old - left.new))) }
+    ensures placed { IfOk result (λ end. (running : AnyCallee) → end ≡ Here running → StandInCode program.entry.code.now at.new.place marks.new) }
+    ensures spent { IfOk result (λ end. (running : AnyCallee) → end ≡ Here running → left.new ≡ 0) }
     ensures cleared { IfOk result (λ end. end ≡ Finished → marks.new ≡ []) }
     ensures fewer { left.new ≤ left.old }
     ensures writes { OnOk result (Writes work.new.outputs) }

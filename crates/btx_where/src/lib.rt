@@ -2,6 +2,7 @@
 //! stack; and the same where a run is stopped or met a limit. It stands beside `btx_run`, and changes nothing of a run.
 #![tactic(auto)]
 
+pub mod calls;
 pub mod course;
 pub mod explainer;
 pub mod items;

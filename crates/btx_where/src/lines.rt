@@ -1,5 +1,8 @@
 //! The lines of a style's tokens and commands, from its text. The text is read once more, beside the style that was read from it: a function is taken for what the style
 //! says it is, and where the two don't agree no line is known.
+ghost use Rattle.std.specs.Prelude.{◌≡◌, slice_index_or};
+ghost use Rattle.btx_where.specs.Lines.{item_line, token_line};
+
 use crate::place::{Place, function_name};
 use crate::words::{Lexeme, next_word};
 use btx_bst::{Callee, Item, Style, Token};
@@ -29,7 +32,9 @@ impl StyleLines {
     }
 
     /// The line of a token; 0 if it isn't known.
-    pub fn of_token(&self, place: Place) -> usize {
+    pub fn of_token(&self, place: Place) -> usize
+        ensures { result ≡ token_line self.now place }
+    {
         match self.functions.get(place.function) {
             Some(tokens) => line_at(tokens.as_slice(), place.token),
             None => 0,
@@ -37,13 +42,17 @@ impl StyleLines {
     }
 
     /// The line of an item; 0 if it isn't known.
-    pub fn of_item(&self, item: usize) -> usize {
+    pub fn of_item(&self, item: usize) -> usize
+        ensures { result ≡ item_line self.now item }
+    {
         line_at(self.items.as_slice(), item)
     }
 }
 
 // A line of a list; 0 past its end.
-fn line_at(lines: &[usize], index: usize) -> usize {
+fn line_at(lines: &[usize], index: usize) -> usize
+    ensures { result ≡ slice_index_or lines.now index 0 }
+{
     match lines.get(index) {
         Some(line) => *line,
         None => 0,
@@ -52,7 +61,7 @@ fn line_at(lines: &[usize], index: usize) -> usize {
 
 // A word and its line.
 #[derive(Clone, Copy)]
-struct Word<'a> {
+struct PlacedWord<'a> {
     lexeme: Lexeme<'a>,
     line: usize,
 }
@@ -83,7 +92,7 @@ struct Reading<'a> {
     // How many functions there were before the command, and how many items are matched.
     kept: usize,
     matched: usize,
-    open: Vec<Vec<Word<'a>>>,
+    open: Vec<Vec<PlacedWord<'a>>>,
     began: Vec<usize>,
 }
 
@@ -126,7 +135,7 @@ impl<'a> Reading<'a> {
             rest = left;
             self.word(
                 style,
-                Word {
+                PlacedWord {
                     lexeme,
                     line: number,
                 },
@@ -139,7 +148,7 @@ impl<'a> Reading<'a> {
     }
 
     // Takes a word.
-    fn word(&mut self, style: &Style<'_>, word: Word<'a>) -> Result<(), AllocError> {
+    fn word(&mut self, style: &Style<'_>, word: PlacedWord<'a>) -> Result<(), AllocError> {
         match (self.mode, word.lexeme) {
             (Mode::Body, _) => return self.body_word(style, word),
             (Mode::Command, Lexeme::Name(name)) => self.begin(style, name, word.line),
@@ -207,7 +216,7 @@ impl<'a> Reading<'a> {
     }
 
     // Takes a word of a body.
-    fn body_word(&mut self, style: &Style<'_>, word: Word<'a>) -> Result<(), AllocError> {
+    fn body_word(&mut self, style: &Style<'_>, word: PlacedWord<'a>) -> Result<(), AllocError> {
         match word.lexeme {
             Lexeme::Open => self.open(word.line),
             Lexeme::Close => self.close(style),
@@ -220,7 +229,7 @@ impl<'a> Reading<'a> {
     }
 
     // Adds a word to the innermost body.
-    fn add(&mut self, word: Word<'a>) -> Result<(), AllocError> {
+    fn add(&mut self, word: PlacedWord<'a>) -> Result<(), AllocError> {
         if let Some(words) = self.open.last_mut() {
             words.push(word)?;
         }
@@ -244,7 +253,7 @@ impl<'a> Reading<'a> {
             self.end_function(style, number);
             return Ok(());
         }
-        self.add(Word {
+        self.add(PlacedWord {
             lexeme: Lexeme::Function(number),
             line,
         })
@@ -302,7 +311,7 @@ fn lines_of(
     alloc: Global,
     style: &Style<'_>,
     number: usize,
-    words: &[Word<'_>],
+    words: &[PlacedWord<'_>],
 ) -> Result<Vec<usize>, AllocError> {
     let mut lines = Vec::new(alloc);
     if number >= style.functions() {

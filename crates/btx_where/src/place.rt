@@ -1,6 +1,8 @@
 //! Tokens of a style, by their places in the code.
-ghost use Rattle.std.specs.Prelude.{◌≡◌, ◌<◌, ◌-◌, IfSome, length, drop, true};
+ghost use Rattle.std.specs.Prelude.{◌≡◌, ◌<◌, ◌-◌, IfSome, length, drop, true, codes};
+ghost use Rattle.std.specs.Str.{bytes_eq};
 ghost use Rattle.btx_code.specs.refinement.Codes.{bodies_of, tokens_left};
+ghost use Rattle.btx_where.specs.Notes as spec;
 ghost use Rattle.btx_where.specs.Shown.{behind};
 
 use btx_bst::{Callee, Style};
@@ -14,7 +16,10 @@ pub struct Place {
 }
 
 /// The name of the function of a number, in lower case; `{}` for a nameless one.
-pub fn function_name<'s>(style: &'s Style<'_>, function: usize) -> &'s [u8] {
+#[tactic(auto, unfolding(crate::specs::Notes::function_name))]
+pub fn function_name<'s>(style: &'s Style<'_>, function: usize) -> &'s [u8]
+    ensures { result.now ≡ spec.function_name style.now function }
+{
     match u32::try_from(function) {
         Ok(number) => style.name(Callee::User(number)),
         Err(_) => b"{}",

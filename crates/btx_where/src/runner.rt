@@ -1,8 +1,9 @@
 //! A job, run again to note where its style stands.
-ghost use Rattle.std.specs.Prelude.{◌≡◌, ◌≤◌, IfOk, length};
-ghost use Rattle.btx_code.specs.refinement.Codes.{bodies_of};
+ghost use Rattle.std.specs.Prelude.{◌≤◌, IfOk, IfSome, OnOk, length};
 ghost use Rattle.btx_text.specs.language.Limits.{greatest_file};
-ghost use Rattle.btx_run.specs.refinement.Files.Readings.{StyleFits};
+ghost use Rattle.btx_run.specs.refinement.Files.Readings.{StyleFits, files_read};
+ghost use Rattle.btx_run.specs.refinement.Product.{work_in};
+ghost use Rattle.btx_where.specs.Events.{Explains, ExplainsFiles, ExplainsJob, ExplainsReading};
 
 use crate::explainer::Explainer;
 use crate::scratch::Scratch;
@@ -31,6 +32,7 @@ fn explain_found<'a, W: Scratch, L: Scratch>(
 ) -> Result<Report, Fault>
     requires { length found.now.style.bytes ≤ greatest_file }
     ensures bound { IfOk result (λ report. report.steps ≤ options.now.budget) }
+    ensures notes { OnOk result (Explains (work_in job.now found.now options.now) counts notes.old.items notes.new.items) }
 {
     let text = found.style.bytes();
     let style = read_style(alloc, found.style.name(), text)?;
@@ -42,16 +44,13 @@ fn explain_found<'a, W: Scratch, L: Scratch>(
         options.entry_max,
         options.global_max,
     );
-    let mut explainer = Explainer {
+    let explainer = Explainer {
         alloc,
         job: &job,
         options,
         counts,
-        list,
-        log,
-        notes,
     };
-    explainer.explain(text, most)
+    explainer.explain(text, most, list, log, notes)
 }
 
 // Goes on from the files of a job.
@@ -68,6 +67,7 @@ fn after_files<'a, W: Scratch, L: Scratch>(
 ) -> Result<Report, Fault>
     requires { StyleFits read }
     ensures bound { IfOk result (λ report. report.steps ≤ options.now.budget) }
+    ensures notes { OnOk result (ExplainsFiles job.now read.entry options.now counts notes.old.items notes.new.items) }
 {
     match read {
         FilesRead::Ends(end) => Ok(report_of(end, 0, 0, counts)),
@@ -89,6 +89,7 @@ fn explain_job<F: Finder, W: Scratch, L: Scratch>(
     notes: &mut Vec<u8>,
 ) -> Result<Report, Fault>
     ensures bound { IfOk result (λ report. report.steps ≤ options.now.budget) }
+    ensures notes { OnOk result (IfSome (F.content finder.old) (λ files. ExplainsReading job.now (files_read files job.now) options.now notes.old.items notes.new.items)) }
 {
     log.forget();
     let mut journal = Journal::new(log, LogCounts::NONE);
@@ -99,7 +100,7 @@ fn explain_job<F: Finder, W: Scratch, L: Scratch>(
 }
 
 /// Runs the job of this name again, and notes where its style stands: at each of the first `most` events that log errors in its execution, and where the run is stopped or
-/// met a limit. What the runs write goes to `list` and `log`, and is forgotten.
+/// met a limit. What the runs write goes to `list` and `log`, and is forgotten. The contract speaks of the finder's files where these don't change.
 pub fn locate<F: Finder, W: Scratch, L: Scratch>(
     alloc: Global,
     finder: &mut F,
@@ -111,6 +112,7 @@ pub fn locate<F: Finder, W: Scratch, L: Scratch>(
     notes: &mut Vec<u8>,
 ) -> Result<Report, Fault>
     ensures bound { IfOk result (λ report. report.steps ≤ options.now.budget) }
+    ensures notes { OnOk result (IfSome (F.content finder.old) (λ files. ExplainsJob files name.now options.now notes.old.items notes.new.items)) }
 {
     let job = read_job(alloc, finder, name)?;
     explain_job(alloc, finder, &job, options, most, list, log, notes)

@@ -7,9 +7,11 @@ ghost use Rattle.btx_step.specs.language.Starts.{first_store};
 ghost use Rattle.btx_machine.specs.laws.Reports.{log_counts};
 ghost use Rattle.btx_machine.specs.refinement.Marks.{StandInCode, frames_of};
 ghost use Rattle.btx_machine.specs.refinement.Positions.{next_token};
+ghost use Rattle.btx_where.specs.Calls.{AreCalls};
 ghost use Rattle.btx_where.specs.Scenes.{IsScene};
 ghost use Rattle.btx_where.specs.Shown.{frames_shown};
 
+use crate::calls::are_calls;
 use crate::course::{Course, MOST_LITERALS};
 use crate::items::do_items;
 use crate::levels::levels_of;
@@ -46,17 +48,22 @@ fn literals_of<'a>(alloc: Global, store: &mut Store<'a>) -> Result<Vec<Literal<'
     Ok(literals)
 }
 
-// What is shown of where the machine stands. Nothing is open then, and the literals are taken off.
+// What is shown of where the machine stands in the execution of `function`, that of the command of an item. Nothing is open then, and the literals are taken
+// off.
 fn scene_of<'a>(
     alloc: Global,
     program: Program<'_, 'a>,
     marks: &mut Marks,
+    function: Callee,
+    item: usize,
     at: &Position,
     store: &mut Store<'a>,
 ) -> Result<Option<Scene<'a>>, AllocError>
     requires placed { StandInCode program.code.now at.now.place marks.old }
+    ensures item { IfOk result (λ found. IfSome found (λ scene. scene.item ≡ item)) }
     ensures next { IfOk result (λ found. IfSome found (λ scene. scene.next ≡ next_token program.entry.code.now at.now)) }
     ensures levels { IfOk result (λ found. IfSome found (λ scene. frames_shown program.entry.job.now.style scene.levels.items ≡ frames_of program.entry.code.now at.now.place marks.old)) }
+    ensures calls { IfOk result (λ found. IfSome found (λ scene. AreCalls program.entry.job.now scene.entry function scene.levels.items scene.next)) }
     ensures entry { IfOk result (λ found. IfSome found (λ scene. scene.entry ≡ store.old.current)) }
     ensures depth { IfOk result (λ found. IfSome found (λ scene. scene.depth ≡ length store.old.literals)) }
     ensures literals { IfOk result (λ found. IfSome found (λ scene. scene.literals.items ≡ take MOST_LITERALS store.old.literals)) }
@@ -67,9 +74,13 @@ fn scene_of<'a>(
         return Ok(None);
     };
     let entry = store.current();
+    if !are_calls(job, entry, function, levels.as_slice(), next) {
+        return Ok(None);
+    }
     let depth = store.depth();
     let literals = literals_of(alloc, store)?;
     Ok(Some(Scene {
+        item,
         next,
         levels,
         entry,
@@ -107,8 +118,16 @@ fn stop<'a, W: Sink, L: Sink>(
         &mut course,
     )?;
     match end {
-        Stand::Here => {
-            let scene = scene_of(work.alloc, program, &mut marks, &at, &mut work.store)?;
+        Stand::Here(function) => {
+            let scene = scene_of(
+                work.alloc,
+                program,
+                &mut marks,
+                function,
+                course.item,
+                &at,
+                &mut work.store,
+            )?;
             Ok(scene)
         }
         _ => Ok(None),

@@ -1,12 +1,13 @@
 //! What commands do, followed step by step or passed over.
 ghost use Rattle.std.specs.Prelude.{◌≡◌, ◌≤◌, ◌-◌, [], IfOk, OnOk};
+ghost use Rattle.btx_bst.specs.declared.callee.Callee.{Callee as AnyCallee};
 ghost use Rattle.btx_machine.specs.declared.ending.Ending.TheVariants as ending;
 ghost use Rattle.btx_machine.specs.language.Commands.{visit};
 ghost use Rattle.btx_machine.specs.refinement.Commands.{visits};
 ghost use Rattle.btx_machine.specs.refinement.Faults.{Writes};
 ghost use Rattle.btx_machine.specs.refinement.Marks.{StandInCode};
 ghost use Rattle.btx_machine.specs.refinement.Written.{Comes, Runs};
-ghost use Rattle.btx_where.specs.Rests.{StandsInFunction, StandsInCommand};
+ghost use Rattle.btx_where.specs.Rests.{Executes, StandsInFunction, StandsInCommand};
 ghost use Rattle.btx_where.specs.declared.stand.Stand.TheVariants.{Finished, Here};
 
 use crate::course::Course;
@@ -36,9 +37,10 @@ fn follow<'a, W: Sink, L: Sink>(
     requires empty { marks.old ≡ [] }
     requires writes { Writes work.old.outputs }
     ensures finishes { IfOk result (λ end. end ≡ Finished → Comes work.old work.new (Runs (visit program.entry.job.now command function entry) (left.old - left.new) ending.Finished)) }
-    ensures stands { IfOk result (λ end. end ≡ Here → Comes work.old work.new (StandsInFunction program.entry.job.now command program.entry.code.now at.new marks.new (visit program.entry.job.now command function entry) (left.old - left.new))) }
-    ensures placed { IfOk result (λ end. end ≡ Here → StandInCode program.entry.code.now at.new.place marks.new) }
-    ensures spent { IfOk result (λ end. end ≡ Here → left.new ≡ 0) }
+    ensures here { IfOk result (λ end. (running : AnyCallee) → end ≡ Here running → running ≡ function) }
+    ensures stands { IfOk result (λ end. (running : AnyCallee) → end ≡ Here running → Comes work.old work.new (StandsInFunction program.entry.job.now command program.entry.code.now at.new marks.new (visit program.entry.job.now command function entry) (left.old - left.new))) }
+    ensures placed { IfOk result (λ end. (running : AnyCallee) → end ≡ Here running → StandInCode program.entry.code.now at.new.place marks.new) }
+    ensures spent { IfOk result (λ end. (running : AnyCallee) → end ≡ Here running → left.new ≡ 0) }
     ensures cleared { IfOk result (λ end. end ≡ Finished → marks.new ≡ []) }
     ensures fewer { left.new ≤ left.old }
     ensures writes { OnOk result (Writes work.new.outputs) }
@@ -56,7 +58,7 @@ fn follow<'a, W: Sink, L: Sink>(
             course.end_visit();
             Ok(Stand::Finished)
         }
-        Ending::Stopped => Ok(Stand::Here),
+        Ending::Stopped => Ok(Stand::Here(function)),
         Ending::Limit(limit) => Ok(Stand::Limit(limit)),
     }
 }
@@ -75,7 +77,7 @@ fn pass<'a, W: Sink, L: Sink>(
     requires empty { marks.old ≡ [] }
     requires writes { Writes work.old.outputs }
     ensures finishes { IfOk result (λ end. end ≡ Finished → Comes work.old work.new (Runs (visit program.entry.job.now command function entry) (left.old - left.new) ending.Finished)) }
-    ensures elsewhere { IfOk result (λ end. end ≡ Here → ⊥) }
+    ensures elsewhere { IfOk result (λ end. (running : AnyCallee) → end ≡ Here running → ⊥) }
     ensures cleared { IfOk result (λ end. end ≡ Finished → marks.new ≡ []) }
     ensures fewer { left.new ≤ left.old }
     ensures writes { OnOk result (Writes work.new.outputs) }
@@ -109,9 +111,10 @@ pub fn visit<'a, W: Sink, L: Sink>(
     requires empty { marks.old ≡ [] }
     requires writes { Writes work.old.outputs }
     ensures finishes { IfOk result (λ end. end ≡ Finished → Comes work.old work.new (Runs (visit program.entry.job.now command function entry) (left.old - left.new) ending.Finished)) }
-    ensures stands { IfOk result (λ end. end ≡ Here → Comes work.old work.new (StandsInFunction program.entry.job.now command program.entry.code.now at.new marks.new (visit program.entry.job.now command function entry) (left.old - left.new))) }
-    ensures placed { IfOk result (λ end. end ≡ Here → StandInCode program.entry.code.now at.new.place marks.new) }
-    ensures spent { IfOk result (λ end. end ≡ Here → left.new ≡ 0) }
+    ensures here { IfOk result (λ end. (running : AnyCallee) → end ≡ Here running → running ≡ function) }
+    ensures stands { IfOk result (λ end. (running : AnyCallee) → end ≡ Here running → Comes work.old work.new (StandsInFunction program.entry.job.now command program.entry.code.now at.new marks.new (visit program.entry.job.now command function entry) (left.old - left.new))) }
+    ensures placed { IfOk result (λ end. (running : AnyCallee) → end ≡ Here running → StandInCode program.entry.code.now at.new.place marks.new) }
+    ensures spent { IfOk result (λ end. (running : AnyCallee) → end ≡ Here running → left.new ≡ 0) }
     ensures cleared { IfOk result (λ end. end ≡ Finished → marks.new ≡ []) }
     ensures fewer { left.new ≤ left.old }
     ensures writes { OnOk result (Writes work.new.outputs) }
@@ -140,9 +143,9 @@ pub fn visit_all<'a, W: Sink, L: Sink>(
     requires empty { marks.old ≡ [] }
     requires writes { Writes work.old.outputs }
     ensures finishes { IfOk result (λ end. end ≡ Finished → Comes work.old work.new (Runs (visits program.entry.job.now command function list.now) (left.old - left.new) ending.Finished)) }
-    ensures stands { IfOk result (λ end. end ≡ Here → Comes work.old work.new (StandsInCommand program.entry.job.now program.entry.code.now at.new marks.new (visits program.entry.job.now command function list.now) (left.old - left.new))) }
-    ensures placed { IfOk result (λ end. end ≡ Here → StandInCode program.entry.code.now at.new.place marks.new) }
-    ensures spent { IfOk result (λ end. end ≡ Here → left.new ≡ 0) }
+    ensures stands { IfOk result (λ end. (running : AnyCallee) → end ≡ Here running → Comes work.old work.new (StandsInCommand (Executes command function) running program.entry.job.now program.entry.code.now at.new marks.new (visits program.entry.job.now command function list.now) (left.old - left.new))) }
+    ensures placed { IfOk result (λ end. (running : AnyCallee) → end ≡ Here running → StandInCode program.entry.code.now at.new.place marks.new) }
+    ensures spent { IfOk result (λ end. (running : AnyCallee) → end ≡ Here running → left.new ≡ 0) }
     ensures cleared { IfOk result (λ end. end ≡ Finished → marks.new ≡ []) }
     ensures fewer { left.new ≤ left.old }
     ensures writes { OnOk result (Writes work.new.outputs) }

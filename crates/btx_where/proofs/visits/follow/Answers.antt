@@ -7,7 +7,7 @@ pub execute-requires-clause-placed : goal.execute-requires-clause-placed
 execute-requires-clause-placed g c = subst (StandInCode c.args.program.code.now c.beginning.result.place) (sym c.requires.empty) c.beginning.ensures.placed
 
 pub returns-in-Stopped-clause-stands : goal.returns-in-Stopped-clause-stands
-returns-in-Stopped-clause-stands g c = λ here. rw (← c.work.view_is) (visit_stands c.args.program.job.now c.args.command c.args.function c.args.entry
+returns-in-Stopped-clause-stands g c = λ running here. rw (← c.work.view_is) (visit_stands c.args.program.job.now c.args.command c.args.function c.args.entry
     (record { store = c.work.inside.store; outputs = c.work.inside.outputs }) (record { store = c.set_current.new.self; outputs = c.work.inside.outputs }) refl
     c.set_current.ensures c.args.program.code.now c.beginning.result c.args.marks.now (c.beginning.ensures.means c.args.program.job.now) c.requires.empty
     c.execute.new.work c.execute.new.at c.execute.new.marks (c.args.left.now - c.execute.new.left) (c.in_ok-end.ensures.stands c.in-Stopped.is))
