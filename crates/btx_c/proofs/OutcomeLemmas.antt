@@ -1,6 +1,6 @@
 -- What a call has left in the caller's memory.
 use Rattle.std.proofs.Common.{arith, ◌≡◌, ◌⊎◌, inl, inr, ℕ, ◌<◌, Bool, true, false, List, [], Some, length, min, refl, ap, ◌∙◌, subst}
-use Rattle.std.specs.Prelude.{Result, Ok, Err, IfOk, IfErr, OnOk, OnErr}
+use Rattle.std.specs.Prelude.{Result, Ok, Err, IfOk, OnOk, OnErr}
 use Rattle.btx_machine.specs.declared.report.Report.{Report}
 use Rattle.btx_machine.specs.language.KeepingStep.{AtFault}
 use Rattle.btx_machine.specs.language.Product.{log_of}
@@ -32,7 +32,8 @@ broke_of files others job given options report list log wrote_list wrote_log is 
     record {
       wrote_list = wrote_list;
       wrote_log = wrote_log;
-      begun = let Begun : Options → Type 0 = λ o. AtFault (Some [], Some []) (Some wrote_list, Some wrote_log) (product_with (all_files files others) job o) o.budget in subst Begun is begun;
+      begun = let Begun : Options → Type 0 = λ o. AtFault (Some [], Some []) (Some wrote_list, Some wrote_log)
+          (product_with (all_files files others) job o) o.budget in subst Begun is begun;
       list_len = list_len;
       log_len = log_len;
       list_is = list_is;
@@ -56,24 +57,6 @@ module _ (C : Report → Type 0) where
   err_of A (Err cause) true b is fails so = fails
   err_of A (Err cause) false true is fails so = fails
   err_of A (Err cause) false false is fails so = fails
-
--- for want of memory, or of a file
-abbrev pub IsOtherCause : Result Report Cause → Type 0
-IsOtherCause ended = IfErr ended (λ (c : Cause). (c ≡ cause.Memory) ⊎ (c ≡ cause.UnknownFile))
-
-pub list_full_of : (ended : Result Report Cause) (a b : Bool) → IsOtherCause ended → outcome ended a b ≡ Err cause.ListFull → a ≡ true
-list_full_of ended true b other is = refl
-list_full_of ended false true other is = cc
-list_full_of (Ok report) false false other is = cc
-list_full_of (Err c) false false (inl memory) is = cc
-list_full_of (Err c) false false (inr unknown) is = cc
-
-pub log_full_of : (ended : Result Report Cause) (a b : Bool) → IsOtherCause ended → outcome ended a b ≡ Err cause.LogFull → b ≡ true
-log_full_of ended true b other is = cc
-log_full_of ended false true other is = refl
-log_full_of (Ok report) false false other is = cc
-log_full_of (Err c) false false (inl memory) is = cc
-log_full_of (Err c) false false (inr unknown) is = cc
 
 pub fits_of : (ended : Result Report Cause) (a b : Bool) (A B : Type 0) → (a ≡ false → A) → (b ≡ false → B) → OnOk (outcome ended a b) (A × B)
 fits_of ended true b A B left right = tt

@@ -15,7 +15,8 @@ type_name names number = name_of names (User number) ++ 10 ∷ []
 abbrev pub type_names : Names → List ℕ → List ℕ
 type_names names numbers = flat_map (type_name names) numbers
 
--- the style whose file has the name `file` and the bytes `text` is clean, for entries of the types that are named in `types` and with no more than `bodies` bodies open at once
+-- the style whose file has the name `file` and the bytes `text` is clean, for entries of the types that are named in `types` and with no more than `bodies`
+-- bodies open at once
 pub record TextIsClean (file text : List ℕ) (bodies : ℕ) (types : List ℕ) : Type 0 where
   pub allowed : List ℕ
   pub clean : StyleIsClean (style_of file text) allowed bodies

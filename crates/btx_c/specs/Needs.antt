@@ -19,7 +19,8 @@ no_files name = None
 -- the job needs no file but those that were handed in: whatever other files there are, the list, the log and the report are the same, with all options
 -- and every budget
 abbrev pub NeedsNoOther : List BtxFile → List ℕ → Type 0
-NeedsNoOther files job = (others : Files) (options : Options) (budget : ℕ) → product_with (beside files others) job options budget ≡ product_with (beside files no_files) job options budget
+NeedsNoOther files job = (others : Files) (options : Options) (budget : ℕ)
+    → product_with (beside files others) job options budget ≡ product_with (beside files no_files) job options budget
 
 -- each file is there, and empty; or none is there
 abbrev pub empty_files : Bool → Files

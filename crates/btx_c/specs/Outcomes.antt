@@ -50,7 +50,8 @@ Overflows files others job options report list log =
     ((report.end ≡ LIST_FULL) × (length list < length whole.bbl)) ⊎ ((report.end ≡ LOG_FULL) × (length log < length (log_of whole)))
 
 -- what was written of the list and of the log are prefixes of the product's and keep step; the report says how many bytes of them stand in the memory
-pub record Broke (files : List BtxFile) (others : OtherFiles) (job : List ℕ) (options : BtxOptions) (report : BtxReport) (list log : List ℕ × List ℕ) : Type 0 where
+pub record Broke (files : List BtxFile) (others : OtherFiles) (job : List ℕ) (options : BtxOptions) (report : BtxReport)
+    (list log : List ℕ × List ℕ) : Type 0 where
   pub wrote_list : List ℕ
   pub wrote_log : List ℕ
   pub begun : AtFault (Some [], Some []) (Some wrote_list, Some wrote_log) (product_with (all_files files others) job (asked options)) options.budget

@@ -1,13 +1,13 @@
 //! What the checker of styles says of a style's text.
 ghost use Rattle.std.specs.Prelude.{◌≡◌, ◌++◌, IfOk, OnOk, IsTrue, false};
 ghost use Rattle.btx_bst.specs.language.StyleText.{style_of};
-ghost use Rattle.btx_check.specs.Promise.{StyleIsClean};
 ghost use Rattle.btx_check.specs.Verdicts.{IsRight};
 ghost use Rattle.btx_c.specs.Checks.{TextIsClean, type_name, type_names};
 
 use crate::warned::note_findings;
 use btx_bst::{Callee, Style, read_style};
-use btx_check::{Clean, Findings, Verdict, examine};
+use btx_check::Verdict;
+use btx_lint::{Findings, examine};
 use btx_text::Fault;
 use std::alloc::{AllocError, Global};
 
@@ -54,29 +54,6 @@ fn names_of(alloc: Global, style: &Style<'_>, numbers: &[u32]) -> Result<Vec<u8>
     Ok(types)
 }
 
-// Answers what is said of a style that is clean.
-#[tactic(auto, using(crate::proofs::CheckLemmas::text_is_clean))]
-fn said_clean(
-    alloc: Global,
-    name: &[u8],
-    text: &[u8],
-    style: &Style<'_>,
-    clean: &Clean,
-) -> Result<Checked, AllocError>
-    requires style { style.now ≡ style_of name.now text.now }
-    requires clean { StyleIsClean style.now clean.now.allowed.items clean.now.deepest }
-    ensures { IfOk result (λ said. TextIsClean name.now text.now said.bodies said.types.items) }
-{
-    Ok(Checked {
-        is_clean: true,
-        is_whole: true,
-        bodies: clean.deepest,
-        literals: clean.literals,
-        types: names_of(alloc, style, clean.allowed.as_slice())?,
-        notes: Vec::new(alloc),
-    })
-}
-
 // Answers what is said of a style that isn't known to be clean.
 fn said_unclean(is_whole: bool, notes: Vec<u8>, types: Vec<u8>) -> Checked
     ensures { result.is_clean ≡ false }
@@ -92,6 +69,7 @@ fn said_unclean(is_whole: bool, notes: Vec<u8>, types: Vec<u8>) -> Checked
 }
 
 // Answers what is said of a style of which this was found.
+#[tactic(auto, using(crate::proofs::CheckLemmas::text_is_clean))]
 fn said(
     alloc: Global,
     name: &[u8],
@@ -104,7 +82,14 @@ fn said(
     ensures { IfOk result (λ said. IsTrue said.is_clean → TextIsClean name.now text.now said.bodies said.types.items) }
 {
     match &findings.verdict {
-        Verdict::Clean(clean) => said_clean(alloc, name, text, style, clean),
+        Verdict::Clean(clean) => Ok(Checked {
+            is_clean: true,
+            is_whole: true,
+            bodies: clean.deepest,
+            literals: clean.literals,
+            types: names_of(alloc, style, clean.allowed.as_slice())?,
+            notes: Vec::new(alloc),
+        }),
         Verdict::NotKnownClean(_) => {
             let notes = note_findings(alloc, style, text, findings)?;
             Ok(said_unclean(true, notes, Vec::new(alloc)))

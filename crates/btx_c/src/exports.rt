@@ -130,8 +130,8 @@ pub extern "C" fn btx_run(
     }
 }
 
-/// Runs a job once more over files that are handed in, and writes notes of where its style stands: at each of the first `most` events that log errors in its execution, and
-/// where the run is stopped or meets a limit; and how many bytes these notes are.
+/// Runs a job once more over files that are handed in, and writes notes of where its style stands: at each of the first `most` events that log errors in its
+/// execution, and where the run is stopped or meets a limit; and how many bytes these notes are.
 #[unsafe(no_mangle)]
 pub extern "C" fn btx_where(
     alloc: Global,
@@ -172,8 +172,9 @@ pub extern "C" fn btx_where(
     }
 }
 
-/// Checks a style before any run, in at most `steps` steps of the check. It is called clean only if no run of it logs a fault of its own, whatever the databases, as long as each
-/// entry's type is one that the style doesn't know or one of those that are written into `types`, each with byte 10. Where it may go wrong is written into `notes`.
+/// Checks a style before any run, in at most `steps` steps of the check. It is called clean only if no run of it with a budget of at most 1,500,000,000 steps
+/// logs a fault of its own, whatever the databases, as long as each entry's type is one that the style doesn't know or one of those that are written into
+/// `types`, each with byte 10. Where it may go wrong is written into `notes`.
 #[unsafe(no_mangle)]
 pub extern "C" fn btx_check(
     alloc: Global,

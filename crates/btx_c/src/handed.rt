@@ -8,7 +8,7 @@ ghost use Rattle.btx_c.specs.Known.{known_of};
 use crate::answers::Answers;
 use crate::index::Index;
 use crate::others::Others;
-use btx_aux::{FetchFault, Fetched, Finder, fill};
+use btx_aux::{FetchFault, Fetched, Finder};
 use btx_text::Failures;
 use std::alloc::Global;
 
@@ -83,20 +83,7 @@ fn copy(index: &Index<'_>, name: &[u8], into: &mut Vec<u8>) -> Result<bool, Fetc
     ensures absent { result ≡ Ok false → into.new.items ≡ [] }
     ensures fault { OnErr result (into.new.items ≡ []) }
 {
-    match index.look(name) {
-        Known::Bytes(bytes) => {
-            fill(into, bytes)?;
-            Ok(true)
-        }
-        Known::Absent => {
-            into.clear();
-            Ok(false)
-        }
-        Known::Unknown => {
-            into.clear();
-            Err(FetchFault::Device)
-        }
-    }
+    index.copy(name, into)?.ok_or(FetchFault::Device)
 }
 
 impl<'i, 'f> Finder for Handed<'i, 'f> {

@@ -1,9 +1,12 @@
 //! The files that a caller hands in, found by name.
-ghost use Rattle.std.specs.Prelude.{◌≡◌, IfOk, OnOk};
+ghost use Rattle.std.specs.Prelude.{◌≡◌, [], None, Ok, Some, false, IfErr, IfOk, OnErr, OnOk};
+ghost use Rattle.std.specs.Option.{option_map};
+ghost use Rattle.btx_aux.specs.language.Files.{file_of};
 ghost use Rattle.btx_c.specs.Handed.{known};
 ghost use Rattle.btx_c.specs.Known.{AddsFile, known_of};
 
 use crate::handed::{BtxFile, Known};
+use btx_aux::{FetchFault, fill};
 use indexmap::IndexMap;
 use std::alloc::{AllocError, Global};
 use std::marker::Model;
@@ -59,6 +62,25 @@ impl<'a> Index<'a> {
         match self.by_name.get(name) {
             Some(file) => file.known(),
             None => Known::Unknown,
+        }
+    }
+
+    /// Copies the file `name` into `into`, and answers whether there is such a file; None if nothing was said of it. The only fault is want of memory.
+    pub fn copy(&self, name: &[u8], into: &mut Vec<u8>) -> Result<Option<bool>, FetchFault>
+        ensures said { IfOk result (λ said. known self.now name.now ≡ option_map (λ found. file_of found into.new.items) said) }
+        ensures absent { result ≡ Ok (Some false) → into.new.items ≡ [] }
+        ensures unknown { result ≡ Ok None → into.new.items ≡ [] }
+        ensures fault { OnErr result (into.new.items ≡ []) }
+        ensures memory { IfErr result (λ fault. fault ≡ FetchFault.Memory) }
+    {
+        into.clear();
+        match self.look(name) {
+            Known::Bytes(bytes) => {
+                fill(into, bytes)?;
+                Ok(Some(true))
+            }
+            Known::Absent => Ok(Some(false)),
+            Known::Unknown => Ok(None),
         }
     }
 }

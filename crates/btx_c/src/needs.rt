@@ -9,7 +9,7 @@ ghost use Rattle.btx_c.specs.Needs.{AsksNothing, EndsWithAuxFiles, NeedsNoOther,
 
 use crate::handed::{BtxFile, Handed, Known};
 use crate::index::Index;
-use btx_aux::{AuxJob, End, FetchFault, Fetched, Finder, History, fill};
+use btx_aux::{AuxJob, End, FetchFault, Fetched, Finder, History};
 use btx_run::files::read_job;
 use btx_text::Fault;
 use std::alloc::{AllocError, Global};
@@ -103,14 +103,9 @@ fn copy_or_ask(
     ensures fault { OnErr result (into.new.items ≡ []) }
     ensures memory { IfErr result (λ fault. fault ≡ FetchFault.Memory) }
 {
-    into.clear();
-    match index.look(name) {
-        Known::Bytes(bytes) => {
-            fill(into, bytes)?;
-            Ok(true)
-        }
-        Known::Absent => Ok(false),
-        Known::Unknown => {
+    match index.copy(name, into)? {
+        Some(found) => Ok(found),
+        None => {
             ask(index, name, asked).map_err(|_| FetchFault::Memory)?;
             Ok(false)
         }

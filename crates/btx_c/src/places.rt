@@ -8,8 +8,8 @@ use btx_run::Options;
 use btx_where::locate;
 use std::alloc::Global;
 
-// How many bytes of the list and of the log a run may write that nobody reads. (Outputs of another type would bring the machine's loop into the library once more, and make
-// that of `btx_run` slower.)
+// How many bytes of the list and of the log a run may write that nobody reads. (Outputs of another type would bring the machine's loop into the library once
+// more, and make that of `btx_run` slower.)
 const MOST_WRITTEN: usize = 128_000_000;
 
 /// Answers the notes of the job `name` over `files`: of the first `most` events that log errors, and of its end; or why there are none.

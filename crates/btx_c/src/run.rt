@@ -51,7 +51,8 @@ fn run_into(
     log: &mut Kept,
 ) -> Result<Report, Cause>
     ghost others: { OtherFiles }
-    ensures ok { IfOk result (λ report. Completes report (Some list.old.bytes.items, Some log.old.bytes.items) (Some list.new.bytes.items, Some log.new.bytes.items)
+    ensures ok { IfOk result (λ report. Completes report (Some list.old.bytes.items, Some log.old.bytes.items)
+        (Some list.new.bytes.items, Some log.new.bytes.items)
         (product (all_files files.now others) name.now options.now)) }
     ensures err { OnErr result (AtFault (Some list.old.bytes.items, Some log.old.bytes.items) (Some list.new.bytes.items, Some log.new.bytes.items)
         (product_with (all_files files.now others) name.now options.now) options.now.budget) }

@@ -7,10 +7,9 @@ ghost use Rattle.btx_core.specs.refinement.ComputedProduct.{product};
 ghost use Rattle.btx_c.specs.Handed.{beside};
 ghost use Rattle.btx_c.specs.Needs.{NeedsAnother, empty_files};
 
-use crate::handed::Known;
 use crate::index::Index;
 use crate::kept::Kept;
-use btx_aux::{FetchFault, Fetched, Finder, History, fill};
+use btx_aux::{FetchFault, Fetched, Finder, History};
 use btx_run::{Options, RunFault, run};
 use std::alloc::Global;
 
@@ -34,14 +33,9 @@ fn copy_or_suppose(
     ensures fault { OnErr result (into.new.items ≡ []) }
     ensures memory { IfErr result (λ fault. fault ≡ FetchFault.Memory) }
 {
-    into.clear();
-    match index.look(name) {
-        Known::Bytes(bytes) => {
-            fill(into, bytes)?;
-            Ok(true)
-        }
-        Known::Absent => Ok(false),
-        Known::Unknown => Ok(are_there),
+    match index.copy(name, into)? {
+        Some(found) => Ok(found),
+        None => Ok(are_there),
     }
 }
 

@@ -1,8 +1,8 @@
 //! What the checker of styles finds, as text: the places where a style may go wrong, and their causes.
 use btx_bst::{Callee, Style};
 use btx_check::description::{Mask, Upper, Value};
-use btx_check::{Cause, Fault, Finding, Findings, Growth, Operand};
 use btx_code::Code;
+use btx_lint::{Cause, Fault, Finding, Findings, Growth, Operand};
 use btx_step::Wanted;
 use btx_text::log_texts::{push_number, push_two};
 use btx_where::Place;
