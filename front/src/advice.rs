@@ -217,7 +217,7 @@ const ROWS: &[Row] = &[
     (Section::Style, "Illegal, MACRO command after READ", "put the macros above READ"),
     (Section::Style, "I was expecting a \"", "put the text in quotes, on one line"),
     (Section::Style, "Illegal end of style file", "close the last command; the fault is often a `{` far above"),
-    (Section::Execution, "You can't pop an empty literal stack", "a function before it took more than was there: `stack$` above that place shows what stands on the stack"),
+    (Section::Execution, "You can't pop an empty literal stack", "a function before it took too much, or left too little: `stack$` above that place shows what stands on the stack"),
     (Section::Execution, "~ is not an integer", "push the operands in the order in which the function takes them; a field that may be missing goes through `empty$` or `missing$` first"),
     (Section::Execution, "~ is not a string", "push the operands in the order in which the function takes them; a field that may be missing goes through `empty$` or `missing$` first"),
     (Section::Execution, "~ is not a function", "push the operands in the order in which the function takes them; a field that may be missing goes through `empty$` or `missing$` first"),

@@ -6,6 +6,7 @@ use crate::notes;
 use crate::style_text::{Kind, Token, Tokens, commands};
 use crate::text::Text;
 use std::collections::{HashMap, HashSet};
+use std::ops::Range;
 
 /// What a style declares a name as.
 #[derive(Debug, Clone, Copy, PartialEq, Eq)]
@@ -42,6 +43,12 @@ impl Declared {
         }
     }
 }
+
+/// The function that executes that of the entry's type.
+pub const CALLS_TYPE: &[u8] = b"call.type$";
+
+/// Of each function of a style the functions that it names, with the first place of each in the text.
+pub type NamesOfFunctions<'a> = HashMap<Folded<'a>, Vec<(usize, Folded<'a>)>>;
 
 /// A style's code.
 #[derive(Debug, Clone)]
@@ -157,12 +164,23 @@ impl<'a> Code<'a> {
         })
     }
 
-    fn of(&self, index: usize) -> &'a [u8] {
+    /// The text of a token.
+    pub(crate) fn of(&self, index: usize) -> &'a [u8] {
         &self.text.bytes[self.tokens[index].start..self.tokens[index].end]
     }
 
+    /// What a token is.
+    pub(crate) fn kind(&self, index: usize) -> Kind {
+        self.tokens[index].kind
+    }
+
+    /// In which line a token stands.
+    pub(crate) fn line(&self, index: usize) -> usize {
+        self.text.line_of(self.tokens[index].start)
+    }
+
     /// The number of a token in its braces, where a function in braces counts once.
-    fn number_of(&self, index: usize) -> usize {
+    pub(crate) fn number_of(&self, index: usize) -> usize {
         let (mut depth, mut number) = (0, 0);
         for token in self.tokens[..index].iter().rev() {
             match token.kind {
@@ -177,7 +195,7 @@ impl<'a> Code<'a> {
     }
 
     /// The token of this text in a line, where there is one alone: else the one alone that has that number in its braces.
-    fn index(&self, line: usize, text: &[u8], number: Option<usize>) -> Option<usize> {
+    pub(crate) fn index(&self, line: usize, text: &[u8], number: Option<usize>) -> Option<usize> {
         let (start, end) = self.text.span(line);
         let first = self.tokens.partition_point(|token| token.start < start);
         let behind = self.tokens.partition_point(|token| token.start < end);
@@ -191,7 +209,7 @@ impl<'a> Code<'a> {
     }
 
     /// The function in braces, or the one token, that ends directly before this token: its first token and its last one.
-    fn operand_before(&self, index: usize) -> Option<(usize, usize)> {
+    pub(crate) fn operand_before(&self, index: usize) -> Option<(usize, usize)> {
         let last = index.checked_sub(1)?;
         let mut depth = 0_usize;
         for first in (0..=last).rev() {
@@ -207,21 +225,75 @@ impl<'a> Code<'a> {
         None
     }
 
-    /// The functions that each function of the style names, quoted or not.
-    pub fn named_by_functions(&self) -> HashMap<Folded<'a>, HashSet<Folded<'a>>> {
+    /// The functions that each function of the style names, quoted or not, each where it stands first, in the order of the text.
+    pub fn names_of_functions(&self) -> NamesOfFunctions<'a> {
         let commands = commands(self.text.bytes);
         let ends = commands.iter().skip(1).map(|next| next.start).chain([self.text.bytes.len()]);
-        let mut found: HashMap<Folded<'a>, HashSet<Folded<'a>>> = HashMap::new();
+        let mut found = NamesOfFunctions::new();
         for (command, end) in commands.iter().zip(ends) {
             let Some(name) = command.name.filter(|_| command.is("function")) else { continue };
             let [first, behind] =
                 [command.start, end].map(|place| self.tokens.partition_point(|token| token.start < place));
-            let names =
-                (first..behind).map(|index| Folded(self.of(index).strip_prefix(b"'").unwrap_or(self.of(index))));
-            let is_function = |name: &Folded<'a>| matches!(self.declared(name.0), Some(Declared::Function { .. }));
-            found.entry(Folded(name)).or_default().extend(names.filter(is_function));
+            // (behind the word FUNCTION, the brace, the name and the other brace)
+            let tokens = (first..behind).skip(4);
+            let mut seen = HashSet::new();
+            let named = tokens.filter_map(|index| self.named_function(index)).filter(|(_, name)| seen.insert(*name));
+            found.entry(Folded(name)).or_default().extend(named);
         }
         found
+    }
+
+    /// The function of this name, and its tokens behind its name.
+    pub(crate) fn function(&self, name: &[u8]) -> Option<(&'a [u8], Range<usize>)> {
+        let declaration = self.declared.get(&Folded(name))?;
+        let start = self.tokens.partition_point(|token| token.start < declaration.start);
+        let is_function = matches!(declaration.sort, Declared::Function { .. });
+        // (behind its name stands the brace that closes that)
+        let (first, last) = (start + 2, self.closing(start + 2)?);
+        is_function.then(|| (self.of(start), first..last + 1))
+    }
+
+    /// The token that closes what this one opens.
+    fn closing(&self, open: usize) -> Option<usize> {
+        let mut depth = 0_usize;
+        for index in open..self.tokens.len() {
+            match self.tokens[index].kind {
+                Kind::Open => depth += 1,
+                Kind::Close => depth = depth.checked_sub(1)?,
+                _ => {}
+            }
+            if depth == 0 {
+                return Some(index);
+            }
+        }
+        None
+    }
+
+    /// The fields that stand in these tokens, or in the functions that these name.
+    pub(crate) fn fields_read(&self, tokens: &[Range<usize>]) -> Vec<&'a [u8]> {
+        let (mut open, mut seen) = (tokens.to_vec(), HashSet::new());
+        let mut fields: Vec<&'a [u8]> = Vec::new();
+        while let Some(range) = open.pop() {
+            for index in range {
+                let name = self.of(index).strip_prefix(b"'").unwrap_or(self.of(index));
+                let is_new = matches!(self.kind(index), Kind::Name | Kind::Quoted) && seen.insert(Folded(name));
+                match self.declared(name).filter(|_| is_new) {
+                    Some(Declared::Field) => fields.push(name),
+                    Some(Declared::Function { .. }) => open.extend(self.function(name).map(|(_, tokens)| tokens)),
+                    _ => {}
+                }
+            }
+        }
+        fields.sort_unstable();
+        fields
+    }
+
+    /// The function that a token names, and where.
+    fn named_function(&self, index: usize) -> Option<(usize, Folded<'a>)> {
+        let name = Folded(self.of(index).strip_prefix(b"'").unwrap_or(self.of(index)));
+        let is_function =
+            matches!(self.declared(name.0), Some(Declared::Function { .. })) || name == Folded(CALLS_TYPE);
+        is_function.then_some((self.tokens[index].start, name))
     }
 
     /// A place of the code, as the library notes it.
@@ -260,6 +332,11 @@ pub enum Left<'a> {
 }
 
 impl<'a> CodePlace<'_, 'a> {
+    /// Where it stands in the text.
+    pub fn start(self) -> usize {
+        self.code.tokens[self.index].start
+    }
+
     /// Where it stands in its line.
     pub fn mark(self) -> usize {
         let start = self.code.tokens[self.index].start;

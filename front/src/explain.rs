@@ -7,6 +7,7 @@ use crate::entries::{Entries, Stored};
 use crate::job::{File, Files};
 use crate::log::{Content, Ended, Line, Log, Message, Place, Severity};
 use crate::operands::advice_at;
+use crate::origins::{Frame, MissingField, missing_field};
 use crate::repeats::Repeats;
 use crate::scene::{Call, End, Scene};
 use crate::shapes::{Part, counted, went_well};
@@ -15,7 +16,7 @@ use crate::sources::{Sources, Spot};
 use crate::style_text::{
     Command, Defined, costs_a_token, end_of_skipped, is_command, last_token, lines_of_name, nearest_word, unclosed,
 };
-use crate::terminal::{Terminal, in_lines, plain};
+use crate::terminal::{ERROR_COLOUR, PLACE_COLOUR, Terminal, WARNING_COLOUR, in_lines, plain};
 use crate::text::{Text, split_first};
 use std::collections::HashSet;
 use std::io::{self, BufWriter, Write};
@@ -37,10 +38,6 @@ const NARROWEST: usize = 20;
 const INDENT: &str = "    ";
 /// How a line begins that goes on with the one above it.
 const CONTINUED: &str = "      ";
-const ERROR_COLOUR: &str = "\x1b[1;31m";
-const WARNING_COLOUR: &str = "\x1b[1;33m";
-const PLACE_COLOUR: &str = "\x1b[2m";
-const NO_COLOUR: &str = "\x1b[0m";
 
 /// Writes a log with its explanations, safe for a terminal.
 pub fn write(log: &Log<'_>, files: &Files, part: Part, terminal: &Terminal, out: &mut impl Write) -> io::Result<()> {
@@ -138,8 +135,7 @@ impl<'a, W: Write> Explainer<'a, W> {
     // ---- lines ----
 
     fn coloured(&mut self, colour: &str, text: &str) -> io::Result<()> {
-        let (colour, end) = if self.terminal.has_colours { (colour, NO_COLOUR) } else { ("", "") };
-        writeln!(self.out, "{colour}{text}{end}")
+        writeln!(self.out, "{}", self.terminal.coloured(colour, text))
     }
 
     /// Indented text; on a terminal it is broken into lines that have room.
@@ -373,7 +369,20 @@ impl<'a, W: Write> Explainer<'a, W> {
             self.add_unclosed(opened, spot, text, commands);
             return Some(format!("a `}}` is missing in {}", begins(spot.file, text, opened)));
         }
-        let closed = above.last().filter(|command| command.balance < 0 && error == b"I was expecting a command")?;
+        let is_rest = |word: &[u8]| nearest_word(word).is_none();
+        let word = error.strip_suffix(b" isn't a command").filter(|word| is_rest(word));
+        let is_of_rest = error == b"I was expecting a command" || word.is_some();
+        let closed = above.last().filter(|command| command.balance < 0 && is_of_rest)?;
+        if word.is_some() && self.causes.len() < MOST_CAUSES {
+            let lost = Defined::new(text.bytes, place, end_of_skipped(text, spot.number).max(place), commands);
+            self.causes.push(Cause {
+                style: &spot.file.name,
+                number: spot.number,
+                has_commands: false,
+                lost,
+                unprinted: 0,
+            });
+        }
         Some(format!("there is a `}}` too many in {}", begins(spot.file, text, closed)))
     }
 
@@ -496,6 +505,9 @@ impl<'a, W: Write> Explainer<'a, W> {
         if let Some(key) = entry {
             self.show_entry("for", key)?;
         }
+        if let Some(missing) = self.missing_field(message, function) {
+            self.put_place(&missing)?;
+        }
         let is_of_operands = message.text == b"You can't pop an empty literal stack"
             || advice::find(&[Section::Execution], message.text).is_some_and(|advice| advice.is_of_operands());
         if is_of_operands
@@ -516,11 +528,38 @@ impl<'a, W: Write> Explainer<'a, W> {
         }
     }
 
+    /// The code of the style in which a scene is.
+    fn code_of(&mut self, scene: &Scene) -> Option<&Code<'a>> {
+        let bytes = self.sources.file(&scene.at.file)?.bytes.as_deref()?;
+        Some(self.code.get_or_insert_with(|| Code::new(bytes)))
+    }
+
     /// What to do about an error at its place, where the style's text shows that.
     fn advice_at(&mut self, message: &Message<'a>, function: &[u8]) -> Option<String> {
         let scene = message.scene?;
-        let bytes = self.sources.file(&scene.at.file)?.bytes.as_deref()?;
-        advice_at(self.code.get_or_insert_with(|| Code::new(bytes)), scene, message.text, function)
+        advice_at(self.code_of(scene)?, scene, message.text, function)
+    }
+
+    /// Which field is missing where a function takes one that is, or which may be.
+    fn missing_field(&mut self, message: &Message<'a>, function: &[u8]) -> Option<String> {
+        let scene = message.scene?;
+        let is_of_one = message.text.starts_with(b"missing field is not ") || function == b"=";
+        let takes = advice::operands(function).filter(|_| is_of_one)?.split(' ').count();
+        let position = scene.stack.iter().take(takes).position(|held| held.literal == b"missing field")?;
+        let path = plain(self.sources.file(&scene.at.file).map_or(&scene.at.file[..], shown_path));
+        let found = missing_field(self.code_of(scene)?, function, &Frame::of_scene(scene), position)?;
+        Some(match found {
+            MissingField::Is(field, line) => {
+                format!("the missing field is `{}`, pushed at {path}:{line}", plain(field))
+            }
+            MissingField::LeftBy(by, line, fields) => {
+                let (by, fields) = (plain(by), fields_in_words(&fields));
+                format!("the missing field may be what `{by}` at {path}:{line} leaves, which reads {fields}")
+            }
+            MissingField::ReadBy(by, fields) => {
+                format!("the missing field may be one that `{}` reads: {}", plain(by), fields_in_words(&fields))
+            }
+        })
     }
 
     /// Where in the style something happened.
@@ -618,6 +657,14 @@ impl<'a, W: Write> Explainer<'a, W> {
     }
 }
 
+/// Names of fields in a row; of many the first ones.
+fn fields_in_words(fields: &[&[u8]]) -> String {
+    let names: Vec<String> = fields.iter().take(MOST_OF_SCENE).map(|field| format!("`{}`", plain(field))).collect();
+    let more = fields.len().saturating_sub(MOST_OF_SCENE);
+    let rest = if more > 0 { format!(", and {more} more") } else { String::new() };
+    format!("{}{rest}", names.join(", "))
+}
+
 /// The error at the end of a style whose last command isn't closed.
 const AT_END: &[u8] = b"Illegal end of style file";
 
@@ -663,6 +710,7 @@ pub fn shown_path(file: &File) -> &[u8] {
 mod tests {
     use super::*;
     use crate::scene::{Held, Scenes};
+    use crate::terminal::NO_COLOUR;
 
     fn file(name: &str, bytes: &str) -> File {
         File { name: name.into(), bytes: Some(bytes.into()), path: format!("./{name}").into() }
@@ -761,6 +809,12 @@ Error--x is an unknown function--line 5 of file s.bst\n";
             told.ends_with("    what to do: there is a `}` too many in FUNCTION {f}, which begins at s.bst:1\n"),
             "{told}"
         );
+        let style = "FUNCTION {f}\n{ #1 { skip$ } } if$ }\nINTEGERS { n }\n\nFUNCTION {g} { n }\n";
+        let log =
+            "Error--if isn't a command--line 2 of file s.bst\nError--n is an unknown function--line 5 of file s.bst\n";
+        let closed_early = explain(log, style, "");
+        let end = "    what to do: there is a `}` too many in FUNCTION {f}, which begins at s.bst:1\n    (1 more error follows from that)\n";
+        assert!(closed_early.ends_with(end), "{closed_early}");
     }
 
     #[test]
@@ -768,7 +822,7 @@ Error--x is an unknown function--line 5 of file s.bst\n";
         let at = |function: &str, line| Call { function: function.into(), file: b"s.bst".to_vec(), line };
         let callers = vec![at("book", 73), at("ITERATE {call.type$}", 100)];
         let stack = vec![Held { literal: b"\"a\x1b\"".to_vec(), since: Some(at("FUNCTION {g}", 7)) }];
-        let scene = Scene { at: at("FUNCTION {f}", 28), token: None, callers, stack };
+        let scene = Scene { at: at("FUNCTION {f}", 28), token: None, callers, caller_tokens: vec![None; 2], stack };
         let scenes = Scenes { errors: [(1, scene)].into(), ..Scenes::default() };
         let log = "Error--Integer overflow while executing +\n".repeat(2);
         let told = explained(&Log::new(log.as_bytes()).with_scenes(&scenes), &job("", ""), &Terminal::NONE);

@@ -2,7 +2,7 @@
 //! that don't change what their test reads.
 
 use crate::database::Folded;
-use crate::style_text::{Kind, Token, Tokens, commands};
+use crate::style_text::{Command, Kind, Token, Tokens, commands, commands_among};
 use crate::terminal::plain;
 use crate::text::Text;
 use std::collections::{HashMap, HashSet};
@@ -49,19 +49,43 @@ struct Declared<'a> {
     sort: Sort,
     /// Where it stands.
     start: usize,
-    /// Whether an entry's type may be meant by it: a function above READ without a dot, or `default.type`.
+    /// Whether it is a function above READ: a run takes it as a type of entry.
+    is_type_to_a_run: bool,
+    /// Whether an entry's type may be meant by it: it is such a function without a dot, or `default.type`.
     may_be_type: bool,
+}
+
+/// A style's text, read once.
+struct Read<'a> {
+    bytes: &'a [u8],
+    tokens: Vec<Token>,
+    commands: Vec<Command<'a>>,
+    /// In the order of the text.
+    declared: Vec<Declared<'a>>,
+}
+
+impl<'a> Read<'a> {
+    fn new(bytes: &'a [u8]) -> Read<'a> {
+        let tokens: Vec<Token> = Tokens::new(bytes).collect();
+        let commands = commands_among(bytes, tokens.iter().copied());
+        Read { declared: declared(bytes, &commands), bytes, tokens, commands }
+    }
+
+    /// A token's text.
+    fn of(&self, token: &Token) -> &'a [u8] {
+        of(self.bytes, token)
+    }
 }
 
 /// The hints for a style's text, in the order of its lines.
 pub fn hints(bytes: &[u8]) -> Vec<Hint> {
-    let (text, uses) = (Text::new(bytes), uses(bytes));
-    let found = declared(bytes).into_iter().filter_map(|declared| {
-        let none = Uses::default();
-        let said = said_of(&declared, uses.get(&Folded(declared.name)).unwrap_or(&none))?;
+    let (text, style) = (Text::new(bytes), Read::new(bytes));
+    let (none, uses) = (Uses::default(), uses(&style));
+    let found = style.declared.iter().filter_map(|declared| {
+        let said = said_of(declared, uses.get(&Folded(declared.name)).unwrap_or(&none))?;
         Some(Hint { line: text.line_of(declared.start), text: said, is_of_loop: false })
     });
-    let mut hints: Vec<Hint> = found.chain(of_loops(bytes)).collect();
+    let mut hints: Vec<Hint> = found.chain(of_loops(&style, &text)).collect();
     hints.sort_by_key(|hint| hint.line);
     hints
 }
@@ -86,9 +110,8 @@ fn of<'a>(bytes: &'a [u8], token: &Token) -> &'a [u8] {
     &bytes[token.start..token.end]
 }
 
-/// The names that a style declares by FUNCTION, INTEGERS, STRINGS, and as variables of entries.
-fn declared(bytes: &[u8]) -> Vec<Declared<'_>> {
-    let commands = commands(bytes);
+/// The names that a style with these commands declares by FUNCTION, INTEGERS, STRINGS, and as variables of entries.
+fn declared<'a>(bytes: &'a [u8], commands: &[Command<'a>]) -> Vec<Declared<'a>> {
     let read = commands.iter().find(|command| command.is("read")).map_or(bytes.len(), |command| command.start);
     let ends = commands.iter().skip(1).map(|next| next.start).chain([bytes.len()]);
     let mut found = Vec::new();
@@ -97,9 +120,10 @@ fn declared(bytes: &[u8]) -> Vec<Declared<'_>> {
         let inside = &bytes[begin..end];
         let mut add = |sort, token: &Token| {
             let name = of(inside, token);
-            let is_type = !name.contains(&b'.') || name.eq_ignore_ascii_case(b"default.type");
-            let may_be_type = sort == Sort::Function && command.start < read && is_type;
-            found.push(Declared { name, sort, start: begin + token.start, may_be_type });
+            let is_type_to_a_run = sort == Sort::Function && command.start < read;
+            let is_meant = !name.contains(&b'.') || name.eq_ignore_ascii_case(b"default.type");
+            let may_be_type = is_type_to_a_run && is_meant;
+            found.push(Declared { name, sort, start: begin + token.start, is_type_to_a_run, may_be_type });
         };
         if command.is("function") {
             names(inside, 0).iter().take(1).for_each(|token| add(Sort::Function, token));
@@ -145,12 +169,21 @@ const USUAL_TYPES: [&str; 24] = [
 
 /// The functions that are meant as types of entries, as far as can be seen: first those with the name of a usual type, then those above READ without a dot that nothing uses.
 pub fn types_meant(bytes: &[u8]) -> Vec<Vec<u8>> {
-    let (declared, uses) = (declared(bytes), uses(bytes));
-    let functions = declared.iter().filter(|declared| declared.may_be_type).map(|declared| declared.name);
+    let style = Read::new(bytes);
+    let uses = uses(&style);
+    let functions = style.declared.iter().filter(|declared| declared.may_be_type).map(|declared| declared.name);
     let is_usual = |name: &&[u8]| USUAL_TYPES.iter().any(|usual| name.eq_ignore_ascii_case(usual.as_bytes()));
     let (usual, others): (Vec<&[u8]>, Vec<&[u8]>) = functions.partition(is_usual);
     let unused = others.into_iter().filter(|name| !uses.contains_key(&Folded(name)) && !name.contains(&b'.'));
     usual.into_iter().chain(unused).map(<[u8]>::to_vec).collect()
+}
+
+/// The functions of a style that stand above READ, in its order: to a run each of them is a type of entry.
+pub fn functions_above_read(bytes: &[u8]) -> impl Iterator<Item = &[u8]> {
+    declared(bytes, &commands(bytes))
+        .into_iter()
+        .filter(|declared| declared.is_type_to_a_run)
+        .map(|declared| declared.name)
 }
 
 /// The fields that a style declares.
@@ -179,22 +212,22 @@ fn names(text: &[u8], number: usize) -> Vec<Token> {
 }
 
 /// How each name is used in the bodies of functions, and by EXECUTE, ITERATE and REVERSE.
-fn uses(bytes: &[u8]) -> HashMap<Folded<'_>, Uses> {
-    let mut uses: HashMap<Folded<'_>, Uses> = HashMap::new();
-    let declared: HashSet<usize> = declared(bytes).iter().map(|declared| declared.start).collect();
-    let tokens: Vec<Token> = Tokens::new(bytes).collect();
-    for (index, token) in tokens.iter().enumerate() {
+fn uses<'a>(style: &Read<'a>) -> HashMap<Folded<'a>, Uses> {
+    let mut uses: HashMap<Folded<'a>, Uses> = HashMap::new();
+    let mut declared = style.declared.iter().map(|declared| declared.start).peekable();
+    for (index, token) in style.tokens.iter().enumerate() {
+        while declared.next_if(|start| *start < token.start).is_some() {}
         match token.kind {
-            Kind::Name if !declared.contains(&token.start) => {
-                uses.entry(Folded(of(bytes, token))).or_default().taken += 1;
+            Kind::Name if declared.peek() != Some(&token.start) => {
+                uses.entry(Folded(style.of(token))).or_default().taken += 1;
             }
             Kind::Quoted => {
-                let found = uses.entry(Folded(&bytes[token.start + 1..token.end])).or_default();
+                let found = uses.entry(Folded(&style.of(token)[1..])).or_default();
                 found.quoted += 1;
-                let is_assigned = tokens.get(index + 1).is_some_and(|next| of(bytes, next) == b":=");
-                let before = index.checked_sub(1).and_then(|before| tokens.get(before));
+                let is_assigned = style.tokens.get(index + 1).is_some_and(|next| style.of(next) == b":=");
+                let before = index.checked_sub(1).and_then(|before| style.tokens.get(before));
                 let given = before.filter(|before| is_assigned && before.kind == Kind::Integer);
-                found.given.extend(given.and_then(|given| integer(of(bytes, given))));
+                found.given.extend(given.and_then(|given| integer(style.of(given))));
             }
             _ => {}
         }
@@ -213,14 +246,15 @@ const MOST_TOKENS: usize = 2_000_000;
 
 /// The tokens of a style, as its loops need them.
 struct Loops<'a> {
-    bytes: &'a [u8],
-    tokens: Vec<Token>,
-    /// For each closing brace the opening one, by their numbers.
-    opened: HashMap<usize, usize>,
+    style: &'a Read<'a>,
+    /// For each closing brace the opening one, by their numbers, in the order of the closing ones.
+    opened: Vec<(usize, usize)>,
     variables: HashSet<Folded<'a>>,
     /// Those of INTEGERS.
     counters: HashSet<Folded<'a>>,
-    /// The tokens of each function of the style, its name included.
+    /// The tokens of each function of the style, its name included, in the order of the text.
+    spans: Vec<Range<usize>>,
+    /// The same, by the function's name.
     functions: HashMap<Folded<'a>, Range<usize>>,
 }
 
@@ -233,20 +267,28 @@ struct Loop {
 }
 
 /// The loops that don't change what their test reads: such a loop isn't entered, or doesn't end. And those in which a counter doesn't count.
-fn of_loops(bytes: &[u8]) -> Vec<Hint> {
-    let (loops, text) = (Loops::new(bytes), Text::new(bytes));
-    let line = |token: usize| text.line_of(loops.tokens[token].start);
-    let mut left = MOST_TOKENS;
+fn of_loops<'a>(style: &'a Read<'a>, text: &Text<'_>) -> Vec<Hint> {
+    let ends: Vec<usize> = (0..style.tokens.len()).filter(|end| is_while(style, *end)).collect();
+    if ends.is_empty() {
+        return Vec::new();
+    }
+    let loops = Loops::new(style);
+    let line = |token: usize| text.line_of(style.tokens[token].start);
+    let (mut left, mut given) = (MOST_TOKENS, Given::default());
     let mut found = Vec::new();
-    for end in 0..loops.tokens.len() {
-        let Some(of_while) = loops.loop_of(end) else { continue };
-        let lines = (line(of_while.body.start - 1), line(end));
-        let said =
-            loops.endless(&of_while, lines, &mut left).into_iter().chain(loops.still(&of_while, lines, &mut left));
+    for of_while in ends.into_iter().filter_map(|end| loops.loop_of(end)) {
+        let lines = (line(of_while.body.start - 1), line(of_while.end));
+        let endless = loops.endless(&of_while, lines, &mut left);
+        let said = endless.into_iter().chain(loops.still(&of_while, lines, &mut given, &mut left));
         let begin = line(of_while.test.start - 1);
         found.extend(said.map(|text| Hint { line: begin, text, is_of_loop: true }));
     }
     found
+}
+
+/// Whether the token of this number is `while$`.
+fn is_while(style: &Read<'_>, number: usize) -> bool {
+    style.of(&style.tokens[number]).eq_ignore_ascii_case(b"while$")
 }
 
 /// The lines of a loop's body, in words.
@@ -261,8 +303,8 @@ fn listed(names: &[Folded<'_>], word: &str) -> String {
 }
 
 /// For each closing brace the opening one.
-fn opened(tokens: &[Token]) -> HashMap<usize, usize> {
-    let (mut open, mut opened) = (Vec::new(), HashMap::new());
+fn opened(tokens: &[Token]) -> Vec<(usize, usize)> {
+    let (mut open, mut opened) = (Vec::new(), Vec::new());
     for (place, token) in tokens.iter().enumerate() {
         match token.kind {
             Kind::Open => open.push(place),
@@ -273,41 +315,83 @@ fn opened(tokens: &[Token]) -> HashMap<usize, usize> {
     opened
 }
 
+/// The tokens of each function, its name included.
+fn spans_of(style: &Read<'_>) -> Vec<Range<usize>> {
+    let place = |start: usize| style.tokens.partition_point(|token| token.start < start);
+    let ends = style.commands.iter().skip(1).map(|next| next.start).chain([style.bytes.len()]);
+    let functions = style.commands.iter().zip(ends).filter(|(command, _)| command.is("function"));
+    functions.map(|(command, end)| place(command.start) + 1..place(end)).collect()
+}
+
+/// Where the function that was looked at last assigns to its variables.
+#[derive(Default)]
+struct Given<'a> {
+    /// The function's tokens.
+    function: Range<usize>,
+    /// For each name behind a quote the number of its first token, and whether there is another.
+    places: HashMap<Folded<'a>, (usize, bool)>,
+}
+
+impl<'a> Given<'a> {
+    /// Looks at a function, if it isn't the one that was looked at last.
+    fn look_at(&mut self, style: &Read<'a>, function: Range<usize>) {
+        if self.function == function {
+            return;
+        }
+        self.places.clear();
+        for place in function.clone().filter(|place| style.tokens[*place].kind == Kind::Quoted) {
+            let name = Folded(&style.of(&style.tokens[place])[1..]);
+            self.places.entry(name).and_modify(|(_, again)| *again = true).or_insert((place, false));
+        }
+        self.function = function;
+    }
+
+    /// Whether the function assigns once to a variable: a number, before this token.
+    fn is_once(&self, style: &Read<'_>, name: Folded<'_>, before: usize) -> bool {
+        let is_number = |place: usize| place > 0 && style.tokens[place - 1].kind == Kind::Integer;
+        self.places.get(&name).is_some_and(|(place, again)| !again && *place < before && is_number(*place))
+    }
+}
+
 impl<'a> Loops<'a> {
-    fn new(bytes: &'a [u8]) -> Loops<'a> {
-        let tokens: Vec<Token> = Tokens::new(bytes).collect();
-        let all = declared(bytes);
+    fn new(style: &'a Read<'a>) -> Loops<'a> {
         let of_sort = |is_it: fn(Sort) -> bool| {
-            all.iter().filter(move |declared| is_it(declared.sort)).map(|declared| Folded(declared.name)).collect()
+            let declared = style.declared.iter().filter(move |declared| is_it(declared.sort));
+            declared.map(|declared| Folded(declared.name)).collect()
         };
-        let variables = of_sort(|sort| sort != Sort::Function);
-        let counters = of_sort(|sort| sort == Sort::Integer);
-        let commands = commands(bytes);
-        let place = |start: usize| tokens.partition_point(|token| token.start < start);
-        let ends = commands.iter().skip(1).map(|next| next.start).chain([bytes.len()]);
-        let spans = commands.iter().zip(ends).filter(|(command, _)| command.is("function"));
-        let functions = spans.filter_map(|(command, end)| {
-            let span = place(command.start) + 1..place(end);
-            let name = tokens.get(span.clone())?.iter().find(|token| token.kind == Kind::Name)?;
-            Some((Folded(of(bytes, name)), span))
+        let spans = spans_of(style);
+        let named = spans.iter().filter_map(|span| {
+            let name = style.tokens.get(span.clone())?.iter().find(|token| token.kind == Kind::Name)?;
+            Some((Folded(style.of(name)), span.clone()))
         });
-        Loops { bytes, variables, counters, functions: functions.collect(), opened: opened(&tokens), tokens }
+        Loops {
+            style,
+            opened: opened(&style.tokens),
+            variables: of_sort(|sort| sort != Sort::Function),
+            counters: of_sort(|sort| sort == Sort::Integer),
+            functions: named.collect(),
+            spans,
+        }
     }
 
     /// The tokens in the braces that end directly before a token.
     fn braces_before(&self, index: usize) -> Option<Range<usize>> {
         let close = index.checked_sub(1)?;
-        Some(*self.opened.get(&close)? + 1..close)
+        let found = self.opened.binary_search_by_key(&close, |(close, _)| *close).ok()?;
+        Some(self.opened[found].1 + 1..close)
     }
 
     /// The loop whose `while$` this token is, where both of its functions stand in braces directly before it.
     fn loop_of(&self, end: usize) -> Option<Loop> {
-        if !of(self.bytes, &self.tokens[end]).eq_ignore_ascii_case(b"while$") {
-            return None;
-        }
         let body = self.braces_before(end)?;
         let test = self.braces_before(body.start - 1)?;
         Some(Loop { test, body, end })
+    }
+
+    /// The function in which a token stands.
+    fn function_around(&self, token: usize) -> Option<Range<usize>> {
+        let behind = self.spans.partition_point(|span| span.start <= token);
+        self.spans[..behind].last().filter(|span| span.contains(&token)).cloned()
     }
 
     /// What is said of a loop that changes nothing that its test reads.
@@ -325,13 +409,14 @@ impl<'a> Loops<'a> {
     }
 
     /// What is said of a loop whose body uses variables that were given a number above it, and that nothing in its function changes.
-    fn still(&self, of_while: &Loop, lines: (usize, usize), left: &mut usize) -> Option<String> {
-        let function = self.functions.values().find(|span| span.contains(&of_while.end))?;
-        let mut names: Vec<Folded<'a>> = Vec::new();
-        for token in self.tokens[of_while.body.clone()].iter().filter(|token| token.kind == Kind::Name) {
-            let name = Folded(of(self.bytes, token));
-            let is_given = || self.is_given_once(function.clone(), of_while.test.start, name);
-            if self.counters.contains(&name) && !names.contains(&name) && is_given() {
+    fn still(&self, of_while: &Loop, lines: (usize, usize), given: &mut Given<'a>, left: &mut usize) -> Option<String> {
+        *left = left.checked_sub(of_while.body.len())?;
+        given.look_at(self.style, self.function_around(of_while.end)?);
+        let (mut names, mut seen): (Vec<Folded<'a>>, HashSet<Folded<'a>>) = (Vec::new(), HashSet::new());
+        for token in self.style.tokens[of_while.body.clone()].iter().filter(|token| token.kind == Kind::Name) {
+            let name = Folded(self.style.of(token));
+            let is_given = || given.is_once(self.style, name, of_while.test.start);
+            if self.counters.contains(&name) && seen.insert(name) && is_given() {
                 names.push(name);
             }
         }
@@ -341,22 +426,11 @@ impl<'a> Loops<'a> {
         (!names.is_empty()).then(|| format!("does this loop count? Its body ({body}) uses {all} and never changes it"))
     }
 
-    /// Whether a function assigns once to a variable: a number, before this token.
-    fn is_given_once(&self, function: Range<usize>, before: usize, name: Folded<'a>) -> bool {
-        let is_it = |place: &usize| {
-            let token = &self.tokens[*place];
-            token.kind == Kind::Quoted && Folded(&of(self.bytes, token)[1..]) == name
-        };
-        let mut places = function.filter(is_it);
-        let (first, second) = (places.next(), places.next());
-        first.is_some_and(|place| place < before && self.tokens[place - 1].kind == Kind::Integer) && second.is_none()
-    }
-
     /// The variables that a test reads; None where it also reads the stack, a field, or what a function of the style does.
     fn read_by(&self, test: Range<usize>) -> Option<Vec<Folded<'a>>> {
         let mut read: Vec<Folded<'a>> = Vec::new();
-        for token in &self.tokens[test.clone()] {
-            let name = of(self.bytes, token);
+        for token in &self.style.tokens[test.clone()] {
+            let name = self.style.of(token);
             match token.kind {
                 Kind::Integer | Kind::Text => {}
                 Kind::Name if self.variables.contains(&Folded(name)) => read.push(Folded(name)),
@@ -376,8 +450,9 @@ impl<'a> Loops<'a> {
                 return true;
             }
             *left -= span.len();
-            for token in self.tokens[span].iter().filter(|token| matches!(token.kind, Kind::Name | Kind::Quoted)) {
-                let text = of(self.bytes, token);
+            let tokens = &self.style.tokens[span];
+            for token in tokens.iter().filter(|token| matches!(token.kind, Kind::Name | Kind::Quoted)) {
+                let text = self.style.of(token);
                 let name = Folded(if token.kind == Kind::Quoted { &text[1..] } else { text });
                 if token.kind == Kind::Quoted && name == wanted {
                     return true;

@@ -65,6 +65,11 @@ enum Place {
 }
 
 const NO_SUCH_FILE: &str = "there is no such file";
+const FOLDER: &str = "it is a folder";
+const NO_ORDINARY_FILE: &str = "it is no ordinary file";
+const TOO_LONG_A_NAME: &str = "File name too long";
+const NO_NAME_OF_A_FILE: &str = "no file has such a name";
+const LINKS_TO_THEMSELVES: &str = "Too many levels of symbolic links";
 const NOT_ALLOWED: &str = "TeX's set-up doesn't allow that it is read";
 
 /// Why a file of a job doesn't count although something is there.
@@ -94,11 +99,17 @@ const LINKS_IN_A_CIRCLE: i32 = 40;
 pub fn why_missing(fault: &io::Error) -> Option<&'static str> {
     match fault.kind() {
         ErrorKind::NotFound | ErrorKind::NotADirectory => Some(NO_SUCH_FILE),
-        ErrorKind::InvalidFilename => Some("File name too long"),
-        ErrorKind::InvalidInput => Some("no file has such a name"),
-        _ if fault.raw_os_error() == Some(LINKS_IN_A_CIRCLE) => Some("Too many levels of symbolic links"),
+        ErrorKind::InvalidFilename => Some(TOO_LONG_A_NAME),
+        ErrorKind::InvalidInput => Some(NO_NAME_OF_A_FILE),
+        _ if fault.raw_os_error() == Some(LINKS_IN_A_CIRCLE) => Some(LINKS_TO_THEMSELVES),
         _ => None,
     }
+}
+
+/// Whether a reason is that nothing can be a file of the job there, and not that the machine keeps us from it.
+pub fn is_of_missing(reason: &str) -> bool {
+    let all = [NO_SUCH_FILE, FOLDER, NO_ORDINARY_FILE, TOO_LONG_A_NAME, NO_NAME_OF_A_FILE, LINKS_TO_THEMSELVES];
+    all.contains(&reason)
 }
 
 /// A file or a folder that the machine couldn't read, and the number of its fault.
@@ -118,9 +129,9 @@ fn read(path: &[u8]) -> io::Result<Place> {
 fn read_ordinary(path: &[u8]) -> io::Result<Place> {
     let data = fs::metadata(path_of(path))?;
     if data.is_dir() {
-        return Ok(Place::Empty("it is a folder"));
+        return Ok(Place::Empty(FOLDER));
     } else if !data.is_file() {
-        return Ok(Place::Empty("it is no ordinary file"));
+        return Ok(Place::Empty(NO_ORDINARY_FILE));
     }
     let file = fs::File::open(path_of(path))?;
     let number = (data.dev(), data.ino());
@@ -270,5 +281,6 @@ mod tests {
         assert!(matches!(read(b"/nonexistent/a"), Ok(Place::Empty(NO_SUCH_FILE))));
         assert!(matches!(read(b"/dev/null"), Ok(Place::Empty("it is no ordinary file"))));
         assert!(matches!(read(&[b'a'; 5000]), Ok(Place::Empty("File name too long"))));
+        assert!(is_of_missing("it is a folder") && !is_of_missing("Permission denied"));
     }
 }

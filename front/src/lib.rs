@@ -25,10 +25,12 @@
 //! | [`run_log`] | the log of a run as it is written and printed |
 //! | [`terminal`] | what is safe to print on a terminal, and how wide it is |
 //! | [`exit`] | the exit statuses |
-//! | [`code_places`], [`operands`] | what stands at a place of a style's code, and what that says of a wrong operand |
+//! | [`code_places`], [`operands`], [`origins`] | what stands at a place of a style's code, and what that says of a wrong operand and of where it was pushed |
 //! | [`repeats`] | errors of an execution that repeat |
 //! | [`style_check`], [`hints`] | what can be said of a style before any document uses it |
+//! | [`lint_types`] | for entries of which types that is said |
 //! | [`lint_warnings`], [`lint_entry`] | where a style may go wrong, and an entry that shows it |
+//! | [`lint_ties`] | from which unequal `if$` such a place may follow |
 //! | [`lint_text`], [`lint_forms`] | what is printed of a style, for people and for other programs |
 //! | [`search_program`], [`lint_program`], [`confined_program`] | the programs; `bibtex-lint` is another name of `bibtex-search` |
 //!
@@ -53,10 +55,13 @@ pub mod lint_entry;
 pub mod lint_forms;
 pub mod lint_program;
 pub mod lint_text;
+pub mod lint_ties;
+pub mod lint_types;
 pub mod lint_warnings;
 pub mod log;
 pub mod notes;
 pub mod operands;
+pub mod origins;
 pub mod outputs;
 pub mod places;
 pub mod repeats;

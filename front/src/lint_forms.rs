@@ -6,6 +6,7 @@ use crate::explain;
 use crate::hints::Hint;
 use crate::lint_entry::Shown;
 use crate::lint_text::{Style, groups, said_of, verdict, write};
+use crate::lint_types::Types;
 use crate::lint_warnings::{Cause, Fault, Operand, Value, Warning};
 use crate::log::Log;
 use crate::notes::Spot;
@@ -13,6 +14,13 @@ use crate::shapes::Part;
 use crate::style_check::StyleCheck;
 use crate::terminal::{Terminal, plain};
 use std::io::{self, Write};
+
+/// A style with all that was found of it.
+pub struct Linted {
+    pub check: StyleCheck,
+    /// For which types of entries that is said, where anything is said of the whole style.
+    pub types: Option<Types>,
+}
 
 /// The path of the style, as it is to be shown.
 fn path_of(check: &StyleCheck) -> String {
@@ -28,17 +36,20 @@ fn code_of(check: &StyleCheck) -> Code<'_> {
 // ---- for people ----
 
 /// Writes what is found of a style: what is wrong in its text, where a run may go wrong, hints, and the verdict.
-pub fn write_for_people(check: &StyleCheck, terminal: &Terminal, out: &mut impl Write) -> io::Result<()> {
-    let path = path_of(check);
-    if check.messages > 0 {
-        explain::write(&Log::new(&check.log), &check.files, Part::Mistakes, terminal, out)?;
+pub fn write_for_people(linted: &Linted, terminal: &Terminal, out: &mut impl Write) -> io::Result<()> {
+    let (check, path) = (&linted.check, path_of(&linted.check));
+    if check.messages.count > 0 {
+        explain::write(&Log::new(&check.messages.log), &check.files, Part::Mistakes, terminal, out)?;
     }
-    let style = Style { path: &path, code: &code_of(check), terminal, has_mistakes: check.messages > 0 };
+    let style = Style { path: &path, code: &code_of(check), terminal, has_mistakes: check.messages.count > 0 };
     write(&style, &check.found, check.entries.as_deref(), out)?;
     for hint in check.hints.iter().filter(|hint| !hint.is_of_loop) {
         writeln!(out, "{path}:{}: hint: {}", hint.line, hint.text)?;
     }
     write_verdict(&path, check, out)?;
+    if let Some(uncovered) = types_said(linted).and_then(Types::uncovered_text) {
+        writeln!(out, "    not covered: {uncovered}")?;
+    }
     let unsaid = if check.is_clean() { "clean says nothing of loops: " } else { "" };
     for hint in check.hints.iter().filter(|hint| hint.is_of_loop) {
         writeln!(out, "{path}:{}: hint: {unsaid}{}", hint.line, hint.text)?;
@@ -46,17 +57,22 @@ pub fn write_for_people(check: &StyleCheck, terminal: &Terminal, out: &mut impl 
     Ok(())
 }
 
+/// For which types of entries the verdict is; None where it says nothing of the whole style.
+fn types_said(linted: &Linted) -> Option<&Types> {
+    linted.types.as_ref().filter(|_| matches!(linted.check.word(), "clean" | "warnings"))
+}
+
 fn write_verdict(path: &str, check: &StyleCheck, out: &mut impl Write) -> io::Result<()> {
     match &check.verdict {
-        _ if check.messages > 0 => write_mistakes(path, check, out),
-        _ if !check.is_read => writeln!(
+        _ if check.messages.count > 0 => write_mistakes(path, check, out),
+        _ if !check.messages.is_whole => writeln!(
             out,
             "{path}: incomplete: its text wasn't read to its end, so mistakes may stand in the rest of it"
         ),
         Some(Verdict::Clean { literals, bodies, types }) => {
             writeln!(
                 out,
-                "{path}: clean: no run of it logs a fault of its own (at most {literals} literals, {bodies} bodies)"
+                "{path}: clean: no run with a budget of at most 1,500,000,000 steps logs a fault of its own (at most {literals} literals, {bodies} bodies)"
             )?;
             let types: Vec<String> = types.iter().map(|name| plain(name)).collect();
             match types.is_empty() {
@@ -81,8 +97,8 @@ fn write_mistakes(path: &str, check: &StyleCheck, out: &mut impl Write) -> io::R
         Some(Verdict::Warnings(_)) => format!("warnings: {}, which may follow from them", verdict(&check.found)),
         _ => "the check of the rest didn't come to its end".to_string(),
     };
-    let plural = if check.messages == 1 { "" } else { "s" };
-    writeln!(out, "{path}: mistakes in its text ({} message{plural}): mend these first; {rest}", check.messages)
+    let plural = if check.messages.count == 1 { "" } else { "s" };
+    writeln!(out, "{path}: mistakes in its text ({} message{plural}): mend these first; {rest}", check.messages.count)
 }
 
 // ---- as a line ----
@@ -109,7 +125,7 @@ pub fn line_of(check: &StyleCheck) -> String {
         }
         _ => word.to_string(),
     };
-    format!("{path}: {said}, messages {}, hints {}", check.messages, check.hints.len())
+    format!("{path}: {said}, messages {}, hints {}", check.messages.count, check.hints.len())
 }
 
 // ---- as JSON ----
@@ -141,19 +157,26 @@ fn json_object(parts: &[(&str, String)]) -> String {
 }
 
 /// What is found of a style, as an object of JSON.
-pub fn json_of(check: &StyleCheck) -> String {
+pub fn json_of(linted: &Linted) -> String {
+    let check = &linted.check;
     let mut parts = vec![("style", json(&path_of(check))), ("verdict", json(check.word()))];
-    if let Some(Verdict::Clean { literals, bodies, types }) = check.verdict.as_ref().filter(|_| check.is_clean()) {
+    if let Some(Verdict::Clean { literals, bodies, .. }) = check.verdict.as_ref().filter(|_| check.is_clean()) {
         parts.push(("literals", literals.to_string()));
         parts.push(("bodies", bodies.to_string()));
-        parts.push(("types", json_names(types)));
     }
-    let lines = check.log.split(|byte| *byte == b'\n').filter(|line| !line.is_empty());
+    if let Some(types) = types_said(linted) {
+        parts.push(("types", json_names(&types.taken)));
+        parts.push(("uncovered", json_names(&types.uncovered)));
+    }
+    let lines = check.messages.log.split(|byte| *byte == b'\n').filter(|line| !line.is_empty());
     parts.push(("messages", json_list(lines.map(|line| json(&plain(line))))));
     let (shown, code) = (check.found.shown(), code_of(check));
     let entry = |number: usize| check.entries.as_ref().and_then(|entries| entries.get(number));
     let warnings = shown.iter().enumerate().map(|(number, warning)| json_of_warning(warning, &code, entry(number)));
     parts.push(("warnings", json_list(warnings)));
+    if check.found.hidden() > 0 {
+        parts.push(("behind", check.found.hidden().to_string()));
+    }
     if !check.found.causes.is_empty() {
         parts.push(("causes", json_list(check.found.causes.iter().map(json_of_cause))));
     }

@@ -1,8 +1,9 @@
 //! `bibtex-lint`: what can be said of styles before any document uses them. `bibtex-search` is this program where it is called so.
 
 use crate::exit::{Failure, Name, Status};
-use crate::job::{File, find_style};
-use crate::lint_forms::{json_of, line_of, write_for_people};
+use crate::job::{File, find_style, is_of_missing};
+use crate::lint_forms::{Linted, json_of, line_of, write_for_people};
+use crate::lint_types::types_of;
 use crate::search::Search;
 use crate::style_check::StyleCheck;
 use crate::terminal::{Terminal, plain};
@@ -15,8 +16,8 @@ use std::process::ExitCode;
 const HELP: &str = "\
   Says of styles of BibTeX, before any document uses them, what is wrong in
   their text, and whether a run can go wrong by them: a style that is called
-  clean never logs a fault of its own. Styles are found along BSTINPUTS, and
-  where TeX has its own.
+  clean never logs a fault of its own, with a budget of up to 1,500,000,000
+  steps. Styles are found along BSTINPUTS, and where TeX has its own.
 
 --line           print a line for each style, for other programs
 --json           print all that is found as JSON
@@ -125,13 +126,28 @@ pub fn main(
             let _ = writeln!(io::stderr(), "Try `{name} --help' for more information.");
             Status::Refused
         }
-        Asked::Job(job) => explain_job(job).unwrap_or_else(|failure| {
-            name.say(&failure);
-            failure.status()
-        }),
+        Asked::Job(job) => explain_job(job.clone()).unwrap_or_else(|failure| unexplained(name, &job, &failure)),
         Asked::Check { how, styles } => check_all(name, how, &styles),
     }
     .into()
+}
+
+/// Says why a job isn't explained, and answers the exit status: one that isn't there is refused, as a style is.
+fn unexplained(name: &Name, job: &[u8], failure: &Failure) -> Status {
+    match failure {
+        Failure::NoTop(_, reason) if is_of_missing(reason) => {
+            name.say(format_args!("there is no job {}: {failure}", plain(job)));
+            Status::Refused
+        }
+        Failure::NoTop(..) => {
+            name.say(failure);
+            Status::Device
+        }
+        _ => {
+            name.say(failure);
+            failure.status()
+        }
+    }
 }
 
 fn printed(name: &Name, text: &str) -> Status {
@@ -148,20 +164,20 @@ fn check_all(name: &Name, how: How, styles: &[Vec<u8>]) -> Status {
     let mut statuses = Vec::new();
     let mut shown = Vec::new();
     for style in styles {
-        let check = match check(&search, how, style) {
-            Ok(check) => check,
+        let linted = match lint(&search, how, style) {
+            Ok(linted) => linted,
             Err(unchecked) => {
                 name.say(&unchecked);
                 statuses.push(unchecked.status());
                 continue;
             }
         };
-        statuses.push(status_of(&check));
+        statuses.push(status_of(&linted.check));
         let written = match how.form {
-            Form::People => write_for_people(&check, &terminal, &mut out),
-            Form::Line => writeln!(out, "{}", line_of(&check)),
+            Form::People => write_for_people(&linted, &terminal, &mut out),
+            Form::Line => writeln!(out, "{}", line_of(&linted.check)),
             Form::Json => {
-                shown.push(json_of(&check));
+                shown.push(json_of(&linted));
                 Ok(())
             }
         };
@@ -178,12 +194,16 @@ fn check_all(name: &Name, how: How, styles: &[Vec<u8>]) -> Status {
 }
 
 /// Finds, reads and checks a style; its ending may be left out.
-fn check<'a>(search: &Search, how: How, name: &'a [u8]) -> Result<StyleCheck, Unchecked<'a>> {
+fn lint<'a>(search: &Search, how: How, name: &'a [u8]) -> Result<Linted, Unchecked<'a>> {
     let failed = |failure| Unchecked::Failed(name, failure);
     let whole = if name.ends_with(b".bst") { name.to_vec() } else { [name, b".bst"].concat() };
     let file = find_style(search, &whole).map_err(failed)?.map_err(|reason| Unchecked::Missing(name, reason))?;
     let last = whole.rsplit(|byte| *byte == b'/').next().unwrap_or_default().to_vec();
-    StyleCheck::new(File { name: last, ..file }, how.steps, how.has_entries).map_err(failed)
+    let check = StyleCheck::new(File { name: last, ..file }, how.steps, how.has_entries).map_err(failed)?;
+    let style = check.files.with_ending(".bst").next();
+    let (name, text) = style.map_or((&b""[..], &b""[..]), |file| (&file.name, file.bytes.as_deref().unwrap_or(b"")));
+    let types = types_of(name, text, &check.verdict).map_err(|refused| failed(refused.into()))?;
+    Ok(Linted { check, types })
 }
 
 /// Why a style of this name isn't checked.

@@ -2,8 +2,8 @@
 
 use crate::advice;
 use crate::code_places::{Code, CodePlace};
-use crate::database::Folded;
 use crate::lint_entry::Shown;
+use crate::lint_ties::{Ties, varies};
 use crate::lint_warnings::{Cause, Fault, Growth, Operand, Value, Wanted, Warning, Warnings};
 use crate::notes::Spot;
 use crate::operands::{
@@ -11,15 +11,11 @@ use crate::operands::{
 };
 use crate::shown_line::ShownLine;
 use crate::terminal::{Terminal, plain};
-use std::collections::{HashMap, HashSet};
 use std::io::{self, Write};
 
 /// How many types, and how many fields, are named at most.
 const MOST_TYPES: usize = 8;
 const MOST_FIELDS: usize = 6;
-
-/// How many unequal `if$` are named with a warning at most.
-const MOST_TIES: usize = 8;
 
 /// Warnings with one cause, by their numbers among those that are shown: the first is the one that was met first.
 pub type Group = Vec<usize>;
@@ -426,21 +422,10 @@ fn write_cause(style: &Style<'_, '_>, cause: &Cause, others: &[usize], out: &mut
     writeln!(out, "    do: let both leave the same number; warnings below may follow from this")
 }
 
-/// Whether numbers of literals vary in a branch: then another `if$` is the reason, where there is one.
-fn varies(cause: &Cause) -> bool {
-    cause.grows.iter().any(|(least, most)| least != most)
-}
-
-/// Whether this may follow from another one of the same function.
-fn may_follow(cause: &Cause, causes: &[Cause]) -> bool {
-    let is_first = |first: &Cause| !varies(first) && owner(&first.spot) == owner(&cause.spot);
-    varies(cause) && causes.iter().any(is_first)
-}
-
-/// Writes the causes. Those that may follow from another one of the same function are named with it.
-fn write_causes(style: &Style<'_, '_>, causes: &[Cause], out: &mut impl Write) -> io::Result<()> {
+/// Writes the causes that are shown. Those that may follow from another one of the same function are named with it.
+fn write_causes(style: &Style<'_, '_>, causes: &[Cause], shown: &[&Cause], out: &mut impl Write) -> io::Result<()> {
     let mut named: Vec<String> = Vec::new();
-    for cause in causes.iter().filter(|cause| !may_follow(cause, causes)) {
+    for cause in shown {
         let function = owner(&cause.spot);
         let is_other = |other: &&Cause| varies(other) && !varies(cause) && owner(&other.spot) == function;
         let is_new = !named.contains(&function);
@@ -449,47 +434,6 @@ fn write_causes(style: &Style<'_, '_>, causes: &[Cause], out: &mut impl Write) -
         named.push(function);
     }
     Ok(())
-}
-
-/// From which unequal `if$` warnings may follow: those in functions that the function of the command, or the entry's type, can run.
-struct Ties<'w, 'a> {
-    causes: Vec<&'w Cause>,
-    named: HashMap<Folded<'a>, HashSet<Folded<'a>>>,
-}
-
-impl<'w, 'a> Ties<'w, 'a> {
-    fn new(code: &Code<'a>, causes: &'w [Cause]) -> Ties<'w, 'a> {
-        let named = if causes.is_empty() { HashMap::new() } else { code.named_by_functions() };
-        Ties { causes: causes.iter().filter(|cause| !may_follow(cause, causes)).take(MOST_TIES).collect(), named }
-    }
-
-    /// The functions that may be run by this one, itself as well.
-    fn run_by<'b>(&'b self, function: &'b [u8]) -> HashSet<Folded<'b>> {
-        let (mut seen, mut open) = (HashSet::from([Folded(function)]), vec![Folded(function)]);
-        while let Some(next) = open.pop() {
-            let named = self.named.get(&next).into_iter().flatten();
-            open.extend(named.copied().filter(|name| seen.insert(*name)));
-        }
-        seen
-    }
-
-    /// The lines of those `if$` from which a warning may follow.
-    fn of(&self, warning: &Warning) -> Option<String> {
-        if self.causes.is_empty() || !is_of_stack(warning) {
-            return None;
-        }
-        let begun = warning.places.last().map(owner);
-        let run = begun.as_ref().map(|begun| self.run_by(begun.as_bytes()));
-        let may_run =
-            |cause: &&&Cause| run.as_ref().is_none_or(|run| run.contains(&Folded(owner(&cause.spot).as_bytes())));
-        let lines: Vec<usize> = self.causes.iter().filter(may_run).map(|cause| cause.spot.call.line).collect();
-        (!lines.is_empty()).then(|| format!("the unequal `if$` in {}", numbers_of(lines)))
-    }
-}
-
-/// Whether literals that are missing or too many can be the reason of a warning.
-fn is_of_stack(warning: &Warning) -> bool {
-    matches!(warning.fault, Some(Fault::EmptyStack | Fault::LeftOver | Fault::WrongKind))
 }
 
 /// Writes further lines, if there are any.
@@ -509,11 +453,26 @@ fn numbers_of(mut lines: Vec<usize>) -> String {
     format!("line{plural} {}", lines.join(", "))
 }
 
+/// The unequal `if$` from which a warning may follow, in words.
+fn ties_of(causes: &[&Cause]) -> Option<String> {
+    let lines: Vec<usize> = causes.iter().map(|cause| cause.spot.call.line).collect();
+    (!lines.is_empty()).then(|| format!("the unequal `if$` in {}", numbers_of(lines)))
+}
+
+/// What to do about a warning that may follow from these `if$`: to mend them comes first where else each function on the way is to be looked at.
+fn advice_behind(causes: &[&Cause], advice: String) -> String {
+    if causes.is_empty() || advice != TAKE_OFF && advice != LEAVE_THE_SAME {
+        return advice;
+    }
+    let first = if causes.len() == 1 { "that `if$`" } else { "these `if$`" };
+    format!("mend {first} first; if the warning stays, {advice}")
+}
+
 /// Writes the warnings of one cause.
 fn write_group(
     style: &Style<'_, '_>,
     group: &[&Warning],
-    ties: &Ties<'_, '_>,
+    ties: &Ties<'_, '_, '_>,
     entry: Option<&Shown>,
     out: &mut impl Write,
 ) -> io::Result<()> {
@@ -532,12 +491,13 @@ fn write_group(
     lines.dedup();
     lines.retain(|line| *line != first.line());
     write_lines("and", &lines, out)?;
+    let tied = ties.of(first);
     let said = [
         ("for entries of type", types_of(group)),
         ("when", conditions_of(first)),
         ("run by", way_of(first)),
-        ("may follow from", ties.of(first)),
-        ("do", Some(advice)),
+        ("may follow from", ties_of(&tied)),
+        ("do", Some(advice_behind(&tied, advice))),
     ];
     for (label, text) in said {
         if let Some(text) = text {
@@ -609,11 +569,15 @@ pub fn write(
     if style.has_mistakes {
         write_mistaken(style, &following, shown.len() - following.len(), out)?;
     }
-    if shown.iter().any(|warning| !follows(warning) && is_of_stack(warning)) {
-        write_causes(style, &found.causes, out)?;
-    }
     let ties = Ties::new(style.code, &found.causes);
-    for group in groups(&shown).into_iter().filter(|group| !group.iter().all(|number| follows(shown[*number]))) {
+    let mut groups = groups(&shown);
+    groups.retain(|group| !group.iter().all(|number| follows(shown[*number])));
+    let all = groups.iter().flatten().map(|number| shown[*number]);
+    let tied: Vec<&Cause> =
+        all.flat_map(|warning| [ties.of(warning), ties.of_further_types(warning)].concat()).collect();
+    let causes: Vec<&Cause> = found.causes.iter().filter(|cause| tied.contains(cause)).collect();
+    write_causes(style, &found.causes, &causes, out)?;
+    for group in groups {
         let warnings: Vec<&Warning> = group.iter().map(|number| shown[*number]).collect();
         let entry = entries.and_then(|entries| {
             let mut of_group = group.iter().filter_map(|number| entries.get(*number));
@@ -637,7 +601,13 @@ pub fn verdict(found: &Warnings) -> String {
     } else {
         format!("{}, {}", plural(places, "place"), plural(causes, "cause"))
     };
-    let more = if found.is_partial { "; there may be more behind" } else { "" };
+    let those = if places == 1 { "it" } else { "these" };
+    let more = match (found.hidden(), found.is_partial) {
+        (0, false) => String::new(),
+        (0, true) => "; there may be more behind".to_string(),
+        (hidden, false) => format!("; {hidden} more behind {those}"),
+        (hidden, true) => format!("; {hidden} more behind {those}, and there may be others"),
+    };
     format!("{counted}{more}")
 }
 
@@ -709,8 +679,16 @@ mod tests {
             s.bst:4: in f: `write$` takes TEXT, and there may be no literal on the stack here\n    and in line 3\n    \
             for entries of type: book, types that the style doesn't know\n    when: title is given\n    \
             run by: ITERATE {call.type$} (line 9) > book (line 8) > f (line 4)\n    \
-            do: push what it takes, in this order; let both branches of each `if$` on the way leave the same number of literals\n";
+            may follow from: the unequal `if$` in line 7\n    \
+            do: mend that `if$` first; if the warning stays, push what it takes, in this order; \
+            let both branches of each `if$` on the way leave the same number of literals\n";
         assert_eq!(String::from_utf8(out).unwrap(), wanted);
-        assert_eq!(verdict(&found), "2 places, 1 cause");
+        assert_eq!(verdict(&found), "2 places, 1 cause; 1 more behind these");
+        let verdict_of = |notes: &str| verdict(&read(notes.as_bytes(), b"s.bst"));
+        assert_eq!(verdict_of("warning stack first\npartial\n"), "1 place; there may be more behind");
+        let hidden = "warning stack first\nwarning stack later\nwarning kind later\n";
+        assert_eq!(verdict_of(hidden), "1 place; 2 more behind it");
+        let partial = [hidden, "partial\n"].concat();
+        assert_eq!(verdict_of(&partial), "1 place; 2 more behind it, and there may be others");
     }
 }

@@ -246,6 +246,11 @@ impl Warnings {
         let first: Vec<&Warning> = self.warnings.iter().filter(|warning| warning.is_first).collect();
         if first.is_empty() { self.warnings.iter().collect() } else { first }
     }
+
+    /// How many warnings aren't shown: they stand behind others in each visit that meets them.
+    pub fn hidden(&self) -> usize {
+        self.warnings.len() - self.shown().len()
+    }
 }
 
 #[cfg(test)]
@@ -275,7 +280,7 @@ mod tests {
         assert_eq!(left.operand.as_ref().unwrap().value, Value::Integer(Some(-1), None));
         assert_eq!((read.causes[0].spot.call.line, read.causes[0].grows), (8, [(-1, 0), (1, 1)]));
         assert!(read.is_partial);
-        assert_eq!(read.shown(), [kind]);
+        assert_eq!((read.shown(), read.hidden()), (vec![kind], 1));
     }
 
     #[test]

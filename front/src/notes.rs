@@ -1,6 +1,6 @@
 //! The library's notes of where a style stands, read: the README of the crate `btx_where` says their form.
 
-use crate::scene::{Call, Held};
+use crate::scene::{Call, Held, IN_BRACES};
 use std::ops::Range;
 
 /// What is noted.
@@ -26,6 +26,19 @@ pub type Token = (usize, usize);
 pub struct Spot {
     pub token: Option<Token>,
     pub call: Call,
+}
+
+impl Spot {
+    /// The named function that holds the place.
+    pub fn owner(&self) -> &[u8] {
+        self.call.owner()
+    }
+
+    /// Of a command the function that it executes.
+    pub fn argument(&self) -> Option<&[u8]> {
+        let begin = self.call.function.iter().position(|byte| *byte == b'{')?;
+        self.call.function[begin + 1..].strip_suffix(b"}")
+    }
 }
 
 /// A note.
@@ -140,7 +153,7 @@ pub(crate) fn spot(rest: &[u8], style: &[u8], is_whole: bool) -> Option<Spot> {
     let (line, rest) = number(rest)?;
     let (function, rest) = number(rest)?;
     let (token, name) = number(rest)?;
-    let braces: &[u8] = if word == b"of" { b"{..} of " } else { b"" };
+    let braces: &[u8] = if word == b"of" { IN_BRACES } else { b"" };
     let shown = if is_whole { [braces, b"FUNCTION {", name, b"}"].concat() } else { [braces, name].concat() };
     Some(Spot { token: Some((function, token)), call: Call { function: shown, file: style.to_vec(), line } })
 }
@@ -170,6 +183,11 @@ mod tests {
         assert_eq!(first.entry.as_deref(), Some(&b"k y"[..]));
         assert_eq!(first.command.as_ref().unwrap().call, call("ITERATE {call.type$}", 100));
         let at = Spot { token: Some((12, 5)), call: call("{..} of FUNCTION {names.text}", 28) };
+        assert_eq!(
+            (at.owner(), first.command.as_ref().unwrap().argument()),
+            (&b"names.text"[..], Some(&b"call.type$"[..]))
+        );
+        assert_eq!((first.callers[1].owner(), first.callers[1].argument()), (&b"book"[..], None));
         assert_eq!(first.at, Some(at));
         let callers: Vec<_> = first.callers.iter().map(|spot| spot.call.clone()).collect();
         assert_eq!(callers, [call("names.text", 36), call("{..} of book", 0)]);

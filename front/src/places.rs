@@ -261,7 +261,8 @@ fn stack_of(note: &Note) -> Vec<Held> {
 fn scene(note: &Note, stack: Vec<Held>) -> Option<Scene> {
     let mut spots = opened(note).into_iter().chain(&note.command);
     let Spot { token, call } = spots.next()?;
-    Some(Scene { at: call.clone(), token: *token, callers: spots.map(|spot| spot.call.clone()).collect(), stack })
+    let (callers, caller_tokens) = spots.map(|spot| (spot.call.clone(), spot.token)).unzip();
+    Some(Scene { at: call.clone(), token: *token, callers, caller_tokens, stack })
 }
 
 /// The literals that a command left, which the log lists, the uppermost first; none where the list isn't clear, as a literal may have several lines.

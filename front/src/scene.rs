@@ -17,6 +17,18 @@ pub struct Call {
     pub line: usize,
 }
 
+/// What stands before the name of a function where a place is in braces inside of it.
+pub const IN_BRACES: &[u8] = b"{..} of ";
+
+impl Call {
+    /// The named function that holds the place.
+    pub fn owner(&self) -> &[u8] {
+        let shown = self.function.strip_prefix(IN_BRACES).unwrap_or(&self.function);
+        let whole = shown.strip_prefix(b"FUNCTION {").and_then(|shown| shown.strip_suffix(b"}"));
+        whole.unwrap_or(shown)
+    }
+}
+
 /// A literal on the stack.
 #[derive(Debug, Clone, PartialEq, Eq)]
 pub struct Held {
@@ -35,6 +47,8 @@ pub struct Scene {
     pub token: Option<Token>,
     /// From where it was called, the innermost call first.
     pub callers: Vec<Call>,
+    /// The token of each caller.
+    pub caller_tokens: Vec<Option<Token>>,
     /// What the stack held, the uppermost literal first.
     pub stack: Vec<Held>,
 }

@@ -52,7 +52,6 @@ budget was spent; 5 out of memory; 6 a file couldn't be read or written.
 
 /// The program.
 pub fn main() -> ExitCode {
-    keep_long_texts_apart();
     survive_long_files();
     end_aborts_as_memory();
     let mut words = env::args_os();
@@ -100,6 +99,8 @@ fn end_by_panic(name: &Name, place: &PanicHookInfo<'_>) {
 
 /// Finds all that a job needs. What was needed for the search is gone behind it.
 fn prepare(name: &Name, mut words: Words) -> Result<Arc<Task>, Failure> {
+    // (not for a check of styles: what it knows of 100,000 variables is made anew at each step, and took three times as long with new pages for it)
+    keep_long_texts_apart();
     for option in &words.ignored {
         name.say(format_args!("{} has no object here, and is ignored", plain(option)));
     }

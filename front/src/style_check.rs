@@ -24,22 +24,28 @@ const STEPS_OF_READING: u64 = 100_000;
 const STACK: usize = 1 << 21;
 
 /// How many hundredths of a second of the processor a check may take, and how often that is looked at.
-const MOST_TIME: u64 = 800;
+const MOST_TIME: u64 = 500;
 const TURN: Duration = Duration::from_millis(50);
 
 /// The room for the log of a style's own messages.
 const ROOM: usize = 1 << 24;
 
+/// The messages on a style's text.
+pub struct Messages {
+    /// They, as lines of a log.
+    pub log: Vec<u8>,
+    /// How many there are.
+    pub count: usize,
+    /// Whether the text was read to its end: a long log may stand before a mistake.
+    pub is_whole: bool,
+}
+
 /// What was found of a style.
 pub struct StyleCheck {
     /// The style and what is read beside it, for the explanations of its messages.
     pub files: Files,
-    /// The lines of a log with what is wrong in the style's text.
-    pub log: Vec<u8>,
-    /// How many messages these are.
-    pub messages: usize,
-    /// Whether its text was read to its end: a long log may stand before a mistake.
-    pub is_read: bool,
+    /// What is wrong in the style's text.
+    pub messages: Messages,
     /// None where the check took too long, or the style is too long.
     pub verdict: Option<Verdict>,
     /// Where it may go wrong, if it isn't clean.
@@ -62,15 +68,15 @@ impl StyleCheck {
         };
         let entries = if has_entries { Some(entries(&style, &found.shown())?) } else { None };
         let files = job_of(style);
-        let Messages { log, count: messages, is_whole: is_read } = messages_of(&files)?;
-        Ok(StyleCheck { files, log, messages, is_read, verdict, found, entries, hints: hints(&bytes) })
+        let messages = messages_of(&files)?;
+        Ok(StyleCheck { files, messages, verdict, found, entries, hints: hints(&bytes) })
     }
 
     /// The verdict, in a word. A style whose text has mistakes isn't called clean, whatever is said of what could be read of it.
     pub fn word(&self) -> &'static str {
         match self.verdict {
-            _ if self.messages > 0 => "mistakes",
-            _ if !self.is_read => "incomplete",
+            _ if self.messages.count > 0 => "mistakes",
+            _ if !self.messages.is_whole => "incomplete",
             Some(Verdict::Clean { .. }) => "clean",
             Some(Verdict::Warnings(_)) => "warnings",
             Some(Verdict::Incomplete(_)) | None => "incomplete",
@@ -138,13 +144,6 @@ fn job_of(style: File) -> Files {
     let file = |name: &[u8], bytes: Vec<u8>| File { name: name.to_vec(), bytes: Some(bytes), path: name.to_vec() };
     let database = file(b"none.bib", Vec::new());
     Files { top: b"job.aux".to_vec(), all: vec![file(b"job.aux", top), style, database] }
-}
-
-/// The messages on a style's text, as lines of a log, how many there are, and whether the text was read to its end.
-struct Messages {
-    log: Vec<u8>,
-    count: usize,
-    is_whole: bool,
 }
 
 /// A style's text without the functions that it executes behind READ: so a run of it reads it to its end, whatever they do.

@@ -178,9 +178,14 @@ impl Command<'_> {
 
 /// The commands of a style, in their order.
 pub fn commands(text: &[u8]) -> Vec<Command<'_>> {
+    commands_among(text, Tokens::new(text))
+}
+
+/// The commands of a style of which these are all tokens, in their order.
+pub fn commands_among(text: &[u8], tokens: impl Iterator<Item = Token>) -> Vec<Command<'_>> {
     let mut commands: Vec<Command<'_>> = Vec::new();
     let mut balance = 0;
-    for token in Tokens::new(text) {
+    for token in tokens {
         let inside = balance > 0 && !is_behind_empty_line(text, token.start);
         let is_name = token.kind == Kind::Name && (!inside || begins_line(text, token.start));
         if let Some(command) = Some(token).filter(|_| is_name).and_then(|token| command_at(text, token.start, inside)) {
@@ -357,13 +362,13 @@ fn command_at(text: &[u8], start: usize, is_inside: bool) -> Option<Command<'_>>
     if !ends || !is_command(word) {
         return None;
     }
-    let line = &behind[..behind.iter().position(|byte| *byte == b'\n').unwrap_or(behind.len())];
-    let argument = line.trim_ascii_start();
-    if is_inside && !argument.is_empty() && !argument.starts_with(b"{") {
+    // (of the line no more is looked at than these need: a line may have many commands)
+    let argument = &behind[behind.iter().position(|byte| !is_white(*byte)).unwrap_or(behind.len())..];
+    if is_inside && !matches!(argument.first(), None | Some(b'\n' | b'{')) {
         return None;
     }
     let name = argument.strip_prefix(b"{").and_then(|argument| {
-        let name = &argument[..argument.iter().position(|byte| matches!(byte, b'{' | b'}'))?];
+        let name = &argument[..argument.iter().position(|byte| matches!(byte, b'{' | b'}' | b'\n'))?];
         (argument[name.len()] == b'}').then(|| name.trim_ascii())
     });
     Some(Command { word, name, start, balance: 0 })

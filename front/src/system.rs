@@ -276,31 +276,24 @@ impl PathSearch {
 
 /// A signal.
 #[derive(Debug, Clone, Copy, PartialEq, Eq)]
-pub enum Signal {
-    Hangup = 1,
-    Interrupt = 2,
-    Quit = 3,
-    Kill = 9,
-    /// A pipe has no reader. The standard library ignores this one.
-    Pipe = 13,
-    Terminate = 15,
-    /// Something became of a process that this one began.
-    Child = 17,
-    /// The seconds of the processor are spent.
-    ProcessorTime = 24,
+pub struct Signal {
+    /// The system's number for it.
+    pub number: c_int,
+    /// Its name.
+    pub name: &'static str,
 }
 
 /// The signals that end a program.
-const SIGNALS: [Signal; 3] = [Signal::Hangup, Signal::Interrupt, Signal::Terminate];
+const SIGNALS: [Signal; 3] = [Signal::HANGUP, Signal::INTERRUPT, Signal::TERMINATE];
 /// All signals that can be held back.
 const HELD: [Signal; 7] = [
-    Signal::Hangup,
-    Signal::Interrupt,
-    Signal::Quit,
-    Signal::Pipe,
-    Signal::Terminate,
-    Signal::Child,
-    Signal::ProcessorTime,
+    Signal::HANGUP,
+    Signal::INTERRUPT,
+    Signal::QUIT,
+    Signal::PIPE,
+    Signal::TERMINATE,
+    Signal::CHILD,
+    Signal::PROCESSOR_TIME,
 ];
 const ABORT: c_int = 6;
 const FILE_TOO_LONG: c_int = 25;
@@ -313,12 +306,12 @@ impl SignalSet {
     const EMPTY: SignalSet = SignalSet([0; 16]);
 
     fn with(mut self, signal: Signal) -> SignalSet {
-        self.0[0] |= 1 << (signal as u32 - 1);
+        self.0[0] |= 1 << (signal.number - 1);
         self
     }
 
     fn has(&self, signal: Signal) -> bool {
-        self.0[0] & (1 << (signal as u32 - 1)) != 0
+        self.0[0] & (1 << (signal.number - 1)) != 0
     }
 }
 
@@ -327,19 +320,17 @@ impl SignalSet {
 pub struct Held(SignalSet);
 
 impl Signal {
-    /// The signal's name.
-    pub fn name(self) -> &'static str {
-        match self {
-            Signal::Hangup => "SIGHUP",
-            Signal::Interrupt => "SIGINT",
-            Signal::Quit => "SIGQUIT",
-            Signal::Kill => "SIGKILL",
-            Signal::Pipe => "SIGPIPE",
-            Signal::Terminate => "SIGTERM",
-            Signal::Child => "SIGCHLD",
-            Signal::ProcessorTime => "SIGXCPU",
-        }
-    }
+    pub const HANGUP: Signal = Signal { number: 1, name: "SIGHUP" };
+    pub const INTERRUPT: Signal = Signal { number: 2, name: "SIGINT" };
+    pub const QUIT: Signal = Signal { number: 3, name: "SIGQUIT" };
+    pub const KILL: Signal = Signal { number: 9, name: "SIGKILL" };
+    /// A pipe has no reader. The standard library ignores this one.
+    pub const PIPE: Signal = Signal { number: 13, name: "SIGPIPE" };
+    pub const TERMINATE: Signal = Signal { number: 15, name: "SIGTERM" };
+    /// Something became of a process that this one began.
+    pub const CHILD: Signal = Signal { number: 17, name: "SIGCHLD" };
+    /// The seconds of the processor are spent.
+    pub const PROCESSOR_TIME: Signal = Signal { number: 24, name: "SIGXCPU" };
 
     /// Holds back the signals that end a program. Those that whoever called the program has switched off stay off.
     pub fn hold() -> Held {
@@ -353,14 +344,14 @@ impl Signal {
 
     fn hold_these(signals: &[Signal]) -> Held {
         let mut set = SignalSet::EMPTY;
-        for &number in signals {
-            let is_ours = matches!(number, Signal::Pipe | Signal::Child);
+        for held in signals {
+            let is_ours = [Signal::PIPE, Signal::CHILD].contains(held);
             // SAFETY: the default handler and the one that ignores are always valid.
             unsafe {
-                if signal(number as c_int, DEFAULT_HANDLER) == IGNORING_HANDLER && !is_ours {
-                    signal(number as c_int, IGNORING_HANDLER);
+                if signal(held.number, DEFAULT_HANDLER) == IGNORING_HANDLER && !is_ours {
+                    signal(held.number, IGNORING_HANDLER);
                 } else {
-                    set = set.with(number);
+                    set = set.with(*held);
                 }
             }
         }
@@ -372,11 +363,11 @@ impl Signal {
     /// Ends the program by this signal, as if it had never been held back.
     pub fn end_program(self) -> ! {
         // SAFETY: the default handler is always valid.
-        unsafe { signal(self as c_int, DEFAULT_HANDLER) };
+        unsafe { signal(self.number, DEFAULT_HANDLER) };
         Held(SignalSet::EMPTY.with(self)).mask(UNBLOCK);
         // SAFETY: the call has no preconditions.
-        unsafe { raise(self as c_int) };
-        std::process::exit(128 + self as i32)
+        unsafe { raise(self.number) };
+        std::process::exit(128 + self.number)
     }
 }
 
@@ -401,7 +392,7 @@ impl Held {
         let timeout = Timespec { seconds: time.as_secs() as i64, nanoseconds: i64::from(time.subsec_nanos()) };
         // SAFETY: the set and the time are valid, and no information is asked for.
         let number = unsafe { sigtimedwait(&self.0, null_mut(), &timeout) };
-        HELD.into_iter().find(|signal| *signal as c_int == number && self.0.has(*signal))
+        HELD.into_iter().find(|signal| signal.number == number && self.0.has(*signal))
     }
 }
 
@@ -425,32 +416,34 @@ pub fn end_aborts_as_memory() {
 
 // ---- limits ----
 
-/// What can be limited.
+/// What can be limited, by the system's number.
 #[derive(Debug, Clone, Copy, PartialEq, Eq)]
-pub enum Resource {
+pub struct Resource(c_int);
+
+impl Resource {
     /// Seconds of a processor.
-    Processor = 0,
+    pub const PROCESSOR: Resource = Resource(0);
     /// Bytes of a file that is written.
-    FileLength = 1,
+    pub const FILE_LENGTH: Resource = Resource(1);
     /// Bytes of a dump after a crash.
-    Core = 4,
+    pub const CORE: Resource = Resource(4);
     /// How many files are open.
-    OpenFiles = 7,
+    pub const OPEN_FILES: Resource = Resource(7);
     /// Bytes of addresses.
-    Memory = 9,
+    pub const MEMORY: Resource = Resource(9);
 }
 
 /// Limits this process, and those that it begins: past `soft` a process gets a signal, and past `hard` it is ended or refused. A limit is never raised.
 pub fn limit(resource: Resource, soft: u64, hard: u64) -> io::Result<()> {
     let mut old = Limit { soft: 0, hard: 0 };
     // SAFETY: the limit is written to a valid place.
-    if unsafe { getrlimit(resource as c_int, &mut old) } != 0 {
+    if unsafe { getrlimit(resource.0, &mut old) } != 0 {
         return Err(io::Error::last_os_error());
     }
     let hard = hard.min(old.hard);
     let new = Limit { soft: soft.min(old.soft).min(hard), hard };
     // SAFETY: the limit is a valid one.
-    if unsafe { setrlimit(resource as c_int, &new) } != 0 {
+    if unsafe { setrlimit(resource.0, &new) } != 0 {
         return Err(io::Error::last_os_error());
     }
     Ok(())
@@ -460,7 +453,7 @@ pub fn limit(resource: Resource, soft: u64, hard: u64) -> io::Result<()> {
 pub fn limit_of(resource: Resource) -> Option<u64> {
     let mut limit = Limit { soft: u64::MAX, hard: u64::MAX };
     // SAFETY: the limit is written to a valid place.
-    unsafe { getrlimit(resource as c_int, &mut limit) };
+    unsafe { getrlimit(resource.0, &mut limit) };
     (limit.soft != u64::MAX).then_some(limit.soft)
 }
 
@@ -474,7 +467,7 @@ const NO_QUOTA: i32 = 122;
 /// Reserves room on the disk for the first bytes of a file, whose length and contents stay; `has_room` is how much it has. A file or a system
 /// that can't do this has no fault here.
 pub fn reserve(file: &impl AsRawFd, len: u64, has_room: u64) -> io::Result<()> {
-    if limit_of(Resource::FileLength).is_some_and(|most| len > most) {
+    if limit_of(Resource::FILE_LENGTH).is_some_and(|most| len > most) {
         return Err(io::Error::from_raw_os_error(TOO_LARGE));
     }
     let wanted = i64::try_from(len).unwrap_or(i64::MAX);
@@ -636,14 +629,14 @@ pub fn bind_to_this_process(command: &mut Command, longest: u64) {
     let parent = std::process::id();
     let bind = move || {
         // SAFETY: numbers alone; the call has no preconditions.
-        let is_bound = unsafe { prctl(ENDS_WITH_PARENT, Signal::Kill as c_ulong) } == 0;
+        let is_bound = unsafe { prctl(ENDS_WITH_PARENT, Signal::KILL.number as c_ulong) } == 0;
         // SAFETY: the call has no preconditions.
         if !is_bound || unsafe { getppid() } as u32 != parent {
             return Err(io::ErrorKind::BrokenPipe.into());
         }
         survive_long_files();
         Held(SignalSet::EMPTY).mask(SET_MASK);
-        limit(Resource::FileLength, longest, longest)
+        limit(Resource::FILE_LENGTH, longest, longest)
     };
     // SAFETY: between fork and exec `bind` makes only calls that a signal handler may make; it allocates nothing and takes no lock.
     unsafe { command.pre_exec(bind) };
@@ -662,7 +655,7 @@ pub fn has_ended(process: u32) -> bool {
 pub fn kill_group(leader: u32) {
     if let Ok(group @ 2..) = c_int::try_from(leader) {
         // SAFETY: numbers alone. That the group is gone is no fault here.
-        unsafe { kill(-group, Signal::Kill as c_int) };
+        unsafe { kill(-group, Signal::KILL.number) };
     }
 }
 

@@ -17,6 +17,13 @@ pub struct Terminal {
     pub width: usize,
 }
 
+/// The colours of an error, of a warning, and of what says where something stands, as a terminal takes them.
+pub const ERROR_COLOUR: &str = "\x1b[1;31m";
+pub const WARNING_COLOUR: &str = "\x1b[1;33m";
+pub const PLACE_COLOUR: &str = "\x1b[2m";
+/// What ends a colour.
+pub const NO_COLOUR: &str = "\x1b[0m";
+
 /// The width of a terminal that doesn't say its own.
 const USUAL_WIDTH: usize = 80;
 
@@ -33,6 +40,11 @@ impl Terminal {
         let has_colours = wants_colours(no_color.as_deref(), term.as_deref());
         let width = crate::system::columns(out).filter(|columns| *columns > 0).unwrap_or(USUAL_WIDTH);
         Terminal { is_terminal: true, has_colours, width }
+    }
+
+    /// A text in a colour, where colours are wanted.
+    pub fn coloured(&self, colour: &str, text: &str) -> String {
+        if self.has_colours { format!("{colour}{text}{NO_COLOUR}") } else { text.to_string() }
     }
 }
 

@@ -1,4 +1,4 @@
-"""Hostile styles: bibtex-lint answers within forty seconds of a processor and 1 GB, and is incomplete where it can't come to an end.
+"""Hostile styles: bibtex-lint answers within ten seconds of a processor and 1 GB, and is incomplete where it can't come to an end.
 
     python3 hostile.py [--only TEXT] LINT
 
@@ -12,8 +12,8 @@ import resource
 import subprocess
 import tempfile
 
-# (a million functions took 8 to 14 seconds of a processor, on machines with other work)
-MOST_SECONDS = 40
+# (a million functions, each a type, took 6.5 seconds of a processor beside six other processes; a check is given up after five)
+MOST_SECONDS = 10
 MOST_MEMORY = 1_000_000
 LONGEST = 300
 HEAD = b"ENTRY {title author}{n}{t} INTEGERS {i j} STRINGS {s}\nFUNCTION {and} {'skip$ {pop$ #0} if$}\n"
@@ -28,6 +28,11 @@ def functions(number, body, command=b"EXECUTE {f%d}"):
     made = [b"FUNCTION {f0} {skip$}"]
     made += [b"FUNCTION {f%d} {%s}" % (n, body.replace(b"@", b"f%d" % (n - 1))) for n in range(1, number)]
     return HEAD + b"\n".join(made) + b"\nREAD\n" + (command % (number - 1) if b"%" in command else command) + b"\n"
+
+
+def loops(number, body=b""):
+    """Loops in one another, of which each executes `body` before the next; the innermost one counts."""
+    return of_body(b"#3 'i := " + (b"{i #0 >} {" + body) * number + b"i #1 - 'i := " + b"} while$ " * number)
 
 
 def million_mistakes():
@@ -60,6 +65,9 @@ STYLES = [
     ("recursion through the stack", lambda: of_body(b"{duplicate$ #1 swap$ 'skip$ if$} duplicate$ #1 swap$ 'skip$ if$ pop$"), "incomplete warnings"),
     ("recursion that grows the stack", lambda: HEAD + b"FUNCTION {h} {duplicate$ #1 swap$ 'skip$ if$} FUNCTION {g} {'h h} READ EXECUTE {g}\n", "incomplete warnings"),
     ("loops that are bodies of loops", lambda: HEAD + b"FUNCTION {w} {duplicate$ 'while$ #1} FUNCTION {g} {'w duplicate$ 'while$ while$} READ EXECUTE {g}\n", "incomplete warnings"),
+    ("loops nested 2,000 deep", lambda: loops(2_000), "incomplete"),
+    ("loops nested 2,000 deep, each with a variable", lambda: loops(2_000, b"j pop$ "), "incomplete"),
+    ("100,000 functions, each with a loop", lambda: functions(100_000, b"#3 'i := {i #0 >} {i #1 - 'i :=} while$", b"EXECUTE {f1}"), "clean incomplete"),
     ("2^40 shapes on the stack", lambda: of_body(b"title empty$ " * 40 + b"and " * 39 + b"pop$"), "clean incomplete"),
     ("2^40 shapes of two fields", lambda: of_body(b"title empty$ author empty$ " * 20 + b"and " * 39 + b"pop$"), "clean incomplete"),
     ("2^300 shapes of integers", lambda: of_body(b"i #1 > j #1 > " * 150 + b"pop$ " * 300), "clean incomplete"),
@@ -81,6 +89,7 @@ STYLES = [
     ("10,000 fields that may be missing", lambda: b"ENTRY {" + b" ".join(b"v%d" % n for n in range(10_000)) + b"}{}{}\nFUNCTION {f} {"
      + b" ".join(b"v%d write$" % n for n in range(10_000)) + b"}\nREAD ITERATE {f}\n", "warnings incomplete"),
     ("100,000 commands", lambda: of_body(b"i int.to.str$ write$", b"ITERATE {misc}\n" * 100_000), "clean incomplete"),
+    ("300,000 commands in one line", lambda: HEAD + b"READ " * 300_000, "mistakes"),
     ("100,000 mistakes", million_mistakes, "mistakes"),
     ("a million bytes of noise", noise, "mistakes"),
     ("no byte", lambda: b"", "clean"),
@@ -102,6 +111,14 @@ def lint(program, style, folder):
     return said or "status %d" % process.returncode, usage.ru_utime + usage.ru_stime, usage.ru_maxrss
 
 
+def lint_in_time(program, style, folder):
+    """The same; where it took too long, the quickest of three tries, since other processes make each of them slower."""
+    tried = [lint(program, style, folder)]
+    while tried[-1][1] > MOST_SECONDS and len(tried) < 3:
+        tried.append(lint(program, style, folder))
+    return min(tried, key=lambda said: said[1])
+
+
 def main():
     parser = argparse.ArgumentParser()
     parser.add_argument("--only", default="")
@@ -115,7 +132,7 @@ def main():
         for name, make, verdicts in STYLES:
             if given.only not in name:
                 continue
-            said, seconds, memory = lint(program, make(), folder)
+            said, seconds, memory = lint_in_time(program, make(), folder)
             is_right = said in verdicts.split() and seconds <= MOST_SECONDS and memory <= MOST_MEMORY
             passed, failed = passed + is_right, failed + (not is_right)
             print("%s %s: %s (%.1f s, %d MB)" % ("ok     " if is_right else "FAILED ", name, said, seconds, memory // 1000), flush=True)

@@ -35,7 +35,7 @@ impl Watch {
     pub fn wait(&self) -> Event {
         let left = self.end.saturating_duration_since(Instant::now());
         match self.signals.wait(left) {
-            Some(Signal::Child) => Event::Child,
+            Some(Signal::CHILD) => Event::Child,
             Some(signal) => Event::Signal(signal),
             None if self.end <= Instant::now() => Event::TimeIsUp,
             None => Event::Child,
@@ -45,11 +45,11 @@ impl Watch {
     /// Whether the job may go on, while nothing is running yet.
     pub fn check(&self) -> Result<(), Stop> {
         match self.signals.wait(Duration::ZERO) {
-            Some(Signal::ProcessorTime) => {
+            Some(Signal::PROCESSOR_TIME) => {
                 let reason = format!("the names of the job take more than {} processor seconds", self.processor);
-                Err(Stop::new(128 + Signal::ProcessorTime as u8, reason))
+                Err(Stop::new(128 + Signal::PROCESSOR_TIME.number as u8, reason))
             }
-            Some(signal) if signal != Signal::Child => Err(Stop::by_signal(signal)),
+            Some(signal) if signal != Signal::CHILD => Err(Stop::by_signal(signal)),
             _ if self.end <= Instant::now() => Err(self.time_is_up()),
             _ => Ok(()),
         }

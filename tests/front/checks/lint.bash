@@ -49,13 +49,57 @@ write_clean
 run_lint clean.bst
 wants_status 0
 wants_error ''
-wants_output 'clean.bst: clean: no run of it logs a fault of its own (at most 3 literals, 4 bodies)
+wants_output 'clean.bst: clean: no run with a budget of at most 1,500,000,000 steps logs a fault of its own (at most 3 literals, 4 bodies)
     for entries of the types article, and of all that it doesn'"'"'t know
+    not covered: entries of 2 types with a dot in their names: these functions stand above READ and aren'"'"'t taken as types
 '
 run_lint --line clean
 wants_status 0
 wants_output 'clean.bst: clean, literals 3, bodies 4, messages 0, hints 0
 '
+end
+
+# What the test of a loop leaves counts as well: five literals, of which the body takes four.
+begin lint_of_literals_that_a_test_leaves
+cat >test.bst <<'END'
+ENTRY { title } {} {}
+INTEGERS { n }
+FUNCTION {a} { #3 'n := { n #1 - 'n := "x" "y" "z" "u" n } { pop$ pop$ pop$ pop$ } while$ pop$ pop$ pop$ pop$ }
+READ
+EXECUTE {a}
+END
+run_lint --line test.bst
+wants_status 0
+grep -q '^test.bst: clean, literals 5,' "$folder/stdout" || complaints+=("printed is $(cat "$folder/stdout")")
+end
+
+# Each function above READ is a type of entry to a run: those that aren't taken as types are named, where the style is clean and where it isn't.
+begin lint_of_types_that_are_not_covered
+write_clean
+sed -i 's/^FUNCTION {article}/FUNCTION {mid} { output.title }\n\n&/; s/^{ output.title }/{ mid }/' clean.bst
+uncovered="    not covered: entries of the type mid, and of 2 types with a dot in their names: these functions stand above READ and aren't taken as types"
+for wanted in 0 2; do
+    run_lint clean.bst
+    wants_status $wanted
+    wants_line_of_output "$uncovered"
+    run_lint --json clean.bst
+    grep -qF '"types": ["article"], "uncovered": ["output.title", "mid", "default.type"]' "$folder/stdout" || complaints+=("printed is $(cat "$folder/stdout")")
+    sed -i 's/title empty.*/title write$ }/' clean.bst
+done
+sed -i 's/title write/nosuch write/' clean.bst
+run_lint clean.bst
+! grep -q 'not covered' "$folder/stdout" || complaints+=("a style with mistakes has a verdict on types: $(cat "$folder/stdout")")
+end
+
+# Warnings that come up behind another one in each visit aren't shown, but counted.
+begin lint_of_warnings_behind_others
+write_clean
+sed -i 's/title empty.*/#1 write$ write$ newline$ }/' clean.bst
+run_lint clean.bst
+wants_status 2
+wants_line_of_output 'clean.bst: warnings: 1 place; 1 more behind it'
+run_lint --json clean.bst
+grep -qF '], "behind": 1, "hints"' "$folder/stdout" || complaints+=("printed is $(cat "$folder/stdout")")
 end
 
 begin lint_of_a_field_that_may_be_missing
@@ -118,6 +162,31 @@ wants_line_of_output '    do: `text.of` (line 6) is run on `title` just before: 
 wants_line_of_output 'clean.bst:7: in text.of: the branches of this `if$` leave different numbers of literals: the first leaves 1, the second leaves 0'
 wants_line_of_output '    may follow from: the unequal `if$` in line 7'
 head -n 1 "$folder/stdout" | grep -q 'the branches of this' || complaints+=("the cause isn't first in $(cat "$folder/stdout")")
+end
+
+# An unequal `if$` is named with a warning only where it can have been executed before it, and where the text doesn't show what pushed the operand.
+begin lint_says_from_what_a_warning_may_follow
+write_clean
+{
+    printf 'FUNCTION {odd}\n{ duplicate$ empty$ { pop$ } '"'skip\$"' if$ }\n\nFUNCTION {shows}\n{ write$ newline$ }\n\n'
+    printf 'FUNCTION {book}\n{ title shows\n  title write$\n  title odd\n  write$\n  title write$ }\n'
+} >odd
+sed -i '/^FUNCTION {article}/{
+r odd
+N
+}' clean.bst
+sed -i '/^FUNCTION {article}/,/^{ output.title }/d' clean.bst
+sed -i 's/article/book/' clean.bst
+run_lint clean.bst
+wants_status 2
+[ "$(grep -c 'may follow from:' "$folder/stdout")" -eq 1 ] || complaints+=("printed is $(cat "$folder/stdout")")
+grep -A 8 'in book: `write\$` takes TEXT, and there may be no literal' "$folder/stdout" >below
+grep -q 'may follow from: the unequal `if\$` in line' below || complaints+=("printed is $(cat "$folder/stdout")")
+grep -q 'do: mend that `if\$` first; if the warning stays, push what it takes' below || complaints+=("printed is $(cat "$folder/stdout")")
+sed -i 's/^  title odd/  title/' clean.bst
+run_lint clean.bst
+wants_status 2
+! grep -q 'different numbers' "$folder/stdout" || complaints+=("an if\$ is blamed: $(cat "$folder/stdout")")
 end
 
 begin lint_of_a_misspelt_function
@@ -286,11 +355,16 @@ wants_status 2
 python3 - "$folder/stdout" <<'END' || complaints+=('the JSON is another')
 import json, sys
 clean, faulty = json.load(open(sys.argv[1]))
-assert clean == {"style": "clean.bst", "verdict": "clean", "literals": 3, "bodies": 4, "types": ["article"], "messages": [], "warnings": [], "hints": []}, clean
+wanted = {"style": "clean.bst", "verdict": "clean", "literals": 3, "bodies": 4, "types": ["article"], "uncovered": ["output.title", "default.type"]}
+assert clean == {**wanted, "messages": [], "warnings": [], "hints": []}, clean
 assert faulty["verdict"] == "mistakes" and faulty["messages"] == ["Error--nosuch is an unknown function--line 4 of file faulty.bst"], faulty
 assert [place["line"] for place in faulty["warnings"][0]["places"]] == [4, 7], faulty
 assert faulty["warnings"][0]["executed"] == "write$" and faulty["warnings"][0]["missing"] == "title", faulty
 END
+end
+
+begin lint_describes_its_json
+LD_LIBRARY_PATH=$libraries python3 -B "$sources/tests/front/lint_json.py" "$room/bibtex-lint" >differences || complaints+=("$(cat differences)")
 end
 
 begin lint_along_the_search_path
@@ -399,6 +473,22 @@ for words in '--json --job job' '--job job --line' '--job job s'; do
     grep -q 'takes no other option and no style' "$folder/stderr" || complaints+=("$words: $(cat "$folder/stderr")")
     [ ! -s "$folder/stdout" ] || complaints+=("$words: it prints $(head -n 3 "$folder/stdout")")
 done
+end
+
+# A job that isn't there is refused, as a style is.
+begin lint_of_no_job
+mkdir folder.aux
+for job in nosuch nosuch.aux folder; do
+    run_lint --job "$job"
+    wants_status 1
+    wants_output ''
+    grep -q "^bibtex-lint: there is no job $job: " "$folder/stderr" || complaints+=("of $job it says $(cat "$folder/stderr")")
+done
+use_style 'FUNCTION {f} { skip$ }'
+FAIL_OPEN=job.aux FAIL_REASON=EIO LD_PRELOAD=$room/fail_lint_open.so run_lint --job job
+wants_status 6
+wants_error "bibtex-lint: I couldn't open file name \`job.aux': Input/output error
+"
 end
 
 # Anything is a style: an answer comes in any case.

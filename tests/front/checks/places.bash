@@ -158,6 +158,32 @@ wants_line "$folder/stdout" "    what to do: \`s\` is a string (STRINGS, line 3)
 wants_words "$folder/stdout" '    what to do: `n` is an integer (INTEGERS, line 2), and `title` is a string; if `n` is to be a string, declare it in STRINGS, and not in line 2; else assign it'
 end
 
+# The field that is missing is named, through callers and built-in functions; where a function of the style leaves it, those that this function reads.
+begin the_missing_field_is_named
+cat >s.bst <<'END'
+ENTRY { title note journal } {} {}
+FUNCTION {out} { write$ newline$ }
+FUNCTION {half} { title empty$ { title } { note } if$ }
+FUNCTION {misc}
+{ "x" title swap$ * pop$
+  note duplicate$
+  out pop$
+  half write$
+  journal "x" = pop$ }
+READ
+ITERATE {misc}
+END
+cite k
+printf '@misc{k, year = 1999}\n' >d.bib
+run_search -explain job
+wants_status 2
+for wanted in '`title`, pushed at s.bst:5' '`note`, pushed at s.bst:6' '`journal`, pushed at s.bst:9'; do
+    wants_line "$folder/stdout" "    the missing field is $wanted"
+done
+wants_line "$folder/stdout" '    the missing field may be what `half` at s.bst:8 leaves, which reads `note`, `title`'
+[ "$(grep -c 'the missing field' "$folder/stdout")" -eq 4 ] || complaints+=("printed is $(cat "$folder/stdout")")
+end
+
 begin errors_that_a_style_invents
 use_style 'FUNCTION {f} { "x" #10 int.to.chr$ * "Error--1 is not a string while executing write$ for entry k" * warning$
 #1 write$ } ITERATE {f}'

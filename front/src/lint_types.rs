@@ -1,0 +1,116 @@
+//! For entries of which types something is said of a style: a function above READ is a type of entry to a run, and not each of them is meant as one.
+
+use crate::btx::{self, MemoryRefused, Verdict};
+use crate::database::Folded;
+use crate::hints::functions_above_read;
+use crate::style_text::{Command, commands};
+use crate::terminal::plain;
+use std::collections::HashSet;
+
+/// How many steps a check may take of a style without a command that executes something.
+const STEPS: u64 = 100_000;
+
+/// The functions of a style that stand above READ, in its order, as the checker takes them.
+#[derive(Debug, Clone, Default, PartialEq, Eq)]
+pub struct Types {
+    /// Those that it takes as types of entries.
+    pub taken: Vec<Vec<u8>>,
+    /// Those that it doesn't: nothing is said of entries of these types.
+    pub uncovered: Vec<Vec<u8>>,
+}
+
+/// What the checker takes as types in a style that has this text and this verdict. None where nothing is said of the whole style.
+pub fn types_of(name: &[u8], text: &[u8], verdict: &Option<Verdict>) -> Result<Option<Types>, MemoryRefused> {
+    let taken = match verdict {
+        Some(Verdict::Clean { types, .. }) => types.clone(),
+        Some(Verdict::Warnings(_)) => match btx::check(name, &without_runs(text), STEPS)? {
+            Some(Verdict::Clean { types, .. }) => types,
+            _ => return Ok(None),
+        },
+        _ => return Ok(None),
+    };
+    let known: HashSet<Folded<'_>> = taken.iter().map(|name| Folded(name)).collect();
+    let uncovered = functions_above_read(text).filter(|name| !known.contains(&Folded(name))).map(<[u8]>::to_vec);
+    let uncovered = uncovered.collect();
+    Ok(Some(Types { taken, uncovered }))
+}
+
+/// A style's text without its commands EXECUTE, ITERATE and REVERSE. Such a style is clean, and which of its functions are taken as types doesn't
+/// depend on its commands.
+fn without_runs(text: &[u8]) -> Vec<u8> {
+    let mut rest = text.to_vec();
+    let commands = commands(text);
+    let is_run = |command: &&Command<'_>| ["execute", "iterate", "reverse"].iter().any(|word| command.is(word));
+    for command in commands.iter().filter(is_run) {
+        let close = text[command.start..].iter().position(|byte| *byte == b'}');
+        let end = close.map_or(text.len(), |close| command.start + close + 1);
+        rest[command.start..end].fill(b' ');
+    }
+    rest
+}
+
+impl Types {
+    /// In words, entries of which types aren't covered.
+    pub fn uncovered_text(&self) -> Option<String> {
+        let (dotted, bare): (Vec<&Vec<u8>>, Vec<&Vec<u8>>) =
+            self.uncovered.iter().partition(|name| name.contains(&b'.'));
+        let mut parts: Vec<String> = Vec::new();
+        if !bare.is_empty() {
+            let names: Vec<String> = bare.iter().map(|name| plain(name)).collect();
+            parts.push(format!("of the type{} {}", plural(names.len()), names.join(", ")));
+        }
+        if !dotted.is_empty() {
+            let its = if dotted.len() == 1 { "its name" } else { "their names" };
+            parts.push(format!("of {} type{} with a dot in {its}", dotted.len(), plural(dotted.len())));
+        }
+        let why = match self.uncovered.len() {
+            0 => return None,
+            1 => "this function stands above READ and isn't taken as a type",
+            _ => "these functions stand above READ and aren't taken as types",
+        };
+        Some(format!("entries {}: {why}", parts.join(", and ")))
+    }
+}
+
+fn plural(count: usize) -> &'static str {
+    if count == 1 { "" } else { "s" }
+}
+
+#[cfg(test)]
+mod tests {
+    use super::*;
+
+    const STYLE: &str = "ENTRY {title} {} {}\nFUNCTION {lab} { \"l\" write$ }\nFUNCTION {a.b} { lab }\nFUNCTION {misc} { a.b title write$ }\n\
+        FUNCTION {default.type} { misc }\nREAD\nFUNCTION {late} { skip$ }\nEXECUTE {late}\niterate{call.type$} ITERATE\n{late}\n";
+
+    /// The types of a style, by the names of what is taken and of what isn't covered.
+    fn types(style: &str) -> Option<Types> {
+        let verdict = btx::check(b"s.bst", style.as_bytes(), 10_000).unwrap();
+        types_of(b"s.bst", style.as_bytes(), &verdict).unwrap()
+    }
+
+    #[test]
+    fn what_is_not_covered_is_known_of_each_style() {
+        let names = |names: &[&str]| names.iter().map(|name| name.as_bytes().to_vec()).collect::<Vec<_>>();
+        let wanted = Some(Types { taken: names(&["misc"]), uncovered: names(&["lab", "a.b", "default.type"]) });
+        assert_eq!(types(STYLE), wanted);
+        assert_eq!(types(&STYLE.replace("title write$", "cite$ write$")), wanted);
+        assert_eq!(types_of(b"s.bst", STYLE.as_bytes(), &None), Ok(None));
+    }
+
+    #[test]
+    fn what_is_not_covered_is_said() {
+        let said = |names: &[&str]| {
+            let uncovered = names.iter().map(|name| name.as_bytes().to_vec()).collect();
+            Types { taken: Vec::new(), uncovered }.uncovered_text()
+        };
+        assert_eq!(said(&[]), None);
+        let one = "entries of the type lab: this function stands above READ and isn't taken as a type";
+        assert_eq!(said(&["lab"]).as_deref(), Some(one));
+        let both = "entries of the types lab, mid, and of 1 type with a dot in its name: these functions stand above READ and aren't taken as types";
+        assert_eq!(said(&["lab", "a.b", "mid"]).as_deref(), Some(both));
+        let dotted =
+            "entries of 2 types with a dot in their names: these functions stand above READ and aren't taken as types";
+        assert_eq!(said(&["a.b", "c.d"]).as_deref(), Some(dotted));
+    }
+}

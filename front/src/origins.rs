@@ -1,0 +1,261 @@
+//! Where an operand was pushed, as far as a style's text shows it: from the place where it is taken back over the tokens before it, and on before
+//! the calls that lead there.
+
+use crate::advice;
+use crate::code_places::{Code, Declared};
+use crate::notes::{Spot, Token};
+use crate::scene::Scene;
+use crate::style_text::Kind;
+use std::ops::Range;
+
+/// A place where something is executed: its line, its token, and the function in which it stands.
+#[derive(Debug, Clone, Copy)]
+pub struct Frame<'f> {
+    pub line: usize,
+    pub token: Option<Token>,
+    /// The named function that holds it.
+    pub owner: &'f [u8],
+}
+
+impl<'f> Frame<'f> {
+    /// A place that the library notes.
+    pub fn of(spot: &'f Spot) -> Frame<'f> {
+        Frame { line: spot.call.line, token: spot.token, owner: spot.call.owner() }
+    }
+
+    /// The places of a scene, the innermost first.
+    pub fn of_scene(scene: &'f Scene) -> Vec<Frame<'f>> {
+        let calls = std::iter::once(&scene.at).chain(&scene.callers);
+        let tokens = std::iter::once(&scene.token).chain(&scene.caller_tokens);
+        calls.zip(tokens).map(|(call, token)| Frame { line: call.line, token: *token, owner: call.owner() }).collect()
+    }
+}
+
+/// What pushed an operand.
+#[derive(Debug, Clone, Copy, PartialEq, Eq)]
+pub enum Origin<'a> {
+    /// This field, in this line.
+    Field(&'a [u8], usize),
+    /// Another token.
+    Other,
+}
+
+/// What a text shows of a missing field that is taken.
+#[derive(Debug, Clone, PartialEq, Eq)]
+pub enum MissingField<'a> {
+    /// It is this one, pushed in this line.
+    Is(&'a [u8], usize),
+    /// It may be what this function in this line leaves, which reads these.
+    LeftBy(&'a [u8], usize, Vec<&'a [u8]>),
+    /// It may be one of those that this function reads.
+    ReadBy(&'a [u8], Vec<&'a [u8]>),
+}
+
+/// How far a walk back comes in the braces in which it begins.
+enum Walk {
+    /// To the token that pushes the operand.
+    Pushed(usize),
+    /// To their beginning: the operand was on the stack before, with this many literals above it.
+    Begin(usize),
+    /// To a token of which the text doesn't show what it leaves.
+    Unknown(usize),
+}
+
+/// How far a walk back comes over all callers: to the token that pushes the operand, or at most to one of which that isn't known.
+enum Way {
+    Pushed(usize),
+    Unknown(Option<usize>),
+}
+
+/// How many tokens are walked over.
+const MOST_TOKENS: usize = 2_000;
+
+/// The origin of the operand with `position` literals above it that is taken by the function `next` at the first of the places `frames`; the
+/// others called it, the innermost first. None where the text doesn't show it.
+pub fn origin<'a>(code: &Code<'a>, next: &[u8], frames: &[Frame<'_>], position: usize) -> Option<Origin<'a>> {
+    match way_back(code, next, frames, position) {
+        Way::Pushed(token) => Some(pushed_by(code, token)),
+        Way::Unknown(_) => None,
+    }
+}
+
+/// What the text shows of the operand, if that is a missing field.
+pub fn missing_field<'a>(
+    code: &Code<'a>,
+    next: &[u8],
+    frames: &[Frame<'_>],
+    position: usize,
+) -> Option<MissingField<'a>> {
+    let left_by = match way_back(code, next, frames, position) {
+        Way::Pushed(token) => match pushed_by(code, token) {
+            Origin::Field(name, line) => return Some(MissingField::Is(name, line)),
+            Origin::Other => None,
+        },
+        Way::Unknown(token) => token,
+    };
+    let left = left_by.and_then(|token| {
+        let fields = code.fields_read(&operands_of(code, token));
+        (!fields.is_empty()).then(|| MissingField::LeftBy(code.of(token), code.line(token), fields))
+    });
+    left.or_else(|| frames.iter().find_map(|frame| read_by(code, frame.owner)))
+}
+
+/// The fields that a function reads, if it reads some.
+fn read_by<'a>(code: &Code<'a>, function: &[u8]) -> Option<MissingField<'a>> {
+    let (name, tokens) = code.function(function)?;
+    let fields = code.fields_read(&[tokens]);
+    (!fields.is_empty()).then_some(MissingField::ReadBy(name, fields))
+}
+
+/// The tokens of what a token executes: of an `if$` the functions before it, else itself.
+fn operands_of(code: &Code<'_>, token: usize) -> Vec<Range<usize>> {
+    let itself = token..token + 1;
+    if !code.of(token).eq_ignore_ascii_case(b"if$") {
+        return vec![itself];
+    }
+    let no = code.operand_before(token);
+    let yes = no.and_then(|(first, _)| code.operand_before(first));
+    no.into_iter().chain(yes).map(|(first, last)| first..last + 1).collect()
+}
+
+/// Walks back from a place over all that called it to the token that pushes the operand with `position` literals above it.
+fn way_back(code: &Code<'_>, next: &[u8], frames: &[Frame<'_>], position: usize) -> Way {
+    let Some(mut index) = frames.first().and_then(|frame| index_of(code, frame, next)) else {
+        return Way::Unknown(None);
+    };
+    let mut above = position;
+    for callers in frames.windows(2).map(Some).chain([None]) {
+        above = match walk(code, index, above) {
+            Walk::Pushed(token) => return Way::Pushed(token),
+            Walk::Begin(above) => above,
+            Walk::Unknown(token) => return Way::Unknown(Some(token)),
+        };
+        let Some([callee, caller]) = callers else { break };
+        let [called, chosen, turned] = [callee.owner, b"if$", b"while$"].map(|text| index_of(code, caller, text));
+        (index, above) = match (called, chosen, turned) {
+            (Some(called), None, None) => (called, above),
+            // (it takes the number and the two functions before it executes one of these)
+            (None, Some(chosen), None) => (chosen, above + 3),
+            _ => break,
+        };
+    }
+    Way::Unknown(None)
+}
+
+/// The token of this text at a place, if it is the one that the place has by its number.
+fn index_of(code: &Code<'_>, frame: &Frame<'_>, text: &[u8]) -> Option<usize> {
+    let number = frame.token.map(|(_, number)| number);
+    code.index(frame.line, text, number).filter(|index| Some(code.number_of(*index)) == number)
+}
+
+/// What a token is that pushes an operand.
+fn pushed_by<'a>(code: &Code<'a>, token: usize) -> Origin<'a> {
+    let name = code.of(token);
+    match code.declared(name) {
+        Some(Declared::Field) if code.kind(token) == Kind::Name => Origin::Field(name, code.line(token)),
+        _ => Origin::Other,
+    }
+}
+
+/// Walks back from a token to the one that pushes the operand with `above` literals above it.
+fn walk(code: &Code<'_>, mut index: usize, mut above: usize) -> Walk {
+    for _ in 0..MOST_TOKENS {
+        let Some((first, last)) = code.operand_before(index) else { return Walk::Begin(above) };
+        index = first;
+        let is_function = first < last;
+        let (takes, leaves) = match effect(code, first) {
+            _ if is_function => (0, 1),
+            Some(effect) => effect,
+            None => return Walk::Unknown(first),
+        };
+        above = match (code.of(first), above) {
+            (b"duplicate$", 0 | 1) => 0,
+            (b"swap$", 0 | 1) => 1 - above,
+            _ if above < leaves => return Walk::Pushed(first),
+            _ => above - leaves + takes,
+        };
+    }
+    Walk::Unknown(index)
+}
+
+/// How many literals a token takes and leaves; None where that isn't known.
+fn effect(code: &Code<'_>, token: usize) -> Option<(usize, usize)> {
+    let name = code.of(token);
+    match (code.kind(token), code.declared(name)) {
+        (Kind::Integer | Kind::Text | Kind::Quoted, _) => Some((0, 1)),
+        (Kind::Name, Some(Declared::Function { .. })) => None,
+        (Kind::Name, Some(_)) => Some((0, 1)),
+        (Kind::Name, None) => effect_of_built_in(name),
+        _ => None,
+    }
+}
+
+/// How many literals a built-in function takes and leaves. Of those that execute others that isn't known.
+fn effect_of_built_in(name: &[u8]) -> Option<(usize, usize)> {
+    let takes = advice::operands(name).map_or(0, |operands| operands.split(' ').count());
+    match name {
+        b"duplicate$" => Some((1, 2)),
+        b"swap$" => Some((2, 2)),
+        b":=" | b"pop$" | b"top$" | b"warning$" | b"write$" => Some((takes, 0)),
+        b"newline$" | b"skip$" => Some((0, 0)),
+        _ if advice::leaves_number(name) || advice::leaves_text(name) => Some((takes, 1)),
+        _ => None,
+    }
+}
+
+#[cfg(test)]
+mod tests {
+    use super::*;
+
+    const STYLE: &str = "ENTRY {title note}{}{}\nSTRINGS {s}\n\
+        FUNCTION {out}\n{ duplicate$ empty$\n 'pop$\n 'write$\n if$ }\n\
+        FUNCTION {shows}\n{ \"x\" *\n write$ }\n\
+        FUNCTION {misc}\n{ title \"a\" swap$ *\n pop$ note\n shows\n note s out #1 + *\n title #1\n { \"y\" * write$ }\n 'skip$\n if$\n s shows }\n";
+
+    /// The origin of the operand of `next` at these places, each with its line, the number of its token and its function.
+    fn of<'a>(code: &Code<'a>, next: &str, places: &[(usize, usize, &str)], position: usize) -> Option<Origin<'a>> {
+        let frames: Vec<Frame<'_>> = places
+            .iter()
+            .map(|(line, number, owner)| Frame { line: *line, token: Some((0, *number)), owner: owner.as_bytes() })
+            .collect();
+        origin(code, next.as_bytes(), &frames, position)
+    }
+
+    #[test]
+    fn fields_are_found_where_they_are_pushed() {
+        let code = Code::new(STYLE.as_bytes());
+        let title = |line| Some(Origin::Field(&b"title"[..], line));
+        assert_eq!(of(&code, "*", &[(12, 3, "misc")], 0), title(12));
+        assert_eq!(of(&code, "*", &[(12, 3, "misc")], 1), Some(Origin::Other));
+        assert_eq!(of(&code, "*", &[(15, 12, "misc")], 0), Some(Origin::Other));
+        assert_eq!(of(&code, "*", &[(15, 12, "misc")], 1), None);
+        assert_eq!(of(&code, "*", &[(9, 1, "shows"), (14, 6, "misc")], 1), Some(Origin::Field(b"note", 13)));
+        assert_eq!(of(&code, "*", &[(9, 1, "shows"), (20, 19, "misc")], 1), Some(Origin::Other));
+        assert_eq!(of(&code, "*", &[(17, 1, "misc"), (19, 17, "misc")], 1), title(16));
+        assert_eq!(of(&code, "*", &[(9, 1, "shows")], 1), None);
+    }
+
+    #[test]
+    fn missing_fields_are_named_or_those_that_may_be() {
+        let style = "ENTRY {title note year}{}{}\nFUNCTION {half} { note empty$ 'title { year } if$ }\nFUNCTION {out} { write$ }\n\
+            FUNCTION {misc} { half out\n #1 { note }\n {half}\n if$ write$\n call.type$ out\n title write$ }\n";
+        let code = Code::new(style.as_bytes());
+        let missing = |line, token, caller: Option<(usize, usize)>| {
+            let owner = |is_called: bool| if is_called { &b"out"[..] } else { b"misc" };
+            let frame = |(line, number), owner| Frame { line, token: Some((0, number)), owner };
+            let first = frame((line, token), owner(caller.is_some()));
+            let frames: Vec<Frame<'_>> = [first].into_iter().chain(caller.map(|place| frame(place, b"misc"))).collect();
+            missing_field(&code, b"write$", &frames, 0).unwrap()
+        };
+        let all = || vec![&b"note"[..], b"title", b"year"];
+        assert_eq!(missing(9, 10, None), MissingField::Is(b"title", 9));
+        assert_eq!(missing(3, 0, Some((4, 1))), MissingField::LeftBy(b"half", 4, all()));
+        assert_eq!(missing(7, 6, None), MissingField::LeftBy(b"if$", 7, all()));
+        assert_eq!(missing(3, 0, Some((8, 8))), MissingField::ReadBy(b"misc", all()));
+        let turns =
+            Code::new(b"ENTRY {note}{}{}\nFUNCTION {misc} { #1 note { #0 } { #1 {write$} {skip$} if$ } while$ }\n");
+        let frame = |number| Frame { line: 2, token: Some((0, number)), owner: b"misc" };
+        let frames = [frame(0), frame(4)];
+        assert_eq!(missing_field(&turns, b"write$", &frames, 0), Some(MissingField::ReadBy(b"misc", vec![b"note"])));
+    }
+}
