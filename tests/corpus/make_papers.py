@@ -73,10 +73,17 @@ def made_of_entries(folder, papers):
     return made
 
 
+def found_by_tex(stems):
+    """Those of these styles that BibTeX finds by their names: one that is shipped for pBibTeX alone isn't among them."""
+    found = subprocess.run(["kpsewhich", *(f"{stem}.bst" for stem in stems)], stdin=subprocess.DEVNULL, capture_output=True, text=True, check=False)
+    return {pathlib.Path(line).stem for line in found.stdout.splitlines()}
+
+
 def made_of_documents(folder, by_latex):
     """Makes a paper of each shipped document that names a shipped style and databases. Answers how many."""
     made = 0
-    names = {bytes(path.with_suffix("")) for path in files(DOCUMENTS, ".bst")} | {path.stem.encode() for path in shipped(".bst")}
+    stems = sorted({path.stem for path in shipped(".bst")})
+    names = {bytes(path.with_suffix("")) for path in files(DOCUMENTS, ".bst")} | {stem.encode() for stem in found_by_tex(stems)}
     for path in [path for ending in (".tex", ".ltx") for path in files(DOCUMENTS, ending)]:
         text = COMMENT.sub(b"", path.read_bytes())
         found = (by_latex and DATABASES.search(text) and read_by_latex(path)) or read_off(text)
