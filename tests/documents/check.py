@@ -12,7 +12,7 @@ says, in the file's order (a line `..` stands for what is left out). docs/PROOFS
 The table at the end of docs/ARCHITECTURE.md, of what a change touches, has the files and numbers that places.py finds. Each recipe of docs/CONTRIBUTING.md that has
 an example names the files of code and definitions that have it, up to three, and no others. Names are as that document says.
 
-The table of crates in .ci/README.md has each crate's numbers of functions and of wrong bodies, right within a tenth or two.
+The table of crates in .ci/README.md has each crate's number of functions, right within a tenth or two, and of wrong bodies.
 
 Not checked: the counts in prose and the times of .ci/README.md, which are as they were measured."""
 
@@ -50,7 +50,7 @@ TEST_MODULE = re.compile(r"(?m)^#\[cfg\(test\)\]\n(?:pub )?mod (\w+);$")
 TESTS_IN_PLACE = re.compile(r"(?m)^#\[cfg\(test\)\]\nmod \w+ \{")
 FENCED = re.compile(r"```.*?```", re.S)
 # The recipes of docs/CONTRIBUTING.md that have an example, with its kind in places.py.
-RECIPES = {"A message": "a message", "An option": "an option", "A built-in function": "a function of the language"}
+RECIPES = {"A message": "a message", "A message of steps": "a message of steps", "An option": "an option", "A built-in function": "a function of the language"}
 # The name of a lemma or of a definition, where it is declared; and how many lemmas may have names that break the rule: those that are older.
 DECLARED = re.compile(r"(?m)^(?:(?:abbrev|pub|unfoldable|abstract|data|record) )*([A-Za-z][\w'-]*) :")
 OLDER_NAMES = 80
@@ -268,7 +268,7 @@ def functions_of(crate):
 
 
 def gate_numbers():
-    """The numbers of functions and of wrong bodies in the gate's table of crates, each of which is right within a tenth or two."""
+    """The numbers of functions and of wrong bodies in the gate's table of crates: the first is right within a tenth or two."""
     rows = [[it.strip() for it in line.strip("|").split(" |")] for line in (ROOT / ".ci/README.md").read_text(encoding="utf-8").split("\n") if line.startswith("| ")]
     head = next(row for row in rows if row[0] == "crate")
     said = {CODE.findall(row[0])[0]: dict(zip(head, row)) for row in rows if len(row) == len(head) and CODE.findall(row[0])[:1] and CODE.findall(row[0])[0] in crates()}
@@ -277,9 +277,10 @@ def gate_numbers():
         if crate not in said:
             yield f".ci/README.md: the table of crates has no `{crate}`", not own
             continue
-        for what, count in ("functions", functions_of(crate)), ("wrong bodies", own):
+        functions = functions_of(crate)
+        for what, count, room in ("functions", functions, max(2, functions // 10)), ("wrong bodies", own, 0):
             number = int(said[crate][what] or 0)
-            yield f".ci/README.md: {crate}: {number} {what}, and there are {count}", abs(number - count) <= max(2, count // 10)
+            yield f".ci/README.md: {crate}: {number} {what}, and there are {count}", abs(number - count) <= room
 
 
 def missing_words():

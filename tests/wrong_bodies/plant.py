@@ -47,7 +47,7 @@ from witnesses import FOLDERS, ROOT, report_lacking, witness_of
 # How much of a goal is printed.
 LONGEST_GOAL = 300
 # An error that reports only that a name is gone says nothing of a contract.
-GONE = re.compile(r"is not in scope|has no field|has no `|was not admitted")
+GONE = re.compile(r"is not in scope|has no field|has no `|was not admitted|\(nearest: ")
 # What the check says of a function that is proved, but for holes that stand in.
 TAKEN = re.compile(r"proved$|no holes|depends on a hole")
 
