@@ -8,6 +8,8 @@ from definitions import CRATES, Definition, Module
 
 FUNCTION = re.compile(r"^(\s*)((?:pub(?:\([\w ]+\))? )?)(?:const |unsafe )*fn (\w+)")
 HEADLINE = ("btx_run", "run")
+# A crate beside the program, with laws of its own.
+BESIDE = "btx_check::"
 # The traits of the headline's finder and sinks.
 TRAITS = (("btx_aux", "Finder"), ("btx_out", "Sink"))
 
@@ -109,8 +111,8 @@ def clause_module(home, made):
 
 
 def laws():
-    """The laws of all crates."""
-    return [made_of(it, "law") for it in all_contracts() if it.is_law]
+    """The laws of all crates of the program. One beside it has its own, which its README names."""
+    return [made_of(it, "law") for it in all_contracts() if it.is_law and not it.shown.startswith(BESIDE)]
 
 
 def headline():

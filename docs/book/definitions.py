@@ -211,12 +211,12 @@ def documentation(text, end):
 
 @functools.lru_cache(maxsize=None)
 def rust_type(crate, path, name):
-    """The struct or enum of this name in a crate, in the file of the module path `a.b` where one is given; as a definition sees it."""
+    """The struct, enum or name of a list in a crate, in the file of the module path `a.b` where one is given; as a definition sees it."""
     files = sources(crate)
     inside = [CRATES / crate / "src" / (path.replace(".", "/") + end) for end in (".rt", "/mod.rt")] if path else list(files)
     for file in inside:
         text = files.get(file, "")
-        found = re.search(rf"^pub (?:enum|struct) {name}\b(?:<[^>]*>)?(?:\(.*\);| \{{(?:\n.*)*?\n\}}|;)", text, re.M)
+        found = re.search(rf"^pub (?:type {name}\b[^=]*= List<.*;|(?:enum|struct) {name}\b(?:<[^>]*>)?(?:\(.*\);| \{{(?:\n.*)*?\n\}}|;))", text, re.M)
         if found:
             return made_of_type(file, name, found.start(), found[0])
     return None
@@ -242,7 +242,8 @@ def resolve_rust(made):
     for line in sources(made.crate)[made.file].split("\n"):
         brought.bring(line)
     code = "\n".join(line.split("//")[0] for line in made.lines)
-    names = set(re.findall(r"(?<![.\w])[A-Z]\w*", code))
+    # (a name of one letter is a parameter of the type)
+    names = set(re.findall(r"(?<![.\w])[A-Z]\w+", code))
     if "enum" in made.lines[0]:
         names -= set(re.findall(r"(?m)^\s+([A-Z]\w*)(?=[,({])", code))
     for name in sorted(names - {made.name}):
