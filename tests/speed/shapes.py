@@ -9,6 +9,7 @@ import pathlib
 from typing import Callable, NamedTuple, Optional
 
 from jobs import READING
+from make_job import STRINGS, Maker
 
 
 class Shape(NamedTuple):
@@ -63,6 +64,13 @@ def entries(size):
     keys = ["work%06d" % number for number in range(size)]
     works = "".join("@article{%s, title = {On {%s}}, author = {Ann Lee}, year = 1984}\n" % (key, key) for key in keys)
     return database_job(works, keys)
+
+
+@shape("entries", 10_300, 103_000, most=286_000_000)
+def unwanted(size):
+    """The database of `make_job.py`, of which one entry is cited. What isn't wanted is passed over."""
+    keys, texts = zip(*Maker(1).entries(size))
+    return database_job(STRINGS + "".join(texts), [keys[size // 2]])
 
 
 # Fifty bytes.

@@ -36,9 +36,21 @@ impl MoreNames {
         }
     }
 
-    // The place of a name.
-    #[inline(never)]
+    // The place of a name. Mostly there is none.
+    #[inline(always)]
     fn position(&self, name: &[u8]) -> Option<usize>
+        ensures place { result ≡ first_place (bytes_eq name.now) self.now }
+        ensures small { IfSome result (λ place. place < 2 ^ 63) }
+    {
+        if self.set.is_empty() {
+            return None;
+        }
+        self.position_in_table(name)
+    }
+
+    // The place of a name by the table, which makes its hash.
+    #[inline(never)]
+    fn position_in_table(&self, name: &[u8]) -> Option<usize>
         ensures place { result ≡ first_place (bytes_eq name.now) self.now }
         ensures small { IfSome result (λ place. place < 2 ^ 63) }
     {

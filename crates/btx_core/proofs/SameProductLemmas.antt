@@ -59,8 +59,6 @@ use Rattle.btx_core.proofs.AuxLemmas.{is_said, said_by, same_job as same_aux_job
 use Rattle.btx_core.proofs.ComputedLemmas.{computed}
 use Rattle.btx_core.proofs.FormatsThere.{divided}
 use Rattle.btx_core.proofs.LibraryLemmas.{there_is_library}
-use Rattle.btx_core.proofs.MeaningLemmas.{by_steps, there_is_meaning}
-use Rattle.btx_core.proofs.PartLemmas.{wrapped, sure_is}
 use Rattle.btx_core.proofs.ProductLemmas.{holds as one_product}
 use Rattle.btx_core.proofs.SameJobLemmas as of_job
 use Rattle.btx_core.proofs.SameJobLemmas.{SameJob}

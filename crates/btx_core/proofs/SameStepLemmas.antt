@@ -1,5 +1,5 @@
 -- A state of a run with numbers and one in names stay the same, step by step.
-use Rattle.std.proofs.Common.{◌≡◌, ℕ, ℤ, pos, zero, suc, ◌+◌, ◌-◌, ◌<◌, ◌==◌, ◌^◌, max, min, Bool, true, false, if◌then◌else◌, List, [], ◌∷◌, ◌++◌, length, map}
+use Rattle.std.proofs.Common.{◌≡◌, ℕ, ℤ, zero, suc, ◌+◌, ◌-◌, ◌<◌, ◌==◌, ◌^◌, max, min, Bool, true, false, if◌then◌else◌, List, [], ◌∷◌, ◌++◌, length, map}
 use Rattle.std.proofs.Common.{count_by, nat_lt, replicate, take, Result, Option, None, Some, option_map, sym, ap, ap₂, subst, ◌∙◌, refl, arith, append_assoc}
 use Rattle.std.proofs.Common.{append-nil}
 use Rattle.std.specs.List.{flat_map}
@@ -12,7 +12,6 @@ use Rattle.btx_bst.specs.declared.built_in.BuiltIn.TheVariants as built_in
 use Rattle.btx_bst.specs.declared.callee.Callee.{Callee}
 use Rattle.btx_bst.specs.declared.callee.Callee.TheVariants as callee
 use Rattle.btx_bst.specs.declared.callee.Kind.{Kind}
-use Rattle.btx_bst.specs.declared.callee.Kind.TheVariants as kind
 use Rattle.btx_bst.specs.declared.token.Token.{Token}
 use Rattle.btx_bst.specs.declared.token.Token.TheVariants as token
 use Rattle.btx_bst.specs.language.BuiltIns.{built_in_name}
@@ -46,7 +45,7 @@ use Rattle.btx_machine.specs.language.States.{Out, state}
 use Rattle.btx_machine.specs.language.States.{State as NumberedState}
 use Rattle.btx_machine.specs.language.Steps.{token_effect, turn_of}
 use Rattle.btx_core.specs.language.Files.Counts.{counts_of}
-use Rattle.btx_core.specs.language.Functions.{AFunction, AnyLiteral, Effect, Leaves, Meets, Runs, Opens, Loops, assigns, by_rule, function_effect}
+use Rattle.btx_core.specs.language.Functions.{AFunction, AnyLiteral, Effect, Leaves, assigns, by_rule, function_effect}
 use Rattle.btx_core.specs.language.Functions.{not_what_was_asked, on_literals, or_instead, push, push_instead, push_text, row, test_of, tested, word_effect}
 use Rattle.btx_core.specs.language.Meanings.{deeper}
 use Rattle.btx_core.specs.language.Notes.{empty_stack, error, errors}

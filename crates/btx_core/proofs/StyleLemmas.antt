@@ -6,7 +6,6 @@ use Rattle.btx_text.specs.language.Keys.{folded}
 use Rattle.btx_bst.specs.declared.command.Command.{Command as CommandName}
 use Rattle.btx_bst.specs.declared.command.Command.TheVariants as command
 use Rattle.btx_bst.specs.declared.callee.Kind.{Kind}
-use Rattle.btx_bst.specs.declared.callee.Kind.TheVariants as kind
 use Rattle.btx_bst.specs.language.Places.{Place, ink, place_at, skipped, skipped_from}
 use Rattle.btx_bst.specs.language.Reads.{Read, Took, Slip}
 use Rattle.btx_bst.specs.language.Complaints.{Complaint, NoOpen, NoClose, NoName, Unknown}
@@ -25,7 +24,7 @@ use Rattle.btx_bst.specs.laws.Places.{beginning}
 use Rattle.btx_bst.proofs.CommandSpellingLemmas.{word_named}
 use Rattle.btx_bst.proofs.TokenSpellingLemmas.{gap_one, Agrees, spaced, sign_agrees, name_agrees, text_agrees, letters_agrees}
 use Rattle.btx_bst.proofs.WordSpellingLemmas.{token-met}
-use Rattle.btx_core.specs.language.Styles.{Function, Declared, Defined, Command, Execute, Iterate, Reverse, Style}
+use Rattle.btx_core.specs.language.Styles.{Function, Declared, Defined, Command, Style}
 use Rattle.btx_core.specs.language.StyleTexts.{SoFar, meaning, unread, and_name, and_command, and_says, CommandEnd, ended_at, Rule, Next, Opened, Closed, Where}
 use Rattle.btx_core.specs.language.StyleTexts.{Makes, Names, Lists, body_of, wrong_in, wrong_till, HasBody, is_function, Executes, Behind, Named, FollowsOn}
 use Rattle.btx_core.specs.language.StyleTexts.{AreCommands, IsStyle, is_a_field}

@@ -5,7 +5,6 @@ use Rattle.btx_text.specs.language.Class.{begins_name}
 use Rattle.btx_text.specs.language.Keys.{folded}
 use Rattle.btx_text.specs.laws.Bytes.{open_brace, close_brace}
 use Rattle.btx_bst.specs.declared.callee.Kind.{Kind}
-use Rattle.btx_bst.specs.declared.callee.Kind.TheVariants as kind
 use Rattle.btx_bst.specs.declared.command.Command.{Command as CommandName}
 use Rattle.btx_bst.specs.declared.command.Command.TheVariants as command
 use Rattle.btx_bst.specs.language.Places.{Place, ink, place_at, size}
@@ -26,7 +25,7 @@ use Rattle.btx_bst.proofs.WordSpellingLemmas.{spelled-parts, spelled-break}
 use Rattle.btx_bst.proofs.SizeLemmas.{ink-size, skipped-size}
 use Rattle.btx_bst.proofs.ListLemmas.{Sized, closing-size, opening-size, name_at-size, quoted_at-size, front_of-size}
 use Rattle.btx_bst.proofs.BodyTurnLemmas.{is_ended, met_at-size}
-use Rattle.btx_core.specs.language.Styles.{Function, Declared, Defined, Command, Execute, Iterate, Reverse, Style}
+use Rattle.btx_core.specs.language.Styles.{Function, Declared, Defined, Command, Style}
 use Rattle.btx_core.specs.language.StyleTexts.{SoFar, meaning, unread, and_name, and_command, and_says, CommandEnd, ended_at, Rule, Next, Opened, Closed, Where}
 use Rattle.btx_core.specs.language.StyleTexts.{Makes, Names, Lists, body_of, wrong_in, wrong_till, HasBody, is_function, Executes, Behind, Named, FollowsOn}
 use Rattle.btx_core.specs.language.StyleTexts.{AreCommands, IsStyle, is_a_field}
