@@ -3,6 +3,7 @@ pub mod ValueLemmas
 pub mod TextLemmas
 pub mod JoinedNameLemmas
 pub mod TableNameLemmas
+pub mod NameMarkLemmas
 pub mod FillingLemmas
 pub mod PlaceLemmas
 pub mod ListedKeyLemmas

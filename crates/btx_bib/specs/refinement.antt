@@ -3,6 +3,7 @@ pub mod Spellings
 pub mod ShortPlaces
 pub mod Values
 pub mod Finding
+pub mod Marks
 pub mod Filling
 pub mod Drafts
 pub mod KnownFields

@@ -47,7 +47,7 @@ impl<'a> Draft<'a> {
         request.job.keys_differ();
         let cited = request.first_cited();
         Ok(Draft {
-            names: Names::of(alloc, request.job, cited.len()),
+            names: Names::of(alloc, request.job, cited.len())?,
             slots: request.cited_slots(alloc, cited)?,
         })
     }

@@ -11,6 +11,7 @@ mod gathering;
 pub mod grammar;
 pub mod laws;
 pub mod library;
+mod marks;
 pub mod message;
 mod message_texts;
 mod names;

@@ -1,10 +1,13 @@
 //! Names in lower case, each once, found by a table.
-ghost use Rattle.std.specs.Prelude.{◌≡◌, ◌^◌, ◌<◌, ◌≤◌, [], ◌++◌, ◌∷◌, false, length, map, take, IfSome, OnOk};
+ghost use Rattle.std.specs.Prelude.{◌≡◌, ◌^◌, ◌<◌, ◌≤◌, [], ◌++◌, ◌∷◌, false, length, map, take, IfOk, IfSome, OnErr, OnOk};
 ghost use Rattle.std.specs.Str.{bytes_eq};
 ghost use Rattle.std.specs.List.{list_any};
 ghost use Rattle.btx_text.specs.language.Keys.{folded};
+ghost use Rattle.btx_aux.specs.refinement.Entries.{texts_of};
 ghost use Rattle.btx_bib.specs.refinement.Finding.{first_place};
+ghost use Rattle.btx_bib.specs.refinement.Marks.{AreMarked};
 
+use crate::marks::Marks;
 use btx_aux::AuxJob;
 use btx_text::Lowered;
 use indexmap::IndexSet;
@@ -61,7 +64,8 @@ impl MoreNames {
     // Adds a name that isn't there.
     fn add(&mut self, alloc: Global, name: Lowered<'_>) -> Result<(), AllocError>
         requires { list_any (bytes_eq name) self.old ≡ false }
-        ensures { OnOk result (self.new ≡ self.old ++ name.entry ∷ []) }
+        ensures ok { OnOk result (self.new ≡ self.old ++ name.entry ∷ []) }
+        ensures err { OnErr result (self.new ≡ self.old) }
     {
         let bytes = name.into_bytes(alloc)?;
         self.set.insert(bytes)?;
@@ -110,32 +114,51 @@ impl<'a> CitedNames<'a> {
     }
 }
 
+// The marks of keys in lower case.
+fn marks_of(alloc: Global, keys: &[Vec<u8>]) -> Result<Marks, AllocError>
+    ensures { IfOk result (λ marks. AreMarked marks (map folded (texts_of keys.now))) }
+{
+    let mut marks = Marks::none(alloc)?;
+    for key in keys {
+        let lowered = Lowered::of(alloc, key.as_slice())?;
+        marks.add(lowered.as_bytes());
+    }
+    Ok(marks)
+}
+
 /// Names in lower case, each once, in the order in which they came. The first are those of cited keys.
 #[derive(Drop)]
 pub struct Names<'a> {
     cited: CitedNames<'a>,
     more: MoreNames,
+    // Those of all these names.
+    marks: Marks,
 }
 
 impl<'a> Model for Names<'a> {
     ghost use Rattle.std.specs.Prelude.{◌++◌, List, ℕ};
+    ghost use Rattle.btx_bib.specs.refinement.Marks.{AreMarked};
 
     ghost Value = { List (List ℕ) };
 
     ghost view = { λ names. names.cited ++ names.more };
+
+    ghost invariant = { λ names. AreMarked names.marks (names.cited ++ names.more) };
 }
 
 impl<'a> Names<'a> {
     /// The names of the first keys of a job, this number of them.
-    pub fn of(alloc: Global, job: &'a AuxJob, count: usize) -> Self
+    pub fn of(alloc: Global, job: &'a AuxJob, count: usize) -> Result<Self, AllocError>
         requires within { count ≤ length job.now.keys }
         requires small { count < 2 ^ 63 }
-        ensures { result ≡ take count (map folded job.now.keys) }
+        ensures { IfOk result (λ names. names ≡ take count (map folded job.now.keys)) }
     {
-        Names {
+        let marks = marks_of(alloc, &job.keys()[..count])?;
+        Ok(Names {
             cited: CitedNames { job, count },
             more: MoreNames::new(alloc),
-        }
+            marks,
+        })
     }
 
     /// The place of a name.
@@ -143,6 +166,9 @@ impl<'a> Names<'a> {
     pub fn position(&self, name: &[u8]) -> Option<usize>
         ensures { result ≡ first_place (bytes_eq name.now) self.now }
     {
+        if !self.marks.has(name) {
+            return None;
+        }
         match self.cited.position(name) {
             Some(place) => Some(place),
             None => match self.more.position(name) {
@@ -157,6 +183,7 @@ impl<'a> Names<'a> {
         requires { list_any (bytes_eq name) self.old ≡ false }
         ensures { OnOk result (self.new ≡ self.old ++ name.entry ∷ []) }
     {
+        self.marks.add(name.as_bytes());
         self.more.add(alloc, name)
     }
 }

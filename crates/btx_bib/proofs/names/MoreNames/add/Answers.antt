@@ -5,8 +5,8 @@ use Rattle.btx_aux.specs.refinement.Entries.{texts_of}
 use Rattle.btx_bib.proofs.TableNameLemmas.{any-texts, texts_of-push}
 use Rattle.btx_bib.proofs.names.MoreNames.add.Goals as goal
 
-pub returns : goal.returns
-returns c =
+pub returns-clause-ok : goal.returns-clause-ok
+returns-clause-ok c =
     let names = c.self.inside.set.keys in
     let bytes = c.in_ok-bytes.bytes in
     let is : bytes.items ≡ c.args.name = c.in_ok-bytes.ensures in
