@@ -17,8 +17,8 @@ use Rattle.btx_bib.specs.laws.Databases.{LongDatabaseEnds, MessagesStay, read_al
 use Rattle.btx_bib.specs.laws.Storing.{MacrosGoOn}
 
 -- a macro whose squeezed text fits leaves the reading going on, and no other does
-pub macros-go-on : MacrosGoOn
-macros-go-on known own text on = at (goes_on known.ending) (nat_lt greatest_string (length (squeezed text))) on where
+pub macros_go_on : MacrosGoOn
+macros_go_on known own text on = at (goes_on known.ending) (nat_lt greatest_string (length (squeezed text))) on where
   at : (goes long : Bool) → goes ≡ true
       → goes_on (if goes then (if long then record known { ending = end.StringLimit } else record known { strings = defined known.strings own (squeezed text) })
       else known).ending ≡ not long
@@ -46,8 +46,8 @@ ended-stays wanted (database ∷ databases) reading is =
     let same : read_one wanted reading database ≡ reading = rw is refl in
     ap (λ (r : Reading). fold (read_one wanted) r databases) same ∙ ended-stays wanted databases reading is
 
-pub long-database-ends : LongDatabaseEnds
-long-database-ends wanted macros before database behind on long =
+pub long_database_ends : LongDatabaseEnds
+long_database_ends wanted macros before database behind on long =
     let reading = read_all wanted macros before in
     let ended : Reading = record reading { known = record reading.known { ending = end.FileLimit } } in
     let first : read_one wanted reading database ≡ ended = rw (on, long) refl in

@@ -23,10 +23,10 @@ use Rattle.btx_bib.proofs.GatheringLemmas.{turn-along, turn-logged}
 use Rattle.btx_bib.proofs.GrammarLemmas.LengthLemmas.{events-less}
 
 -- an entry that isn't wanted isn't stored
-unwanted-unstored : (wanted : Request) (kept : Gathering) (place : Option ℕ) → standing_at wanted kept.draft place ≡ standing.Unwanted
+unwanted_unstored : (wanted : Request) (kept : Gathering) (place : Option ℕ) → standing_at wanted kept.draft place ≡ standing.Unwanted
     → has_entry kept.draft place ≡ false
-unwanted-unstored wanted kept None h = refl
-unwanted-unstored wanted kept (Some place) h = at (has_entry kept.draft (Some place)) h where
+unwanted_unstored wanted kept None h = refl
+unwanted_unstored wanted kept (Some place) h = at (has_entry kept.draft (Some place)) h where
   at : (t : Bool) → (if t then standing.Repeated else standing.Wanted) ≡ standing.Unwanted → t ≡ false
   at true h = cc
   at false h = refl
@@ -88,7 +88,7 @@ module _ (wanted : Request) (kept : Gathering) where
           (unwanted : standing_at wanted kept.draft (place_in kept.draft head.key.now) ≡ standing.Unwanted) where
         unkept : is_kept kept head.key.now ≡ false
         unkept = ap (λ (c : Option Pending). is_pending c head.key.now || has_entry kept.draft (place_in kept.draft head.key.now)) none
-            ∙ unwanted-unstored wanted kept (place_in kept.draft head.key.now) unwanted
+            ∙ unwanted_unstored wanted kept (place_in kept.draft head.key.now) unwanted
 
         entry-next : next_step (is_kept kept) place.0 place.1 ≡ Some (entry_step head)
         entry-next =

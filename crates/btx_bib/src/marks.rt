@@ -1,4 +1,4 @@
-//! Marks of names: most names that a table doesn't have are told by them, without a look into the table.
+//! Marks of names: a table has no name whose mark isn't there, and of most names that it doesn't have that is seen without a look into it.
 ghost use Rattle.std.specs.Prelude.{◌≡◌, ◌<◌, slice_index_or};
 ghost use Rattle.btx_bib.specs.refinement.Marks.{mark};
 

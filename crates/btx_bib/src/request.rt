@@ -1,4 +1,8 @@
 //! What is asked of the databases.
+use crate::draft::Standing;
+use crate::draft_slots::{DraftSlot, DraftSlots};
+use crate::slots::Body;
+use crate::spelling::{Spelling, Word};
 use crate::style_fields::StyleFields;
 use btx_aux::AuxJob;
 use btx_bst::Style;
@@ -19,13 +23,15 @@ pub struct Request<'r, 'a> {
 }
 
 impl<'r, 'a> Request<'r, 'a> {
-    ghost use Rattle.std.specs.Prelude.{◌≡◌, IfOk, option_copied};
+    ghost use Rattle.std.specs.Prelude.{◌≡◌, true, map, option_copied, IfOk};
     ghost use Rattle.btx_text.specs.language.Keys.{folded};
     ghost use Rattle.btx_bib.specs.language.Requests.{asked};
     ghost use Rattle.btx_bib.specs.refinement.Requests.{wanted};
     ghost use Rattle.btx_bib.specs.language.Listing.{first_cited, last_cited};
     ghost use Rattle.btx_aux.specs.refinement.Entries.{texts_of};
+    ghost use Rattle.btx_aux.specs.language.Names.{listed_as};
     ghost use Rattle.btx_aux.specs.refinement.KeyTable.{listed_by};
+    ghost use Rattle.btx_bib.specs.refinement.Drafts.{late_slot, new_standing, open_slot, with_entry};
 
     /// What a job and its style ask, where an entry that isn't cited stays if at least `min_crossrefs` others refer to it, or, with `*`, in any case.
     pub fn of(
@@ -99,5 +105,52 @@ impl<'r, 'a> Request<'r, 'a> {
         let place = self.job.position(lowered)?;
         let key = self.job.keys().get(place)?;
         Some(key.as_slice())
+    }
+
+    /// The places of some cited keys.
+    pub fn cited_slots(
+        &self,
+        alloc: Global,
+        keys: &'a [Vec<u8>],
+    ) -> Result<DraftSlots<'a>, AllocError>
+        ensures { IfOk result (λ slots. slots ≡ map (open_slot (wanted self.now) true 0) (texts_of keys.entry.now)) }
+    {
+        let mut slots = DraftSlots::new(alloc);
+        for key in keys {
+            let slot = DraftSlot {
+                key: Spelling::of_file(key.as_slice()),
+                is_cited: true,
+                wanting: self.fewest,
+                body: None,
+            };
+            slots.push(slot)?;
+        }
+        Ok(slots)
+    }
+
+    /// How an entry stands whose key isn't in the list.
+    pub fn standing_of_new(&self) -> Standing
+        ensures { result ≡ new_standing self.now.all }
+    {
+        match self.all {
+            Some(_) => Standing::Wanted,
+            None => Standing::Unwanted,
+        }
+    }
+
+    /// The place of an entry whose key isn't in the list. It is spelled as it was cited, if it was.
+    pub fn late_slot(&self, key: &Word<'a>, lowered: &[u8], body: Body<'a>) -> DraftSlot<'a>
+        requires { lowered.now ≡ folded key.now }
+        ensures { result ≡ with_entry body.entry key.now (late_slot (wanted self.now) key.now (listed_as (wanted self.now).cited key.now)) }
+    {
+        let cited = self.cited_as(lowered);
+        let is_cited = cited.is_some();
+        let key = Spelling::of_file(cited.unwrap_or(key.as_bytes()));
+        DraftSlot {
+            key,
+            is_cited,
+            wanting: self.fewest,
+            body: Some(body),
+        }
     }
 }

@@ -206,7 +206,7 @@ impl<'a> Slot<'a> {
         self.body = Some(body);
     }
 
-    // Takes the entry its parent.
+    // The entry has no parent from now on.
     fn cut(&mut self)
         ensures { self.new ≡ without_crossref self.old }
     {

@@ -84,17 +84,17 @@ block-clear s i r z f Clear room fits found is test = (clear, bound) where
       let lane = ap (λ l. get_or l j 0) is ∙ get_or-map f block j 0 0 (omega (arith, long)) ∙ ap f here in
       test (get_or s k 0) (fits k).fits (sym (ap (top 7) lane) ∙ none)
 
-pub unmarked-in-block : (s : List ℕ) (i r : ℕ) → i + 16 ≤ length s → ((k : ℕ) → Fits w8 (get_or s k 0))
+pub unmarked_in_block : (s : List ℕ) (i r : ℕ) → i + 16 ≤ length s → ((k : ℕ) → Fits w8 (get_or s k 0))
     → r ≡ lanes_before (mask_l (map (top 7) (lanes (chunk i 16 s))) % 2 ^ 64) →
     AreUnmarked Quotes s i (i + r) × (r ≤ 16)
-unmarked-in-block s i r room fits found =
+unmarked_in_block s i r room fits found =
     block-clear s i r (lanes (chunk i 16 s)) lane (λ b. is_mark Quotes b ≡ false) room fits found (block-lanes (chunk i 16 s) (length-chunk i 16 s room))
     (lane-clear lane Quotes refl)
 
-pub braceless-in-block : (s : List ℕ) (i r : ℕ) → i + 16 ≤ length s → ((k : ℕ) → Fits w8 (get_or s k 0))
+pub braceless_in_block : (s : List ℕ) (i r : ℕ) → i + 16 ≤ length s → ((k : ℕ) → Fits w8 (get_or s k 0))
     → r ≡ lanes_before (mask_l (map (top 7) (brace_lanes (chunk i 16 s))) % 2 ^ 64) →
     AreUnmarked Group s i (i + r) × (r ≤ 16)
-braceless-in-block s i r room fits found =
+braceless_in_block s i r room fits found =
     block-clear s i r (brace_lanes (chunk i 16 s)) brace_lane (λ b. is_mark Group b ≡ false) room fits found
     (brace-lanes (chunk i 16 s) (length-chunk i 16 s room)) (lane-clear brace_lane Group refl)
 
@@ -123,11 +123,11 @@ letter less all b fits none = at (top 7 (letter_lane less b)) none
       at false none h = h
       at true none h = cc
 
-pub letters-in-block : (s : List ℕ) (r : ℕ) (less : ℕ → ℕ → ℕ) → 16 ≤ length s → ((k : ℕ) → Fits w8 (get_or s k 0)) →
+pub letters_in_block : (s : List ℕ) (r : ℕ) (less : ℕ → ℕ → ℕ) → 16 ≤ length s → ((k : ℕ) → Fits w8 (get_or s k 0)) →
     r ≡ lanes_before (mask_l (map (top 7) (zip2 above (replicate 16 25) (zip2 less (chunk 0 16 s) (replicate 16 97)))) % 2 ^ 64) →
     agree_below (λ b. top 7 (letter_lane less b) || is_name_byte b) (λ _. true) 256 ≡ true
     → (longest_run_len NameByte s ≡ r + longest_run_len NameByte (drop r s)) × (r ≤ 16)
-letters-in-block s r less room fits found all =
+letters_in_block s r less room fits found all =
     let block = chunk 0 16 s in
     let long = length-chunk 0 16 s room in
     let is = zip2_of_maps above (λ _. 25) (λ b. less b 97) block (splat_is_map block 16 25 long) (zip2_splat less block 16 97 long) in

@@ -68,10 +68,10 @@ pub solid-bits : (s : List ℕ) → 17 ≤ length s → ((k : ℕ) → Fits w8 (
 solid-bits s room fits =
     bits-are s (solid_lanes (chunk 1 16 s)) solid_lane (λ b. not (is_gap b)) room fits (lanes-are (chunk 1 16 s) (length-chunk 1 16 s (omega arith))) refl
 
-pub unlike-letter-bits : (s : List ℕ) (less : ℕ → ℕ → ℕ) → 17 ≤ length s → ((k : ℕ) → Fits w8 (get_or s k 0))
+pub unlike_letter_bits-masked : (s : List ℕ) (less : ℕ → ℕ → ℕ) → 17 ≤ length s → ((k : ℕ) → Fits w8 (get_or s k 0))
     → agree_below (λ b. top 7 (above 25 (less b 97))) (λ b. not (is_in_range 97 122 b)) 256 ≡ true
     → mask_l (map (top 7) (zip2 above (replicate 16 25) (zip2 less (chunk 1 16 s) (replicate 16 97)))) % 2 ^ 64 ≡ unlike_letter_bits s
-unlike-letter-bits s less room fits all =
+unlike_letter_bits-masked s less room fits all =
     let block = chunk 1 16 s in
     let long = length-chunk 1 16 s (omega arith) in
     bits-are s (zip2 above (replicate 16 25) (zip2 less block (replicate 16 97))) (λ b. above 25 (less b 97)) (λ b. not (is_in_range 97 122 b)) room fits
