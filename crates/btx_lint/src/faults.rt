@@ -1,7 +1,6 @@
 //! Faults that the search for places meets: which fault a function has, which operand is its reason, and what follows it.
 use crate::findings::{Fault, Operand};
 use crate::search::Search;
-use crate::wants::{Left, Wants, wants_of};
 use btx_bst::{BuiltIn, Callee};
 use btx_check::State;
 use btx_check::adding::add;
@@ -9,7 +8,17 @@ use btx_check::description::Value;
 use btx_check::operands::is_fit;
 use btx_check::rules::mask_of;
 use btx_step::Wanted;
+use btx_step::operands::{Default, Operand as Wants, default_of, operands_of};
+use btx_step::stand_in::StandIn;
 use std::alloc::AllocError;
+
+/// The operands of a function, the top one first. A function of the style takes none itself, nor does a name.
+pub fn operands_for(f: Callee) -> &'static [Wants] {
+    match f {
+        Callee::BuiltIn(b) => operands_of(b),
+        _ => &[],
+    }
+}
 
 impl Search {
     /// Notes the fault of a function: the operand that is the reason, if one is.
@@ -19,12 +28,11 @@ impl Search {
         f: Callee,
         is_first: bool,
     ) -> Result<Option<Operand>, AllocError> {
-        let wants = wants_of(f);
         if !a.has_entry() && needs_entry(f) {
             self.note(a, f, Fault::NoEntry, None, is_first)?;
             return Ok(None);
         }
-        if a.height() < wants.count {
+        if a.height() < operands_for(f).len() {
             self.note(a, f, Fault::EmptyStack, None, is_first)?;
             return Ok(None);
         }
@@ -32,27 +40,28 @@ impl Search {
             self.note(a, f, Fault::NoEntry, None, is_first)?;
             return Ok(None);
         }
-        let operand = wrong_operand(a, &wants, f);
+        let operand = wrong_operand(a, f);
         self.note(a, f, fault_of(f, operand), operand, is_first)?;
         Ok(operand)
     }
 
-    /// Adds what follows a fault: without the operands, and with what stands for a result.
+    /// Adds what follows a fault: without the operands, and with what stands in for a result; or with the operands, where they are put back.
     pub fn recover(
         &mut self,
         a: &State,
         f: Callee,
         out: &mut Vec<State>,
     ) -> Result<(), AllocError> {
-        let wants = wants_of(f);
         let mut b = a.copy()?;
-        for _ in 0..wants.count {
-            let _ = b.pop();
-        }
-        match wants.left {
-            Left::Nothing => {}
-            Left::Zero => b.push_new(Value::zero())?,
-            Left::EmptyString => b.push_new(Value::Text(mask_of(b"")))?,
+        if let Default::Push(stand_in) = default_for(a, f) {
+            for _ in 0..operands_for(f).len() {
+                let _ = b.pop();
+            }
+            match stand_in {
+                StandIn::Nothing => {}
+                StandIn::Zero => b.push_new(Value::zero())?,
+                StandIn::Empty => b.push_new(Value::Text(mask_of(b"")))?,
+            }
         }
         add(&self.work, out, b)
     }
@@ -67,6 +76,14 @@ impl Search {
     ) -> Result<(), AllocError> {
         let _ = self.fault(a, f, is_first)?;
         self.recover(a, f, out)
+    }
+}
+
+// What follows a fault of a function. Where an entry is lacking, nothing is pushed.
+fn default_for(a: &State, f: Callee) -> Default {
+    match f {
+        Callee::BuiltIn(b) if a.has_entry() || !needs_entry(f) => default_of(b),
+        _ => Default::Push(StandIn::Nothing),
     }
 }
 
@@ -111,16 +128,17 @@ fn assigned_kind(a: &State, f: Callee) -> Option<Wanted> {
 }
 
 // The first operand that may be wrong.
-fn wrong_operand(a: &State, wants: &Wants, f: Callee) -> Option<Operand> {
+fn wrong_operand(a: &State, f: Callee) -> Option<Operand> {
+    let operands = operands_for(f);
     let stack = a.stack();
-    for k in 0..3 {
-        if k < wants.count && k < stack.len() {
+    for k in 0..operands.len() {
+        if k < stack.len() {
             let number = stack[k];
             let value = a.value(number);
-            let wanted = if k == 1 && wants.kinds[k].is_none() {
-                assigned_kind(a, f)
-            } else {
-                wants.kinds[k]
+            let wanted = match operands[k] {
+                Wants::Of(kind) => Some(kind),
+                Wants::Any if k == 1 => assigned_kind(a, f),
+                Wants::Any => None,
             };
             let is_right = match wanted {
                 Some(wanted) => is_fit(value, wanted),

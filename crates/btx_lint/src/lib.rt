@@ -10,6 +10,5 @@ mod search;
 mod traces;
 mod tracing;
 mod visits;
-mod wants;
 
 pub use findings::{Cause, Condition, Fault, Finding, Findings, Growth, Operand, examine};

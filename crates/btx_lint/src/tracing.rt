@@ -1,13 +1,12 @@
 //! The search for all places where a style may go wrong: it executes functions on descriptions as `btx_check` does, and goes on after a fault. No proof rests
 //! on it.
-use crate::faults::narrow;
+use crate::faults::{narrow, operands_for};
 use crate::findings::{Fault, Finding};
 use crate::frames::{End, Framed};
 use crate::least::{Least, SPARE_LITERALS};
 use crate::reach::Reaches;
 use crate::search::{Lanes, Search, add_type, is_even, mark};
 use crate::traces::{Trace, mark_of};
-use crate::wants::wants_of;
 use btx_bst::{BuiltIn, Callee, Style, Token};
 use btx_check::State;
 use btx_check::adding::{add, add_known, add_sure};
@@ -292,7 +291,7 @@ impl Search {
     fn touch(&mut self, a: &State, f: Callee) {
         match f {
             Callee::BuiltIn(BuiltIn::Stack) => self.least.left(0),
-            _ => self.least.touched(a.height(), wants_of(f).count),
+            _ => self.least.touched(a.height(), operands_for(f).len()),
         }
     }
 
