@@ -30,18 +30,22 @@ FOLDERS = ("must-fail", "wrong-bodies")
 LINE = re.compile(r"(?m)^witness: (.*)$")
 CALLED = re.compile(r"(.+) gives (.+), not (.+)")
 NAMED = re.compile(r"(?:test|clause) (\S+) (\S+)")
+# How a log's last line begins, in a run that comes to its end.
+END = "Ended: "
 
 
 # ---- what a witness can call: each gives what is run, and which part of the outcome is looked at ----
 
 
 class Outcome:
-    """What a run gave: its list, its log without the lines of the three files, its status, what it printed and its errors."""
+    """What a run gave: its list, its log without the lines of the three files, its messages, which are that without the line of its end, its status, what it printed
+    and its errors."""
 
     def __init__(self, bbl, log, status, printed=None, errors=None):
         found = [line.decode() for line in worked_jobs.FOUND]
         self.bbl, self.status, self.printed, self.errors = text_of(bbl), status, text_of(printed), text_of(errors)
         self.log = None if log is None else [line for line in text_of(log).split("\n")[:-1] if line not in found]
+        self.messages = self.log and [line for line in self.log if not line.startswith(END)]
 
 
 class Call:
@@ -102,7 +106,7 @@ def titled(title, body, **more):
     return job("bbl")("FUNCTION {f} {" + body + " write$ newline$} ITERATE {f}", bib="@misc{k, title = " + title + "}", **more)
 
 
-VOCABULARY = {"bbl": job("bbl"), "log": job("log"), "status": job("status"), "printed": job("printed"), "errors": job("errors"),
+VOCABULARY = {"bbl": job("bbl"), "log": job("log"), "messages": job("messages"), "status": job("status"), "printed": job("printed"), "errors": job("errors"),
               "value": value, "number": number, "titled": titled, "range": range, "__builtins__": {}}
 
 
