@@ -36,6 +36,13 @@ pub struct Options {
     pub utf8: bool,
 }
 
+impl Options {
+    /// Those of a run that isn't asked for anything else, with so many steps.
+    pub const fn usual(budget: u64) -> Options {
+        Options { budget, min_crossrefs: 2, line: 79, entry_max: 250, global_max: 20_000, utf8: false }
+    }
+}
+
 /// What a run answered.
 #[repr(C)]
 #[derive(Debug, Clone, Copy, Default, PartialEq, Eq)]
@@ -373,8 +380,7 @@ fn check_in(name: &[u8], style: &[u8], steps: u64, room: usize) -> Result<Option
 mod tests {
     use super::*;
 
-    const OPTIONS: Options =
-        Options { budget: 1000, min_crossrefs: 2, line: 79, entry_max: 250, global_max: 20_000, utf8: false };
+    const OPTIONS: Options = Options::usual(1000);
     const ROOMS: Rooms = Rooms { list: 1 << 16, log: 1 << 16 };
 
     fn file(name: &str, bytes: Option<&str>) -> File {

@@ -300,14 +300,10 @@ impl Search<'_> {
         Files { top: b"job.aux".to_vec(), all }
     }
 
-    fn options(steps: u64) -> Options {
-        Options { budget: steps, min_crossrefs: 2, line: 79, entry_max: 250, global_max: 20_000, utf8: false }
-    }
-
     /// The warnings, of these, that a case shows, by their numbers.
     fn shown(&self, case: &Case, warnings: &[&Warning]) -> Vec<(usize, Proof)> {
         let files = self.job(case.text("key"));
-        let options = Self::options(STEPS_OF_FEW);
+        let options = Options::usual(STEPS_OF_FEW);
         let (log, steps) = self.run(&files, &options);
         let errors = errors_of(&log);
         let can_be = |error: &Logged<'_>| warnings.iter().any(|warning| fits(warning, error));
@@ -336,7 +332,7 @@ impl Search<'_> {
         let database: Vec<u8> =
             cases.iter().enumerate().flat_map(|(number, case)| case.text(&format!("e{number}"))).collect();
         let files = self.job(database);
-        let (log, _) = self.run(&files, &Self::options(STEPS_OF_MANY));
+        let (log, _) = self.run(&files, &Options::usual(STEPS_OF_MANY));
         let mut logged: HashMap<usize, Vec<(&[u8], &[u8])>> = HashMap::new();
         let errors = errors_of(&log);
         for error in errors.iter().flatten().filter(|error| warnings.iter().any(|warning| fits(warning, error))) {

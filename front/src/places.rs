@@ -283,8 +283,7 @@ mod tests {
     use super::*;
     use crate::job::File;
 
-    const OPTIONS: Options =
-        Options { budget: 10_000, min_crossrefs: 2, line: 79, entry_max: 250, global_max: 20_000, utf8: false };
+    const OPTIONS: Options = Options::usual(10_000);
 
     /// A job with this style.
     fn files(style: &str) -> Files {

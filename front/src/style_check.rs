@@ -183,14 +183,7 @@ fn messages_of(files: &Files) -> Result<Messages, MemoryRefused> {
 
 /// The messages on a style's text by a run of this job.
 fn messages_by(files: &Files) -> Result<Messages, MemoryRefused> {
-    let options = Options {
-        budget: STEPS_OF_READING,
-        min_crossrefs: 2,
-        line: 79,
-        entry_max: 250,
-        global_max: 20_000,
-        utf8: false,
-    };
+    let options = Options::usual(STEPS_OF_READING);
     let ran = btx::run(&files.top, &files.all, &options, &Rooms { list: ROOM, log: ROOM });
     let is_of_text = |content: &Content<'_>| matches!(content, Content::Message(message) if matches!(message.place, Place::Line { file, .. } if file.ends_with(b".bst")));
     let log = Log::new(&ran.log);

@@ -102,6 +102,16 @@ run_lint --json clean.bst
 grep -qF '], "behind": 1, "hints"' "$folder/stdout" || complaints+=("printed is $(cat "$folder/stdout")")
 end
 
+# Behind a fault the stack is as the language leaves it: without an entry `cite$` pushes nothing, and `swap$` of one literal puts it back.
+begin lint_of_what_stands_behind_a_fault
+for row in 'cite$|1 place' 'cite$ pop$|1 place; 1 more behind it' '"a" swap$ pop$|1 place'; do
+    printf 'ENTRY {title} {} {}\nREAD\nFUNCTION {f} {%s}\nEXECUTE {f}\n' "${row%|*}" >fault.bst
+    run_lint fault.bst
+    wants_status 2
+    wants_line_of_output "fault.bst: warnings: ${row#*|}"
+done
+end
+
 begin lint_of_a_field_that_may_be_missing
 write_clean
 sed -i "s/{ title empty.*/{ author empty\$ 'skip\$\n   { title write\$ newline\$ }\n  if\$ }/" clean.bst
