@@ -1,4 +1,4 @@
-"""Jobs that are large in one way each. Their style executes nothing, so that reading is all they take; but for the last four, which format names.
+"""Jobs that are large in one way each. Their style executes nothing, so that reading is all they take; but for `paper` and for the last four, which format names.
 
     python3 shapes.py NAME SIZE FOLDER
 
@@ -8,13 +8,13 @@ import argparse
 import pathlib
 from typing import Callable, NamedTuple, Optional
 
-from jobs import READING
+from jobs import ARTICLE, READING, style_path
 from make_job import STRINGS, Maker
 
 
 class Shape(NamedTuple):
-    """`make` gives the files of a job for a size; a size counts the `unit`. Where the job grows faster than its size, `most` is how many instructions
-    the larger one may take."""
+    """`make` gives the files of a job for a size; a size counts the `unit`. Where `most` is given, that is how many instructions the larger job may take, and its
+    growth is no bar."""
     name: str
     unit: str
     sizes: tuple
@@ -66,11 +66,19 @@ def entries(size):
     return database_job(works, keys)
 
 
-@shape("entries", 10_300, 103_000, most=286_000_000)
+@shape("entries", 10_300, 103_000, most=272_000_000)
 def unwanted(size):
     """The database of `make_job.py`, of which one entry is cited. What isn't wanted is passed over."""
     keys, texts = zip(*Maker(1).entries(size))
     return database_job(STRINGS + "".join(texts), [keys[size // 2]])
+
+
+@shape("entries", 300, 3_000, most=12_000_000)
+def paper(size):
+    """A normal paper: 30 citations of the database of `make_job.py`, in the style of `examples/article`."""
+    keys, texts = zip(*Maker(1).entries(size))
+    files = database_job(STRINGS + "".join(texts), [keys[number * size // 30] for number in range(30)])
+    return {**files, "reading.bst": style_path(ARTICLE).read_text()}
 
 
 # Fifty bytes.
