@@ -53,7 +53,7 @@ FENCED = re.compile(r"```.*?```", re.S)
 RECIPES = {"A message": "a message", "A message of steps": "a message of steps", "An option": "an option", "A built-in function": "a function of the language"}
 # The name of a lemma or of a definition, where it is declared; and how many lemmas may have names that break the rule: those that are older.
 DECLARED = re.compile(r"(?m)^(?:(?:abbrev|pub|unfoldable|abstract|data|record) )*([A-Za-z][\w'-]*) :")
-OLDER_NAMES = 80
+OLDER_NAMES = 60
 # What each crate's README has, by the name of the crate.
 PARTS = ["# `{}`: ", "**Contract in a sentence.** ", "**Read first.** ", "## A call"]
 

@@ -75,6 +75,8 @@ def counts_of(kind):
 
 def main():
     if sys.argv[1:]:
+        if sys.argv[1] not in KINDS:
+            sys.exit(f"places.py: there is no kind {sys.argv[1]!r}, only {', '.join(KINDS)}")
         print("\n".join(sorted(files_of(sys.argv[1]), key=lambda name: (ORDER.index(sort_of(name)), name))))
         return
     for kind, (example, _, _) in KINDS.items():
