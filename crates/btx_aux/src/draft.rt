@@ -6,7 +6,7 @@ use crate::line_words::command_line;
 use crate::name::{Name, has_ending, with_ending};
 use crate::name_set::NameSet;
 use crate::notes::{Complaint, Note, log_line};
-use crate::pieces::{Pieces, first_piece};
+use crate::pieces::{Pieces, only_piece};
 use btx_text::{LogLines, Place};
 use std::alloc::{AllocError, Global};
 
@@ -308,14 +308,10 @@ impl Draft {
                 Ok(None)
             }
             Command::Bibstyle => {
-                let (piece, _) = first_piece(argument, false);
-                self.take_bibstyle(alloc, piece, place)?;
+                self.take_bibstyle(alloc, only_piece(argument), place)?;
                 Ok(None)
             }
-            Command::Input => {
-                let (piece, _) = first_piece(argument, false);
-                self.include(alloc, piece, place)
-            }
+            Command::Input => self.include(alloc, only_piece(argument), place),
         }
     }
 

@@ -1,17 +1,17 @@
 //! What the `.aux` files of a job say.
-ghost use Rattle.std.specs.Prelude.{◌≡◌, count_by, map, option_copied, position};
+ghost use Rattle.std.specs.Prelude.{◌≡◌, map, option_copied, position};
 ghost use Rattle.std.specs.List.{IsDistinct};
 ghost use Rattle.std.specs.Str.{bytes_eq};
 ghost use Rattle.btx_text.specs.language.Keys.{folded};
 ghost use Rattle.btx_aux.specs.language.Names.{is_same_key};
 ghost use Rattle.btx_aux.specs.refinement.Entries.{texts_of};
-ghost use Rattle.btx_text.specs.language.LogLines.{Line, is_error};
+ghost use Rattle.btx_text.specs.language.LogLines.{Line};
 
 use crate::end::End;
 use crate::keys::Keys;
 use crate::name::Name;
 use crate::name_set::NameSet;
-use btx_text::{LineKind, LogLine, LogLines};
+use btx_text::{LogLine, LogLines};
 use std::marker::Model;
 
 /// What the `.aux` files of a job say.
@@ -89,14 +89,6 @@ impl AuxJob {
         ensures { result.now ≡ self.now.log }
     {
         self.log.as_slice()
-    }
-
-    /// How many lines of the log are errors.
-    pub fn errors(&self) -> usize
-        ensures { result ≡ count_by (λ line. is_error line.kind) self.now.log }
-    {
-        let lines = self.log().iter();
-        lines.filter(|line| line.kind() == LineKind::Error).count()
     }
 
     /// How the reading ended. After any end but `Whole` the rest is what was read so far.

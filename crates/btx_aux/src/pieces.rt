@@ -1,6 +1,7 @@
 //! The pieces of an argument.
 ghost use Rattle.std.specs.Prelude.{◌≡◌, ◌∷◌, true};
 ghost use Rattle.btx_aux.specs.language.Grammar.{pieces_of};
+ghost use Rattle.btx_aux.specs.refinement.Grammar.{piece_of};
 ghost use Rattle.btx_aux.specs.refinement.Pieces.{piece_from, pieces_behind};
 
 use crate::command::Slip;
@@ -54,9 +55,17 @@ impl<'a> Iterator for Pieces<'a> {
     }
 }
 
-/// The first piece of an argument, and what stands behind its comma.
+/// The piece of an argument that isn't a list.
+pub fn only_piece(text: &[u8]) -> Result<&[u8], Slip>
+    ensures { piece_of text.now ≡ piece_from result }
+{
+    let (piece, _) = first_piece(text, false);
+    piece
+}
+
+// The first piece of an argument, and what stands behind its comma.
 #[tactic(auto, using(crate::proofs::PieceLemmas::piece_steps))]
-pub fn first_piece(text: &[u8], is_list: bool) -> (Result<&[u8], Slip>, Option<&[u8]>)
+fn first_piece(text: &[u8], is_list: bool) -> (Result<&[u8], Slip>, Option<&[u8]>)
     ensures { pieces_of is_list text.now ≡ piece_from result.0 ∷ pieces_behind is_list result.1 }
 {
     for (at, byte) in text.iter().enumerate() {

@@ -1,18 +1,18 @@
 //! The grammar of databases: what stands in a text, and what is wrong in it.
 
-pub mod byte_sets;
-pub mod commands;
+pub(crate) mod byte_sets;
+mod commands;
 pub mod events;
 mod field_readers;
-pub mod fields;
+pub(crate) mod fields;
 mod item_readers;
 pub mod laws;
 pub mod line_counter;
-pub mod parts;
+pub(crate) mod parts;
 mod passed;
 mod passed_fields;
 mod plain;
-pub mod plain_fields;
+pub(crate) mod plain_fields;
 pub mod reader;
 pub mod slip;
 mod tokens;

@@ -1,18 +1,18 @@
 //! What databases give to a job: its entries with their values and cross-references, the preamble, and the messages.
 #![tactic(auto)]
 
-pub mod databases;
+mod databases;
 mod draft;
 mod draft_slots;
-pub mod end;
-pub mod entry;
+mod end;
+mod entry;
 mod few_places;
 mod gathering;
 pub mod grammar;
 pub mod laws;
-pub mod library;
+mod library;
 mod marks;
-pub mod message;
+mod message;
 mod message_texts;
 mod names;
 mod passes;
@@ -21,11 +21,11 @@ mod reading;
 mod request;
 mod site;
 mod slots;
-pub mod spelling;
+mod spelling;
 mod strings;
 mod style_fields;
 mod texts;
-pub mod values;
+mod values;
 
 pub use databases::{Source, read_databases};
 pub use end::End;

@@ -39,21 +39,9 @@ impl MoreNames {
         }
     }
 
-    // The place of a name. Mostly there is none.
-    #[inline(always)]
-    fn position(&self, name: &[u8]) -> Option<usize>
-        ensures place { result ≡ first_place (bytes_eq name.now) self.now }
-        ensures small { IfSome result (λ place. place < 2 ^ 63) }
-    {
-        if self.set.is_empty() {
-            return None;
-        }
-        self.position_in_table(name)
-    }
-
-    // The place of a name by the table, which makes its hash.
+    // The place of a name.
     #[inline(never)]
-    fn position_in_table(&self, name: &[u8]) -> Option<usize>
+    fn position(&self, name: &[u8]) -> Option<usize>
         ensures place { result ≡ first_place (bytes_eq name.now) self.now }
         ensures small { IfSome result (λ place. place < 2 ^ 63) }
     {

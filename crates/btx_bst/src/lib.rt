@@ -3,26 +3,26 @@
 
 mod bodies;
 mod body_words;
-pub mod built_in;
-pub mod callee;
-pub mod command;
-pub mod complaint;
+mod built_in;
+mod callee;
+mod command;
+mod complaint;
 mod cursor;
-pub mod direct;
+mod direct;
 mod draft;
 mod fronts;
 mod integers;
-pub mod item;
+mod item;
 pub mod laws;
 mod lists;
-pub mod macros;
-pub mod message;
+mod macros;
+mod message;
 mod name_table;
 mod names;
 mod open;
 mod reader;
-pub mod style;
-pub mod token;
+mod style;
+mod token;
 mod turn;
 mod word;
 

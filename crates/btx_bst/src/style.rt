@@ -1,5 +1,5 @@
 //! A style that has been read.
-ghost use Rattle.std.specs.Prelude.{◌≡◌, ◌<◌, ◌≤◌, length, slice_index_or, [], IfOk, OnOk, option_copied};
+ghost use Rattle.std.specs.Prelude.{◌≡◌, ◌<◌, ◌≤◌, length, slice_index_or, [], IfOk, OnOk};
 ghost use Rattle.btx_bst.specs.language.Predefined.{predefined};
 ghost use Rattle.btx_bst.specs.language.StyleText.{style_of};
 ghost use Rattle.btx_bst.specs.refinement.StyleReads.{Reads};
@@ -8,7 +8,7 @@ ghost use Rattle.btx_bst.specs.language.Names.{named_lower, name_of};
 ghost use Rattle.btx_bst.specs.language.Style.{field_of, type_of};
 ghost use Rattle.btx_bst.specs.refinement.Views.{items_view};
 ghost use Rattle.btx_text.specs.language.Limits.{greatest_file};
-ghost use Rattle.btx_bst.specs.laws.Names.{macro_lower, no_names};
+ghost use Rattle.btx_bst.specs.laws.Names.{no_names};
 
 use crate::callee::{Callee, Kind};
 use crate::cursor::Cursor;
@@ -224,12 +224,5 @@ impl<'a> Style<'a> {
         ensures { result.now ≡ self.now.macros }
     {
         &self.draft.macros
-    }
-
-    /// The text of the macro of a name in lower case.
-    pub fn macro_text(&self, lowered: &[u8]) -> Option<&'a [u8]>
-        ensures { option_copied result ≡ macro_lower self.now.macros lowered.now }
-    {
-        self.draft.macros.text(lowered)
     }
 }

@@ -2,8 +2,8 @@
 #![tactic(auto)]
 
 mod at_once;
-pub mod command;
-pub mod ending;
+mod command;
+mod ending;
 mod items;
 mod journal;
 mod last;

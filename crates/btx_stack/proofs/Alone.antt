@@ -5,8 +5,8 @@ use Rattle.std.specs.Str.{bytes_eq}
 use Rattle.std.specs.Ordering.{int_eq}
 use Rattle.std.proofs.lemmas.List.{take_all, drop_all, drop-set, append-nil, length-take-le}
 use Rattle.btx_code.specs.refinement.Ops.{callee_of, Runs}
-use Rattle.btx_stack.specs.declared.slot.Kind.{Kind}
-use Rattle.btx_stack.specs.declared.slot.Kind.TheVariants as kind
+use Rattle.btx_stack.specs.declared.slot.SlotKind.{SlotKind}
+use Rattle.btx_stack.specs.declared.slot.SlotKind.TheVariants as kind
 use Rattle.btx_stack.specs.declared.slot.Slot.{Slot}
 use Rattle.btx_stack.specs.refinement.Content.{Content}
 use Rattle.btx_stack.specs.refinement.Content as content
@@ -134,7 +134,7 @@ integers_stand slots top a b v pool s l e f ka kb g h =
     put_stands slots (top + 1) v (length pool) l (g ∙ two.start) h two.stand
 
 -- two strings
-text_shown : (k : Kind) (v : Slot) (made : List ℕ) → is_text_kind k ≡ true → content_as k v made ≡ content.Text (text_as k v made)
+text_shown : (k : SlotKind) (v : Slot) (made : List ℕ) → is_text_kind k ≡ true → content_as k v made ≡ content.Text (text_as k v made)
 text_shown kind.Lent v made e = refl
 text_shown kind.Made v made e = refl
 text_shown k v made e = cc

@@ -2,7 +2,7 @@
 use Rattle.std.proofs.Common.{ℕ, ℤ, ◌≡◌, ◌≤◌, ◌<◌, ◌+◌, ◌-◌, List, [], ◌∷◌, ◌++◌, length, take, drop, set, get_or, Option, Some, None, Bool, true, false, refl}
 use Rattle.std.proofs.Common.{sym, ap, subst, ◌∙◌, arith}
 use Rattle.std.proofs.lemmas.List.{take_all, drop_all, append-nil, length-take, length-take-le, length-drop, length-append, drop-drop}
-use Rattle.btx_stack.specs.declared.slot.Kind.TheVariants as kind
+use Rattle.btx_stack.specs.declared.slot.SlotKind.TheVariants as kind
 use Rattle.btx_stack.specs.declared.slot.Slot.{Slot}
 use Rattle.btx_stack.specs.declared.literal.Literal.{Literal}
 use Rattle.btx_stack.specs.refinement.Content.{Content}

@@ -3,8 +3,8 @@ use Rattle.std.proofs.Common.{ℕ, zero, suc, ◌≡◌, ◌≤◌, ◌<◌, ◌
 use Rattle.std.proofs.Common.{arith, true}
 use Rattle.std.proofs.lemmas.List.{take_all, take-take, drop_all, drop_more, drop-drop, length-take-le}
 use Rattle.btx_code.specs.refinement.Ops.{callee_of, Runs}
-use Rattle.btx_stack.specs.declared.slot.Kind.{Kind}
-use Rattle.btx_stack.specs.declared.slot.Kind.TheVariants as kind
+use Rattle.btx_stack.specs.declared.slot.SlotKind.{SlotKind}
+use Rattle.btx_stack.specs.declared.slot.SlotKind.TheVariants as kind
 use Rattle.btx_stack.specs.declared.slot.Slot.{Slot}
 use Rattle.btx_stack.specs.refinement.Content.{Content}
 use Rattle.btx_stack.specs.refinement.Content as content
@@ -95,7 +95,7 @@ pub depth_text : (slots : List Slot) (top : ℕ) (b : Slot) (pool text : List �
     content.Text text ≡ content_of b (drop b.start (take end pool)) → drop d old ≡ content.Text text ∷ drop (d + 1) old
 depth_text slots top b pool text end old d o s l e f g = (at_depth slots top b pool end old d o s l e f).shown ∙ ap (λ x. x ∷ drop (d + 1) old) (sym g)
 
-text_as : (k : Kind) (v : Slot) (made : List ℕ) → is_text (content_as k v made) ≡ is_text_kind k
+text_as : (k : SlotKind) (v : Slot) (made : List ℕ) → is_text (content_as k v made) ≡ is_text_kind k
 text_as kind.Lent v made = refl
 text_as k v made = refl
 
@@ -105,7 +105,7 @@ depth_kind slots top b pool old d o s l e =
     let end = end_of (drop top slots) d (length pool) in
     sym (ap has_text (at_depth slots top b pool end old d o s l e refl).shown ∙ text_as b.kind b (drop b.start (take end pool)))
 
-large_kind : (k : Kind) (v : Slot) (made : List ℕ) (xs : List Content) → k ≡ kind.Large → large_on (content_as k v made ∷ xs) ≡ Some v.number
+large_kind : (k : SlotKind) (v : Slot) (made : List ℕ) (xs : List Content) → k ≡ kind.Large → large_on (content_as k v made ∷ xs) ≡ Some v.number
 large_kind k v made xs e = ap (λ j. large_on (content_as j v made ∷ xs)) e
 
 pub depth_large : (slots : List Slot) (top : ℕ) (b : Slot) (pool : List ℕ) (old : List Content) (d : ℕ) → contents_of (drop top slots) pool ≡ old
@@ -140,10 +140,10 @@ at_kind : {X : Type 0} (f : List Content → X) (slots : List Slot) (top : ℕ) 
 at_kind f slots top b pool old d o s l e = ap f (at_depth slots top b pool (end_of (drop top slots) d (length pool)) old d o s l e refl).shown
 
 -- integer_on
-integer_kind : (k : Kind) (v : Slot) (made : List ℕ) (xs : List Content) → k ≡ kind.Integer → integer_on (content_as k v made ∷ xs) ≡ Some v.integer
+integer_kind : (k : SlotKind) (v : Slot) (made : List ℕ) (xs : List Content) → k ≡ kind.Integer → integer_on (content_as k v made ∷ xs) ≡ Some v.integer
 integer_kind k v made xs e = ap (λ j. integer_on (content_as j v made ∷ xs)) e
 
-no_integer_kind : (k : Kind) (v : Slot) (made : List ℕ) (xs : List Content) → (k ≡ kind.Integer → ⊥) → integer_on (content_as k v made ∷ xs) ≡ None
+no_integer_kind : (k : SlotKind) (v : Slot) (made : List ℕ) (xs : List Content) → (k ≡ kind.Integer → ⊥) → integer_on (content_as k v made ∷ xs) ≡ None
 no_integer_kind kind.Integer v made xs n = absurd (n refl)
 no_integer_kind k v made xs n = refl
 
@@ -162,10 +162,10 @@ pub no_integer_there : (slots : List Slot) (top : ℕ) (pool : List ℕ) (old : 
 no_integer_there slots top pool old d o l h = sym (ap integer_on (none_there slots top pool old d o l h))
 
 -- has_function
-function_kind : (k : Kind) (v : Slot) (made : List ℕ) (xs : List Content) → k ≡ kind.Function → has_function (content_as k v made ∷ xs) ≡ true
+function_kind : (k : SlotKind) (v : Slot) (made : List ℕ) (xs : List Content) → k ≡ kind.Function → has_function (content_as k v made ∷ xs) ≡ true
 function_kind k v made xs e = ap (λ j. has_function (content_as j v made ∷ xs)) e
 
-no_function_kind : (k : Kind) (v : Slot) (made : List ℕ) (xs : List Content) → (k ≡ kind.Function → ⊥) → has_function (content_as k v made ∷ xs) ≡ false
+no_function_kind : (k : SlotKind) (v : Slot) (made : List ℕ) (xs : List Content) → (k ≡ kind.Function → ⊥) → has_function (content_as k v made ∷ xs) ≡ false
 no_function_kind kind.Function v made xs n = absurd (n refl)
 no_function_kind k v made xs n = refl
 
@@ -183,10 +183,10 @@ pub no_function_there : (slots : List Slot) (top : ℕ) (pool : List ℕ) (old :
 no_function_there slots top pool old d o l h = sym (ap has_function (none_there slots top pool old d o l h))
 
 -- has_missing
-missing_kind : (k : Kind) (v : Slot) (made : List ℕ) (xs : List Content) → k ≡ kind.Missing → has_missing (content_as k v made ∷ xs) ≡ true
+missing_kind : (k : SlotKind) (v : Slot) (made : List ℕ) (xs : List Content) → k ≡ kind.Missing → has_missing (content_as k v made ∷ xs) ≡ true
 missing_kind k v made xs e = ap (λ j. has_missing (content_as j v made ∷ xs)) e
 
-no_missing_kind : (k : Kind) (v : Slot) (made : List ℕ) (xs : List Content) → (k ≡ kind.Missing → ⊥) → has_missing (content_as k v made ∷ xs) ≡ false
+no_missing_kind : (k : SlotKind) (v : Slot) (made : List ℕ) (xs : List Content) → (k ≡ kind.Missing → ⊥) → has_missing (content_as k v made ∷ xs) ≡ false
 no_missing_kind kind.Missing v made xs n = absurd (n refl)
 no_missing_kind k v made xs n = refl
 

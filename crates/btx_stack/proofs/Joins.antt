@@ -2,7 +2,7 @@
 use Rattle.std.proofs.Common.{ℕ, ◌≡◌, ◌≤◌, ◌<◌, ◌+◌, ◌-◌, List, ◌∷◌, ◌++◌, length, take, drop, set, get_or, Some, None, false, true, cond, sym, ap, ◌∙◌, arith}
 use Rattle.std.proofs.lemmas.Bool.Decides.{nat_tests}
 use Rattle.std.proofs.lemmas.List.{length-drop}
-use Rattle.btx_stack.specs.declared.slot.Kind.TheVariants as kind
+use Rattle.btx_stack.specs.declared.slot.SlotKind.TheVariants as kind
 use Rattle.btx_stack.specs.declared.slot.Slot.{Slot}
 use Rattle.btx_stack.specs.refinement.Content.{Content}
 use Rattle.btx_stack.specs.refinement.Content as content

@@ -2,8 +2,8 @@
 use Rattle.std.proofs.Common.{ℕ, None, ◌≡◌, ◌≤◌, ◌<◌, ◌+◌, ◌-◌, List, ◌∷◌, ◌++◌, length, take, drop, get_or, refl, sym, ap, subst, ◌∙◌, arith}
 use Rattle.std.proofs.lemmas.List.{drop_more, take-take, take-append-drop, drop-append-le, length-take}
 use Rattle.std.proofs.lemmas.Slice.{between_is}
-use Rattle.btx_stack.specs.declared.slot.Kind.{Kind}
-use Rattle.btx_stack.specs.declared.slot.Kind.TheVariants as kind
+use Rattle.btx_stack.specs.declared.slot.SlotKind.{SlotKind}
+use Rattle.btx_stack.specs.declared.slot.SlotKind.TheVariants as kind
 use Rattle.btx_stack.specs.declared.slot.Slot.{Slot}
 use Rattle.btx_stack.specs.refinement.Content.{Content}
 use Rattle.btx_stack.specs.refinement.Slots.{content_of, content_as, contents_of, Stand, SlotFits, is_large_kind}
@@ -18,11 +18,11 @@ pub two_here : (slots : List Slot) (at : ℕ) (a b : Slot) → at + 1 < length s
 two_here slots at a b l e f =
     from_here slots at a (omega arith) e ∙ ap (λ xs. a ∷ xs) (from_here slots (at + 1) b l f ∙ ap (λ n. b ∷ drop n slots) (omega arith))
 
-pub large_as : (k : Kind) (v : Slot) (made : List ℕ) → is_large (content_as k v made) ≡ is_large_kind k
+pub large_as : (k : SlotKind) (v : Slot) (made : List ℕ) → is_large (content_as k v made) ≡ is_large_kind k
 large_as kind.Large v made = refl
 large_as k v made = refl
 
-pub no_large_kind : (k : Kind) (v : Slot) (made : List ℕ) (xs : List Content) → (k ≡ kind.Large → ⊥) → large_on (content_as k v made ∷ xs) ≡ None
+pub no_large_kind : (k : SlotKind) (v : Slot) (made : List ℕ) (xs : List Content) → (k ≡ kind.Large → ⊥) → large_on (content_as k v made ∷ xs) ≡ None
 no_large_kind kind.Large v made xs n = absurd (n refl)
 no_large_kind k v made xs n = refl
 

@@ -2,14 +2,14 @@
 use Rattle.std.proofs.Common.{ℕ, ◌≡◌, ◌≤◌, ◌<◌, ◌+◌, ◌-◌, ◌*◌, ◌^◌, suc, List, [], ◌∷◌, ◌++◌, length, take, drop, set, Some, None, refl, sym, ap, ◌∙◌, arith}
 use Rattle.std.proofs.lemmas.List.{drop-set, take_at, drop_at, append-nil, length-drop}
 use Rattle.std.proofs.lemmas.Bool.{cond_below}
-use Rattle.btx_stack.specs.declared.slot.Kind.{Kind}
-use Rattle.btx_stack.specs.declared.slot.Kind.TheVariants as kind
+use Rattle.btx_stack.specs.declared.slot.SlotKind.{SlotKind}
+use Rattle.btx_stack.specs.declared.slot.SlotKind.TheVariants as kind
 use Rattle.btx_stack.specs.declared.slot.Slot.{Slot}
 use Rattle.btx_stack.specs.refinement.Content.{Content}
 use Rattle.btx_stack.specs.refinement.Slots.{content_of, contents_of, Stand, HasBytes}
 use Rattle.btx_stack.specs.refinement.Steps.{with_pushed}
 
-few : (k : Kind) (v : Slot) (n : ℕ) → HasBytes k v n → n ≤ 1000000
+few : (k : SlotKind) (v : Slot) (n : ℕ) → HasBytes k v n → n ≤ 1000000
 few kind.Integer v n h = omega arith
 few kind.Function v n h = omega (arith, h.0)
 few kind.Missing v n h = omega arith

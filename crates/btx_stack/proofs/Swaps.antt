@@ -2,8 +2,8 @@
 use Rattle.std.proofs.Common.{ℕ, ◌≡◌, ◌≤◌, ◌<◌, ◌+◌, ◌-◌, ◌^◌, List, ◌∷◌, ◌++◌, length, take, drop, set, get_or, Some, None, cond, false, true, refl, sym, ap}
 use Rattle.std.proofs.Common.{subst, ◌∙◌, arith}
 use Rattle.std.proofs.lemmas.List.{drop-set, set_comm, length-set, length-drop, length-take-le, length-append, drop-drop, append_assoc}
-use Rattle.btx_stack.specs.declared.slot.Kind.{Kind}
-use Rattle.btx_stack.specs.declared.slot.Kind.TheVariants as kind
+use Rattle.btx_stack.specs.declared.slot.SlotKind.{SlotKind}
+use Rattle.btx_stack.specs.declared.slot.SlotKind.TheVariants as kind
 use Rattle.btx_stack.specs.declared.slot.Slot.{Slot}
 use Rattle.btx_stack.specs.refinement.Content.{Content}
 use Rattle.btx_stack.specs.refinement.Slots.{content_of, content_as, contents_of, Stand, SlotFits, HasBytes, are_large_kinds, is_large_kind}
@@ -15,11 +15,11 @@ use Rattle.btx_stack.proofs.Pushes.{on_parts, small}
 abbrev pub moved : Slot → ℕ → Slot
 moved v start = record v { start = start }
 
-content_moved : (k : Kind) (v : Slot) (start : ℕ) (made : List ℕ) → content_as k (moved v start) made ≡ content_as k v made
+content_moved : (k : SlotKind) (v : Slot) (start : ℕ) (made : List ℕ) → content_as k (moved v start) made ≡ content_as k v made
 content_moved kind.Integer v start made = refl
 content_moved k v start made = refl
 
-bytes_moved : (k : Kind) (v : Slot) (start n : ℕ) → HasBytes k v n → HasBytes k (moved v start) n
+bytes_moved : (k : SlotKind) (v : Slot) (start n : ℕ) → HasBytes k v n → HasBytes k (moved v start) n
 bytes_moved kind.Integer v start n h = h
 bytes_moved k v start n h = h
 

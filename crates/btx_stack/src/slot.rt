@@ -12,7 +12,7 @@ use btx_code::op::callee_of;
 
 /// What a slot holds.
 #[derive(Clone, Copy, PartialEq, Eq)]
-pub enum Kind {
+pub enum SlotKind {
     Integer,
     Function,
     Missing,
@@ -24,13 +24,13 @@ pub enum Kind {
     Large,
 }
 
-impl Kind {
+impl SlotKind {
     /// Whether it is a string whose bytes the slot or the pool knows.
     #[inline(always)]
     pub fn is_text(self) -> bool
         ensures { result ≡ is_text_kind self }
     {
-        matches!(self, Kind::Lent | Kind::Made)
+        matches!(self, SlotKind::Lent | SlotKind::Made)
     }
 
     /// Whether it is a long string.
@@ -38,16 +38,16 @@ impl Kind {
     pub fn is_large(self) -> bool
         ensures { result ≡ is_large_kind self }
     {
-        self == Kind::Large
+        self == SlotKind::Large
     }
 }
 
 /// Whether both are long strings.
 #[inline(always)]
-pub fn are_large(a: Kind, b: Kind) -> bool
+pub fn are_large(a: SlotKind, b: SlotKind) -> bool
     ensures { result ≡ are_large_kinds a b }
 {
-    a == Kind::Large && b == Kind::Large
+    a == SlotKind::Large && b == SlotKind::Large
 }
 
 /// Whether the two strings on top, of which `a` is the top one, are the same.
@@ -65,7 +65,7 @@ pub fn are_same(pool: &[u8], a: &Slot<'_>, b: &Slot<'_>) -> bool
 /// A literal, but for the bytes of a string that was made. Each field but `kind` and `start` has a meaning for some kinds alone.
 #[derive(Clone, Copy)]
 pub struct Slot<'a> {
-    pub kind: Kind,
+    pub kind: SlotKind,
     /// The op that runs a function.
     pub op: Op,
     /// The number of a function among those of its kind, or the index of a long string.
@@ -83,7 +83,7 @@ impl<'a> Slot<'a> {
         ensures { IsPlainSlot result 0 content.Missing }
     {
         Slot {
-            kind: Kind::Missing,
+            kind: SlotKind::Missing,
             op: Op::Skip,
             number: 0,
             integer: 0,
@@ -113,7 +113,7 @@ impl<'a> Slot<'a> {
         ensures content { content.Text result.now ≡ content_of self.now (drop self.now.start (take end pool.now)) }
     {
         match self.kind {
-            Kind::Lent => self.bytes,
+            SlotKind::Lent => self.bytes,
             _ => &pool[self.start as usize..end],
         }
     }
@@ -123,7 +123,7 @@ impl<'a> Slot<'a> {
     pub fn set_integer(&mut self, integer: i32, start: u32)
         ensures { IsPlainSlot self.new start (content.Integer integer) }
     {
-        self.kind = Kind::Integer;
+        self.kind = SlotKind::Integer;
         self.integer = integer;
         self.start = start;
     }
@@ -134,7 +134,7 @@ impl<'a> Slot<'a> {
         requires { Runs op }
         ensures { IsPlainSlot self.new start (content.Function (callee_of op number)) }
     {
-        self.kind = Kind::Function;
+        self.kind = SlotKind::Function;
         self.op = op;
         self.number = number;
         self.start = start;
@@ -145,7 +145,7 @@ impl<'a> Slot<'a> {
     pub fn set_missing(&mut self, start: u32)
         ensures { IsPlainSlot self.new start content.Missing }
     {
-        self.kind = Kind::Missing;
+        self.kind = SlotKind::Missing;
         self.start = start;
     }
 
@@ -155,7 +155,7 @@ impl<'a> Slot<'a> {
         requires { length bytes.now ≤ greatest_string }
         ensures { IsPlainSlot self.new start (content.Text bytes.now) }
     {
-        self.kind = Kind::Lent;
+        self.kind = SlotKind::Lent;
         self.bytes = bytes;
         self.start = start;
     }
@@ -165,7 +165,7 @@ impl<'a> Slot<'a> {
     pub fn set_large(&mut self, number: u32, start: u32)
         ensures { IsPlainSlot self.new start (content.Large number) }
     {
-        self.kind = Kind::Large;
+        self.kind = SlotKind::Large;
         self.number = number;
         self.start = start;
     }
@@ -175,7 +175,7 @@ impl<'a> Slot<'a> {
     pub fn set_made(&mut self, start: u32)
         ensures { IsMade self.new start }
     {
-        self.kind = Kind::Made;
+        self.kind = SlotKind::Made;
         self.start = start;
     }
 }

@@ -10,7 +10,7 @@ ghost use Rattle.btx_stack.specs.refinement.Content as content;
 
 use crate::literal::Literal;
 use crate::pool::{again, append_two, exchange, keep, put_before};
-use crate::slot::{Kind, Slot, are_large, are_same};
+use crate::slot::{Slot, SlotKind, are_large, are_same};
 use crate::variable::Variable;
 use btx_code::Op;
 use btx_code::op::Function;
@@ -187,7 +187,7 @@ impl<'a> Slots<'a> {
         }
         let a = self.all[at];
         match a.kind {
-            Kind::Large => Some(a.number),
+            SlotKind::Large => Some(a.number),
             _ => None,
         }
     }
@@ -206,15 +206,15 @@ impl<'a> Slots<'a> {
         }
         let a = self.all[at];
         let value = match a.kind {
-            Kind::Integer => Literal::Integer(a.integer),
-            Kind::Function => Literal::Function(a.callee()),
-            Kind::Missing => Literal::Missing,
-            Kind::Lent => Literal::Text(Text::borrowed(a.bytes)),
-            Kind::Made => Literal::Text(Text::owned(Vec::from_slice(
+            SlotKind::Integer => Literal::Integer(a.integer),
+            SlotKind::Function => Literal::Function(a.callee()),
+            SlotKind::Missing => Literal::Missing,
+            SlotKind::Lent => Literal::Text(Text::borrowed(a.bytes)),
+            SlotKind::Made => Literal::Text(Text::owned(Vec::from_slice(
                 alloc,
                 &self.pool[a.start as usize..],
             )?)),
-            Kind::Large => return Ok(None),
+            SlotKind::Large => return Ok(None),
         };
         self.pool.truncate(a.start as usize);
         self.top = at + 1;
@@ -247,7 +247,7 @@ impl<'a> Slots<'a> {
         }
         let a = self.all[at];
         match a.kind {
-            Kind::Function => {
+            SlotKind::Function => {
                 self.top = at + 1;
                 Some(Function {
                     op: a.op,
@@ -271,7 +271,7 @@ impl<'a> Slots<'a> {
         }
         let a = self.all[at];
         match a.kind {
-            Kind::Integer => {
+            SlotKind::Integer => {
                 self.top = at + 1;
                 Some(a.integer)
             }
@@ -311,7 +311,7 @@ impl<'a> Slots<'a> {
         }
         let slot = self.all[self.top + depth];
         match slot.kind {
-            Kind::Integer => Some(slot.integer),
+            SlotKind::Integer => Some(slot.integer),
             _ => None,
         }
     }
@@ -329,7 +329,7 @@ impl<'a> Slots<'a> {
         }
         let slot = self.all[self.top + depth];
         match slot.kind {
-            Kind::Function => Some(Function {
+            SlotKind::Function => Some(Function {
                 op: slot.op,
                 number: slot.number,
             }),
@@ -348,7 +348,7 @@ impl<'a> Slots<'a> {
         }
         let slot = self.all[self.top + depth];
         match slot.kind {
-            Kind::Missing => true,
+            SlotKind::Missing => true,
             _ => false,
         }
     }
@@ -364,7 +364,7 @@ impl<'a> Slots<'a> {
         }
         let slot = self.all[self.top + depth];
         match slot.kind {
-            Kind::Large => Some(slot.number),
+            SlotKind::Large => Some(slot.number),
             _ => None,
         }
     }
@@ -408,7 +408,7 @@ impl<'a> Slots<'a> {
         let a = self.all[at];
         let b = self.all[at + 1];
         match (b.kind, a.kind) {
-            (Kind::Integer, Kind::Integer) => {
+            (SlotKind::Integer, SlotKind::Integer) => {
                 self.all[at + 1].set_integer(truth(b.integer == a.integer), b.start);
                 self.top = at + 1;
                 true
@@ -430,7 +430,7 @@ impl<'a> Slots<'a> {
         let a = self.all[at];
         let b = self.all[at + 1];
         match (b.kind, a.kind) {
-            (Kind::Integer, Kind::Integer) => {
+            (SlotKind::Integer, SlotKind::Integer) => {
                 self.all[at + 1].set_integer(integer, b.start);
                 self.top = at + 1;
                 true
@@ -473,7 +473,7 @@ impl<'a> Slots<'a> {
         let b = self.all[at + 1];
         let c = self.all[at + 2];
         match (c.kind, b.kind, a.kind) {
-            (Kind::Integer, Kind::Function, Kind::Function) => {
+            (SlotKind::Integer, SlotKind::Function, SlotKind::Function) => {
                 self.top = at + 3;
                 true
             }
@@ -496,7 +496,7 @@ impl<'a> Slots<'a> {
         let b = self.all[at + 1];
         let t = self.all[at + 2];
         match (a.kind, b.kind, t.kind) {
-            (Kind::Integer, Kind::Integer, Kind::Lent) => {
+            (SlotKind::Integer, SlotKind::Integer, SlotKind::Lent) => {
                 if from > t.bytes.len() {
                     return false;
                 }
@@ -508,7 +508,7 @@ impl<'a> Slots<'a> {
                 self.top = at + 2;
                 true
             }
-            (Kind::Integer, Kind::Integer, Kind::Made) => {
+            (SlotKind::Integer, SlotKind::Integer, SlotKind::Made) => {
                 let start = t.start as usize;
                 let size = self.pool.len() - start;
                 if from > size {
@@ -541,14 +541,14 @@ impl<'a> Slots<'a> {
         let b = self.all[at + 1];
         let size = self.pool.len();
         match (b.kind, a.kind) {
-            (Kind::Made, Kind::Made) => {
+            (SlotKind::Made, SlotKind::Made) => {
                 if size - b.start as usize > GREATEST_SHORT {
                     return Ok(false);
                 }
                 self.top = at + 1;
                 Ok(true)
             }
-            (Kind::Made, Kind::Lent) => {
+            (SlotKind::Made, SlotKind::Lent) => {
                 if size - b.start as usize + a.bytes.len() > GREATEST_SHORT {
                     return Ok(false);
                 }
@@ -556,7 +556,7 @@ impl<'a> Slots<'a> {
                 self.top = at + 1;
                 Ok(true)
             }
-            (Kind::Lent, Kind::Made) => {
+            (SlotKind::Lent, SlotKind::Made) => {
                 if b.bytes.len() + (size - a.start as usize) > GREATEST_SHORT {
                     return Ok(false);
                 }
@@ -565,7 +565,7 @@ impl<'a> Slots<'a> {
                 self.top = at + 1;
                 Ok(true)
             }
-            (Kind::Lent, Kind::Lent) => {
+            (SlotKind::Lent, SlotKind::Lent) => {
                 if b.bytes.len() + a.bytes.len() > GREATEST_SHORT {
                     return Ok(false);
                 }
@@ -643,7 +643,7 @@ impl<'a> Slots<'a> {
         }
         let a = self.all[at];
         match a.kind {
-            Kind::Lent => {
+            SlotKind::Lent => {
                 if a.bytes.len() > most {
                     return Ok(false);
                 }
@@ -651,7 +651,7 @@ impl<'a> Slots<'a> {
                 self.top = at + 1;
                 Ok(true)
             }
-            Kind::Made => {
+            SlotKind::Made => {
                 let start = a.start as usize;
                 if self.pool.len() - start > most {
                     return Ok(false);

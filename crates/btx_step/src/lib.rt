@@ -2,21 +2,21 @@
 #![tactic(auto)]
 
 pub mod calculation;
-pub mod job;
-pub mod kept_bytes;
+mod job;
+mod kept_bytes;
 pub mod laws;
 pub mod lines;
 mod list;
-pub mod literal;
-pub mod next;
+mod literal;
+mod next;
 pub mod operands;
-pub mod outcome;
+mod outcome;
 pub mod reserved;
-pub mod said;
+mod said;
 pub mod sorting;
 pub mod stand_in;
-pub mod store;
-pub mod values;
+mod store;
+mod values;
 
 pub use job::Job;
 pub use kept_bytes::KeptBytes;

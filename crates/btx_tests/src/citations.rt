@@ -173,9 +173,15 @@ fn has_files(job: &AuxJob, files: &[u8]) -> bool {
     }
 }
 
+// How many lines of the log are errors.
+fn errors(job: &AuxJob) -> usize {
+    let lines = job.log().iter();
+    lines.filter(|line| line.kind() == LineKind::Error).count()
+}
+
 // Whether a job has these keys and these counts.
 fn has_keys(job: &AuxJob, keys: &[u8], counts: Counts) -> bool {
-    let found = (job.log().len(), job.errors(), job.keys().len(), job.end());
+    let found = (job.log().len(), errors(job), job.keys().len(), job.end());
     found == counts && is_all(behind_names(keys, job.keys()))
 }
 

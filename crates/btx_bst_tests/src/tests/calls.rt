@@ -36,7 +36,7 @@ fn names(style: &Style<'_>) -> [bool; 9] {
         style.named(b"while$") == Some(Callee::BuiltIn(BuiltIn::While)),
         style.type_function(b"misc") == Some(0),
         style.type_function(b"f").is_none(),
-        style.macro_text(b"jan").is_some(),
+        style.macros().text(b"jan").is_some(),
         style.name(Callee::User(2)) == b"f".as_slice(),
         style.name(Callee::User(1)) == b"{}".as_slice(),
         style.name(Callee::Field(1)) == b"title".as_slice(),

@@ -6,8 +6,8 @@ use Rattle.btx_text.specs.language.Limits.{greatest_string}
 use Rattle.btx_code.specs.refinement.Ops.{callee_of, Runs}
 use Rattle.btx_stack.specs.refinement.Content.{Content}
 use Rattle.btx_stack.specs.refinement.Content as content
-use Rattle.btx_stack.specs.declared.slot.Kind.{Kind}
-use Rattle.btx_stack.specs.declared.slot.Kind.TheVariants as kind
+use Rattle.btx_stack.specs.declared.slot.SlotKind.{SlotKind}
+use Rattle.btx_stack.specs.declared.slot.SlotKind.TheVariants as kind
 use Rattle.btx_stack.specs.declared.slot.Slot.{Slot}
 
 -- the greatest number of literals
@@ -19,7 +19,7 @@ abbrev pub greatest_short : ℕ
 greatest_short = 1024
 
 -- what a slot of a kind holds, whose bytes of the pool are `made`
-abbrev pub content_as : Kind → Slot → List ℕ → Content
+abbrev pub content_as : SlotKind → Slot → List ℕ → Content
 content_as kind.Integer v made = content.Integer v.integer
 content_as kind.Function v made = content.Function (callee_of v.op v.number)
 content_as kind.Missing v made = content.Missing
@@ -37,7 +37,7 @@ contents_of (v ∷ below) pool = content_of v (drop v.start pool) ∷ contents_o
 
 -- how many bytes of the pool a slot of a kind has: no kind but `Made` has any; a string of a file has at most a million bytes, and a function has an
 -- op that runs it
-abbrev pub HasBytes : Kind → Slot → ℕ → Type 0
+abbrev pub HasBytes : SlotKind → Slot → ℕ → Type 0
 HasBytes kind.Integer v n = n ≡ 0
 HasBytes kind.Function v n = (n ≡ 0) × Runs v.op
 HasBytes kind.Missing v n = n ≡ 0
@@ -67,21 +67,21 @@ pub record IsMade (v : Slot) (from : ℕ) : Type 0 where
   pub kind : v.kind ≡ kind.Made
 
 -- a string whose bytes the slot or the pool knows
-abbrev pub is_text_kind : Kind → Bool
+abbrev pub is_text_kind : SlotKind → Bool
 is_text_kind kind.Lent = true
 is_text_kind kind.Made = true
 is_text_kind _ = false
 
 -- a long string
-abbrev pub is_large_kind : Kind → Bool
+abbrev pub is_large_kind : SlotKind → Bool
 is_large_kind kind.Large = true
 is_large_kind _ = false
 
-abbrev pub are_large_kinds : Kind → Kind → Bool
+abbrev pub are_large_kinds : SlotKind → SlotKind → Bool
 are_large_kinds a b = if is_large_kind a then is_large_kind b else false
 
 -- the bytes of such a string
-abbrev pub text_as : Kind → Slot → List ℕ → List ℕ
+abbrev pub text_as : SlotKind → Slot → List ℕ → List ℕ
 text_as kind.Integer v made = []
 text_as kind.Function v made = []
 text_as kind.Missing v made = []

@@ -17,8 +17,8 @@ returns-in_ok-take_bibdata-in-Bibdata-clause-ending c = ap (λ (d : Draft). d.en
 
 pub returns-in_ok-take_bibstyle-in-Bibstyle-clause-ending : goal.returns-in_ok-take_bibstyle-in-Bibstyle-clause-ending
 returns-in_ok-take_bibstyle-in-Bibstyle-clause-ending c = ap (λ (d : Draft). d.ending) c.in_ok-take_bibstyle-in-Bibstyle.ensures
-    ∙ bibstyle_whole c.args.place.file.now c.args.place.line c.args.self.now (piece_from c.first_piece.result.0)
+    ∙ bibstyle_whole c.args.place.file.now c.args.place.line c.args.self.now (piece_from c.only_piece.result)
 
 pub returns-in-Input-clause-ending : goal.returns-in-Input-clause-ending
 returns-in-Input-clause-ending c = on_ok_weaker c.include.result (λ e. ap (λ (d : Draft). d.ending) e
-    ∙ include_whole c.args.place.file.now c.args.place.line c.args.self.now (piece_from c.first_piece-in-Input.result.0)) c.include.ensures.draft
+    ∙ include_whole c.args.place.file.now c.args.place.line c.args.self.now (piece_from c.only_piece-in-Input.result)) c.include.ensures.draft
