@@ -29,7 +29,8 @@ abbrev begun : State → State
 begun s = record (emptied s) { store = record (emptied s).store { current = None } }
 
 -- the body of the function that it executes is asked
-opened : (job : Job) (items : List Item) (list : List ℕ) (left function : ℕ) (s : State) (body : List Token) → slice_index_or job.style.bodies function [] ≡ body
+opened : (job : Job) (items : List Item) (list : List ℕ) (left function : ℕ) (s : State) (body : List Token)
+    → slice_index_or job.style.bodies function [] ≡ body
     → CalmItems job (item.Execute (User function) ∷ items) list (suc left) (emptied s) → InBody job left (begun s) body
 unfolding step_of function_run token_effect said_on
 opened job items list left function s body e h = subst (InBody job left (begun s)) e h.0.0.1

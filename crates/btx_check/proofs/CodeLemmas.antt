@@ -29,7 +29,8 @@ use Rattle.btx_check.proofs.RunLemmas.{rest_into, ruled}
 use Rattle.btx_check.proofs.RowLemmas.{rule_duplicate, rule_pop, rule_skip, rule_swap, rule_write, rule_empty}
 use Rattle.btx_check.proofs.Names.{rule_field_known, rule_field_new, rule_global_integer_known, rule_global_string_known}
 use Rattle.btx_check.proofs.PlainRows.{rule_top}
-use Rattle.btx_check.proofs.Refined.{rule_num_names_known, rule_greater_known, rule_less_known, rule_plus_known, rule_equals_integers, rule_minus_known, rule_concatenate_known}
+use Rattle.btx_check.proofs.Refined.{rule_num_names_known, rule_greater_known, rule_less_known, rule_plus_known, rule_equals_integers, rule_minus_known}
+use Rattle.btx_check.proofs.Refined.{rule_concatenate_known}
 use Rattle.btx_check.proofs.Assign.{rule_assign_global_integer, rule_assign_entry_integer, rule_assign_global_string, rule_assign_entry_string}
 use Rattle.btx_check.proofs.Covering.{style_rule_runs}
 use Rattle.btx_check.proofs.LastRows.{rule_stack, rule_missing, rule_equals, rule_global_integer_new, rule_global_string_new, rule_entry_integer_new}

@@ -29,7 +29,8 @@ OnKnown left P v ds (operand ∷ more) [] does = Unit {0}
 OnKnown left P v ds (operand ∷ more) (i ∷ is) does = (w : Operated operand) → at v i ≡ Some (operand_literal operand w)
     → Is left (get_or ds i value.Any) (operand_literal operand w) → OnKnown left P v ds more is (does w)
 
-pub record Fitted (P : (Store → Answer) → Type 0) (operands : List Operand) (does : Does operands) (v : List Literal) (below : List ℕ) (xs : List Literal) : Type
+pub record Fitted (P : (Store → Answer) → Type 0) (operands : List Operand) (does : Does operands) (v : List Literal) (below : List ℕ)
+    (xs : List Literal) : Type
     0 where
   pub go : Store → Answer
   pub applies : applied operands does xs ≡ Some go

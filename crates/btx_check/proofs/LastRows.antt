@@ -249,7 +249,8 @@ module _ (a : Abstract) (i : ℕ) (below : List ℕ) (m : Mask) (to : List Abstr
         v ++ Integer (pos 1) ∷ [],
         fresh job left (knowing i (value.Text (gone m)) (with_stack below a)) (values_in s) v under (exactly (pos 1))
             (Integer (pos 1)) (one_is left)
-            (known job left (with_stack below a) (values_in s) v under i (value.Text (gone m)) Missing q2 (subst (λ (y : Literal). Is left (value.Text m) y) e k)
+            (known job left (with_stack below a) (values_in s) v under i (value.Text (gone m)) Missing q2
+            (subst (λ (y : Literal). Is left (value.Text m) y) e k)
             w),
       ))
   absence job left v s (Some t) x e q k under w =
@@ -260,7 +261,8 @@ module _ (a : Abstract) (i : ℕ) (below : List ℕ) (m : Mask) (to : List Abstr
       (if_not.into job left (with_literals (Integer (pos 0) ∷ under) s) (
         v ++ Integer (pos 0) ∷ [],
         fresh job left (knowing i (value.Text (present m)) (with_stack below a)) (values_in s) v under (exactly (pos 0))
-            (Integer (pos 0)) (zero_is left) (known job left (with_stack below a) (values_in s) v under i (value.Text (present m)) (Text t) q2 (there m t k2) w),
+            (Integer (pos 0)) (zero_is left) (known job left (with_stack below a) (values_in s) v under i (value.Text (present m))
+            (Text t) q2 (there m t k2) w),
       ))
     where
       there : (m : Mask) (t : List ℕ) → Is left (value.Text m) (Text t) → Is left (value.Text (present m)) (Text t)

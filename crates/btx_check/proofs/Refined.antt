@@ -1,5 +1,6 @@
 -- Rows in the form that a checker needs: comparisons that say something of their operands, sums with bounds, and how many names a string has.
-use Rattle.std.proofs.Common.{◌≡◌, ℕ, zero, suc, ◌<◌, ◌≤◌, ℤ, pos, List, [], ◌∷◌, ◌++◌, length, Option, Some, Bool, true, false, cond, get_or, refl, sym, subst, append-nil}
+use Rattle.std.proofs.Common.{◌≡◌, ℕ, zero, suc, ◌<◌, ◌≤◌, ℤ, pos, List, [], ◌∷◌, ◌++◌, length, Option, Some, Bool, true, false, cond, get_or, refl, sym}
+use Rattle.std.proofs.Common.{subst, append-nil}
 use Rattle.std.proofs.Common.{arith}
 use Rattle.std.proofs.lemmas.Bool.{and_from, or_left, or_right}
 use Rattle.std.proofs.lemmas.Int.{ints}

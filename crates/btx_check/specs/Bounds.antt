@@ -10,7 +10,8 @@ use Rattle.btx_check.specs.Descriptions.{Is}
 
 -- `r` describes the sum (or the difference) of what `c` and `d` describe, one step later; a result that doesn't fit 32 bits is 0
 abbrev pub SumIs : (ℤ → ℤ → ℤ) → Value → Value → Value → Type 0
-SumIs op c d r = (left : ℕ) → suc left ≤ most_steps → (x y : ℤ) → Is (suc left) c (Integer x) → Is (suc left) d (Integer y) → Is left r (Integer (cond (fits (op x y)) (op x y) (pos 0)))
+SumIs op c d r = (left : ℕ) → suc left ≤ most_steps → (x y : ℤ) → Is (suc left) c (Integer x) → Is (suc left) d (Integer y)
+    → Is left r (Integer (cond (fits (op x y)) (op x y) (pos 0)))
 
 -- the two descriptions after a comparison of this answer: whether the first integer is greater than the second
 abbrev pub Narrows : Bool → Value → Value → Value → Value → Type 0

@@ -48,4 +48,5 @@ pub record FieldsMap (numbers : List ℕ) (xs ys : List (Option ℕ)) : Type 0 w
 -- of each number of `b`, no less is known in `a`
 pub record ValuesMap (numbers : List ℕ) (cs ds : List Value) : Type 0 where
   pub lengths : length numbers ≡ length ds
-  pub each : (j : ℕ) → j < length ds → (slice_index_or numbers j 0 < length cs) × ValueWithin (slice_index_or cs (slice_index_or numbers j 0) value.Any) (slice_index_or ds j value.Any)
+  pub each : (j : ℕ) → j < length ds → (slice_index_or numbers j 0 < length cs) × ValueWithin (slice_index_or cs (slice_index_or numbers j 0) value.Any)
+      (slice_index_or ds j value.Any)

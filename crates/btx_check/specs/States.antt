@@ -1,5 +1,6 @@
 -- Descriptions of states, and the stores that they stand for. Literals have numbers: two places of one number hold the same literal.
-use Rattle.std.specs.Prelude.{◌≡◌, ℕ, zero, suc, ◌≤◌, ℤ, pos, List, [], ◌∷◌, ◌++◌, length, Option, None, Some, Bool, slice_index_or, slice_set, slice_get, unwrap_or, ◌⊎◌}
+use Rattle.std.specs.Prelude.{◌≡◌, ℕ, zero, suc, ◌≤◌, ℤ, pos, List, [], ◌∷◌, ◌++◌, length, Option, None, Some, Bool, slice_index_or, slice_set, slice_get}
+use Rattle.std.specs.Prelude.{unwrap_or, ◌⊎◌}
 use Rattle.std.specs.Option.{is_some, option_map_or}
 use Rattle.btx_bst.specs.declared.callee.Callee.{Callee}
 use Rattle.btx_bst.specs.declared.callee.Callee.TheVariants as callee

@@ -22,7 +22,8 @@ no_step e = absurd (true≢false e)
 
 missing_kept : (current : Option ℕ) (s : Store) → Keeps (with_literals [] s) (drop 1 s.literals) (runs_missing current s)
 missing_kept None s = keep.without_entry s.literals s
-missing_kept (Some entry) s = keep.by_operands (row built_in.Missing).operands stand_in.Zero finds_missing (λ field p s r. plain.absence keep.Any_below keep.Kept keep.plain field s tt) s.literals s
+missing_kept (Some entry) s = keep.by_operands (row built_in.Missing).operands stand_in.Zero finds_missing (λ field p s r. plain.absence keep.Any_below
+    keep.Kept keep.plain field s tt) s.literals s
 
 built_in_kept : (job : Job) (f : BuiltIn) (s : Store)
     → is_assignment (token.Run (callee.BuiltIn f)) ≡ false → is_listing (token.Run (callee.BuiltIn f)) ≡ false

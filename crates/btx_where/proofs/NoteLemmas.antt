@@ -1,5 +1,6 @@
 -- The functions with names, and the places round one.
-use Rattle.std.proofs.Common.{◌≡◌, ◌<◌, ◌≤◌, ℕ, zero, suc, ◌+◌, ◌-◌, Bool, true, false, List, [], ◌∷◌, ◌++◌, length, take, drop, min, sym, ap, ◌∙◌, refl, arith, append_assoc, if◌then◌else◌, codes}
+use Rattle.std.proofs.Common.{◌≡◌, ◌<◌, ◌≤◌, ℕ, zero, suc, ◌+◌, ◌-◌, Bool, true, false, List, [], ◌∷◌, ◌++◌, length, take, drop, min, sym, ap, ◌∙◌, refl}
+use Rattle.std.proofs.Common.{arith, append_assoc, if◌then◌else◌, codes}
 use Rattle.std.proofs.lemmas.List.{drop_min, length-drop, take_all, take_min}
 use Rattle.std.specs.Str.{bytes_eq}
 use Rattle.btx_bst.specs.language.Style.{Style}

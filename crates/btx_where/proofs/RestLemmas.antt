@@ -1,5 +1,6 @@
 -- What a stopped run still does: a function in a command, a command in a style.
-use Rattle.std.proofs.Common.{◌≡◌, ℕ, zero, suc, ◌+◌, List, [], ◌∷◌, None, Some, Result, Ok, Err, IfOk, reverse, drop, slice_get, sym, ap, subst, ◌∙◌, refl, arith}
+use Rattle.std.proofs.Common.{◌≡◌, ℕ, zero, suc, ◌+◌, List, [], ◌∷◌, None, Some, Result, Ok, Err, IfOk, reverse, drop, slice_get, sym, ap, subst, ◌∙◌, refl}
+use Rattle.std.proofs.Common.{arith}
 use Rattle.btx_bst.specs.declared.callee.Callee.{Callee}
 use Rattle.btx_bst.specs.language.Items.{Item}
 use Rattle.btx_bst.specs.language.Items as item
@@ -89,7 +90,8 @@ module _ (job : Job) (code : Coded) (at : Position) (opens : List Open) (old mid
 -- ---- an item, by its command
 
 module _ (job : Job) (code : Coded) (at : Position) (opens : List Open) (old new : Work) (k : ℕ) (list : List ℕ) (x : Item) (f running : Callee) where
-  pub execute_stands : x ≡ item.Execute f → running ≡ f → Comes old new (StandsInFunction job command.Execute code at opens (visit job command.Execute f None) k)
+  pub execute_stands : x ≡ item.Execute f → running ≡ f → Comes old new (StandsInFunction job command.Execute code at opens
+      (visit job command.Execute f None) k)
       → Comes old new (StandsInCommand (IsCommandOf x) running job code at opens (do_item job list x) k)
   unfolding do_item
   execute_stands is same stands =
@@ -98,7 +100,8 @@ module _ (job : Job) (code : Coded) (at : Position) (opens : List Open) (old new
       (StandsInCommand (IsCommandOf (item.Execute f)) running job code at opens (visit job command.Execute f None) k)
       (λ s t r. (record { command = command.Execute; function = f; entries = [] }, ((refl, refl), refl), sym same, r)) stands)
 
-  pub iterate_stands : x ≡ item.Iterate f → (ys : List ℕ) → ys ≡ list → Comes old new (StandsInCommand (Executes command.Iterate f) running job code at opens (visits job command.Iterate f ys) k)
+  pub iterate_stands : x ≡ item.Iterate f → (ys : List ℕ) → ys ≡ list → Comes old new (StandsInCommand (Executes command.Iterate f) running job code at opens
+      (visits job command.Iterate f ys) k)
       → Comes old new (StandsInCommand (IsCommandOf x) running job code at opens (do_item job list x) k)
   unfolding do_item
   iterate_stands is ys e stands =

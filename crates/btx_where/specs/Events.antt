@@ -21,7 +21,8 @@ use Rattle.btx_where.specs.declared.course.Word.TheVariants as kind
 use Rattle.btx_where.specs.declared.place.Place.{Place}
 use Rattle.btx_where.specs.declared.scene.Scene.{Scene}
 
--- behind how many steps the run stands that is shown for an event of this word: where the run was stopped, behind all of them; else before the last of them, which is the event's
+-- behind how many steps the run stands that is shown for an event of this word: where the run was stopped, behind all of them; else before the last of them,
+-- which is the event's
 abbrev pub steps_before : Word → ℕ → ℕ
 steps_before kind.Stop steps = steps
 steps_before _ steps = steps - 1
@@ -32,8 +33,9 @@ head_note style lines event =
     event_note (word_text event.word) event.moment.steps event.moment.before.errors event.moment.after.errors
     ++ item_note style (lines.of_item event.item) (slice_get style.items event.item)
 
--- A text is what is noted of an event of a job's run: its first lines; for each literal that a command left, since which token it has been there; and the scene before the
--- event's step, in the command of this item, if one was found. `began` is the token that is said to have begun the loop, if the event is a loop's test
+-- A text is what is noted of an event of a job's run: its first lines; for each literal that a command left, since which token it has been there; and the scene
+-- before the event's step, in the command of this item, if one was found. `began` is the token that is said to have begun the loop, if the event is a loop's
+-- test
 pub record IsNoteOf (style : Style) (job : Job) (counts : LogCounts) (lines : LinesNoted) (event : Event) (text : List ℕ) : Type 0 where
   pub since : List (Option Place)
   pub as_many : length since ≡ length event.since.items

@@ -1,5 +1,6 @@
 -- The notes of a run as texts, a line each.
-use Rattle.std.specs.Prelude.{ℕ, zero, suc, ◌+◌, ◌-◌, ◌^◌, ◌==◌, ◌||◌, ◌&&◌, nat_lt, if◌then◌else◌, Bool, List, [], ◌∷◌, ◌++◌, Option, None, Some, length, map, take, drop, slice_get, slice_index_or, codes, decimal}
+use Rattle.std.specs.Prelude.{ℕ, zero, suc, ◌+◌, ◌-◌, ◌^◌, ◌==◌, ◌||◌, ◌&&◌, nat_lt, if◌then◌else◌, Bool, List, [], ◌∷◌, ◌++◌, Option, None, Some, length}
+use Rattle.std.specs.Prelude.{map, take, drop, slice_get, slice_index_or, codes, decimal}
 use Rattle.std.specs.List.{flat_map}
 use Rattle.std.specs.Option.{option_map_or}
 use Rattle.std.specs.Str.{bytes_eq}
@@ -125,10 +126,12 @@ literals_note style depth literals = codes "depth " ++ decimal depth ++ codes "\
 -- stands, and the literals on top
 unfoldable pub scene_note : Style → Job → (Place → ℕ) → Option Place → Scene → List ℕ
 scene_note style job line_of at scene =
-    entry_note job scene.entry ++ next_note style scene.next ++ at_note style line_of at ++ callers_note style line_of (callers_of at (places_of scene.levels.items))
+    entry_note job scene.entry ++ next_note style scene.next ++ at_note style line_of at ++ callers_note style line_of
+    (callers_of at (places_of scene.levels.items))
     ++ literals_note style scene.depth scene.literals.items
 
--- where a run stands, as it is noted for an event of this word: at the token of its innermost body; for the test of a loop, at the one that is said to have begun it
+-- where a run stands, as it is noted for an event of this word: at the token of its innermost body; for the test of a loop, at the one that is said to have
+-- begun it
 abbrev pub noted_at : Word → Option Place → List Level → Option Place
 noted_at kind.Test began levels = began
 noted_at _ began levels = slice_get (places_of levels) 0

@@ -51,8 +51,8 @@ IsMidstOf all number m = (this : Item) × (slice_get all number ≡ Some this) �
 abbrev pub rest_of_style : Job → MidstOfStyle → Doing
 rest_of_style job m left s = then_do (rest_of_command job m.command left s) (do_items job m.items m.list)
 
--- A run of `whole` has taken this number of steps, and stands at a token. Whatever further steps there are, what is still done is this: the token is executed, then what is open
--- goes on, and then `rest` is done
+-- A run of `whole` has taken this number of steps, and stands at a token. Whatever further steps there are, what is still done is this: the token is executed,
+-- then what is open goes on, and then `rest` is done
 abbrev pub Stands : Job → Coded → Position → List Open → Doing → Doing → ℕ → State → State → Type 0
 Stands job code at opens rest whole taken s t = (n : ℕ) → whole (n + taken) s ≡ then_do (execute_at job code at opens n t) rest
 

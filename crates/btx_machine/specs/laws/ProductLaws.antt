@@ -16,7 +16,8 @@ pub record Foretells (shorter longer : Product) : Type 0 where
 
 -- a run of a style foretells those with a larger budget
 abbrev pub RunLaw : Type 0
-RunLaw = (job : Job) (counts : LogCounts) (line_length : ℕ) → IsLineLength line_length → (c d : ℕ) → c ≤ d → Foretells (style_product job counts line_length c) (style_product job counts line_length d)
+RunLaw = (job : Job) (counts : LogCounts) (line_length : ℕ) → IsLineLength line_length → (c d : ℕ) → c ≤ d → Foretells (style_product job counts line_length c)
+    (style_product job counts line_length d)
 
 -- no run ever has more than 4,096 bodies open at once
 abbrev pub DepthLaw : Type 0

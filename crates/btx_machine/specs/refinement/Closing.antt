@@ -23,7 +23,8 @@ FinishedPart old end new = (start : Start) (out : Out) → StandsFor start old o
 -- both outputs are written to their ends
 abbrev pub Closes : Work → Ending → ℕ → Outputs → Type 0
 Closes old end steps new = (start : Start) (out : Out) → StandsFor start old.outputs out →
-    Appends start.bbl new.bbl.received (bbl_at start.line_length end out) × Appends start.log new.log.sink.received (out.log ++ ended_line (last_line (report_at end steps (state old.store out))))
+    Appends start.bbl new.bbl.received (bbl_at start.line_length end out) × Appends start.log new.log.sink.received
+    (out.log ++ ended_line (last_line (report_at end steps (state old.store out))))
 
 -- at a failure a part of that, and nothing of the last line unless the list is written to its end
 pub record Closing (start : Start) (new : Outputs) (out : Out) (bbl last : List ℕ) : Type 0 where

@@ -65,7 +65,8 @@ abbrev pub assignments : List WorkedAssignment
 assignments =
     worked_assignment count (number 9) [] (with_integers (pos 4 ∷ pos 6 ∷ pos 9 ∷ []))
     ∷ worked_assignment line_variable (string "abcdef") [] (with_strings (codes "abcdef" ∷ []))
-    ∷ worked_assignment line_variable (string "abcdefg") (codes "Warning--string of 7 bytes cut to 6 while executing :=" ∷ []) (with_strings (codes "abcdef" ∷ []))
+    ∷ worked_assignment line_variable (string "abcdefg") (codes "Warning--string of 7 bytes cut to 6 while executing :=" ∷ [])
+    (with_strings (codes "abcdef" ∷ []))
     ∷ worked_assignment count (string "a") (error ":=" "\"a\" is not an integer" ∷ []) variables
     ∷ worked_assignment line_variable (number 1) (error ":=" "1 is not a string" ∷ []) variables
     -- what is no variable, and a variable of an entry where there is none, are met before the value is looked at
@@ -82,7 +83,8 @@ assignments_of_knuth =
     worked_assignment rank (number 9) [] (with_entries (values (pos 9) "knu" "K84") lamport)
     ∷ worked_assignment sort_key_variable (string "a") [] (with_entries (values (pos 7) "a" "K84") lamport)
     ∷ worked_assignment label (string "abcd") [] (with_entries (values (pos 7) "knu" "abcd") lamport)
-    ∷ worked_assignment label (string "abcde") (codes "Warning--string of 5 bytes cut to 4 while executing := for entry knuth" ∷ []) (with_entries (values (pos 7) "knu" "abcd") lamport)
+    ∷ worked_assignment label (string "abcde") (codes "Warning--string of 5 bytes cut to 4 while executing := for entry knuth" ∷ [])
+    (with_entries (values (pos 7) "knu" "abcd") lamport)
     ∷ worked_assignment rank missing (codes "Error--missing field is not an integer while executing := for entry knuth" ∷ []) variables
     ∷ []
 
@@ -94,7 +96,8 @@ assignments_of_lamport = worked_assignment rank (number 9) [] (with_entries knut
 abbrev pub AreAssigned : Option ℕ → List WorkedAssignment → Type 0
 AreAssigned entry [] = Unit {0}
 AreAssigned entry (row ∷ rows) =
-    (seen_of (codes ":=") entry (executes_name (job Bytes) (Some (BuiltIn built_in.Assign)) (store variables entry (function_literal row.variable ∷ row.value ∷ one_below)))
+    (seen_of (codes ":=") entry (executes_name (job Bytes) (Some (BuiltIn built_in.Assign))
+    (store variables entry (function_literal row.variable ∷ row.value ∷ one_below)))
     ≡ as_seen Nothing row.lines [] (store row.after entry one_below)) × AreAssigned entry rows
 
 -- ---- the test of a loop

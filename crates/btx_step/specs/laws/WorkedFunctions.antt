@@ -9,7 +9,8 @@ use Rattle.btx_text.specs.declared.limits.Limit.TheVariants.{Literals}
 use Rattle.btx_step.specs.declared.next.Next.{Next}
 use Rattle.btx_step.specs.declared.next.Next.TheVariants.{Nothing, End, Run, Open, Loop}
 use Rattle.btx_step.specs.language.Jobs.{Job}
-use Rattle.btx_step.specs.laws.WorkedStores.{style, job, variables, store, number, minus, string, function_literal, missing, skip, newline, book, default_type, nameless, error, as_seen, executes_name, seen_of}
+use Rattle.btx_step.specs.laws.WorkedStores.{style, job, variables, store, number, minus, string, function_literal, missing, skip, newline, book}
+use Rattle.btx_step.specs.laws.WorkedStores.{default_type, nameless, error, as_seen, executes_name, seen_of}
 
 -- ---- rows
 

@@ -7,7 +7,8 @@ pub returns-in_ok-add_tested-in-Integer-Integer-2 : goal.returns-in_ok-add_teste
 returns-in_ok-add_tested-in-Integer-Integer-2 c =
     λ t. code_equals_integers _ _ _ _ _ _ _ _ _ _ _ _ _ _
     (compared_at _ _ _ _ _ _ _ _ _ _ _ _ _ _ _ _ _ _ (rw c.in-Some.is at c.pair_of.ensures) c.in-Integer-Integer.is-0 c.in-Integer-Integer.is-1
-    c.in_ok-copy-in-Integer-Integer.ensures c.one.ensures c.zero.ensures c.in_ok-add_tested-in-Integer-Integer.ensures c.in_ok-add_tested-in-Integer-Integer-2.ensures)
+    c.in_ok-copy-in-Integer-Integer.ensures c.one.ensures c.zero.ensures c.in_ok-add_tested-in-Integer-Integer.ensures
+    c.in_ok-add_tested-in-Integer-Integer-2.ensures)
     (matches_same (value.Integer c.in-Integer-Integer.low2 c.in-Integer-Integer.high2) (value.Integer c.in-Integer-Integer.low c.in-Integer-Integer.high) _
     c.both-same.ensures)
     (matches_other (value.Integer c.in-Integer-Integer.low2 c.in-Integer-Integer.high2) (value.Integer c.in-Integer-Integer.low c.in-Integer-Integer.high) _ _

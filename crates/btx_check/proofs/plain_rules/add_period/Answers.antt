@@ -7,5 +7,6 @@ use Rattle.btx_check.proofs.PlainLemmas.{code_add_period}
 use Rattle.btx_check.proofs.plain_rules.add_period.Goals as goal
 
 pub returns : goal.returns
-returns c = ok_map c.pushes.result (λ ok. IsTrue ok → Pushed c.take_one-taken.result (value.Text c.any_text.result) c.args.out.now.items c.pushes.new.out.items) _
+returns c = ok_map c.pushes.result (λ ok. IsTrue ok → Pushed c.take_one-taken.result (value.Text c.any_text.result) c.args.out.now.items
+    c.pushes.new.out.items) _
     (λ b h ok. code_add_period _ _ _ _ c.take_one-taken.ensures (pushed_at _ _ _ _ _ (text_at _ _ c.any_text.ensures) (h ok))) c.pushes.ensures

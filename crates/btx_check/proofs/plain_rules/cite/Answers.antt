@@ -7,6 +7,7 @@ use Rattle.btx_check.proofs.PlainLemmas.{code_cite}
 use Rattle.btx_check.proofs.plain_rules.cite.Goals as goal
 
 pub returns : goal.returns
-returns c = ok_map c.pushes.result (λ ok. IsTrue ok → Pushed c.take_none-taken.result (value.Text c.any_text.result) c.args.out.now.items c.pushes.new.out.items) _
+returns c = ok_map c.pushes.result (λ ok. IsTrue ok → Pushed c.take_none-taken.result (value.Text c.any_text.result) c.args.out.now.items
+    c.pushes.new.out.items) _
     (λ b h ok. code_cite _ _ _ _ (entry_is _ _ c.has_entry.ensures (search (rules, c.if-not-has_entry.false))) c.take_none-taken.ensures
     (pushed_at _ _ _ _ _ (text_at _ _ c.any_text.ensures) (h ok))) c.pushes.ensures

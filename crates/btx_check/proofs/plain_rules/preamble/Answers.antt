@@ -7,5 +7,6 @@ use Rattle.btx_check.proofs.PlainLemmas.{code_preamble}
 use Rattle.btx_check.proofs.plain_rules.preamble.Goals as goal
 
 pub returns : goal.returns
-returns c = ok_map c.pushes.result (λ ok. IsTrue ok → Pushed c.take_none-taken.result (value.Text c.any_text.result) c.args.out.now.items c.pushes.new.out.items) _
+returns c = ok_map c.pushes.result (λ ok. IsTrue ok → Pushed c.take_none-taken.result (value.Text c.any_text.result) c.args.out.now.items
+    c.pushes.new.out.items) _
     (λ b h ok. code_preamble _ _ _ _ c.take_none-taken.ensures (pushed_at _ _ _ _ _ (text_at _ _ c.any_text.ensures) (h ok))) c.pushes.ensures

@@ -14,14 +14,19 @@ use Rattle.std.proofs.lemmas.Iterator.Consumers.{YieldsList-end}
 use Rattle.std.proofs.lemmas.Iterator.Adapters.{YieldsList-from_vec}
 use Rattle.btx_check.proofs.CodeLemmas.{entry_is}
 use Rattle.btx_check.proofs.TypeLemmas.{types_step, types_with, types_without}
-use Rattle.btx_check.proofs.RunLemmas.{impossible_ran, rule_ran, ok_map, stepped_more, stepped_only, if_ran_of, while_ran_of, reached_init, reached_step, looped}
+use Rattle.btx_check.proofs.RunLemmas.{impossible_ran, rule_ran, ok_map, stepped_more, stepped_only, if_ran_of, while_ran_of, reached_init, reached_step}
+use Rattle.btx_check.proofs.RunLemmas.{looped}
 use Rattle.btx_check.proofs.MemoLemmas.{body_ran_of, runs_copied, stepped_to, within_same}
 use Rattle.btx_check.specs.Memos.{Remembers}
 use Rattle.btx_check.proofs.RunLemmas.{splits_of, push_one, stepped_at, turned_at, sub_at, into_at}
 use Rattle.btx_check.proofs.running.+search.Goals as goal
 
 pub run_where-returns-then-is_impossible_at : goal.run_where-returns-then-is_impossible_at
-run_where-returns-then-is_impossible_at t c = λ h. (impossible_ran _ _ _ _ _ _ _ (c.is_impossible_at.ensures (search (rules, c.if-is_impossible_at.true))), c.requires)
+run_where-returns-then-is_impossible_at t c = λ h. (
+  impossible_ran _ _ _ _ _ _ _
+      (c.is_impossible_at.ensures (search (rules, c.if-is_impossible_at.true))),
+  c.requires,
+)
 
 pub run_sure-returns-in_default : goal.run_sure-returns-in_default
 run_sure-returns-in_default t c = ok_map c.run_one.result (λ ok. IsTrue ok → Ruled c.args.f c.args.a c.args.out.now.items c.run_one.new.out.items) _
@@ -58,7 +63,10 @@ pub run_next-returns-in-Some : goal.run_next-returns-in-Some
 run_next-returns-in-Some t c = ok_map c.run_token.result
     (λ ok. IsTrue ok → Stepped c.args.style.now c.args.allowed.now c.args.t (c.in-Some.a ∷ []) c.args.room.deep c.args.room.loops c.pop.new.self.items
     c.run_token.new.out.items × Remembers c.args.style.now c.args.allowed.now c.run_token.new.memo) _
-    (λ b h ok. (stepped_only _ _ _ _ _ _ _ _ _ (rw c.in-Some.is at c.pop.ensures.items) (omega (arith, c.if-len-eq1.true)) (h ok).0, (h ok).1)) c.run_token.ensures
+    (λ b h ok. (
+      stepped_only _ _ _ _ _ _ _ _ _ (rw c.in-Some.is at c.pop.ensures.items) (omega (arith, c.if-len-eq1.true)) (h ok).0,
+      (h ok).1,
+    )) c.run_token.ensures
 
 pub run_next-returns-else-len-eq1 : goal.run_next-returns-else-len-eq1
 run_next-returns-else-len-eq1 t c = ok_map c.run_all.result
@@ -83,7 +91,8 @@ run_body-returns t c = (
 pub run_while-returns-in-Function-Function : goal.run_while-returns-in-Function-Function
 run_while-returns-in-Function-Function t c =
     ok_map c.run_loop.result (λ ok. IsTrue ok → Looped c.args.style.now c.args.allowed.now c.in-Some.t.below c.in-Function-Function.f c.in-Function-Function.g
-    c.args.room.deep (c.args.room.loops - 1) c.args.out.now.items c.run_loop.new.out.items × Remembers c.args.style.now c.args.allowed.now c.run_loop.new.memo) _
+    c.args.room.deep (c.args.room.loops - 1) c.args.out.now.items c.run_loop.new.out.items
+    × Remembers c.args.style.now c.args.allowed.now c.run_loop.new.memo) _
     (λ b h ok. (
       while_ran_of _ _ _ _ _ _ _ _ _ _ _ (c.args.room.loops - 1) _ _ _ (rw c.in-Some.is at c.pair_of.ensures) c.in-Function-Function.is-0
           c.in-Function-Function.is-1 (omega arith) (h ok).0,
@@ -102,7 +111,8 @@ run_if-returns-else-not-branch t c = ok_map c.run_where-in-Function-Function-Int
           (rw c.in-Some.is at c.triple_of.ensures) c.in-Function-Function-Integer.is-0 c.in-Function-Function-Integer.is-1 c.in-Function-Function-Integer.is-2
           (c.know.ensures ∙ ap (λ (x : Abstract). knowing c.in-Some.t.third c.positive.result x) c.in_ok-yes-in-Function-Function-Integer.ensures)
           c.know-in-Function-Function-Integer.ensures
-          (splits_of (value.Integer c.in-Function-Function-Integer.low c.in-Function-Function-Integer.high) c.positive.result c.not_positive.result c.positive.ensures
+          (splits_of (value.Integer c.in-Function-Function-Integer.low c.in-Function-Function-Integer.high) c.positive.result
+          c.not_positive.result c.positive.ensures
           c.not_positive.ensures)
           (c.in_ok-run_where-in-Function-Function-Integer.ensures (search (rules, c.if-not-branch.false))).0 (h ok).0,
       (h ok).1,
@@ -147,7 +157,8 @@ run_types-returns-in_ok-add_sure-in-None t c =
 pub run_user-returns-in_ok-add_all-in-Some : goal.run_user-returns-in_ok-add_all-in-Some
 run_user-returns-in_ok-add_all-in-Some t c = let h = rw c.in-Some.is at c.in_ok-recalled.ensures in
     λ ok. (
-      stepped_to _ _ _ _ _ _ _ c.in-Some.recalled.states.items _ _ (within_same _ _ refl) (h.recalls c.args.style.now c.args.allowed.now c.requires) c.in_ok-add_all-in-Some.ensures.these
+      stepped_to _ _ _ _ _ _ _ c.in-Some.recalled.states.items _ _ (within_same _ _ refl) (h.recalls c.args.style.now c.args.allowed.now c.requires)
+          c.in_ok-add_all-in-Some.ensures.these
           c.in_ok-add_all-in-Some.ensures.sub,
       c.requires,
     )

@@ -44,13 +44,16 @@ abbrev pub decreases-run_while : goal.decreases-run_while
 decreases-run_while l = 8 * l.room.fuel + 4
 
 abbrev pub invariant-run_all-loop-a : goal.invariant-run_all-loop-a
-invariant-run_all-loop-a l = Stepped l.style l.allowed l.t l.yielded l.room.deep l.room.loops l.initial.out.items l.out.items × Remembers l.style l.allowed l.memo
+invariant-run_all-loop-a l = Stepped l.style l.allowed l.t l.yielded l.room.deep l.room.loops l.initial.out.items l.out.items
+    × Remembers l.style l.allowed l.memo
 
 abbrev pub invariant-run_loop-loop-round : goal.invariant-run_loop-loop-round
 invariant-run_loop-loop-round l = Sub l.initial.out.items l.out.items × Remembers l.style l.allowed l.memo
 
 abbrev pub invariant-run_types-loop-number : goal.invariant-run_types-loop-number
-invariant-run_types-loop-number l = TypesStepped l.style l.allowed (take l.number-index l.allowed) l.fn.a l.room.deep l.room.loops l.initial.out.items l.out.items × Remembers l.style l.allowed l.memo
+invariant-run_types-loop-number l = TypesStepped l.style l.allowed (take l.number-index l.allowed) l.fn.a l.room.deep l.room.loops l.initial.out.items
+    l.out.items × Remembers l.style l.allowed l.memo
 
 abbrev pub invariant-run_body-loop-t : goal.invariant-run_body-loop-t
-invariant-run_body-loop-t l = Reached l.style l.allowed l.body (drop l.t-index l.body) l.fn.a (l.fn.room.deep - 1) l.fn.room.loops l.states.items × Remembers l.style l.allowed l.memo
+invariant-run_body-loop-t l = Reached l.style l.allowed l.body (drop l.t-index l.body) l.fn.a (l.fn.room.deep - 1) l.fn.room.loops l.states.items
+    × Remembers l.style l.allowed l.memo

@@ -7,7 +7,8 @@ use Rattle.btx_where.proofs.RestLemmas.{execute_stands, iterate_stands, ok_both,
 use Rattle.btx_where.proofs.items.do_item.Goals as goal
 
 pub returns-in-Execute-clause-stands : goal.returns-in-Execute-clause-stands
-returns-in-Execute-clause-stands g c = ok_both c.visit.result (λ end same stands running here. execute_stands c.args.program.job.now c.args.program.code.now c.visit.new.at c.visit.new.marks
+returns-in-Execute-clause-stands g c = ok_both c.visit.result (λ end same stands running here. execute_stands c.args.program.job.now c.args.program.code.now
+    c.visit.new.at c.visit.new.marks
     c.args.work.now c.visit.new.work (c.args.left.now - c.visit.new.left) c.args.list.now.items (item_view c.args.item.now) c.in-Execute.function running
     (ap item_view c.in-Execute.is) (same running here) (stands running here)) c.visit.ensures.here c.visit.ensures.stands
 
@@ -21,7 +22,8 @@ pub returns-in_ok-reversed-in-Reverse-clause-stands : goal.returns-in_ok-reverse
 returns-in_ok-reversed-in-Reverse-clause-stands g c = ok_map (λ end stands running here. reverse_stands c.args.program.job.now c.args.program.code.now
     c.visit_all-in-Reverse.new.at c.visit_all-in-Reverse.new.marks c.args.work.now c.visit_all-in-Reverse.new.work (c.args.left.now
     - c.visit_all-in-Reverse.new.left) c.args.list.now.items (item_view c.args.item.now) c.in-Reverse.function running (ap item_view c.in-Reverse.is)
-    c.as_slice-in-Reverse.result.now (c.as_slice-in-Reverse.ensures.value ∙ c.in_ok-reversed-in-Reverse.ensures) (stands running here)) c.visit_all-in-Reverse.result
+    c.as_slice-in-Reverse.result.now (c.as_slice-in-Reverse.ensures.value ∙ c.in_ok-reversed-in-Reverse.ensures) (stands running here))
+    c.visit_all-in-Reverse.result
     c.visit_all-in-Reverse.ensures.stands
 
 pub returns-in-Iterate-clause-finishes : goal.returns-in-Iterate-clause-finishes

@@ -7,8 +7,10 @@ use Rattle.btx_where.proofs.RestLemmas.{item_stands}
 use Rattle.btx_where.proofs.items.do_items.Goals as goal
 
 pub returns-in_default-clause-stands : goal.returns-in_default-clause-stands
-returns-in_default-clause-stands g c = λ running here. item_stands c.args.program.job.now c.args.program.code.now c.do_item.new.at c.do_item.new.marks c.args.work.now
-    c.loop-number.work c.do_item.new.work (c.args.left.now - c.loop-number.left) (c.loop-number.left - c.do_item.new.left) (c.args.left.now - c.do_item.new.left)
+returns-in_default-clause-stands g c = λ running here. item_stands c.args.program.job.now c.args.program.code.now c.do_item.new.at
+    c.do_item.new.marks c.args.work.now
+    c.loop-number.work c.do_item.new.work (c.args.left.now - c.loop-number.left) (c.loop-number.left - c.do_item.new.left)
+    (c.args.left.now - c.do_item.new.left)
     (omega (arith, c.loop-number.invariant.fewer, c.do_item.ensures.fewer)) c.stand_in-in_default.new.self.item running (item_view _)
     (items_view (drop c.loop-number.number c.args.items.now))
     (items_view (drop (c.loop-number.number + 1) c.args.items.now)) (items_view c.args.items.now) c.loop-number.list.items

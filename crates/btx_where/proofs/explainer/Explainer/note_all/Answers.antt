@@ -12,7 +12,8 @@ loop-event-init g c = none_noted c.args.known.now.style.now c.args.self.now.job.
 pub loop-event-preserved : goal.loop-event-preserved
 loop-event-preserved g c = one_more_noted c.args.known.now.style.now c.args.self.now.job.now c.args.self.now.counts (lines_found c.args.known.now.lines.now)
     c.event-item.result (drop c.loop-event.event-index c.args.events.now) (drop (c.loop-event.event-index + 1) c.args.events.now) c.args.events.now
-    c.args.notes.now.items c.loop-event.notes.items c.note_one.new.notes.items (drop_at c.args.events.now c.loop-event.event-index c.event-item.result c.event-item.is (omega arith))
+    c.args.notes.now.items c.loop-event.notes.items c.note_one.new.notes.items (drop_at c.args.events.now c.loop-event.event-index c.event-item.result
+    c.event-item.is (omega arith))
     c.loop-event.invariant c.in_ok-note_one.ensures
 
 pub returns : goal.returns

@@ -5,4 +5,5 @@ use Rattle.btx_where.proofs.explainer.Explainer.note_all.Given as goal
 
 -- the events so far are noted
 abbrev pub invariant-loop-event : goal.invariant-loop-event
-invariant-loop-event g l = NotedSoFar l.known.style.now l.self.job.now l.self.counts (lines_found l.known.lines.now) (drop l.event-index l.events) l.events l.fn.notes.items l.notes.items
+invariant-loop-event g l = NotedSoFar l.known.style.now l.self.job.now l.self.counts (lines_found l.known.lines.now) (drop l.event-index l.events) l.events
+    l.fn.notes.items l.notes.items
