@@ -23,12 +23,11 @@ use Rattle.btx_check.specs.Names.{IsName, NeedsEntry, kind_of, IsIntegerOf, IsSt
 use Rattle.btx_check.specs.Bounds.{Narrows, SumIs, Matches}
 use Rattle.btx_check.specs.Inclusion.{Into}
 use Rattle.btx_check.specs.Running.{RuleNow}
-use Rattle.btx_check.specs.Answers.{Ruled, Added, TopIs, TwoAre, Stepped, Comparable, TopsFit, Pushed}
+use Rattle.btx_check.specs.Answers.{Ruled, Added, TopIs, TwoAre, Stepped, Comparable}
 use Rattle.btx_check.proofs.AddLemmas.{sub_then, into_sub}
 use Rattle.btx_check.proofs.RunLemmas.{rest_into, ruled}
 use Rattle.btx_check.proofs.RowLemmas.{rule_duplicate, rule_pop, rule_skip, rule_swap, rule_write, rule_empty}
 use Rattle.btx_check.proofs.Names.{rule_field_known, rule_field_new, rule_global_integer_known, rule_global_string_known}
-use Rattle.btx_check.proofs.PlainRows.{rule_top}
 use Rattle.btx_check.proofs.Refined.{rule_num_names_known, rule_greater_known, rule_less_known, rule_plus_known, rule_equals_integers, rule_minus_known}
 use Rattle.btx_check.proofs.Refined.{rule_concatenate_known}
 use Rattle.btx_check.proofs.Assign.{rule_assign_global_integer, rule_assign_entry_integer, rule_assign_global_string, rule_assign_entry_string}
@@ -67,9 +66,6 @@ two_at a b j i d c d' c' w e f = record { stack = w.stack; rest = w.rest; first 
 pub entry_is : (r e : Bool) → r ≡ e → IsTrue r → e ≡ true
 entry_is r e q t = subst (λ (x : Bool). x ≡ true) q t
 
-pub pushed_at : (o : Option Abstract) (d d' : Value) (old new : List Abstract) → d' ≡ d → Pushed o d' old new → Pushed o d old new
-pushed_at o d d' old new e h = subst (λ (x : Value). Pushed o x old new) e h
-
 -- ---- comparisons
 
 below_less : (left : ℕ) (high : Upper) (x y : ℤ) → int_lt y x ≡ false → Below left high y → Below left high x
@@ -95,11 +91,6 @@ narrows_down lo hi lo2 hi2 r l f g left x y o q e = ((o.0, f left x o.1 (below_l
 pub code_write : (a b : Abstract) (i : ℕ) (m : Mask) (old new : List Abstract) → TopIs a i (value.Text m) b → m.missing ≡ false → Added b old new
     → Ruled (callee.BuiltIn built_in.Write) a old new
 code_write a b i m old new t there x = ruled _ _ _ _ (rule_write a i b.stack m new t.stack t.known there (rest_into a b (λ x. x) new t.rest x.into)) (x.sub)
-
-pub code_top : (a b : Abstract) (i : ℕ) (d : Value) (old new : List Abstract) → TopIs a i d b → Added b old new → Ruled (callee.BuiltIn built_in.Top) a old new
-code_top a b i d old new t x =
-    ruled _ _ _ _ (rule_top a b.stack new (room_one a b i d t) (rest_into a b (λ x. x) new t.rest x.into)
-    (subst (λ (is : List ℕ). TopsFit a.values (Any ∷ []) is b.stack) (sym t.stack) (tt, refl))) (x.sub)
 
 pub code_stack : (a : Abstract) (old new : List Abstract) → Added (with_stack [] a) old new → Ruled (callee.BuiltIn built_in.Stack) a old new
 code_stack a old new x = ruled _ _ _ _ (rule_stack a new x.into) (x.sub)

@@ -1,19 +1,17 @@
--- The rows that are left: tokens that push, names of which nothing is known, `=`, `missing$`, `cite$`, `type$`, `int.to.chr$`, `stack$` and `call.type$`.
-use Rattle.std.proofs.Common.{◌≡◌, ℕ, ◌<◌, ℤ, pos, negsuc, List, [], ◌∷◌, ◌++◌, length, map, Option, None, Some, Bool, true, false, cond, get_or, refl, sym, ap}
-use Rattle.std.proofs.Common.{subst, ◌∙◌, arith, nat_lt}
+-- The rows that are left: tokens that push, names of which nothing is known, `=`, `missing$`, `stack$` and `call.type$`.
+use Rattle.std.proofs.Common.{◌≡◌, ℕ, ◌<◌, ℤ, pos, List, [], ◌∷◌, ◌++◌, length, map, Option, None, Some, Bool, true, false, get_or, refl, sym, ap}
+use Rattle.std.proofs.Common.{subst, ◌∙◌, arith}
 use Rattle.std.proofs.lemmas.Int.{ints}
 use Rattle.std.specs.Prelude.{slice_index_or, unwrap_or, slice_get}
 use Rattle.std.specs.List.{list_any}
 use Rattle.std.specs.Option.{is_some, option_map_or}
 use Rattle.std.specs.Ordering.{int_eq}
 use Rattle.std.specs.Str.{bytes_eq}
-use Rattle.btx_bst.specs.language.Names.{name_of}
 use Rattle.btx_bst.specs.language.Style.{Style}
 use Rattle.btx_bst.specs.declared.built_in.BuiltIn.TheVariants as built_in
 use Rattle.btx_bst.specs.declared.callee.Callee.{Callee}
 use Rattle.btx_bst.specs.declared.callee.Callee.TheVariants as callee
 use Rattle.btx_bst.specs.declared.token.Token.TheVariants as token
-use Rattle.btx_bib.specs.language.Library.{key_of, entry_type}
 use Rattle.btx_stack.specs.declared.literal.Literal.{Literal}
 use Rattle.btx_stack.specs.declared.literal.Literal.TheVariants.{Integer, Text, Function, Missing}
 use Rattle.btx_step.specs.declared.literal.Wanted.TheVariants as wanted
@@ -21,9 +19,9 @@ use Rattle.btx_step.specs.declared.said.Note.TheVariants as note
 use Rattle.btx_step.specs.declared.said.Said.TheVariants as said
 use Rattle.btx_step.specs.language.Jobs.{Job}
 use Rattle.btx_step.specs.language.Stores.{Store}
-use Rattle.btx_step.specs.language.Entries.{entry_of, finds_missing}
-use Rattle.btx_step.specs.language.Answers.{with_literals, pushed, pushed_text, pushes, truth}
-use Rattle.btx_step.specs.language.Arithmetic.{equals, gives_character}
+use Rattle.btx_step.specs.language.Entries.{finds_missing}
+use Rattle.btx_step.specs.language.Answers.{with_literals, pushed, truth}
+use Rattle.btx_step.specs.language.Arithmetic.{equals}
 use Rattle.btx_step.specs.declared.operands.Operand.TheVariants.{Of}
 use Rattle.btx_step.specs.language.Operands.{on_operands}
 use Rattle.btx_step.specs.language.Table.{row, runs_missing}
@@ -42,7 +40,7 @@ use Rattle.btx_check.specs.Answers.{OpFits, TopsFit, Comparable}
 use Rattle.btx_check.proofs.Holding.{at-last, stack-length, restack, fresh, known}
 use Rattle.btx_check.proofs.RowLemmas.{pushes_leads, pushes_text_leads, one_is, zero_is}
 use Rattle.btx_check.proofs.Names.{room_for, known_leads}
-use Rattle.btx_check.proofs.Generic.{Onward, row_leads, any_text_is, push_onward, text_onward}
+use Rattle.btx_check.proofs.Generic.{any_text_is}
 use Rattle.btx_check.proofs.Known.{OnwardAt, OnKnown, row_known}
 use Rattle.btx_check.proofs.Assign.{IsVariable, put_names, entry_goes, map_at}
 use Rattle.btx_check.proofs.Covering.{token_runs, one_of}
@@ -177,40 +175,6 @@ module _ (a : Abstract) (j i : ℕ) (below : List ℕ) (to : List Abstract) (st 
       (subst (λ (is : List ℕ). OnKnown left (OnwardAt job left left a h.0 below to s) h.0 a.values (row built_in.Equals).operands is
       ((row built_in.Equals).does job)) (sym st)
       (λ y q o x q2 o2. compared job left h.0 s (get_or a.values j value.Any) (get_or a.values i value.Any) k y x o o2))
-
--- ---- `int.to.chr$`
-
-module _ (a : Abstract) (below : List ℕ) (to : List Abstract) (l : length below < 1000)
-    (go : Into (pushing_new (value.Text any_text) (with_stack below a)) to) where
-  character : (job : Job) (left : ℕ) (n : ℤ) → Onward job left a below to (gives_character n)
-  character job left (pos n) s h = both (nat_lt n 128)
-    where
-      both : (b : Bool) → Leads job left to s (cond b (pushed (Text (n ∷ [])) s) (pushes (said.Noted (note.NotAscii (pos n) ∷ [])) (Text []) s))
-      both true = push_onward job left a below to l said.Nothing (value.Text any_text) (Text (n ∷ [])) tt (any_text_is left (n ∷ [])) go s h
-      both false = push_onward job left a below to l (said.Noted (note.NotAscii (pos n) ∷ [])) (value.Text any_text) (Text []) refl refl go s h
-  character job left (negsuc n) s h = push_onward job left a below to l (said.Noted (note.NotAscii (negsuc n) ∷ [])) (value.Text any_text) (Text []) refl refl
-      go s h
-
-  pub rule_int_to_chr : TopsFit a.values (row built_in.IntToChr).operands a.stack below → RuleNow (callee.BuiltIn built_in.IntToChr) a to
-  unfolding built_in_run
-  rule_int_to_chr t job g g' left s h = row_leads job left built_in.IntToChr a below to s refl t (character job left) h
-
-  -- ---- `cite$`, `type$`
-
-  pub rule_cite : a.entry ≡ true → TopsFit a.values (row built_in.Cite).operands a.stack below → RuleNow (callee.BuiltIn built_in.Cite) a to
-  unfolding built_in_run
-  rule_cite en t job g g' left s h = row_leads job left built_in.Cite a below to s refl t
-      (λ s2 h2. entry_goes job left to s2 (λ entry. pushed_text (key_of (entry_of job entry))) s2.current refl (h2.1.entry ∙ en)
-      (λ entry c. text_onward job left a below to l said.Nothing (key_of (entry_of job entry)) tt go s2 h2)) h
-
-  pub rule_type : a.entry ≡ true → TopsFit a.values (row built_in.Type).operands a.stack below → RuleNow (callee.BuiltIn built_in.Type) a to
-  unfolding built_in_run
-  rule_type en t job g g' left s h = row_leads job left built_in.Type a below to s refl t
-      (λ s2 h2. entry_goes job left to s2
-      (λ entry. pushed_text (option_map_or (λ (function : ℕ). name_of job.style.names (callee.User function)) (entry_type (entry_of job entry)) []))
-      s2.current refl (h2.1.entry ∙ en)
-      (λ entry c. text_onward job left a below to l said.Nothing
-      (option_map_or (λ (function : ℕ). name_of job.style.names (callee.User function)) (entry_type (entry_of job entry)) []) tt go s2 h2)) h
 
 -- ---- `stack$`
 

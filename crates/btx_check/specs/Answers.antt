@@ -1,6 +1,7 @@
 -- What the calls of the checker answer.
-use Rattle.std.specs.Prelude.{◌≡◌, ℕ, ◌<◌, length, List, [], ◌∷◌, slice_index_or, Option, Some, true, false}
+use Rattle.std.specs.Prelude.{◌≡◌, ℕ, ◌<◌, length, List, [], ◌∷◌, slice_index_or, Option, None, Some, true, false}
 use Rattle.btx_bst.specs.language.Style.{Style}
+use Rattle.btx_bst.specs.declared.built_in.BuiltIn.{BuiltIn}
 use Rattle.btx_bst.specs.declared.callee.Callee.{Callee}
 use Rattle.btx_bst.specs.declared.token.Token.{Token}
 use Rattle.btx_check.specs.declared.description.Value.{Value}
@@ -9,12 +10,14 @@ use Rattle.btx_check.specs.declared.description.Value.TheVariants.{Any as Unknow
 use Rattle.btx_step.specs.declared.literal.Wanted.TheVariants as wanted
 use Rattle.btx_step.specs.declared.operands.Operand.{Operand}
 use Rattle.btx_step.specs.declared.operands.Operand.TheVariants.{Any, Of}
+use Rattle.btx_step.specs.language.Table.{row}
+use Rattle.btx_check.specs.declared.plain_rules.Plain.{Plain}
 use Rattle.btx_bst.specs.declared.callee.Callee.TheVariants as callee
 use Rattle.btx_bst.specs.declared.token.Token.TheVariants as token
 use Rattle.btx_check.specs.Promise.{is_among}
 use Rattle.btx_check.specs.States.{Abstract, with_stack, pushing_new}
 use Rattle.btx_check.specs.Inclusion.{Sub, Into}
-use Rattle.btx_check.specs.Running.{Rule, RunsFrom, BodyRuns, Turned, Closed}
+use Rattle.btx_check.specs.Running.{Rule, RuleNow, RunsFrom, BodyRuns, Turned, Closed}
 
 -- a description was added to others: what it stands for is among them, and so is what they stood for before
 pub record Added (a : Abstract) (before after : List Abstract) : Type 0 where
@@ -49,17 +52,28 @@ pub record Taken (operands : List Operand) (a b : Abstract) : Type 0 where
   pub rest : b ≡ with_stack b.stack a
   pub room : length b.stack < 1000
 
--- a literal of which this is known was pushed, if the operands were taken
-pub record Pushed (taken : Option Abstract) (d : Value) (before after : List Abstract) : Type 0 where
-  pub below : Abstract
-  pub is : taken ≡ Some below
-  pub added : Added (pushing_new d below) before after
+-- some of the operands, the first ones, were taken: if the others fit what is left, all of them fit
+pub record TakenSoFar (operands others : List Operand) (a b : Abstract) : Type 0 where
+  pub fits : (below : List ℕ) → TopsFit a.values others b.stack below → TopsFit a.values operands a.stack below
+  pub rest : b ≡ with_stack b.stack a
+  pub room : length b.stack < 1000
 
--- nothing was pushed, if the operands were taken
-pub record Dropped (taken : Option Abstract) (before after : List Abstract) : Type 0 where
+-- what is left below operands, with a literal of which this is known, if one is pushed
+abbrev pub with_result : Option Value → Abstract → Abstract
+with_result None below = below
+with_result (Some d) below = pushing_new d below
+
+-- what follows operands that were taken, with what is pushed in their place, was added to others
+pub record Followed (taken : Option Abstract) (pushes : Option Value) (before after : List Abstract) : Type 0 where
   pub below : Abstract
   pub is : taken ≡ Some below
-  pub added : Added below before after
+  pub added : Added (with_result pushes below) before after
+
+-- the rule of a function of which no more need be known: where its operands fit, it leads to what it pushes in their place
+pub record PlainRule (function : BuiltIn) (plain : Plain) : Type 0 where
+  pub rule : (a : Abstract) (below : List ℕ) (after : List Abstract) → length below < 1000 → (plain.needs_entry ≡ true → a.entry ≡ true)
+      → Into (with_result plain.pushes (with_stack below a)) after → TopsFit a.values (row function).operands a.stack below
+      → RuleNow (callee.BuiltIn function) a after
 
 -- the two numbers on top, and what is known of each; `b` is what is left below them
 pub record TwoAre (a : Abstract) (j i : ℕ) (d c : Value) (b : Abstract) : Type 0 where

@@ -1,15 +1,15 @@
 //! What stands on top of the stack.
-ghost use Rattle.std.specs.Prelude.{◌≡◌, Option, List, [], ◌∷◌, IsTrue};
+ghost use Rattle.std.specs.Prelude.{◌≡◌, IsTrue};
 ghost use Rattle.std.specs.Option.{IfSome};
 ghost use Rattle.std.specs.Result.{IfOk};
-ghost use Rattle.btx_step.specs.declared.operands.Operand.TheVariants.{Of};
-ghost use Rattle.btx_check.specs.Answers.{TopIs, TwoAre, ThreeAre, OpFits, Taken, Pushed, Dropped};
+ghost use Rattle.btx_check.specs.Answers.{TopIs, TwoAre, ThreeAre, OpFits, Taken, Followed};
 
 use crate::adding::{add_new, add_sure};
 use crate::description::Value;
 use crate::state::State;
 use crate::work::Work;
 use btx_step::Wanted;
+use btx_step::operands::Operand;
 use std::alloc::AllocError;
 
 // Goes on with what stands on top of the stack, whatever it is, if it is there.
@@ -122,98 +122,54 @@ pub(crate) fn triple_of(a: State) -> Option<Triple>
     })
 }
 
-/// Whether an operand that wants this gets it from each literal that is described so.
-pub fn is_fit(value: Value, wanted: Wanted) -> bool
-    ensures { IsTrue result → OpFits (Of wanted) value }
+/// Whether an operand gets what it wants from each literal that is described so.
+pub fn is_fit(value: Value, operand: Operand) -> bool
+    ensures { IsTrue result → OpFits operand value }
 {
-    match wanted {
-        Wanted::Integer => matches!(value, Value::Integer(_, _)),
-        Wanted::Function => matches!(value, Value::Function(_)),
-        Wanted::TextOrMissing => matches!(value, Value::Text(_)),
-        Wanted::Text => match value {
+    match operand {
+        Operand::Any => true,
+        Operand::Of(Wanted::Integer) => matches!(value, Value::Integer(_, _)),
+        Operand::Of(Wanted::Function) => matches!(value, Value::Function(_)),
+        Operand::Of(Wanted::TextOrMissing) => matches!(value, Value::Text(_)),
+        Operand::Of(Wanted::Text) => match value {
             Value::Text(m) => !m.missing,
             _ => false,
         },
     }
 }
 
-/// Takes nothing.
-pub(crate) fn take_none(a: State) -> Option<State>
-    ensures { IfSome result (λ b. Taken [] a b) }
+/// Takes these operands, the first from the top, if each is there and fits: what is left below them.
+pub(crate) fn take(a: State, operands: &[Operand]) -> Option<State>
+    ensures { IfSome result (λ b. Taken operands.now a b) }
 {
     if !a.has_room() {
         return None;
     }
-    Some(a)
-}
-
-/// Takes an operand, if it is there and fits: what is left below it.
-pub(crate) fn take_one(a: State, wanted: Wanted) -> Option<State>
-    ensures { IfSome result (λ b. Taken (Of wanted ∷ []) a b) }
-{
-    let t = top_of(a)?;
-    if !is_fit(t.value, wanted) {
-        return None;
-    }
-    Some(t.below)
-}
-
-/// Takes two operands, the first from the top.
-pub(crate) fn take_two(a: State, first: Wanted, second: Wanted) -> Option<State>
-    ensures { IfSome result (λ b. Taken (Of first ∷ Of second ∷ []) a b) }
-{
-    let t = pair_of(a)?;
-    if !is_fit(t.first_value, first) || !is_fit(t.second_value, second) {
-        return None;
-    }
-    Some(t.below)
-}
-
-/// Takes three operands, the first from the top.
-pub(crate) fn take_three(a: State, first: Wanted, second: Wanted, third: Wanted) -> Option<State>
-    ensures { IfSome result (λ b. Taken (Of first ∷ Of second ∷ Of third ∷ []) a b) }
-{
-    let t = triple_of(a)?;
-    if !is_fit(t.first_value, first)
-        || !is_fit(t.second_value, second)
-        || !is_fit(t.third_value, third)
-    {
-        return None;
-    }
-    Some(t.below)
-}
-
-/// Adds what is left below operands, with a literal of which this is known. False if they weren't taken.
-pub(crate) fn pushes(
-    work: &Work,
-    taken: Option<State>,
-    value: Value,
-    out: &mut Vec<State>,
-) -> Result<bool, AllocError>
-    ensures { IfOk result (λ ok. IsTrue ok → Pushed taken value out.old.items out.new.items) }
-{
-    match taken {
-        None => Ok(false),
-        Some(below) => {
-            add_new(work, below, value, out)?;
-            Ok(true)
+    let mut below = a;
+    for operand in operands {
+        let number = below.pop()?;
+        if !is_fit(below.value(number), *operand) {
+            return None;
         }
     }
+    Some(below)
 }
 
-/// Adds what is left below operands. False if they weren't taken.
-pub(crate) fn drops(
+/// Adds what is left below operands, with a literal of which this is known, if one is pushed. False if they weren't taken.
+pub(crate) fn follows(
     work: &Work,
     taken: Option<State>,
+    pushes: Option<Value>,
     out: &mut Vec<State>,
 ) -> Result<bool, AllocError>
-    ensures { IfOk result (λ ok. IsTrue ok → Dropped taken out.old.items out.new.items) }
+    ensures { IfOk result (λ ok. IsTrue ok → Followed taken pushes out.old.items out.new.items) }
 {
-    match taken {
-        None => Ok(false),
-        Some(below) => {
-            add_sure(work, out, below)?;
-            Ok(true)
-        }
+    let Some(below) = taken else {
+        return Ok(false);
+    };
+    match pushes {
+        Some(value) => add_new(work, below, value, out)?,
+        None => add_sure(work, out, below)?,
     }
+    Ok(true)
 }

@@ -36,7 +36,6 @@ fn built_in(work: &Work, a: State, b: BuiltIn, out: &mut Vec<State>) -> Result<b
     match b {
         BuiltIn::Duplicate => stack_rules::duplicate(work, a, out),
         BuiltIn::Pop => stack_rules::pop(work, a, out),
-        BuiltIn::Top => stack_rules::top(work, a, out),
         BuiltIn::Skip => stack_rules::skip(work, a, out),
         BuiltIn::Stack => stack_rules::stack(work, a, out),
         BuiltIn::Swap => stack_rules::swap(work, a, out),
@@ -50,24 +49,7 @@ fn built_in(work: &Work, a: State, b: BuiltIn, out: &mut Vec<State>) -> Result<b
         BuiltIn::Less => known_rules::less(work, a, out),
         BuiltIn::Equals => known_rules::equals(work, a, out),
         BuiltIn::Concatenate => known_rules::concatenate(work, a, out),
-        BuiltIn::AddPeriod => plain_rules::add_period(work, a, out),
-        BuiltIn::ChangeCase => plain_rules::change_case(work, a, out),
-        BuiltIn::FormatName => plain_rules::format_name(work, a, out),
-        BuiltIn::IntToChr => plain_rules::int_to_chr(work, a, out),
-        BuiltIn::IntToStr => plain_rules::int_to_str(work, a, out),
-        BuiltIn::Preamble => plain_rules::preamble(work, a, out),
-        BuiltIn::Purify => plain_rules::purify(work, a, out),
-        BuiltIn::Quote => plain_rules::quote(work, a, out),
-        BuiltIn::Substring => plain_rules::substring(work, a, out),
-        BuiltIn::TextPrefix => plain_rules::text_prefix(work, a, out),
-        BuiltIn::Warning => plain_rules::warning(work, a, out),
-        BuiltIn::NewLine => plain_rules::newline(work, a, out),
-        BuiltIn::TextLength => plain_rules::text_length(work, a, out),
-        BuiltIn::Width => plain_rules::width(work, a, out),
-        BuiltIn::ChrToInt => plain_rules::chr_to_int(work, a, out),
-        BuiltIn::Cite => plain_rules::cite(work, a, out),
-        BuiltIn::Type => plain_rules::type_name(work, a, out),
-        BuiltIn::Assign | BuiltIn::CallType | BuiltIn::If | BuiltIn::While => Ok(false),
+        _ => plain_rules::plain_step(work, a, b, out),
     }
 }
 

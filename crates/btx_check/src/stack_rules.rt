@@ -26,13 +26,6 @@ pub fn pop(work: &Work, a: State, out: &mut Vec<State>) -> Result<bool, AllocErr
     taking!(top_of(a), t => add_sure(work, out, t.below))
 }
 
-/// `top$`.
-pub fn top(work: &Work, a: State, out: &mut Vec<State>) -> Result<bool, AllocError>
-    ensures { IfOk result (λ ok. IsTrue ok → Ruled (callee.BuiltIn built_in.Top) a out.old.items out.new.items) }
-{
-    taking!(top_of(a), t => add_sure(work, out, t.below))
-}
-
 /// `skip$`.
 pub fn skip(work: &Work, a: State, out: &mut Vec<State>) -> Result<bool, AllocError>
     ensures { IfOk result (λ ok. IsTrue ok → Ruled (callee.BuiltIn built_in.Skip) a out.old.items out.new.items) }

@@ -141,7 +141,7 @@ fn wrong_operand(a: &State, f: Callee) -> Option<Operand> {
                 Wants::Any => None,
             };
             let is_right = match wanted {
-                Some(wanted) => is_fit(value, wanted),
+                Some(wanted) => is_fit(value, Wants::Of(wanted)),
                 None => is_right_here(a, value, f),
             };
             if !is_right {
