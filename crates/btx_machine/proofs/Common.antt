@@ -24,7 +24,7 @@ pub use Rattle.btx_step.specs.refinement.Top.{below_top}
 pub use Rattle.btx_machine.specs.declared.command.Command.{Command}
 pub use Rattle.btx_machine.specs.declared.ending.Ending.{Ending}
 pub use Rattle.btx_machine.specs.declared.machine.Position.{Position}
-pub use Rattle.btx_machine.specs.declared.marks.Kind.{Kind}
+pub use Rattle.btx_machine.specs.declared.marks.MarkKind.{MarkKind}
 pub use Rattle.btx_machine.specs.declared.marks.Mark.{Mark}
 pub use Rattle.btx_machine.specs.language.Commands.{cleared, in_order}
 unfoldable pub use Rattle.btx_machine.specs.language.Commands.{visit}

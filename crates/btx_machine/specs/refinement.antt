@@ -7,6 +7,7 @@ pub mod Frame
 pub mod Frames
 pub mod Marks
 pub mod Positions
+pub mod Goes
 pub mod Progress
 pub mod Closing
 pub mod Saying

@@ -10,7 +10,7 @@ use crate::scene::Level;
 use btx_bst::Style;
 use btx_code::Code;
 use btx_code::op::callee_of;
-use btx_machine::marks::{Kind, Mark, Marks};
+use btx_machine::marks::{Mark, MarkKind, Marks};
 use std::alloc::{AllocError, Global};
 
 // The level of what is open on top, which goes on at `place`.
@@ -19,12 +19,12 @@ fn level_of(code: &Code, style: &Style<'_>, place: usize, mark: Mark) -> Option<
     ensures { IfSome result (λ level. (below : List Open) → frames_of code.now place (open_of mark ∷ below) ≡ frame_of style.now level ∷ frames_of code.now mark.place below) }
 {
     match mark.kind {
-        Kind::Body => Some(Level::Body(place_before(code, style, place)?)),
-        Kind::LoopTest => Some(Level::LoopTest(
+        MarkKind::Body => Some(Level::Body(place_before(code, style, place)?)),
+        MarkKind::LoopTest => Some(Level::LoopTest(
             callee_of(mark.test.op, mark.test.number),
             callee_of(mark.body.op, mark.body.number),
         )),
-        Kind::LoopBody => Some(Level::LoopBody(
+        MarkKind::LoopBody => Some(Level::LoopBody(
             callee_of(mark.test.op, mark.test.number),
             callee_of(mark.body.op, mark.body.number),
         )),

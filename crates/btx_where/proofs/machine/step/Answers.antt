@@ -1,10 +1,10 @@
 use Rattle.std.proofs.Common.{◌<◌, ◌≤◌, ◌∙◌, ap, arith, sym}
 use Rattle.btx_bst.specs.declared.token.Token.TheVariants.{Run}
 use Rattle.btx_code.specs.refinement.Instructions.{token_as}
-use Rattle.btx_machine.specs.refinement.Frames.{bodies_in, loops_in}
+use Rattle.btx_machine.specs.refinement.Frames.{bodies_in, loops_in, resume}
 use Rattle.btx_machine.specs.refinement.Marks.{frames_of}
 use Rattle.btx_machine.specs.refinement.Positions.{lead_as, next_token, quoted_before}
-use Rattle.btx_machine.proofs.ComesLemmas.{ok_map}
+use Rattle.btx_machine.proofs.ComesLemmas.{comes_behind, ok_map}
 use Rattle.btx_machine.proofs.Counts.{bodies_are, loops_are}
 use Rattle.btx_machine.proofs.PlaceLemmas.{body_frame, loop_frame, run_token, within}
 use Rattle.btx_machine.proofs.StepLemmas as by
@@ -12,9 +12,13 @@ use Rattle.btx_where.proofs.machine.step.Goals as goal
 
 pub returns-in-Nothing-clause-same : goal.returns-in-Nothing-clause-same
 returns-in-Nothing-clause-same g c = let stepped = rw c.token.ensures at c.in_ok-step.ensures.ok in
-    ok_map (λ to. by.goes_on c.args.program.job.now (next_token c.args.program.code.now c.args.at.now) (frames_of c.args.program.code.now c.args.at.now.place
-    c.args.marks.now) c.args.work.now c.step.new.self c.in_ok-step.step stepped c.in-Nothing.is c.go_on.new.work (lead_as c.args.program.job.now
-    c.args.program.code.now to c.go_on.new.at c.go_on.new.marks)) c.go_on.result c.go_on.ensures.same
+    let job = c.args.program.job.now in
+    let code = c.args.program.code.now in
+    let next = next_token code c.args.at.now in
+    let frames = frames_of code c.args.at.now.place c.args.marks.now in
+    ok_map (λ to. comes_behind c.args.work.now c.step.new.self c.go_on.new.work (by.Stepping job next frames) (resume job frames)
+    (lead_as job code to c.go_on.new.at c.go_on.new.marks)
+    (by.goes_on job next frames c.args.work.now c.step.new.self c.in_ok-step.step stepped c.in-Nothing.is)) c.go_on.result c.go_on.ensures.same
 
 pub returns-in-End-clause-same : goal.returns-in-End-clause-same
 returns-in-End-clause-same g c = let stepped = rw c.token.ensures at c.in_ok-step.ensures.ok in
@@ -41,13 +45,16 @@ returns-then-bodies-lt-MOST_BODIES-clause-same g c = let stepped = rw c.token.en
     let r = c.start-at.result in
     let new = c.open.new.self in
     let lt : bodies_in (frames_of code p c.args.marks.now) < 4096 = omega (arith, bodies_are code p c.args.marks.now, c.bodies.ensures.count) in
-    ok_map (λ to. by.opened c.args.program.job.now (next_token code c.args.at.now) (frames_of code p c.args.marks.now) c.args.work.now c.step.new.self
-    c.in_ok-step.step stepped c.in-Open.function c.in-Open.is c.open-then-bodies-lt-MOST_BODIES.new.self (frames_of code r new)
-    c.bodies-then-bodies-lt-MOST_BODIES.result lt (body_frame code c.args.program.job.now c.in-Open.function p r c.args.marks.now new c.args.program.coded
-    c.open.ensures c.start-at.ensures.tokens) (c.bodies-then-bodies-lt-MOST_BODIES.ensures.count ∙ sym (bodies_are code r new))
-    c.open-then-bodies-lt-MOST_BODIES.ensures.outputs c.open-then-bodies-lt-MOST_BODIES.ensures.store c.go_on-then-bodies-lt-MOST_BODIES.new.work
-    (lead_as c.args.program.job.now code to c.go_on-then-bodies-lt-MOST_BODIES.new.at c.go_on-then-bodies-lt-MOST_BODIES.new.marks))
-    c.go_on-then-bodies-lt-MOST_BODIES.result c.go_on-then-bodies-lt-MOST_BODIES.ensures.same
+    let job = c.args.program.job.now in
+    let next = next_token code c.args.at.now in
+    let frames = frames_of code p c.args.marks.now in
+    let work = c.open-then-bodies-lt-MOST_BODIES in
+    let on = c.go_on-then-bodies-lt-MOST_BODIES in
+    ok_map (λ to. comes_behind c.args.work.now work.new.self on.new.work (by.Stepping job next frames) (resume job (frames_of code r new))
+    (lead_as job code to on.new.at on.new.marks) (by.opened job next frames c.args.work.now c.step.new.self c.in_ok-step.step stepped c.in-Open.function
+    c.in-Open.is work.new.self (frames_of code r new) c.bodies-then-bodies-lt-MOST_BODIES.result lt (body_frame code job c.in-Open.function p r
+    c.args.marks.now new c.args.program.coded c.open.ensures c.start-at.ensures.tokens) (c.bodies-then-bodies-lt-MOST_BODIES.ensures.count ∙ sym (bodies_are
+    code r new)) work.ensures.outputs work.ensures.store)) on.result on.ensures.same
 
 pub returns-else-bodies-lt-MOST_BODIES-clause-same : goal.returns-else-bodies-lt-MOST_BODIES-clause-same
 returns-else-bodies-lt-MOST_BODIES-clause-same g c = let stepped = rw c.token.ensures at c.in_ok-step.ensures.ok in
@@ -62,11 +69,14 @@ returns-then-loops-lt-MOST_LOOPS-clause-same g c = let stepped = rw c.token.ensu
     let p = c.args.at.now.place in
     let r = c.end-at.result in
     let lt : loops_in (frames_of code p c.args.marks.now) < 4096 = omega (arith, loops_are code p c.args.marks.now, c.loops.ensures.count) in
-    ok_map (λ to. by.looped c.args.program.job.now (next_token code c.args.at.now) (frames_of code p c.args.marks.now) c.args.work.now c.step.new.self
-    c.in_ok-step.step stepped c.in-Loop.test c.in-Loop.body c.in-Loop.is (frames_of code r c.start.new.self) lt (loop_frame code c.in-Loop.test c.in-Loop.body _
-    _ p r c.args.marks.now c.start.new.self c.function_of-test.ensures.is c.function_of-body.ensures.is c.start.ensures)
-    c.go_on-then-loops-lt-MOST_LOOPS.new.work (lead_as c.args.program.job.now code to c.go_on-then-loops-lt-MOST_LOOPS.new.at
-    c.go_on-then-loops-lt-MOST_LOOPS.new.marks)) c.go_on-then-loops-lt-MOST_LOOPS.result c.go_on-then-loops-lt-MOST_LOOPS.ensures.same
+    let job = c.args.program.job.now in
+    let next = next_token code c.args.at.now in
+    let frames = frames_of code p c.args.marks.now in
+    let on = c.go_on-then-loops-lt-MOST_LOOPS in
+    ok_map (λ to. comes_behind c.args.work.now c.step.new.self on.new.work (by.Stepping job next frames) (resume job (frames_of code r c.start.new.self))
+    (lead_as job code to on.new.at on.new.marks) (by.looped job next frames c.args.work.now c.step.new.self c.in_ok-step.step stepped c.in-Loop.test
+    c.in-Loop.body c.in-Loop.is (frames_of code r c.start.new.self) lt (loop_frame code c.in-Loop.test c.in-Loop.body _ _ p r c.args.marks.now
+    c.start.new.self c.function_of-test.ensures.is c.function_of-body.ensures.is c.start.ensures))) on.result on.ensures.same
 
 pub returns-else-loops-lt-MOST_LOOPS-clause-same : goal.returns-else-loops-lt-MOST_LOOPS-clause-same
 returns-else-loops-lt-MOST_LOOPS-clause-same g c = let stepped = rw c.token.ensures at c.in_ok-step.ensures.ok in
