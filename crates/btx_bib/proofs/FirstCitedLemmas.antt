@@ -10,7 +10,7 @@ use Rattle.btx_text.specs.language.Keys.{folded}
 use Rattle.btx_aux.specs.language.Names.{is_same_key}
 use Rattle.btx_aux.specs.refinement.Entries.{Bytes, texts_of}
 use Rattle.btx_bib.specs.declared.draft.Draft.{Draft}
-use Rattle.btx_bib.specs.declared.draft_slots.DraftSlot.{DraftSlot}
+use Rattle.btx_bib.specs.declared.slots.Slot.{Slot}
 use Rattle.btx_bib.specs.language.Listing.{first_cited}
 use Rattle.btx_bib.specs.language.Wanted.{Request}
 use Rattle.btx_bib.specs.refinement.Drafts.{cited_all, cited_at, empty, open_slot, place_in}
@@ -57,7 +57,7 @@ cited_at-new : (wanted : Request) (before : List (List ℕ)) (key : List ℕ) �
 cited_at-new wanted before key =
     ap (λ (names : List (List ℕ)). record { names = names; slots = map (open_slot wanted true 0) before ++ open_slot wanted true 0 key ∷ [] })
     (sym (map-append folded before (key ∷ [])))
-    ∙ ap (λ (slots : List DraftSlot). record { names = map folded (before ++ key ∷ []); slots = slots })
+    ∙ ap (λ (slots : List Slot). record { names = map folded (before ++ key ∷ []); slots = slots })
     (sym (map-append (open_slot wanted true 0) before (key ∷ [])))
 
 cited-apart : (wanted : Request) (before keys : List (List ℕ)) → IsDistinct is_same_key (before ++ keys) → cited_all wanted (listed wanted before) keys
@@ -97,7 +97,7 @@ first-within (Some place) keys cited is =
     let within = length-first place keys in
     omega (arith, same, within)
 
-pub cited-first : (wanted : Request) (names : List (List ℕ)) (slots : List DraftSlot) (cited : List Bytes) → IsDistinct is_same_key wanted.cited
+pub cited-first : (wanted : Request) (names : List (List ℕ)) (slots : List Slot) (cited : List Bytes) → IsDistinct is_same_key wanted.cited
     → texts_of cited ≡ first_cited wanted.all wanted.cited
     → names ≡ take (length cited) (map folded wanted.cited) → slots ≡ map (open_slot wanted true 0) (texts_of cited) → record { names = names; slots = slots }
     ≡ cited_all wanted empty (first_cited wanted.all wanted.cited)
@@ -107,5 +107,5 @@ cited-first wanted names slots cited distinct is named placed =
     let all_names : names ≡ map folded keys = named ∙ ap (λ (n : ℕ). take n (map folded wanted.cited)) count ∙ first-names wanted.all wanted.cited in
     let all_slots : slots ≡ map (open_slot wanted true 0) keys = placed ∙ ap (map (open_slot wanted true 0)) is in
     ap (λ (ns : List (List ℕ)). record { names = ns; slots = slots }) all_names
-    ∙ ap (λ (ss : List DraftSlot). record { names = map folded keys; slots = ss }) all_slots
+    ∙ ap (λ (ss : List Slot). record { names = map folded keys; slots = ss }) all_slots
     ∙ sym (cited-apart wanted [] keys (distinct-first wanted.all wanted.cited distinct))

@@ -14,12 +14,11 @@ use Rattle.btx_bib.specs.declared.end.End.TheVariants as end
 use Rattle.btx_bib.specs.declared.entry.Entry.{Entry}
 use Rattle.btx_bib.specs.declared.message.Message.{Message}
 use Rattle.btx_bib.specs.declared.slots.Body.{Body}
-use Rattle.btx_bib.specs.declared.slots.Slot.{Slot}
 use Rattle.btx_bib.specs.language.Values.{field_value}
 use Rattle.btx_bib.specs.language.Wanted.{Request}
 use Rattle.btx_bib.specs.language.Entries.{Given, KeptField, values_from, body_of, parent_in}
 use Rattle.btx_bib.specs.language.Stored.{entry_with_key}
-use Rattle.btx_bib.specs.language.Listing.{list_keys, slot_of, slots_of}
+use Rattle.btx_bib.specs.language.Listing.{Slot, list_keys, slot_of, slots_of}
 use Rattle.btx_bib.specs.language.Passes.{checked, without_crossref, is_parent, slot_at, parent_at, body_values, without_parent, after_first, after_second}
 use Rattle.btx_bib.specs.language.Passes.{entries_of, entry_at}
 use Rattle.btx_bib.specs.refinement.Steps.{lower_keys}

@@ -10,7 +10,7 @@ use Rattle.std.proofs.lemmas.Slice.Eq.{bytes_eq-Decides}
 use Rattle.std.proofs.lemmas.Map.Keys.{IsDistinct-head, IsDistinct-tail, IsDistinct-push}
 use Rattle.btx_text.specs.language.Keys.{folded}
 use Rattle.btx_aux.specs.language.Names.{is_same_key, with_key}
-use Rattle.btx_bib.specs.declared.draft_slots.DraftSlot.{DraftSlot}
+use Rattle.btx_bib.specs.declared.slots.Slot.{Slot}
 use Rattle.btx_bib.specs.language.Entries.{Given}
 use Rattle.btx_bib.specs.refinement.Finding.{first_place, changed_at}
 use Rattle.btx_bib.specs.language.Stored.{entry_with_key}
@@ -93,15 +93,15 @@ distinct-none = tt
 -- ---- by place
 
 -- something for each key, changed at one key
-abbrev pub changed_key : (List ℕ → DraftSlot) → (DraftSlot → DraftSlot) → List ℕ → List ℕ → DraftSlot
+abbrev pub changed_key : (List ℕ → Slot) → (Slot → Slot) → List ℕ → List ℕ → Slot
 changed_key f change key k = if is_same_key key k then change (f k) else f k
 
-pub unchanged : (f : List ℕ → DraftSlot) (change : DraftSlot → DraftSlot) (key : List ℕ) (keys : List (List ℕ))
+pub unchanged : (f : List ℕ → Slot) (change : Slot → Slot) (key : List ℕ) (keys : List (List ℕ))
     → AllByRecursion (λ (k : List ℕ). is_same_key key k ≡ false) keys → map f keys ≡ map (changed_key f change key) keys
 unchanged f change key [] none = refl
 unchanged f change key (k ∷ keys) none =
     let here : f k ≡ changed_key f change key k = ap (λ (b : Bool). if b then change (f k) else f k) (sym none.0) in
-    ap (λ (slot : DraftSlot). slot ∷ map f keys) here ∙ ap (λ (slots : List DraftSlot). changed_key f change key k ∷ slots) (unchanged f change key keys none.1)
+    ap (λ (slot : Slot). slot ∷ map f keys) here ∙ ap (λ (slots : List Slot). changed_key f change key k ∷ slots) (unchanged f change key keys none.1)
 
 pub none_same : (key : List ℕ) (keys : List (List ℕ)) → is_any_key keys key ≡ false → AllByRecursion (λ (k : List ℕ). is_same_key key k ≡ false) keys
 none_same key [] none = tt
@@ -127,7 +127,7 @@ zero_some : (b : Bool) (o : Option ℕ) (place : ℕ) → (if b then Some 0 else
 zero_some true o place h t = cc
 zero_some false o place h t = cc
 
-pub changed_at-key : (f : List ℕ → DraftSlot) (change : DraftSlot → DraftSlot) (key : List ℕ) (keys : List (List ℕ)) (place : ℕ) → IsDistinct is_same_key keys
+pub changed_at-key : (f : List ℕ → Slot) (change : Slot → Slot) (key : List ℕ) (keys : List (List ℕ)) (place : ℕ) → IsDistinct is_same_key keys
     → first_place (bytes_eq (folded key)) (map folded keys) ≡ Some place
     → changed_at place change (map f keys) ≡ map (changed_key f change key) keys
 changed_at-key f change key [] place distinct at = refl
@@ -139,8 +139,8 @@ changed_at-key f change key (k ∷ keys) place distinct at =
           → changed_at place change (f k ∷ map f keys) ≡ (if b then change (f k) else f k) ∷ map (changed_key f change key) keys
       by_test true same rest =
           let first = zero_some (is_same_key key k) (first_place (bytes_eq (folded key)) (map folded keys)) place at same in
-          rw first (ap (λ (slots : List DraftSlot). change (f k) ∷ slots)
+          rw first (ap (λ (slots : List Slot). change (f k) ∷ slots)
           (unchanged f change key keys (others key k keys same (IsDistinct-head is_same_key k keys distinct))))
       by_test false other rest =
           let later = suc_some (is_same_key key k) (first_place (bytes_eq (folded key)) (map folded keys)) place at other in
-          rw later.1.1 (ap (λ (slots : List DraftSlot). f k ∷ slots) (rest later.0 later.1.0))
+          rw later.1.1 (ap (λ (slots : List Slot). f k ∷ slots) (rest later.0 later.1.0))

@@ -13,10 +13,9 @@ use Rattle.btx_bib.specs.declared.end.End.TheVariants as end
 use Rattle.btx_bib.specs.declared.entry.Entry.{Entry}
 use Rattle.btx_bib.specs.declared.message.Message.{Message}
 use Rattle.btx_bib.specs.declared.slots.Body.{Body}
-use Rattle.btx_bib.specs.declared.slots.Slot.{Slot}
 use Rattle.btx_bib.specs.language.Wanted.{Request}
 use Rattle.btx_bib.specs.language.Entries.{parent_in}
-use Rattle.btx_bib.specs.language.Listing.{slots_of}
+use Rattle.btx_bib.specs.language.Listing.{Slot, slots_of}
 use Rattle.btx_bib.specs.language.Passes.{passed, inherited, inherited_from, inherited_values, checked, without_crossref, is_parent, slot_at, parent_at}
 use Rattle.btx_bib.specs.language.Passes.{body_values, without_parent, after_first, after_second, entries_of, entry_at}
 use Rattle.btx_bib.specs.language.Known.{Known}

@@ -7,7 +7,7 @@ use Rattle.std.specs.Option.{option_map, option_map_or}
 use Rattle.btx_text.specs.language.Keys.{folded}
 use Rattle.btx_aux.specs.language.Names.{is_same_key}
 use Rattle.btx_bib.specs.declared.message.Message.{Message}
-use Rattle.btx_bib.specs.declared.slots.Slot.{Slot}
+use Rattle.btx_bib.specs.language.Listing.{Slot}
 use Rattle.btx_bib.specs.refinement.Finding.{first_place, changed_at}
 use Rattle.btx_bib.specs.language.Passes.{body_values, check_messages, checked, inherited, inherited_from, inherited_values, is_parent, parent_at}
 use Rattle.btx_bib.specs.language.Passes.{parent_messages, pass_messages, passed, slot_at, without_crossref}

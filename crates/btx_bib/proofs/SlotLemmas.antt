@@ -7,7 +7,7 @@ use Rattle.std.specs.List.{sum_by}
 use Rattle.std.proofs.lemmas.Bool.Decides.{nat_tests}
 use Rattle.std.proofs.lemmas.List.Sums.{sum_by-append}
 use Rattle.btx_aux.specs.language.Names.{is_same_key, listed_as}
-use Rattle.btx_bib.specs.declared.draft_slots.DraftSlot.{DraftSlot}
+use Rattle.btx_bib.specs.declared.slots.Slot.{Slot as CodeSlot}
 use Rattle.btx_bib.specs.language.Wanted.{Request}
 use Rattle.btx_bib.specs.language.Entries.{Given, body_of}
 use Rattle.btx_bib.specs.language.Stored.{entry_with_key, references}
@@ -17,7 +17,7 @@ use Rattle.btx_bib.proofs.ListedKeyLemmas.{same_key_equiv, entry_of-same}
 use Rattle.btx_bib.specs.laws.Listing.{spelled}
 
 -- the place for a key, by how it was cited, its entry and the references to it
-abbrev pub slot_by : Request → Bool → List ℕ → Option (List ℕ) → Option Given → ℕ → DraftSlot
+abbrev pub slot_by : Request → Bool → List ℕ → Option (List ℕ) → Option Given → ℕ → CodeSlot
 slot_by wanted kept key cited entry count = record {
   key = unwrap_or (option_or cited (option_map (λ (entry : Given). entry.key) entry)) key;
   is_cited = kept;

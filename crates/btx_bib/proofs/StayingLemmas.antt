@@ -11,12 +11,11 @@ use Rattle.btx_bib.specs.declared.end.End.TheVariants as end
 use Rattle.btx_bib.specs.declared.entry.Entry.{Entry}
 use Rattle.btx_bib.specs.declared.message.Message.{Message}
 use Rattle.btx_bib.specs.declared.slots.Body.{Body}
-use Rattle.btx_bib.specs.declared.slots.Slot.{Slot}
 use Rattle.btx_bib.specs.language.Wanted.{Request}
 use Rattle.btx_bib.specs.language.Entries.{Given, body_of}
 use Rattle.btx_bib.specs.language.Stored.{entry_with_key, parents_in}
 use Rattle.btx_bib.specs.language.Requests.{asked}
-use Rattle.btx_bib.specs.language.Listing.{list_keys, slot_of, slots_of}
+use Rattle.btx_bib.specs.language.Listing.{Slot, list_keys, slot_of, slots_of}
 use Rattle.btx_bib.specs.language.Passes.{passed, inherited, inherited_from, checked, without_crossref, is_parent, slot_at, parent_at, after_first}
 use Rattle.btx_bib.specs.language.Passes.{after_second, entries_of, entry_at, inherited_values, without_parent, body_values}
 use Rattle.btx_bib.specs.language.Known.{Known}

@@ -12,13 +12,12 @@ use Rattle.btx_aux.specs.language.Names.{is_same_key, listed_as, with_key}
 use Rattle.btx_bib.specs.declared.draft.Draft.{Draft}
 use Rattle.btx_bib.specs.declared.draft.Standing.{Standing}
 use Rattle.btx_bib.specs.declared.draft.Standing.TheVariants as standing
-use Rattle.btx_bib.specs.declared.draft_slots.DraftSlot.{DraftSlot}
-use Rattle.btx_bib.specs.declared.slots.Slot.{Slot}
+use Rattle.btx_bib.specs.declared.slots.Slot.{Slot as CodeSlot}
 use Rattle.btx_bib.specs.language.Wanted.{Request}
 use Rattle.btx_bib.specs.refinement.Finding.{first_place, changed_at}
 use Rattle.btx_bib.specs.language.Entries.{Given, body_of}
 use Rattle.btx_bib.specs.language.Stored.{entry_with_key, references, is_wanted}
-use Rattle.btx_bib.specs.language.Listing.{added, first_cited, list_keys, last_cited, slot_of, slots_of}
+use Rattle.btx_bib.specs.language.Listing.{Slot, added, first_cited, list_keys, last_cited, slot_of, slots_of}
 use Rattle.btx_bib.specs.refinement.Drafts.{cited_all, cited_at, empty, place_in, open_slot, with_entry, once_more, has_body, settled_all, late_slot}
 use Rattle.btx_bib.specs.refinement.Drafts.{new_standing, put_at, referred_at, referred_by, standing_at, stored_at}
 use Rattle.btx_bib.specs.refinement.Steps.{lower_keys}
@@ -48,7 +47,7 @@ any-folded (k ∷ keys) key = ap (λ (b : Bool). is_same_key key k || b) (any-fo
 
 -- what stands at the place of a key
 
-at_place : (f : List ℕ → DraftSlot) (keys : List (List ℕ)) (key : List ℕ) (place : ℕ) → first_place (bytes_eq (folded key)) (map folded keys) ≡ Some place
+at_place : (f : List ℕ → CodeSlot) (keys : List (List ℕ)) (key : List ℕ) (place : ℕ) → first_place (bytes_eq (folded key)) (map folded keys) ≡ Some place
     → (other : List ℕ) × ((is_same_key key other ≡ true) × (slice_get (map f keys) place ≡ Some (f other)))
 at_place f [] key place at = cc
 at_place f (k ∷ keys) key place at = by_test (is_same_key key k) refl (first_place (bytes_eq (folded key)) (map folded keys)) refl at
@@ -121,7 +120,7 @@ module _ (wanted : Request) where
   abbrev pub keys : List Given → List (List ℕ)
   keys stored = fold with_key [] (asked stored)
 
-  abbrev pub slot : List Given → List ℕ → DraftSlot
+  abbrev pub slot : List Given → List ℕ → CodeSlot
   slot stored key =
       let cited = listed_as wanted.cited key in
       slot_by wanted (is_some cited) key cited (entry_with_key stored key) (count_by (is_same_key key) (references wanted stored))
@@ -200,12 +199,12 @@ module _ (wanted : Request) where
   Covered-stored stored entry covered asks absent = Covered-push stored entry covered (asked-wanted stored entry wanted.all refl asks) absent
 
   -- the place for a key, with this entry and these references
-  abbrev slot_with : Option Given → List (List ℕ) → List ℕ → DraftSlot
+  abbrev slot_with : Option Given → List (List ℕ) → List ℕ → CodeSlot
   slot_with entry parents key =
       let cited = listed_as wanted.cited key in
       slot_by wanted (is_some cited) key cited entry (count_by (is_same_key key) parents)
 
-  abbrev slot_counting : Option Given → ℕ → List ℕ → DraftSlot
+  abbrev slot_counting : Option Given → ℕ → List ℕ → CodeSlot
   slot_counting entry count key =
       let cited = listed_as wanted.cited key in
       slot_by wanted (is_some cited) key cited entry count
@@ -217,14 +216,14 @@ module _ (wanted : Request) where
     longer = stored ++ entry ∷ []
 
     -- the place for a key with the new entry and these references
-    abbrev by_parents : List (List ℕ) → List ℕ → DraftSlot
+    abbrev by_parents : List (List ℕ) → List ℕ → CodeSlot
     by_parents parents key = slot_with (entry_with_key longer key) parents key
 
     -- where its reference doesn't count yet
-    abbrev between : List ℕ → DraftSlot
+    abbrev between : List ℕ → CodeSlot
     between = by_parents (references wanted stored)
 
-    abbrev change : DraftSlot → DraftSlot
+    abbrev change : CodeSlot → CodeSlot
     change = with_entry (body_of wanted entry) entry.key
 
     filled-key : (key : List ℕ) → changed_key (slot stored) change entry.key key ≡ between key
@@ -303,7 +302,7 @@ module _ (wanted : Request) where
             → referred_at wanted parent (shape (keys stored) (references wanted stored)) o ≡ shape (with_key (keys stored) parent) more
         by_place (Some place) at =
             let listed-there : is_any_key (keys stored) parent ≡ true = place_of-some (keys stored) parent place at in
-            ap (λ (slots : List DraftSlot). record (shape (keys stored) (references wanted stored)) { slots = slots })
+            ap (λ (slots : List CodeSlot). record (shape (keys stored) (references wanted stored)) { slots = slots })
             (changed_at-key between once_more parent (keys stored) place (distinct stored) at
             ∙ map-same (changed_key between once_more parent) (by_parents more) referred-key (keys stored))
             ∙ ap (λ (b : Bool). shape (if b then keys stored else keys stored ++ parent ∷ []) more) (sym listed-there)
@@ -312,13 +311,13 @@ module _ (wanted : Request) where
             ∙ place_of-none (bytes_eq (folded parent)) (map folded (keys stored)) at in
             let names = sym (map-push folded (keys stored) parent) in
             let slots =
-            ap (λ (slots : List DraftSlot). slots ++ open_slot wanted false 1 parent ∷ [])
+            ap (λ (slots : List CodeSlot). slots ++ open_slot wanted false 1 parent ∷ [])
             (unchanged between once_more parent (keys stored) (none_same parent (keys stored) none)
             ∙ map-same (changed_key between once_more parent) (by_parents more) referred-key (keys stored))
-            ∙ ap (λ (slot : DraftSlot). map (by_parents more) (keys stored) ++ slot ∷ []) (open-key covered there none)
+            ∙ ap (λ (slot : CodeSlot). map (by_parents more) (keys stored) ++ slot ∷ []) (open-key covered there none)
             ∙ sym (map-push (by_parents more) (keys stored) parent) in
             ap (λ (ns : List (List ℕ)). record { names = ns; slots = map between (keys stored) ++ open_slot wanted false 1 parent ∷ [] }) names
-            ∙ ap (λ (ss : List DraftSlot). record { names = map folded (keys stored ++ parent ∷ []); slots = ss }) slots
+            ∙ ap (λ (ss : List CodeSlot). record { names = map folded (keys stored ++ parent ∷ []); slots = ss }) slots
             ∙ ap (λ (b : Bool). shape (if b then keys stored else keys stored ++ parent ∷ []) more) (sym none)
 
     referred-parent : wanted.all ≡ None → Covered stored → is_any_key (asked stored) entry.key ≡ true → (parent : Option (List ℕ))
@@ -355,7 +354,7 @@ module _ (wanted : Request) where
         cc
     stored-plain plain covered asks (Some place) at =
         let same : is_wanted wanted stored entry.key ≡ is_any_key (asked stored) entry.key = rw plain refl in
-        ap (λ (slots : List DraftSlot). referred_by None wanted (record { names = map folded (keys stored); slots = slots }) (parent_of wanted entry))
+        ap (λ (slots : List CodeSlot). referred_by None wanted (record { names = map folded (keys stored); slots = slots }) (parent_of wanted entry))
         (filled-at place at)
         ∙ referred-parent plain covered (sym same ∙ asks) (parent_of wanted entry) refl
 
@@ -392,7 +391,7 @@ module _ (wanted : Request) where
       stored-starred (Some place) at =
           let there : is_any_key (keys stored) entry.key ≡ true = place_of-some (keys stored) entry.key place at in
           let are : keys longer ≡ keys stored = keys-starred ∙ ap (λ (b : Bool). if b then keys stored else keys stored ++ entry.key ∷ []) there in
-          ap (λ (slots : List DraftSlot). record { names = map folded (keys stored); slots = slots }) (filled-at place at) ∙ whole (keys stored) are
+          ap (λ (slots : List CodeSlot). record { names = map folded (keys stored); slots = slots }) (filled-at place at) ∙ whole (keys stored) are
       stored-starred None at =
           let none : is_any_key (keys stored) entry.key ≡ false = sym (any-folded (keys stored) entry.key)
           ∙ place_of-none (bytes_eq (folded entry.key)) (map folded (keys stored)) at in
@@ -400,13 +399,13 @@ module _ (wanted : Request) where
           none in
           let late = with_entry (body_of wanted entry) entry.key (late_slot wanted entry.key (listed_as wanted.cited entry.key)) in
           let slots : map (slot stored) (keys stored) ++ late ∷ [] ≡ map between (keys stored ++ entry.key ∷ []) =
-          ap (λ (ss : List DraftSlot). ss ++ late ∷ []) (unchanged (slot stored) change entry.key (keys stored) (none_same entry.key (keys stored) none)
+          ap (λ (ss : List CodeSlot). ss ++ late ∷ []) (unchanged (slot stored) change entry.key (keys stored) (none_same entry.key (keys stored) none)
           ∙ map-same (changed_key (slot stored) change entry.key) between filled-key (keys stored))
-          ∙ ap (λ (s : DraftSlot). map between (keys stored) ++ s ∷ []) late-key
+          ∙ ap (λ (s : CodeSlot). map between (keys stored) ++ s ∷ []) late-key
           ∙ sym (map-push between (keys stored) entry.key) in
           ap (λ (ns : List (List ℕ)). record { names = ns; slots = map (slot stored) (keys stored) ++ late ∷ [] })
           (sym (map-push folded (keys stored) entry.key))
-          ∙ ap (λ (ss : List DraftSlot). record { names = map folded (keys stored ++ entry.key ∷ []); slots = ss }) slots
+          ∙ ap (λ (ss : List CodeSlot). record { names = map folded (keys stored ++ entry.key ∷ []); slots = ss }) slots
           ∙ whole (keys stored ++ entry.key ∷ []) are
 
     -- ---- the whole entry
@@ -512,9 +511,9 @@ module _ (wanted : Request) where
     cited-listing done ks rest key parts begun None at =
         let none : is_any_key ks key ≡ false = sym (any-folded ks key) ∙ place_of-none (bytes_eq (folded key)) (map folded ks) at in
         ap (λ (ns : List (List ℕ)). record { names = ns; slots = map (slot stored) ks ++ open_slot wanted true 0 key ∷ [] }) (sym (map-push folded ks key))
-        ∙ ap (λ (s : DraftSlot). record { names = map folded (ks ++ key ∷ []); slots = map (slot stored) ks ++ s ∷ [] })
+        ∙ ap (λ (s : CodeSlot). record { names = map folded (ks ++ key ∷ []); slots = map (slot stored) ks ++ s ∷ [] })
         (open-cited done ks rest key parts begun none)
-        ∙ ap (λ (ss : List DraftSlot). record { names = map folded (ks ++ key ∷ []); slots = ss }) (sym (map-push (slot stored) ks key))
+        ∙ ap (λ (ss : List CodeSlot). record { names = map folded (ks ++ key ∷ []); slots = ss }) (sym (map-push (slot stored) ks key))
         ∙ ap (λ (b : Bool). listing stored (if b then ks else ks ++ key ∷ [])) (sym none)
 
     kept-key : (ks : List (List ℕ)) (new key : List ℕ) → is_any_key ks key ≡ true → is_any_key (with_key ks new) key ≡ true

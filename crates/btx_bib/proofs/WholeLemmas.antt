@@ -8,12 +8,11 @@ use Rattle.btx_bib.specs.declared.end.End.{End}
 use Rattle.btx_bib.specs.declared.end.End.TheVariants as end
 use Rattle.btx_bib.specs.declared.gathering.Gathering.{Gathering}
 use Rattle.btx_bib.specs.declared.message.Message.{Message}
-use Rattle.btx_bib.specs.declared.slots.Slot.{Slot}
 use Rattle.btx_bib.specs.language.Databases.{library_by, library_of, with_macro}
 use Rattle.btx_bib.specs.refinement.Drafts.{settled_all}
 use Rattle.btx_bib.specs.language.Grammar.ValueTexts.{squeezed}
 use Rattle.btx_bib.specs.language.Known.{Known, goes_on}
-use Rattle.btx_bib.specs.language.Listing.{list_keys}
+use Rattle.btx_bib.specs.language.Listing.{Slot, list_keys}
 use Rattle.btx_bib.specs.language.Passes.{entries_of, reference_messages}
 use Rattle.btx_bib.specs.language.Strings.{defined}
 use Rattle.btx_bib.specs.language.Messages.{Database, Reading}

@@ -1,5 +1,4 @@
 //! The list of keys, while databases are read, and the library that it comes to.
-use crate::draft_slots::{DraftSlot, DraftSlots};
 use crate::end::End;
 use crate::entry::Entry;
 use crate::library::Library;
@@ -7,7 +6,7 @@ use crate::message::Messages;
 use crate::names::Names;
 use crate::passes::entries_of;
 use crate::request::Request;
-use crate::slots::Body;
+use crate::slots::{Body, Slot, Slots};
 use crate::spelling::{Spelling, Word};
 use btx_text::{Lowered, Text};
 use std::alloc::{AllocError, Global};
@@ -16,7 +15,7 @@ use std::alloc::{AllocError, Global};
 #[derive(Drop)]
 pub struct Draft<'a> {
     pub names: Names<'a>,
-    pub slots: DraftSlots<'a>,
+    pub slots: Slots<'a>,
 }
 
 /// How an entry stands when its key was read.
@@ -101,7 +100,6 @@ impl<'a> Draft<'a> {
         ensures messages { OnOk result (messages.new ≡ messages.old ++ reference_messages (settled_all self.entry.slots)) }
     {
         let Draft { names, slots } = self;
-        let slots = slots.settled(alloc)?;
         entries_of(slots, alloc, names, messages)
     }
 
@@ -119,7 +117,7 @@ impl<'a> Draft<'a> {
             return Ok(());
         }
         self.names.add(alloc, lowered)?;
-        let slot = DraftSlot {
+        let slot = Slot {
             key: Spelling::of_file(key),
             is_cited: true,
             wanting: request.fewest,
@@ -217,7 +215,7 @@ impl<'a> Draft<'a> {
             return Ok(());
         }
         self.names.add(alloc, lowered)?;
-        let slot = DraftSlot {
+        let slot = Slot {
             key: Spelling::of_value(key, alloc)?,
             is_cited: false,
             wanting: request.fewest.saturating_sub(1),

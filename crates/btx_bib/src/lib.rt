@@ -3,7 +3,6 @@
 
 mod databases;
 mod draft;
-mod draft_slots;
 mod end;
 mod entry;
 mod few_places;

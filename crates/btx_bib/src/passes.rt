@@ -1,6 +1,8 @@
 //! The passes over the list, once all databases are read: inherited values, parents, and what stays.
 ghost use Rattle.std.specs.Prelude.{◌≡◌, ◌++◌, [], OnOk, IfOk, option_copied, slice_get};
+ghost use Rattle.std.specs.Option.{option_map};
 ghost use Rattle.std.specs.List.{flat_map};
+ghost use Rattle.btx_bib.specs.refinement.Drafts.{settled, settled_all};
 ghost use Rattle.btx_bib.specs.refinement.Finding.{changed_at};
 ghost use Rattle.btx_bib.specs.language.Passes.{after_first, after_second, check_messages, checked, entries_of, entry_at, inherited, is_parent};
 ghost use Rattle.btx_bib.specs.language.Passes.{parent_messages, reference_messages, pass_messages};
@@ -22,8 +24,8 @@ fn inherit_at(
     names: &Names<'_>,
     place: usize,
 ) -> Result<(), AllocError>
-    requires { names.now ≡ lower_keys slots.old }
-    ensures { OnOk result (slots.new ≡ changed_at place (inherited slots.old) slots.old) }
+    requires { names.now ≡ lower_keys (settled_all slots.old) }
+    ensures { OnOk result (settled_all slots.new ≡ changed_at place (inherited (settled_all slots.old)) (settled_all slots.old)) }
 {
     let Some(slot) = slots.at(place) else {
         return Ok(());
@@ -40,9 +42,9 @@ fn inherit_at(
 
 // The first pass: each entry takes what it lacks from its parent.
 fn inherit(slots: &mut Slots<'_>, alloc: Global, names: &Names<'_>) -> Result<(), AllocError>
-    requires { names.now ≡ lower_keys slots.old }
-    ensures pass { OnOk result (slots.new ≡ after_first slots.old) }
-    ensures names { OnOk result (names.now ≡ lower_keys slots.new) }
+    requires { names.now ≡ lower_keys (settled_all slots.old) }
+    ensures pass { OnOk result (settled_all slots.new ≡ after_first (settled_all slots.old)) }
+    ensures names { OnOk result (names.now ≡ lower_keys (settled_all slots.new)) }
 {
     for place in 0..slots.len() {
         inherit_at(slots, alloc, names, place)?;
@@ -52,10 +54,10 @@ fn inherit(slots: &mut Slots<'_>, alloc: Global, names: &Names<'_>) -> Result<()
 
 // Whether a parent has an entry that stays.
 fn is_parent(parent: Option<&Slot<'_>>) -> bool
-    ensures { result ≡ is_parent (option_copied parent.entry) }
+    ensures { result ≡ is_parent (option_map settled (option_copied parent.entry)) }
 {
     match parent {
-        Some(slot) => slot.body.is_some() && slot.stays,
+        Some(slot) => slot.body.is_some() && slot.stays(),
         None => false,
     }
 }
@@ -68,7 +70,7 @@ fn report_parent<'a>(
     parent: Option<&Slot<'a>>,
     messages: &mut Messages<'a>,
 ) -> Result<(), AllocError>
-    ensures { OnOk result (messages.new ≡ messages.old ++ parent_messages child.now key.now (option_copied parent.entry)) }
+    ensures { OnOk result (messages.new ≡ messages.old ++ parent_messages child.now key.now (option_map settled (option_copied parent.entry))) }
 {
     let is_nested = match parent {
         Some(slot) if slot.body.is_some() && !slot.has_parent() => return Ok(()),
@@ -92,9 +94,9 @@ fn check_at<'a>(
     place: usize,
     messages: &mut Messages<'a>,
 ) -> Result<(), AllocError>
-    requires { names.now ≡ lower_keys slots.old }
-    ensures slots { OnOk result (slots.new ≡ changed_at place (checked slots.old) slots.old) }
-    ensures messages { OnOk result (messages.new ≡ messages.old ++ messages_by slots.old (slice_get slots.old place)) }
+    requires { names.now ≡ lower_keys (settled_all slots.old) }
+    ensures slots { OnOk result (settled_all slots.new ≡ changed_at place (checked (settled_all slots.old)) (settled_all slots.old)) }
+    ensures messages { OnOk result (messages.new ≡ messages.old ++ messages_by (settled_all slots.old) (slice_get (settled_all slots.old) place)) }
 {
     let Some(slot) = slots.at(place) else {
         return Ok(());
@@ -119,9 +121,9 @@ fn check<'a>(
     names: &Names<'_>,
     messages: &mut Messages<'a>,
 ) -> Result<(), AllocError>
-    requires { names.now ≡ lower_keys slots.old }
-    ensures slots { OnOk result (slots.new ≡ after_second slots.old) }
-    ensures messages { OnOk result (messages.new ≡ messages.old ++ pass_messages checked check_messages [] slots.old) }
+    requires { names.now ≡ lower_keys (settled_all slots.old) }
+    ensures slots { OnOk result (settled_all slots.new ≡ after_second (settled_all slots.old)) }
+    ensures messages { OnOk result (messages.new ≡ messages.old ++ pass_messages checked check_messages [] (settled_all slots.old)) }
 {
     for place in 0..slots.len() {
         check_at(slots, alloc, names, place, messages)?;
@@ -135,10 +137,11 @@ fn close<'a>(
     entries: &mut Vec<Entry<'a>>,
     messages: &mut Messages<'a>,
 ) -> Result<(), AllocError>
-    ensures entries { OnOk result (entries.new.items ≡ entries.old.items ++ entry_at slot.entry) }
-    ensures messages { OnOk result (messages.new ≡ messages.old ++ absence_messages slot.entry) }
+    ensures entries { OnOk result (entries.new.items ≡ entries.old.items ++ entry_at (settled slot.entry)) }
+    ensures messages { OnOk result (messages.new ≡ messages.old ++ absence_messages (settled slot.entry)) }
 {
-    let Slot { key, stays, body } = slot;
+    let stays = slot.stays();
+    let Slot { key, body, .. } = slot;
     let Some(body) = body else {
         messages.push(Message::NoEntry(key))?;
         return Ok(());
@@ -157,8 +160,8 @@ fn staying<'a>(
     alloc: Global,
     messages: &mut Messages<'a>,
 ) -> Result<Vec<Entry<'a>>, AllocError>
-    ensures entries { IfOk result (λ entries. entries.items ≡ flat_map entry_at slots.entry) }
-    ensures messages { OnOk result (messages.new ≡ messages.old ++ flat_map absence_messages slots.entry) }
+    ensures entries { IfOk result (λ entries. entries.items ≡ flat_map entry_at (settled_all slots.entry)) }
+    ensures messages { OnOk result (messages.new ≡ messages.old ++ flat_map absence_messages (settled_all slots.entry)) }
 {
     let mut entries = Vec::new(alloc);
     let Slots { list } = slots;
@@ -175,9 +178,9 @@ fn passed<'a>(
     names: Names<'_>,
     messages: &mut Messages<'a>,
 ) -> Result<Slots<'a>, AllocError>
-    requires { names ≡ lower_keys slots }
-    ensures slots { IfOk result (λ passed. passed ≡ after_second (after_first slots.entry)) }
-    ensures messages { OnOk result (messages.new ≡ messages.old ++ pass_messages checked check_messages [] (after_first slots.entry)) }
+    requires { names ≡ lower_keys (settled_all slots) }
+    ensures slots { IfOk result (λ passed. settled_all passed ≡ after_second (after_first (settled_all slots.entry))) }
+    ensures messages { OnOk result (messages.new ≡ messages.old ++ pass_messages checked check_messages [] (after_first (settled_all slots.entry))) }
 {
     inherit(&mut slots, alloc, &names)?;
     check(&mut slots, alloc, &names, messages)?;
@@ -192,9 +195,9 @@ pub fn entries_of<'a>(
     names: Names<'_>,
     messages: &mut Messages<'a>,
 ) -> Result<Vec<Entry<'a>>, AllocError>
-    requires { names ≡ lower_keys slots }
-    ensures entries { IfOk result (λ entries. entries.items ≡ entries_of slots.entry) }
-    ensures messages { OnOk result (messages.new ≡ messages.old ++ reference_messages slots.entry) }
+    requires { names ≡ lower_keys (settled_all slots) }
+    ensures entries { IfOk result (λ entries. entries.items ≡ entries_of (settled_all slots.entry)) }
+    ensures messages { OnOk result (messages.new ≡ messages.old ++ reference_messages (settled_all slots.entry)) }
 {
     let slots = passed(slots, alloc, names, messages)?;
     staying(slots, alloc, messages)

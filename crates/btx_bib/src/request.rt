@@ -1,7 +1,6 @@
 //! What is asked of the databases.
 use crate::draft::Standing;
-use crate::draft_slots::{DraftSlot, DraftSlots};
-use crate::slots::Body;
+use crate::slots::{Body, Slot, Slots};
 use crate::spelling::{Spelling, Word};
 use crate::style_fields::StyleFields;
 use btx_aux::AuxJob;
@@ -108,16 +107,12 @@ impl<'r, 'a> Request<'r, 'a> {
     }
 
     /// The places of some cited keys.
-    pub fn cited_slots(
-        &self,
-        alloc: Global,
-        keys: &'a [Vec<u8>],
-    ) -> Result<DraftSlots<'a>, AllocError>
+    pub fn cited_slots(&self, alloc: Global, keys: &'a [Vec<u8>]) -> Result<Slots<'a>, AllocError>
         ensures { IfOk result (λ slots. slots ≡ map (open_slot (wanted self.now) true 0) (texts_of keys.entry.now)) }
     {
-        let mut slots = DraftSlots::new(alloc);
+        let mut slots = Slots::new(alloc);
         for key in keys {
-            let slot = DraftSlot {
+            let slot = Slot {
                 key: Spelling::of_file(key.as_slice()),
                 is_cited: true,
                 wanting: self.fewest,
@@ -139,14 +134,14 @@ impl<'r, 'a> Request<'r, 'a> {
     }
 
     /// The place of an entry whose key isn't in the list. It is spelled as it was cited, if it was.
-    pub fn late_slot(&self, key: &Word<'a>, lowered: &[u8], body: Body<'a>) -> DraftSlot<'a>
+    pub fn late_slot(&self, key: &Word<'a>, lowered: &[u8], body: Body<'a>) -> Slot<'a>
         requires { lowered.now ≡ folded key.now }
         ensures { result ≡ with_entry body.entry key.now (late_slot (wanted self.now) key.now (listed_as (wanted self.now).cited key.now)) }
     {
         let cited = self.cited_as(lowered);
         let is_cited = cited.is_some();
         let key = Spelling::of_file(cited.unwrap_or(key.as_bytes()));
-        DraftSlot {
+        Slot {
             key,
             is_cited,
             wanting: self.fewest,

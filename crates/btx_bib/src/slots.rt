@@ -1,4 +1,4 @@
-//! The places of the list, once all databases are read.
+//! The places of the list.
 use crate::names::Names;
 use crate::spelling::Spelling;
 use crate::values::Values;
@@ -13,13 +13,15 @@ pub struct Body<'a> {
     pub values: Values<'a>,
 }
 
-/// A place of the list.
+/// A place of the list. Whether its entry stays is known once all databases are read.
 #[derive(Drop)]
 pub struct Slot<'a> {
     /// The key, as the list spells it.
     pub key: Spelling<'a>,
-    /// Whether its entry stays in the list.
-    pub stays: bool,
+    /// Whether it was cited.
+    pub is_cited: bool,
+    /// How many references it lacks to stay without having been cited.
+    pub wanting: u32,
     /// Its entry, if there is one.
     pub body: Option<Body<'a>>,
 }
@@ -47,7 +49,8 @@ impl<'a> Slots<'a> {
     ghost use Rattle.btx_bib.specs.refinement.Finding.{changed_at, first_place};
     ghost use Rattle.btx_bib.specs.refinement.Passes.{with_body};
     ghost use Rattle.btx_bib.specs.language.Passes.{inherited_from, without_crossref};
-    ghost use Rattle.std.specs.Option.{option_map_or};
+    ghost use Rattle.std.specs.Option.{option_map, option_map_or};
+    ghost use Rattle.btx_bib.specs.refinement.Drafts.{has_body, once_more, settled, settled_all, with_entry};
     ghost use Rattle.btx_bib.specs.refinement.Steps.{slot_by};
 
     /// No place.
@@ -61,7 +64,7 @@ impl<'a> Slots<'a> {
 
     /// How many places there are.
     pub fn len(&self) -> usize
-        ensures { result ≡ length self.now }
+        ensures { result ≡ length (settled_all self.now) }
     {
         self.list.len()
     }
@@ -74,16 +77,46 @@ impl<'a> Slots<'a> {
         Ok(())
     }
 
+    /// Whether there is an entry at a place.
+    pub fn has_body(&self, place: usize) -> bool
+        ensures { result ≡ has_body (slice_get self.now place) }
+    {
+        match self.list.get(place) {
+            Some(slot) => slot.body.is_some(),
+            None => false,
+        }
+    }
+
+    /// Puts an entry at a place.
+    pub fn fill(&mut self, place: usize, key: Spelling<'a>, body: Body<'a>)
+        ensures { self.new ≡ changed_at place (with_entry body.entry key.entry) self.old }
+    {
+        if place < self.list.len() {
+            let slot = &mut self.list[place];
+            slot.fill(key, body);
+        }
+    }
+
+    /// Counts a reference to a place.
+    pub fn refer(&mut self, place: usize)
+        ensures { self.new ≡ changed_at place once_more self.old }
+    {
+        if place < self.list.len() {
+            let slot = &mut self.list[place];
+            slot.wanting = slot.wanting.saturating_sub(1);
+        }
+    }
+
     /// The place at an index.
     pub fn at(&self, place: usize) -> Option<&Slot<'a>>
-        ensures { option_copied result ≡ slice_get self.now place }
+        ensures { option_map settled (option_copied result) ≡ slice_get (settled_all self.now) place }
     {
         self.list.get(place)
     }
 
     // The place of a key in lower case.
     fn by_name(&self, names: &Names<'_>, lowered: &[u8]) -> Option<&Slot<'a>>
-        ensures { option_copied result ≡ slot_by self.now (first_place (bytes_eq lowered.now) names.now) }
+        ensures { option_map settled (option_copied result) ≡ slot_by (settled_all self.now) (first_place (bytes_eq lowered.now) names.now) }
     {
         match names.position(lowered) {
             Some(place) => self.at(place),
@@ -98,7 +131,8 @@ impl<'a> Slots<'a> {
         names: &Names<'_>,
         key: &[u8],
     ) -> Result<Option<&Slot<'a>>, AllocError>
-        ensures { IfOk result (λ found. option_copied found ≡ slot_by self.now (first_place (bytes_eq (folded key.now)) names.now)) }
+        ensures { IfOk result (λ found. option_map settled (option_copied found)
+            ≡ slot_by (settled_all self.now) (first_place (bytes_eq (folded key.now)) names.now)) }
     {
         let lowered = Lowered::of(alloc, key)?;
         Ok(self.by_name(names, lowered.as_bytes()))
@@ -106,8 +140,8 @@ impl<'a> Slots<'a> {
 
     // Takes the entry at a place away.
     fn take_body(&mut self, place: usize) -> Option<Body<'a>>
-        ensures body { result ≡ option_map_or (λ slot. slot.body) (slice_get self.old place) None }
-        ensures slots { self.new ≡ changed_at place (λ slot. with_body slot None) self.old }
+        ensures body { result ≡ option_map_or (λ slot. slot.body) (slice_get (settled_all self.old) place) None }
+        ensures slots { settled_all self.new ≡ changed_at place (λ slot. with_body slot None) (settled_all self.old) }
     {
         if place < self.list.len() {
             let slot = &mut self.list[place];
@@ -118,7 +152,7 @@ impl<'a> Slots<'a> {
 
     // Puts an entry at a place.
     fn put_body(&mut self, place: usize, body: Body<'a>)
-        ensures { self.new ≡ changed_at place (λ slot. with_body slot (Some body.entry)) self.old }
+        ensures { settled_all self.new ≡ changed_at place (λ slot. with_body slot (Some body.entry)) (settled_all self.old) }
     {
         if place < self.list.len() {
             let slot = &mut self.list[place];
@@ -129,8 +163,9 @@ impl<'a> Slots<'a> {
     /// The entry at a place takes the values that it lacks from its parent, which stands at another. It is away while it does: so one that is its own
     /// parent finds none there, and keeps those that it has.
     pub fn inherit(&mut self, alloc: Global, place: usize, parent: usize) -> Result<(), AllocError>
-        requires { IfSome (slice_get self.old parent) (λ slot. length slot.key ≤ greatest_string) }
-        ensures { OnOk result (self.new ≡ changed_at place (inherited_from (slice_get self.old parent)) self.old) }
+        requires { IfSome (slice_get (settled_all self.old) parent) (λ slot. length slot.key ≤ greatest_string) }
+        ensures { OnOk result (settled_all self.new
+            ≡ changed_at place (inherited_from (slice_get (settled_all self.old) parent)) (settled_all self.old)) }
     {
         let Some(mut body) = self.take_body(place) else {
             return Ok(());
@@ -144,7 +179,7 @@ impl<'a> Slots<'a> {
 
     /// Removes the parent of the entry at `place`.
     pub fn cut(&mut self, place: usize)
-        ensures { self.new ≡ changed_at place without_crossref self.old }
+        ensures { settled_all self.new ≡ changed_at place without_crossref (settled_all self.old) }
     {
         if place < self.list.len() {
             let slot = &mut self.list[place];
@@ -157,11 +192,29 @@ impl<'a> Slot<'a> {
     ghost use Rattle.std.specs.Prelude.{◌≡◌, ◌≤◌, [], length, Some, IfOk, OnOk, is_some};
     ghost use Rattle.btx_text.specs.language.Limits.{greatest_string};
     ghost use Rattle.btx_bib.specs.refinement.Passes.{with_body};
+    ghost use Rattle.btx_bib.specs.refinement.Drafts.{settled, with_entry};
     ghost use Rattle.btx_bib.specs.language.Passes.{without_crossref, inherited_values, parent_at, body_values};
+
+    // Puts an entry here.
+    fn fill(&mut self, key: Spelling<'a>, body: Body<'a>)
+        ensures { self.new ≡ with_entry body.entry key.entry self.old }
+    {
+        if !self.is_cited {
+            self.key = key;
+        }
+        self.body = Some(body);
+    }
+
+    /// Whether its entry stays in the list: it was cited, or is referred to often enough.
+    pub fn stays(&self) -> bool
+        ensures { result ≡ (settled self.now).stays }
+    {
+        self.is_cited || self.wanting == 0
+    }
 
     /// The key of the parent once more.
     pub fn parent(&self, alloc: Global) -> Result<Option<Text<'a>>, AllocError>
-        ensures { IfOk result (λ parent. parent ≡ parent_at self.now) }
+        ensures { IfOk result (λ parent. parent ≡ parent_at (settled self.now)) }
     {
         match &self.body {
             Some(body) => body.values.parent(alloc),
@@ -171,7 +224,7 @@ impl<'a> Slot<'a> {
 
     /// Whether there is a parent.
     pub fn has_parent(&self) -> bool
-        ensures { result ≡ is_some (parent_at self.now) }
+        ensures { result ≡ is_some (parent_at (settled self.now)) }
     {
         match &self.body {
             Some(body) => body.values.has_parent(),
@@ -201,14 +254,14 @@ impl<'a> Slot<'a> {
 
     // Has this entry from now on.
     fn put_body(&mut self, body: Body<'a>)
-        ensures { self.new ≡ with_body self.old (Some body.entry) }
+        ensures { settled self.new ≡ with_body (settled self.old) (Some body.entry) }
     {
         self.body = Some(body);
     }
 
     // The entry has no parent from now on.
     fn cut(&mut self)
-        ensures { self.new ≡ without_crossref self.old }
+        ensures { settled self.new ≡ without_crossref (settled self.old) }
     {
         if let Some(body) = &mut self.body {
             body.values.cut();

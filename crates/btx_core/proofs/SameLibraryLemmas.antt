@@ -19,11 +19,10 @@ use Rattle.btx_bib.specs.declared.message.Message.{Message}
 use Rattle.btx_text.specs.declared.log_line.LineKind.TheVariants as line
 use Rattle.btx_bib.specs.declared.message.Message.TheVariants.{NoEntry}
 use Rattle.btx_bib.specs.declared.slots.Body.{Body}
-use Rattle.btx_bib.specs.declared.slots.Slot.{Slot as NumberedSlot}
 use Rattle.btx_bib.specs.language.Databases.{library_of, library_by, read_one}
 use Rattle.btx_bib.specs.language.Entries.{Given, body_of}
 use Rattle.btx_bib.specs.language.Listing as listing
-use Rattle.btx_bib.specs.language.Listing.{first_cited, last_cited, added, list_keys}
+use Rattle.btx_bib.specs.language.Listing.{Slot as NumberedSlot, first_cited, last_cited, added, list_keys}
 use Rattle.btx_bib.specs.language.MessageTexts.{message_line, message_text}
 use Rattle.btx_text.specs.language.LogLines.{Line, mark_of}
 use Rattle.btx_bib.specs.language.Messages.{Database, Reading}

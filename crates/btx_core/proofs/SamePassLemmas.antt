@@ -18,7 +18,7 @@ use Rattle.btx_text.specs.declared.log_line.LineKind.TheVariants as line
 use Rattle.btx_text.specs.language.LogLines.{Line, mark_of}
 use Rattle.btx_bib.specs.declared.message.Message.TheVariants.{BadReference, NestedReference}
 use Rattle.btx_bib.specs.declared.slots.Body.{Body}
-use Rattle.btx_bib.specs.declared.slots.Slot.{Slot as NumberedSlot}
+use Rattle.btx_bib.specs.language.Listing.{Slot as NumberedSlot}
 use Rattle.btx_bib.specs.language.Entries.{parent_in}
 use Rattle.btx_bib.specs.language.Passes as passes
 use Rattle.btx_bib.specs.language.Passes.{passed, pass_messages, body_values, parent_at, slot_at, or_values, inherited_values, inherited, inherited_from}

@@ -8,12 +8,11 @@ use Rattle.btx_bib.specs.declared.end.End.TheVariants as end
 use Rattle.btx_bib.specs.declared.entry.Entry.{Entry}
 use Rattle.btx_bib.specs.declared.message.Message.{Message}
 use Rattle.btx_bib.specs.declared.slots.Body.{Body}
-use Rattle.btx_bib.specs.declared.slots.Slot.{Slot}
 use Rattle.btx_bib.specs.language.Databases.{library_by, library_of}
 use Rattle.btx_bib.specs.language.Entries.{Given, body_of}
 use Rattle.btx_bib.specs.language.Known.{Known}
 use Rattle.btx_bib.specs.language.Library.{entry_type}
-use Rattle.btx_bib.specs.language.Listing.{slot_of, slots_of, list_keys}
+use Rattle.btx_bib.specs.language.Listing.{Slot, slot_of, slots_of, list_keys}
 use Rattle.btx_bib.specs.language.Passes.{passed, slot_at, parent_at, inherited_from, inherited, is_parent, without_crossref, checked, entry_at, after_first}
 use Rattle.btx_bib.specs.language.Passes.{after_second, entries_of, inherited_values, without_parent, body_values}
 use Rattle.btx_bib.specs.language.Stored.{entry_with_key}

@@ -1,12 +1,18 @@
 -- The list: the cited keys in order, and after them the parents that their entries name, each once. With `*` the keys cited before
 -- it, then all entries in the order of the databases, then the other cited keys (btxdoc, section 2, and its rules for `crossref`).
-use Rattle.std.specs.Prelude.{ℕ, nat_le, ◌||◌, List, [], ◌++◌, map, fold, take, drop, count_by, Option, None, Some, is_some}
+use Rattle.std.specs.Prelude.{ℕ, nat_le, ◌||◌, Bool, List, [], ◌++◌, map, fold, take, drop, count_by, Option, None, Some, is_some}
 use Rattle.std.specs.Option.{option_or, option_map, unwrap_or}
 use Rattle.btx_aux.specs.language.Names.{is_same_key, listed_as, with_key}
-use Rattle.btx_bib.specs.declared.slots.Slot.{Slot}
+use Rattle.btx_bib.specs.declared.slots.Body.{Body}
 use Rattle.btx_bib.specs.language.Wanted.{Request}
 use Rattle.btx_bib.specs.language.Entries.{Given, body_of}
 use Rattle.btx_bib.specs.language.Stored.{entry_with_key, parents_in, references}
+
+-- a place of the list: its key, as the list spells it, whether its entry stays in the list, and its entry, if there is one
+pub record Slot : Type 0 where
+  pub key : List ℕ
+  pub stays : Bool
+  pub body : Option Body
 
 -- the cited keys at the front of the list: with `*` those cited before it, else all
 abbrev pub first_cited : Option ℕ → List (List ℕ) → List (List ℕ)

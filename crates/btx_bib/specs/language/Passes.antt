@@ -8,7 +8,7 @@ use Rattle.btx_bib.specs.declared.entry.Entry.{Entry}
 use Rattle.btx_bib.specs.declared.message.Message.{Message}
 use Rattle.btx_bib.specs.declared.message.Message.TheVariants.{BadReference, NestedReference, NoEntry}
 use Rattle.btx_bib.specs.declared.slots.Body.{Body}
-use Rattle.btx_bib.specs.declared.slots.Slot.{Slot}
+use Rattle.btx_bib.specs.language.Listing.{Slot}
 use Rattle.btx_bib.specs.language.Entries.{parent_in}
 
 -- the list after a pass that changes each place in turn: `judge` sees the list as it is then, of which the places `done` have been changed

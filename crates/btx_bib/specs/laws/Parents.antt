@@ -2,11 +2,10 @@
 use Rattle.std.specs.Prelude.{◌≡◌, ◌<◌, ℕ, suc, true, List, [], Contains, Option, None, Some, is_some}
 use Rattle.btx_bib.specs.declared.end.End.TheVariants.{Whole}
 use Rattle.btx_bib.specs.declared.entry.Entry.{Entry}
-use Rattle.btx_bib.specs.declared.slots.Slot.{Slot}
 use Rattle.btx_bib.specs.language.Values.{field_value}
 use Rattle.btx_bib.specs.language.Entries.{parent_in}
 use Rattle.btx_bib.specs.language.Stored.{entry_with_key, parents_in}
-use Rattle.btx_bib.specs.language.Listing.{slots_of}
+use Rattle.btx_bib.specs.language.Listing.{Slot, slots_of}
 use Rattle.btx_bib.specs.language.Passes.{body_values, slot_at, after_first}
 use Rattle.btx_bib.specs.language.Wanted.{Request}
 use Rattle.btx_bib.specs.language.Messages.{Database}

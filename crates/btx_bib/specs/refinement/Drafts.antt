@@ -7,9 +7,9 @@ use Rattle.btx_aux.specs.language.Names.{listed_as}
 use Rattle.btx_bib.specs.declared.draft.Draft.{Draft}
 use Rattle.btx_bib.specs.declared.draft.Standing.{Standing}
 use Rattle.btx_bib.specs.declared.draft.Standing.TheVariants.{Unwanted, Repeated, Wanted}
-use Rattle.btx_bib.specs.declared.draft_slots.DraftSlot.{DraftSlot}
 use Rattle.btx_bib.specs.declared.slots.Body.{Body}
-use Rattle.btx_bib.specs.declared.slots.Slot.{Slot}
+use Rattle.btx_bib.specs.declared.slots.Slot.{Slot as CodeSlot}
+use Rattle.btx_bib.specs.language.Listing.{Slot}
 use Rattle.btx_bib.specs.refinement.Finding.{first_place, changed_at}
 use Rattle.btx_bib.specs.language.Wanted.{Request}
 use Rattle.btx_bib.specs.language.Entries.{parent_in}
@@ -19,15 +19,15 @@ abbrev pub place_in : Draft → List ℕ → Option ℕ
 place_in draft key = first_place (bytes_eq (folded key)) draft.names
 
 -- the place of a key that has no entry yet
-abbrev pub open_slot : Request → Bool → ℕ → List ℕ → DraftSlot
+abbrev pub open_slot : Request → Bool → ℕ → List ℕ → CodeSlot
 open_slot request is_cited count key = record { key = key; is_cited = is_cited; wanting = request.fewest - count; body = None }
 
 -- a place that gets an entry
-abbrev pub with_entry : Body → List ℕ → DraftSlot → DraftSlot
+abbrev pub with_entry : Body → List ℕ → CodeSlot → CodeSlot
 with_entry body key slot = record { key = if slot.is_cited then slot.key else key; is_cited = slot.is_cited; wanting = slot.wanting; body = Some body }
 
 -- a place that is referred to once more
-abbrev pub once_more : DraftSlot → DraftSlot
+abbrev pub once_more : CodeSlot → CodeSlot
 once_more slot = record slot { wanting = slot.wanting - 1 }
 
 -- no key
@@ -45,7 +45,7 @@ cited_all request draft [] = draft
 cited_all request draft (key ∷ keys) = cited_all request (cited_at request key draft (place_in draft key)) keys
 
 -- there is an entry at a place
-abbrev pub has_body : Option DraftSlot → Bool
+abbrev pub has_body : Option CodeSlot → Bool
 has_body None = false
 has_body (Some slot) = is_some slot.body
 
@@ -78,7 +78,7 @@ abbrev pub referred : Request → Draft → Option (List ℕ) → Draft
 referred request draft parent = referred_by request.all request draft parent
 
 -- the place of a key that isn't in the list yet: it is spelled as it was cited, or as its entry has it
-abbrev pub late_slot : Request → List ℕ → Option (List ℕ) → DraftSlot
+abbrev pub late_slot : Request → List ℕ → Option (List ℕ) → CodeSlot
 late_slot request key cited = open_slot request (is_some cited) 0 (unwrap_or cited key)
 
 -- the list with an entry put where its key has this place, or at a new place
@@ -93,11 +93,12 @@ put_at request key body draft None = record {
 unfoldable pub stored_at : Request → List ℕ → Body → Draft → Option ℕ → Draft
 stored_at request key body draft place = referred request (put_at request key body draft place) (parent_in body.values)
 
--- ---- once all databases are read
+-- ---- as the definitions have the list
 
 -- a place of the list: its entry stays if it was cited, or lacks no reference
-abbrev pub settled : DraftSlot → Slot
+abbrev pub settled : CodeSlot → Slot
 settled slot = record { key = slot.key; stays = slot.is_cited || nat_eq slot.wanting 0; body = slot.body }
 
-abbrev pub settled_all : List DraftSlot → List Slot
+-- all places of the list
+abbrev pub settled_all : List CodeSlot → List Slot
 settled_all slots = map settled slots

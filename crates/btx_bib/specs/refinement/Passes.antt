@@ -1,7 +1,7 @@
 -- A place of the list with another entry, as the code's clauses have it.
 use Rattle.std.specs.Prelude.{Option, List, [], ◌∷◌, ℕ, if◌then◌else◌, Bool, is_some, option_map}
 use Rattle.btx_bib.specs.declared.slots.Body.{Body}
-use Rattle.btx_bib.specs.declared.slots.Slot.{Slot}
+use Rattle.btx_bib.specs.language.Listing.{Slot}
 use Rattle.std.specs.Option.{option_map_or, option_and_then}
 use Rattle.btx_bib.specs.declared.message.Message.{Message}
 use Rattle.btx_bib.specs.declared.message.Message.TheVariants.{NoEntry}

@@ -8,13 +8,12 @@ use Rattle.btx_bib.specs.declared.end.End.TheVariants.{FileLimit}
 use Rattle.btx_bib.specs.declared.gathering.Gathering.{Gathering}
 use Rattle.btx_bib.specs.declared.grammar.commands.Wanted.TheVariants.{Item}
 use Rattle.btx_bib.specs.declared.message.Message.{Message}
-use Rattle.btx_bib.specs.declared.slots.Slot.{Slot}
 use Rattle.btx_bib.specs.refinement.Drafts.{cited_all, empty, settled_all}
 use Rattle.btx_bib.specs.language.Grammar.ValueTexts.{squeezed}
 use Rattle.btx_bib.specs.refinement.Gatherings.{closed, events_with, kept_along, kept_messages}
 use Rattle.btx_bib.specs.language.Known.{goes_on}
 use Rattle.btx_bib.specs.language.Library.{Library}
-use Rattle.btx_bib.specs.language.Listing.{first_cited, last_cited}
+use Rattle.btx_bib.specs.language.Listing.{Slot, first_cited, last_cited}
 use Rattle.btx_bib.specs.language.Passes.{entries_of, reference_messages}
 use Rattle.btx_bib.specs.refinement.Steps.{lower_keys}
 use Rattle.btx_bib.specs.language.Strings.{defined}

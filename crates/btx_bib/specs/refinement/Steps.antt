@@ -3,7 +3,7 @@ use Rattle.std.specs.Prelude.{ℕ, List, [], map, Option, None, Some, slice_get}
 use Rattle.std.specs.Str.{bytes_eq}
 use Rattle.btx_text.specs.language.Keys.{folded}
 use Rattle.btx_bib.specs.declared.message.Message.{Message}
-use Rattle.btx_bib.specs.declared.slots.Slot.{Slot}
+use Rattle.btx_bib.specs.language.Listing.{Slot}
 use Rattle.btx_bib.specs.refinement.Finding.{first_place}
 use Rattle.btx_bib.specs.language.Passes.{parent_at, check_messages}
 

@@ -1,11 +1,12 @@
 use Rattle.std.proofs.Common.{◌≡◌, [], take, drop, length}
+use Rattle.btx_bib.specs.refinement.Drafts.{settled_all}
 use Rattle.btx_bib.specs.language.Passes.{passed, inherited}
 use Rattle.btx_bib.specs.refinement.Steps.{lower_keys}
 use Rattle.btx_bib.proofs.passes.inherit.Given as goal
 
 abbrev pub invariant-loop-place : goal.invariant-loop-place
 invariant-loop-place l = record {
-  named : l.names ≡ lower_keys l.slots;
-  count : length l.slots ≡ length l.initial.slots;
-  pass : passed inherited (take l.place l.slots) (drop l.place l.slots) ≡ passed inherited [] l.initial.slots;
+  named : l.names ≡ lower_keys (settled_all l.slots);
+  count : length (settled_all l.slots) ≡ length (settled_all l.initial.slots);
+  pass : passed inherited (take l.place (settled_all l.slots)) (drop l.place (settled_all l.slots)) ≡ passed inherited [] (settled_all l.initial.slots);
 }

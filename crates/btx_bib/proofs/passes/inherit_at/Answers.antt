@@ -4,7 +4,8 @@ use Rattle.std.specs.Str.{bytes_eq}
 use Rattle.std.proofs.lemmas.Result.{IfOk-weaker}
 use Rattle.btx_text.specs.language.Keys.{folded}
 use Rattle.btx_text.specs.language.Limits.{greatest_string}
-use Rattle.btx_bib.specs.declared.slots.Slot.{Slot}
+use Rattle.btx_bib.specs.language.Listing.{Slot}
+use Rattle.btx_bib.specs.refinement.Drafts.{settled, settled_all}
 use Rattle.btx_bib.specs.refinement.Finding.{first_place}
 use Rattle.btx_bib.specs.language.Passes.{inherited, inherited_from, parent_at, slot_at}
 use Rattle.btx_bib.specs.refinement.Steps.{slot_by}
@@ -13,22 +14,22 @@ use Rattle.btx_bib.proofs.passes.inherit_at.Goals as goal
 
 pub returns-in_default : goal.returns-in_default
 returns-in_default c =
-    let slots = c.args.slots.now in
+    let slots = settled_all c.args.slots.now in
     let none : slice_get slots c.args.place ≡ None = search rules in
     changed_at-none slots c.args.place (inherited slots) none
 
 pub returns-in_default-2 : goal.returns-in_default-2
 returns-in_default-2 c =
-    let slots = c.args.slots.now in
-    let slot = c.in-Some.slot.now in
+    let slots = settled_all c.args.slots.now in
+    let slot = settled c.in-Some.slot.now in
     let there : slice_get slots c.args.place ≡ Some slot = search rules in
     let alone : parent_at slot ≡ None = search rules in
     changed_at-keep slots c.args.place slot (inherited slots) there (inherited-alone slots slot alone)
 
 pub returns-in_default-position : goal.returns-in_default-position
 returns-in_default-position c =
-    let slots = c.args.slots.now in
-    let slot = c.in-Some.slot.now in
+    let slots = settled_all c.args.slots.now in
+    let slot = settled c.in-Some.slot.now in
     let there : slice_get slots c.args.place ≡ Some slot = search rules in
     let named : parent_at slot ≡ Some c.in-Some-2.key = search rules in
     let found : None ≡ slot_by slots (first_place (bytes_eq (folded c.in-Some-2.key)) c.args.names.now) = search rules in
@@ -37,8 +38,8 @@ returns-in_default-position c =
 
 pub returns : goal.returns
 returns c =
-    let slots = c.args.slots.now in
-    let slot = c.in-Some.slot.now in
+    let slots = settled_all c.args.slots.now in
+    let slot = settled c.in-Some.slot.now in
     let parent = slice_get slots c.in-Some-position.parent in
     let there : slice_get slots c.args.place ≡ Some slot = search rules in
     let named : parent_at slot ≡ Some c.in-Some-2.key = search rules in
@@ -54,7 +55,7 @@ short slots key (Some parent) at within = omega (arith, parent-length slots key 
 
 pub inherit-requires : goal.inherit-requires
 inherit-requires c =
-    let slots = c.args.slots.now in
+    let slots = settled_all c.args.slots.now in
     let key = c.in-Some-2.key in
     let parent = slice_get slots c.in-Some-position.parent in
     let found : parent ≡ slot_by slots (first_place (bytes_eq (folded key)) c.args.names.now) = search rules in

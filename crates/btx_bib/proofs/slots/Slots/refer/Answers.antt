@@ -3,7 +3,7 @@ use Rattle.btx_bib.specs.refinement.Finding.{changed_at}
 use Rattle.btx_bib.specs.refinement.Drafts.{once_more}
 use Rattle.btx_bib.proofs.FillingLemmas.{changed_at-past}
 use Rattle.btx_bib.proofs.PlaceLemmas.{changed_at-set}
-use Rattle.btx_bib.proofs.draft_slots.DraftSlots.refer.Goals as goal
+use Rattle.btx_bib.proofs.slots.Slots.refer.Goals as goal
 
 pub returns-then-place-len : goal.returns-then-place-len
 returns-then-place-len c =
