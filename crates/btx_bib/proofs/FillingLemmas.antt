@@ -1,5 +1,5 @@
 -- The values of the declared fields, one field after the other.
-use Rattle.std.proofs.Common.{◌≡◌, ℕ, zero, suc, arith, ◌+◌, ◌<◌, ◌≤◌, Bool, true, false, cond, if◌then◌else◌, nat_eq, List, [], ◌∷◌, ◌++◌, length, Option}
+use Rattle.std.proofs.Common.{◌≡◌, ℕ, zero, suc, arith, ◌+◌, ◌<◌, Bool, true, false, cond, if◌then◌else◌, nat_eq, List, [], ◌∷◌, ◌++◌, Option}
 use Rattle.std.proofs.Common.{None, Some, is_some, refl, sym, ap, ◌∙◌}
 use Rattle.std.specs.Option.{option_or, option_map}
 use Rattle.std.proofs.lemmas.Bool.Decides.{nat_tests}
@@ -11,11 +11,6 @@ use Rattle.btx_bib.specs.language.Values.{field_value}
 use Rattle.btx_bib.specs.refinement.Entries.{field_number, is_number}
 
 -- ---- by place
-
-pub changed_at-past : {T : Type 0} (xs : List T) (i : ℕ) (change : T → T) → length xs ≤ i → xs ≡ changed_at i change xs
-changed_at-past [] i change h = refl
-changed_at-past (x ∷ xs) zero change h = absurd (omega arith)
-changed_at-past (x ∷ xs) (suc i) change h = ap (λ (rest : List _). x ∷ rest) (changed_at-past xs i change (omega arith))
 
 or_kept : (old : Option (List ℕ)) (new : List ℕ) → is_some old ≡ true → old ≡ option_or old (Some new)
 or_kept None new h = cc

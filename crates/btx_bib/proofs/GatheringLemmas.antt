@@ -1,8 +1,7 @@
 -- What is kept while a database is read, event by event.
-use Rattle.std.proofs.Common.{◌≡◌, ℕ, Bool, true, false, not, if◌then◌else◌, List, [], ◌∷◌, ◌++◌, None, Some, refl, sym, ap, ◌∙◌, append_assoc}
+use Rattle.std.proofs.Common.{◌≡◌, ℕ, Bool, true, false, not, if◌then◌else◌, List, [], ◌∷◌, ◌++◌, None, Some, refl, sym, ap, ◌∙◌}
 use Rattle.btx_bib.specs.declared.gathering.Gathering.{Gathering}
 use Rattle.btx_bib.specs.declared.grammar.commands.Wanted.{Wanted as Next}
-use Rattle.btx_bib.specs.declared.message.Message.{Message}
 use Rattle.btx_bib.specs.language.Grammar.Items.{Event, Placed, Step, next_step}
 use Rattle.btx_bib.specs.language.Known.{goes_on}
 use Rattle.btx_bib.specs.language.Messages.{Database}

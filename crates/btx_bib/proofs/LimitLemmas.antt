@@ -1,13 +1,13 @@
 -- What the library has where the reading ends at a limit.
-use Rattle.std.proofs.Common.{◌≡◌, ℕ, Bool, true, false, not, cond, if◌then◌else◌, List, [], ◌∷◌, ◌++◌, fold, length, refl, sym, ap, ◌∙◌}
+use Rattle.std.proofs.Common.{◌≡◌, Bool, true, false, not, if◌then◌else◌, List, [], ◌∷◌, ◌++◌, fold, length, refl, ap, ◌∙◌}
 use Rattle.std.specs.Prelude.{nat_lt}
 use Rattle.std.proofs.lemmas.Bool.{true≢false, false≢true}
 use Rattle.std.proofs.lemmas.Grind.{fold-append}
-use Rattle.btx_text.specs.language.Limits.{greatest_string, is_too_long}
+use Rattle.btx_text.specs.language.Limits.{greatest_string}
 use Rattle.btx_bib.specs.declared.end.End.{End}
 use Rattle.btx_bib.specs.declared.end.End.TheVariants as end
 use Rattle.btx_bib.specs.declared.message.Message.{Message}
-use Rattle.btx_bib.specs.language.Databases.{library_by, library_of, read_one, with_macro}
+use Rattle.btx_bib.specs.language.Databases.{library_by, library_of, read_one}
 use Rattle.btx_bib.specs.language.Grammar.ValueTexts.{squeezed}
 use Rattle.btx_bib.specs.language.Known.{Known, goes_on}
 use Rattle.btx_bib.specs.language.Messages.{Database, Reading}

@@ -1,10 +1,11 @@
 -- The passes, place by place.
 use Rattle.std.proofs.Common.{◌≡◌, ℕ, zero, suc, arith, ◌+◌, ◌<◌, ◌≤◌, IfSome, Bool, true, false, cond, if◌then◌else◌, List, [], ◌∷◌, ◌++◌, take, drop, length}
-use Rattle.std.proofs.Common.{Option, None, Some, refl, sym, ap, subst, ◌∙◌, add-one, append_assoc, nat_eq}
+use Rattle.std.proofs.Common.{Option, None, Some, is_some, refl, sym, ap, subst, ◌∙◌, add-one, append_assoc, append-nil, nat_eq}
 use Rattle.std.specs.Prelude.{slice_get}
 use Rattle.std.specs.Str.{bytes_eq}
 use Rattle.std.specs.Option.{option_map, option_map_or}
 use Rattle.btx_text.specs.language.Keys.{folded}
+use Rattle.btx_text.specs.language.Limits.{greatest_string}
 use Rattle.btx_aux.specs.language.Names.{is_same_key}
 use Rattle.btx_bib.specs.declared.message.Message.{Message}
 use Rattle.btx_bib.specs.language.Listing.{Slot}
@@ -12,26 +13,22 @@ use Rattle.btx_bib.specs.refinement.Finding.{first_place, changed_at}
 use Rattle.btx_bib.specs.language.Passes.{body_values, check_messages, checked, inherited, inherited_from, inherited_values, is_parent, parent_at}
 use Rattle.btx_bib.specs.language.Passes.{parent_messages, pass_messages, passed, slot_at, without_crossref}
 use Rattle.btx_bib.specs.refinement.Passes.{check_messages_by, checked_by, parent_slot, with_body, with_field_values}
-use Rattle.btx_bib.specs.refinement.Steps.{lower_keys, messages_by, slot_by}
+use Rattle.btx_bib.specs.refinement.Steps.{lower_keys, messages_by, parent_by, place_by, slot_by}
 use Rattle.btx_bib.specs.declared.slots.Body.{Body}
 use Rattle.btx_bib.proofs.ValueLemmas.{inherited-same}
 use Rattle.std.proofs.lemmas.Bool.Decides.{nat_tests}
 use Rattle.btx_bib.proofs.ListedKeyLemmas.{folded-same, found-first}
 
-pub changed_at-agree : (xs : List Slot) (p : ℕ) (x : Slot) (f g : Slot → Slot) → slice_get xs p ≡ Some x → f x ≡ g x → changed_at p f xs ≡ changed_at p g xs
-changed_at-agree [] p x f g at same = refl
-changed_at-agree (y ∷ xs) zero x f g at same = let is : y ≡ x = cc in rw is (ap (λ (first : Slot). first ∷ xs) same)
-changed_at-agree (y ∷ xs) (suc p) x f g at same = ap (λ (rest : List Slot). y ∷ rest) (changed_at-agree xs p x f g at same)
+-- a changed list by what is at the place: two changes that agree there, and one that leaves it alone
+changed_at-same : (xs : List Slot) (p : ℕ) (f g : Slot → Slot) → ((x : Slot) → slice_get xs p ≡ Some x → f x ≡ g x) → changed_at p f xs ≡ changed_at p g xs
+changed_at-same [] p f g same = refl
+changed_at-same (x ∷ xs) zero f g same = ap (λ (first : Slot). first ∷ xs) (same x refl)
+changed_at-same (x ∷ xs) (suc p) f g same = ap (λ (rest : List Slot). x ∷ rest) (changed_at-same xs p f g same)
 
-pub changed_at-keep : (xs : List Slot) (p : ℕ) (x : Slot) (f : Slot → Slot) → slice_get xs p ≡ Some x → f x ≡ x → xs ≡ changed_at p f xs
-changed_at-keep [] p x f at same = refl
-changed_at-keep (y ∷ xs) zero x f at same = let is : y ≡ x = cc in rw is (ap (λ (first : Slot). first ∷ xs) (sym same))
-changed_at-keep (y ∷ xs) (suc p) x f at same = ap (λ (rest : List Slot). y ∷ rest) (changed_at-keep xs p x f at same)
-
-pub changed_at-none : (xs : List Slot) (p : ℕ) (f : Slot → Slot) → slice_get xs p ≡ None → xs ≡ changed_at p f xs
-changed_at-none [] p f at = refl
-changed_at-none (y ∷ xs) zero f at = cc
-changed_at-none (y ∷ xs) (suc p) f at = ap (λ (rest : List Slot). y ∷ rest) (changed_at-none xs p f at)
+changed_at-keep : (xs : List Slot) (p : ℕ) (f : Slot → Slot) → ((x : Slot) → slice_get xs p ≡ Some x → f x ≡ x) → xs ≡ changed_at p f xs
+changed_at-keep [] p f same = refl
+changed_at-keep (x ∷ xs) zero f same = ap (λ (first : Slot). first ∷ xs) (sym (same x refl))
+changed_at-keep (x ∷ xs) (suc p) f same = ap (λ (rest : List Slot). x ∷ rest) (changed_at-keep xs p f same)
 
 names_of-changed : (xs : List Slot) (p : ℕ) (f : Slot → Slot) → ((x : Slot) → (f x).key ≡ x.key) → lower_keys (changed_at p f xs) ≡ lower_keys xs
 names_of-changed [] p f keeps = refl
@@ -98,19 +95,6 @@ unfolding check_messages
 messages-is slots slot key o some is = ap (λ (o : Option (List ℕ)). check_messages_by o slots slot) some
     ∙ ap (λ (o : Option Slot). parent_messages slot.key key o) is
 
--- the same where the parent was found by its name in lower case
-pub checked-found : (slots : List Slot) (names : List (List ℕ)) (slot : Slot) (key : List ℕ) (o : Option Slot) (stays : Bool) → names ≡ lower_keys slots
-    → parent_at slot ≡ Some key → o ≡ slot_by slots (first_place (bytes_eq (folded key)) names) → is_parent o ≡ stays
-    → checked slots slot ≡ (if stays then slot else without_crossref slot)
-checked-found slots names slot key o stays are some found is = checked-is slots slot key o some (slot_at-by slots names key o are found)
-    ∙ ap (λ (b : Bool). if b then slot else without_crossref slot) is
-
-pub messages-found : (slots : List Slot) (names : List (List ℕ)) (place : ℕ) (slot : Slot) (key : List ℕ) (o : Option Slot) → names ≡ lower_keys slots
-    → slice_get slots place ≡ Some slot → parent_at slot ≡ Some key → o ≡ slot_by slots (first_place (bytes_eq (folded key)) names)
-    → parent_messages slot.key key o ≡ messages_by slots (slice_get slots place)
-messages-found slots names place slot key o are there some found = sym (messages-is slots slot key o some (slot_at-by slots names key o are found))
-    ∙ ap (messages_by slots) (sym there)
-
 key-checked_by : (o : Option (List ℕ)) (slots : List Slot) (slot : Slot) → (checked_by o slots slot).key ≡ slot.key
 key-checked_by None slots slot = refl
 key-checked_by (Some key) slots slot = by_test (is_parent (slot_at slots key)) where
@@ -121,6 +105,70 @@ key-checked_by (Some key) slots slot = by_test (is_parent (slot_at slots key)) w
 pub key-checked : (slots : List Slot) (slot : Slot) → (checked slots slot).key ≡ slot.key
 unfolding checked
 key-checked slots slot = key-checked_by (parent_at slot) slots slot
+
+-- ---- a pass at a place
+
+module _ (slots : List Slot) (names : List (List ℕ)) (place : ℕ) (are : names ≡ lower_keys slots) where
+  -- the place of the parent that an entry has, by the keys in lower case
+  abbrev parent_of : Option (List ℕ) → Option Slot
+  parent_of o = slot_by slots (place_by names o)
+
+  inherits_by : (slot : Slot) (o : Option (List ℕ)) → parent_at slot ≡ o → inherited_from (parent_of o) slot ≡ inherited slots slot
+  inherits_by slot None alone = sym (inherited-alone slots slot alone)
+  inherits_by slot (Some key) some = sym (inherited-by slots slot key _ some (slot_at-by slots names key _ are refl))
+
+  pub inherits_nothing : None ≡ place_by names (parent_by (slice_get slots place)) → slots ≡ changed_at place (inherited slots) slots
+  inherits_nothing none = changed_at-keep slots place (inherited slots) (λ slot there. sym (inherits_by slot (parent_at slot) refl)
+      ∙ ap (λ (o : Option ℕ). inherited_from (slot_by slots o) slot) (sym (none ∙ ap (λ (o : Option Slot). place_by names (parent_by o)) there)))
+
+  pub inherits_listed : (parent : ℕ) → Some parent ≡ place_by names (parent_by (slice_get slots place))
+      → changed_at place (inherited_from (slice_get slots parent)) slots ≡ changed_at place (inherited slots) slots
+  inherits_listed parent some = changed_at-same slots place (inherited_from (slice_get slots parent)) (inherited slots) (λ slot there.
+      ap (λ (o : Option ℕ). inherited_from (slot_by slots o) slot) (some ∙ ap (λ (o : Option Slot). place_by names (parent_by o)) there)
+      ∙ inherits_by slot (parent_at slot) refl)
+
+  pub checks_nothing : None ≡ parent_by (slice_get slots place) → slots ≡ changed_at place (checked slots) slots
+  checks_nothing none = changed_at-keep slots place (checked slots) (λ slot there. checked-alone slots slot (sym (none ∙ ap parent_by there)))
+
+  checks_by : (slot : Slot) (b : Bool) (o : Option (List ℕ)) → parent_at slot ≡ o → true ≡ is_some o → b ≡ is_parent (parent_of o)
+      → checked slots slot ≡ (if b then slot else without_crossref slot)
+  checks_by slot b None alone some is = cc
+  checks_by slot b (Some key) names_it some is =
+      checked-is slots slot key _ names_it (slot_at-by slots names key _ are refl) ∙ ap (λ (t : Bool). if t then slot else without_crossref slot) (sym is)
+
+  -- where there is a parent: whether it has an entry that stays
+  checks_at : (b : Bool) → true ≡ is_some (parent_by (slice_get slots place)) → b ≡ is_parent (parent_of (parent_by (slice_get slots place))) → (slot : Slot)
+      → slice_get slots place ≡ Some slot → checked slots slot ≡ (if b then slot else without_crossref slot)
+  checks_at b some is slot there = checks_by slot b (parent_at slot) refl (some ∙ ap (λ (o : Option Slot). is_some (parent_by o)) there)
+      (is ∙ ap (λ (o : Option Slot). is_parent (parent_of (parent_by o))) there)
+
+  pub checks_staying : true ≡ is_some (parent_by (slice_get slots place)) → true ≡ is_parent (parent_of (parent_by (slice_get slots place)))
+      → slots ≡ changed_at place (checked slots) slots
+  checks_staying some stays = changed_at-keep slots place (checked slots) (checks_at true some stays)
+
+  pub checks_leaving : true ≡ is_some (parent_by (slice_get slots place)) → false ≡ is_parent (parent_of (parent_by (slice_get slots place)))
+      → changed_at place without_crossref slots ≡ changed_at place (checked slots) slots
+  checks_leaving some leaves = changed_at-same slots place without_crossref (checked slots) (λ slot there. sym (checks_at false some leaves slot there))
+
+  pub logs_nothing : (messages : List Message) → None ≡ parent_by (slice_get slots place) → messages ≡ messages ++ messages_by slots (slice_get slots place)
+  logs_nothing messages none = sym (append-nil messages) ∙ ap (λ (more : List Message). messages ++ more) (at (slice_get slots place) none) where
+    at : (o : Option Slot) → None ≡ parent_by o → [] ≡ messages_by slots o
+    at None none = refl
+    at (Some slot) none = sym (messages-alone slots slot (sym none))
+
+  pub logs_parent : (child key : List ℕ) (o : Option Slot) → Some child ≡ option_map (λ (slot : Slot). slot.key) (slice_get slots place)
+      → Some key ≡ parent_by (slice_get slots place) → o ≡ slot_by slots (first_place (bytes_eq (folded key)) names)
+      → parent_messages child key o ≡ messages_by slots (slice_get slots place)
+  logs_parent child key o = at (slice_get slots place) where
+    at : (s : Option Slot) → Some child ≡ option_map (λ (slot : Slot). slot.key) s → Some key ≡ parent_by s
+        → o ≡ slot_by slots (first_place (bytes_eq (folded key)) names) → parent_messages child key o ≡ messages_by slots s
+    at None spelled some found = cc
+    at (Some slot) spelled some found =
+        let same : child ≡ slot.key = cc in
+        ap (λ (c : List ℕ). parent_messages c key o) same ∙ sym (messages-is slots slot key o (sym some) (slot_at-by slots names key o are found))
+
+-- what search tries for the second pass at a place
+pub ruleset check_steps = (checks_nothing, checks_staying, checks_leaving, logs_nothing, logs_parent)
 
 -- ---- a whole pass
 
@@ -255,19 +303,13 @@ body_in o = option_map_or (λ (slot : Slot). slot.body) o None
 pub given-back : (slots : List Slot) (place parent : ℕ) (body : Body) → Some body ≡ body_in (slice_get slots place) →
     changed_at place (λ slot. with_body slot (Some (record body { values = given_by (slice_get (changed_at place away slots) parent) body.values })))
     (changed_at place away slots) ≡ changed_at place (inherited_from (slice_get slots parent)) slots
-given-back slots place parent body is = at (slice_get slots place) refl is where
-  values : List (Option (List ℕ))
-  values = given_by (slice_get (changed_at place away slots) parent) body.values
-
-  at : (o : Option Slot) → slice_get slots place ≡ o → Some body ≡ body_in o
-      → changed_at place (λ slot. with_body slot (Some (record body { values = values }))) (changed_at place away slots)
-      ≡ changed_at place (inherited_from (slice_get slots parent)) slots
-  at None there none = cc
-  at (Some slot) there whole =
-      changed-twice slots place away (λ slot. with_body slot (Some (record body { values = values })))
-      ∙ changed_at-agree slots place slot (λ s. with_body s (Some (record body { values = values }))) (inherited_from (slice_get slots parent)) there
-      (ap (λ (vs : List (Option (List ℕ))). with_body slot (Some (record body { values = vs }))) (given-there slots place parent slot body there (sym whole))
-      ∙ given-from slot body (slice_get slots parent) (sym whole))
+given-back slots place parent body is =
+    let values = given_by (slice_get (changed_at place away slots) parent) body.values in
+    let put : Slot → Slot = λ slot. with_body slot (Some (record body { values = values })) in
+    changed-twice slots place away put ∙ changed_at-same slots place (λ slot. put (away slot)) (inherited_from (slice_get slots parent)) (λ slot there.
+    (let whole : slot.body ≡ Some body = sym (is ∙ ap body_in there) in
+    ap (λ (vs : List (Option (List ℕ))). with_body slot (Some (record body { values = vs }))) (given-there slots place parent slot body there whole)
+    ∙ given-from slot body (slice_get slots parent) whole))
 
 -- nothing is inherited where no entry is
 alone : (slot : Slot) (o : Option Slot) → slot.body ≡ None → inherited_from o slot ≡ slot
@@ -277,12 +319,8 @@ alone slot (Some parent) is = ap (λ (body : Option Body). with_body slot
 
 pub given-none : (slots : List Slot) (place parent : ℕ) → None ≡ body_in (slice_get slots place) → changed_at place away slots
     ≡ changed_at place (inherited_from (slice_get slots parent)) slots
-given-none slots place parent is = at (slice_get slots place) refl is where
-  at : (o : Option Slot) → slice_get slots place ≡ o → None ≡ body_in o → changed_at place away slots
-      ≡ changed_at place (inherited_from (slice_get slots parent)) slots
-  at None there none = sym (changed_at-none slots place away there) ∙ changed_at-none slots place (inherited_from (slice_get slots parent)) there
-  at (Some slot) there none = changed_at-agree slots place slot away (inherited_from (slice_get slots parent)) there
-      (ap (with_body slot) none ∙ sym (alone slot (slice_get slots parent) (sym none)))
+given-none slots place parent none = changed_at-same slots place away (inherited_from (slice_get slots parent)) (λ slot there.
+    (let no_body : None ≡ slot.body = none ∙ ap body_in there in ap (with_body slot) no_body ∙ sym (alone slot (slice_get slots parent) (sym no_body))))
 
 some-short : (o : Option Slot) (slot : Slot) (most : ℕ) → IfSome o (λ (slot : Slot). length slot.key ≤ most) → o ≡ Some slot → length slot.key ≤ most
 some-short None slot most short is = cc
@@ -295,11 +333,6 @@ away-short (s ∷ slots) zero zero slot most short is = some-short (Some (away s
 away-short (s ∷ slots) zero (suc parent) slot most short is = some-short (slice_get slots parent) slot most short is
 away-short (s ∷ slots) (suc place) zero slot most short is = some-short (Some s) slot most short is
 away-short (s ∷ slots) (suc place) (suc parent) slot most short is = away-short slots place parent slot most short is
-
-pub past-none : (slots : List Slot) (place : ℕ) → length slots ≤ place → slice_get slots place ≡ None
-past-none [] place past = refl
-past-none (s ∷ slots) zero past = absurd (omega arith)
-past-none (s ∷ slots) (suc place) past = past-none slots place (omega arith)
 
 -- ---- the length of a parent's key
 
@@ -316,3 +349,16 @@ pub parent-length : (slots : List Slot) (key : List ℕ) (parent : Slot) → slo
 parent-length slots key parent at =
     sym (length-folded parent.key) ∙ ap (λ (name : List ℕ). length name) (sym (folded-same key parent.key (slot_at-same slots key parent at)))
     ∙ length-folded key
+
+short_at : (slots : List Slot) (key : List ℕ) (o : Option Slot) → slot_at slots key ≡ o → length key ≤ greatest_string
+    → IfSome o (λ (slot : Slot). length slot.key ≤ greatest_string)
+short_at slots key None at within = tt
+short_at slots key (Some parent) at within = omega (arith, parent-length slots key parent at)
+
+pub parent_short : (slots : List Slot) (names : List (List ℕ)) (key : List ℕ) (place : ℕ) → length key ≤ greatest_string → names ≡ lower_keys slots
+    → Some place ≡ first_place (bytes_eq (folded key)) names → IfSome (slice_get slots place) (λ (slot : Slot). length slot.key ≤ greatest_string)
+parent_short slots names key place within are found = short_at slots key (slice_get slots place)
+    (slot_at-by slots names key (slice_get slots place) are (ap (slot_by slots) found)) within
+
+-- what search tries for the first pass at a place
+pub ruleset inherit_steps = (inherits_nothing, inherits_listed, parent_short)

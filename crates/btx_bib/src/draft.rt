@@ -104,6 +104,7 @@ impl<'a> Draft<'a> {
     }
 
     // Lists a cited key.
+    #[tactic(auto, using(crate::proofs::PlaceLemmas::add_steps))]
     fn cite(
         &mut self,
         alloc: Global,
@@ -157,7 +158,7 @@ impl<'a> Draft<'a> {
     }
 
     /// Stores an entry, at the place of its key or at a new one, and counts its reference.
-    #[tactic(auto, unfolding(crate::specs::refinement::Drafts::stored_at))]
+    #[tactic(auto, using(crate::proofs::PlaceLemmas::add_steps), unfolding(crate::specs::refinement::Drafts::stored_at))]
     pub fn store(
         &mut self,
         alloc: Global,
@@ -201,6 +202,7 @@ impl<'a> Draft<'a> {
     }
 
     // Counts a reference to a key, which is listed if it wasn't.
+    #[tactic(auto, using(crate::proofs::PlaceLemmas::add_steps))]
     fn refer_to(
         &mut self,
         alloc: Global,

@@ -18,6 +18,7 @@ use btx_text::{Lowered, Text};
 use std::alloc::{AllocError, Global};
 
 // The first pass, at one place.
+#[tactic(auto, using(crate::proofs::PassLemmas::inherit_steps))]
 fn inherit_at(
     slots: &mut Slots<'_>,
     alloc: Global,
@@ -87,6 +88,7 @@ fn report_parent<'a>(
 }
 
 // The second pass, at one place.
+#[tactic(auto, using(crate::proofs::PassLemmas::check_steps))]
 fn check_at<'a>(
     slots: &mut Slots<'a>,
     alloc: Global,

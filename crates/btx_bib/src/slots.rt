@@ -88,6 +88,7 @@ impl<'a> Slots<'a> {
     }
 
     /// Puts an entry at a place.
+    #[tactic(auto, using(crate::proofs::PlaceLemmas::change_steps))]
     pub fn fill(&mut self, place: usize, key: Spelling<'a>, body: Body<'a>)
         ensures { self.new ≡ changed_at place (with_entry body.entry key.entry) self.old }
     {
@@ -98,6 +99,7 @@ impl<'a> Slots<'a> {
     }
 
     /// Counts a reference to a place.
+    #[tactic(auto, using(crate::proofs::PlaceLemmas::change_steps))]
     pub fn refer(&mut self, place: usize)
         ensures { self.new ≡ changed_at place once_more self.old }
     {
@@ -139,6 +141,7 @@ impl<'a> Slots<'a> {
     }
 
     // Takes the entry at a place away.
+    #[tactic(auto, using(crate::proofs::PlaceLemmas::change_steps))]
     fn take_body(&mut self, place: usize) -> Option<Body<'a>>
         ensures body { result ≡ option_map_or (λ slot. slot.body) (slice_get (settled_all self.old) place) None }
         ensures slots { settled_all self.new ≡ changed_at place (λ slot. with_body slot None) (settled_all self.old) }
@@ -151,6 +154,7 @@ impl<'a> Slots<'a> {
     }
 
     // Puts an entry at a place.
+    #[tactic(auto, using(crate::proofs::PlaceLemmas::change_steps))]
     fn put_body(&mut self, place: usize, body: Body<'a>)
         ensures { settled_all self.new ≡ changed_at place (λ slot. with_body slot (Some body.entry)) (settled_all self.old) }
     {
@@ -178,6 +182,7 @@ impl<'a> Slots<'a> {
     }
 
     /// Removes the parent of the entry at `place`.
+    #[tactic(auto, using(crate::proofs::PlaceLemmas::change_steps))]
     pub fn cut(&mut self, place: usize)
         ensures { settled_all self.new ≡ changed_at place without_crossref (settled_all self.old) }
     {

@@ -1,4 +1,4 @@
-use Rattle.std.proofs.Common.{◌≡◌, ◌∙◌, ◌+◌, ◌&&◌, eqb, true, false, sym, arith}
+use Rattle.std.proofs.Common.{◌≡◌, ◌∙◌, ◌+◌, ◌&&◌, eqb, false, sym, arith}
 use Rattle.btx_bib.specs.language.Grammar.ByteSets.{enclosed_len, ends_enclosed}
 use Rattle.btx_bib.proofs.GrammarLemmas.MarkLemmas.{depth_after-le, enclosed-ends, enclosed-on}
 use Rattle.btx_bib.proofs.GrammarLemmas.PassedLemmas.{unmarked-on}
