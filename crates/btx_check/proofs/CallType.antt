@@ -1,5 +1,5 @@
 -- `call.type$`: the function of the entry's type, or the style's default.
-use Rattle.std.proofs.Common.{◌≡◌, ℕ, zero, suc, ◌+◌, ◌≤◌, List, [], ◌∷◌, Option, None, Some, true, refl, sym, subst, ◌∙◌, inl, inr, codes}
+use Rattle.std.proofs.Common.{◌≡◌, ℕ, zero, suc, ◌+◌, ◌≤◌, List, [], ◌∷◌, Option, None, Some, true, refl, subst, ◌∙◌, inl, inr, codes}
 use Rattle.std.specs.Prelude.{◌⊎◌}
 use Rattle.std.specs.Option.{is_some, option_or, option_map_or}
 use Rattle.btx_bst.specs.language.Style.{Style, type_of}

@@ -23,7 +23,6 @@ use Rattle.btx_bib.specs.language.MessageTexts.{message_line}
 use Rattle.btx_stack.specs.declared.literal.Literal.{Literal}
 use Rattle.btx_stack.specs.declared.literal.Literal.TheVariants.{Integer, Text, Function, Missing}
 use Rattle.std.proofs.lemmas.Int.{ints}
-use Rattle.btx_step.specs.declared.said.Said.TheVariants as said
 use Rattle.btx_step.specs.language.Jobs.{Job}
 use Rattle.btx_step.specs.language.Stores.{Store, EntryVariables}
 use Rattle.btx_machine.specs.declared.command.Command.{Command}

@@ -5,12 +5,10 @@ use Rattle.std.proofs.lemmas.Bool.{ltb-false}
 use Rattle.std.specs.Prelude.{slice_index_or}
 use Rattle.btx_text.specs.declared.limits.Limit.TheVariants as limit
 use Rattle.btx_bst.specs.language.Style.{Style}
-use Rattle.btx_bst.specs.declared.built_in.BuiltIn.TheVariants as built_in
 use Rattle.btx_bst.specs.declared.callee.Callee.{Callee}
 use Rattle.btx_bst.specs.declared.callee.Callee.TheVariants as callee
 use Rattle.btx_bst.specs.declared.token.Token.{Token}
 use Rattle.btx_bst.specs.declared.token.Token.TheVariants as token
-use Rattle.btx_bst.specs.language.Names.{name_of}
 use Rattle.btx_step.specs.declared.next.Next.{Next}
 use Rattle.btx_step.specs.declared.next.Next.TheVariants as next
 use Rattle.btx_step.specs.language.Jobs.{Job}

@@ -7,7 +7,6 @@ use Rattle.btx_bst.specs.language.StyleText.{style_of}
 use Rattle.btx_bib.specs.language.Databases.{library_of}
 use Rattle.btx_bib.specs.language.Library.{Library}
 use Rattle.btx_bib.specs.language.Requests.{asked}
-use Rattle.btx_step.specs.language.Jobs.{Job}
 use Rattle.btx_machine.specs.declared.report.LogCounts.{LogCounts}
 use Rattle.btx_machine.specs.laws.Reports.{log_counts}
 use Rattle.btx_core.specs.declared.found.FilesRead.{FilesRead}
@@ -19,7 +18,7 @@ use Rattle.btx_run.specs.refinement.Contents.{database_of}
 use Rattle.btx_run.specs.refinement.Files.Logging.{LogReceived}
 use Rattle.btx_run.specs.refinement.Files.Readings.{IsRead}
 use Rattle.btx_run.specs.refinement.Product.{work_in, work_of}
-use Rattle.btx_where.specs.Events.{Explains, ExplainsFiles, ExplainsReading}
+use Rattle.btx_where.specs.Events.{ExplainsFiles, ExplainsReading}
 
 -- the work of a style and a library that were read
 pub read_is : (job : AuxJob) (found : JobFiles) (options : Options) (style : Style) (library : Library) (name bytes : List ℕ) → style ≡ style_of name bytes

@@ -1,12 +1,11 @@
 -- The functions with names, and the places round one.
-use Rattle.std.proofs.Common.{◌≡◌, ◌<◌, ◌≤◌, ℕ, zero, suc, ◌+◌, ◌-◌, Bool, true, false, List, [], ◌∷◌, ◌++◌, length, take, drop, min, sym, ap, ◌∙◌, refl}
+use Rattle.std.proofs.Common.{◌≡◌, ◌<◌, ◌≤◌, ℕ, zero, suc, ◌+◌, ◌-◌, true, false, List, [], ◌∷◌, ◌++◌, length, take, drop, min, ap, ◌∙◌, refl}
 use Rattle.std.proofs.Common.{arith, append_assoc, if◌then◌else◌, codes}
 use Rattle.std.proofs.lemmas.List.{drop_min, length-drop, take_all, take_min}
 use Rattle.std.specs.Str.{bytes_eq}
 use Rattle.btx_bst.specs.language.Style.{Style}
-use Rattle.btx_where.specs.Notes.{first_named, function_name, is_same, places_of, places_round}
+use Rattle.btx_where.specs.Notes.{first_named, function_name, is_same, places_round}
 use Rattle.btx_where.specs.declared.place.Place.{Place}
-use Rattle.btx_where.specs.declared.scene.Level.{Level}
 
 -- ---- the first function that has a name
 

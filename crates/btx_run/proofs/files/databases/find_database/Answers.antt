@@ -1,4 +1,4 @@
-use Rattle.std.proofs.Common.{refl, rules, ◌∷◌, []}
+use Rattle.std.proofs.Common.{rules, ◌∷◌, []}
 use Rattle.btx_aux.proofs.AnswerLemmas.{by_map, by_none}
 use Rattle.btx_run.proofs.AskedLemmas.{among-none, among-one}
 use Rattle.btx_run.proofs.ReadingLemmas.{database_is_begun, database_is_read, reads_nothing}

@@ -1,4 +1,4 @@
-use Rattle.std.proofs.Common.{refl, rules, ◌∷◌, []}
+use Rattle.std.proofs.Common.{rules, ◌∷◌, []}
 use Rattle.btx_aux.proofs.AnswerLemmas.{by_both, by_map, by_none}
 use Rattle.btx_run.proofs.AskedLemmas.{among-first, among-front, among-none, among-one}
 use Rattle.btx_run.proofs.ReadingLemmas.{reads_nothing, style_is_found, style_is_missing}
