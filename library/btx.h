@@ -121,9 +121,10 @@ typedef struct {
     size_t notes_len;  /* how many bytes the notes have */
 } btx_verdict;
 
-/* Checks a style before any run, in at most `steps` steps of the check. `name` is that of its file. If it is clean, no run of it logs an empty stack, an operand of a wrong kind, an
-   assignment to no variable, a use without an entry or literals left over, or ends at the limit of literals, bodies or loops: for any document and databases in which each entry's type is
-   one that the style doesn't know or one that is named in `types`, each with a byte 10, and for up to 1,500,000,000 steps of the style. If it isn't called clean, `notes` say where
+/* Checks a style before any run, in at most `steps` steps of the check. `name` is that of its file. If it is clean, no run of it logs an empty stack, an operand of a wrong kind,
+   operands that `=` can't compare, an assignment to no variable, a use without an entry or literals left over, or ends at the limit of literals, bodies or loops: for any document and databases in which each entry's type is
+   one that the style doesn't know or one that is named in `types`, each with a byte 10, and for up to 1,500,000,000 steps of the style. Mistakes in its text aren't looked at: a text with some, or an empty one,
+   may be clean (the man page says what else isn't promised). If it isn't called clean, `notes` say where
    it may go wrong and why, as far as another search of at most as many steps finds it, in lines whose form the man page says. Answers BTX_FULL if one of the two is longer than its room; BTX_REFUSED if the style is longer than a file may be; after
    that and BTX_MEMORY nothing was written. */
 uint32_t btx_check(const unsigned char *name, size_t name_len, const unsigned char *style, size_t style_len, uint64_t steps,
