@@ -803,6 +803,20 @@ Error--x is an unknown function--line 5 of file s.bst\n";
     }
 
     #[test]
+    fn a_misspelt_name_of_a_command_is_named() {
+        let style = "READ\nFUNCTION {begin} {}\nEXECUTE {begn}\n\nITERATE {cal.type$}\n\nREVERSE {nosuch}\n\nEXECUTE {end}\n\nFUNCTION {end} {}\n";
+        let unknown =
+            |name: &str, number| format!("Error--{name} is an unknown function--line {number} of file s.bst\n");
+        let said = |name: &str, number| explain(&unknown(name, number), style, "");
+        assert!(said("begn", 3).contains("    is it begin?\n"), "{}", said("begn", 3));
+        assert!(said("cal.type$", 5).contains("    is it call.type$?\n"), "{}", said("cal.type$", 5));
+        let of_none = said("nosuch", 7);
+        assert!(!of_none.contains("is it") && !of_none.contains("the style defines it"), "{of_none}");
+        let below = said("end", 9);
+        assert!(below.contains("    the style defines it, but not above this place, or in a command"), "{below}");
+    }
+
+    #[test]
     fn a_brace_too_many_is_named() {
         let told = explain("Error--I was expecting a command--line 2 of file s.bst\n", "FUNCTION {f} {}}\n} x\n", "");
         assert!(

@@ -296,8 +296,8 @@ pub struct Defined<'a> {
 }
 
 impl<'a> Defined<'a> {
-    /// The names that the commands of a part of a style define: functions and macros, fields and variables. Of what stands before the first
-    /// of these commands all names count.
+    /// The names that the commands of a part of a style define: functions and macros, fields and variables. What EXECUTE, ITERATE and REVERSE name
+    /// is no definition. Of what stands before the first of these commands all names count.
     pub fn new(text: &'a [u8], from: usize, to: usize, commands: &[Command<'a>]) -> Defined<'a> {
         let begin = commands.partition_point(|command| command.start < from);
         let inside = &commands[begin..commands.partition_point(|command| command.start < to)];
@@ -306,7 +306,8 @@ impl<'a> Defined<'a> {
         let first = inside.first().map_or(to, |command| command.start);
         names.extend(names_in(&text[from.min(first)..first]));
         for (command, end) in inside.iter().zip(ends) {
-            names.extend(command.name.map(Folded));
+            let defines_one = command.is("function") || command.is("macro");
+            names.extend(command.name.filter(|_| defines_one).map(Folded));
             if ["entry", "integers", "strings"].iter().any(|word| command.is(word)) {
                 names.extend(names_in(&text[command.start + command.word.len()..end]));
             }
@@ -482,11 +483,11 @@ mod tests {
 
     #[test]
     fn names_are_defined_by_commands() {
-        let text = b"FUNCTION {f} {x}\nINTEGERS { i j }\nMACRO {jan} {\"J\"}\nSORT";
+        let text = b"FUNCTION {f} {x}\nINTEGERS { i j }\nMACRO {jan} {\"J\"}\nEXECUTE {run}\nITERATE {each}\nREVERSE {back}\nSORT";
         let all = commands(text);
         let defined = Defined::new(text, 0, text.len(), &all);
         assert!([&b"f"[..], b"I", b"j", b"jan"].iter().all(|name| defined.has(name)));
-        assert!(!defined.has(b"x"));
+        assert!([&b"x"[..], b"run", b"each", b"back"].iter().all(|name| !defined.has(name)));
         assert!(!Defined::new(text, all[1].start, text.len(), &all).has(b"f"));
         let unknown = b"INTEGER {count} STRINGS {s}\n\nSTRINGS {t}";
         let skipped = Defined::new(unknown, 0, end_of_skipped(&Text::new(unknown), 1), &commands(unknown));

@@ -242,6 +242,17 @@ grep -qF 'is it INTEGERS?' first || complaints+=("the first lines are $(cat firs
 wants_line_of_output "clean.bst: 1 warning follows from the mistakes above: \`:=\` to a name that isn't known, in line 6"
 end
 
+# What EXECUTE, ITERATE and REVERSE name is no definition of it: the name that may be meant is said.
+begin lint_of_a_misspelt_name_in_a_command
+write_clean
+sed -i 's/^ITERATE .*/FUNCTION {begin} { newline$ }\n\nEXECUTE {begn}\n\nITERATE {cal.type$}/' clean.bst
+run_lint clean.bst
+wants_status 2
+wants_line_of_output '    is it begin?'
+wants_line_of_output '    is it call.type$?'
+! grep -q 'the style defines it' "$folder/stdout" || complaints+=("a name that isn't defined is called so in $(cat "$folder/stdout")")
+end
+
 begin lint_of_what_has_no_use
 write_clean
 sed -i 's/^READ/INTEGERS { zero } STRINGS { s }\n\nFUNCTION {not.used} { "x" '"'"'s := zero pop$ }\n\nREAD/' clean.bst
