@@ -370,6 +370,20 @@ impl<'a> CodePlace<'_, 'a> {
         Some([(line(yes), line(end)), (line(no), line(last))])
     }
 
+    /// Whether both functions of a `while$` here stand directly before it, in braces or quoted.
+    pub fn is_behind_two_functions(self) -> bool {
+        let is_function = |(first, last): (usize, usize)| first < last || self.code.kind(first) == Kind::Quoted;
+        let body = self.code.operand_before(self.index).filter(|body| is_function(*body));
+        body.and_then(|(first, _)| self.code.operand_before(first)).is_some_and(is_function)
+    }
+
+    /// The brace that closes the test of a `while$` here.
+    pub fn end_of_test(self) -> Option<Self> {
+        let (body, _) = self.code.operand_before(self.index)?;
+        let (test, end) = self.code.operand_before(body)?;
+        (test < end).then_some(CodePlace { index: end, ..self })
+    }
+
     /// The function of the style that stands unquoted before an `if$` here, where its first (or its second) function is to stand, and its line.
     pub fn unquoted_branch(self, is_first: bool) -> Option<(&'a [u8], usize)> {
         let (no, last) = self.code.operand_before(self.index)?;
@@ -469,6 +483,16 @@ mod tests {
         assert_eq!(code.declaration(b"label").as_deref(), Some("a string of each entry (ENTRY, line 1)"));
         assert_eq!((code.declaration(b"year").as_deref(), code.line_of(b"i")), (Some("a field (line 1)"), Some(2)));
         assert_eq!((code.shared_like(b"LABEL"), code.shared_like(b"year")), (vec![&b"s"[..]], vec![]));
+    }
+
+    #[test]
+    fn the_test_of_a_loop_is_seen() {
+        let code =
+            Code::new(b"STRINGS {s}\n{ s } { pop$ } while$\n{} 'pop$ while$\n s 'pop$ while$\n{ 'skip$ while$ }\n");
+        let at = |line| code.place_in(line, b"while$", None).unwrap();
+        assert_eq!([2, 3, 4, 5].map(|line| at(line).is_behind_two_functions()), [true, true, false, false]);
+        assert_eq!(at(2).end_of_test().and_then(|end| end.left_by(1)), Some(Left::Text(b"s")));
+        assert!(at(4).end_of_test().is_none() && at(5).end_of_test().is_none());
     }
 
     #[test]

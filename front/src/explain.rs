@@ -6,7 +6,7 @@ use crate::database::Item;
 use crate::entries::{Entries, Stored};
 use crate::job::{File, Files};
 use crate::log::{Content, Ended, Line, Log, Message, Place, Severity};
-use crate::operands::advice_at;
+use crate::operands::{TEST_LEAVES, advice_at, is_of_test_in};
 use crate::origins::{Frame, MissingField, missing_field};
 use crate::repeats::Repeats;
 use crate::scene::{Call, End, Scene};
@@ -508,24 +508,37 @@ impl<'a, W: Write> Explainer<'a, W> {
         if let Some(missing) = self.missing_field(message, function) {
             self.put_place(&missing)?;
         }
-        let is_of_operands = message.text == b"You can't pop an empty literal stack"
-            || advice::find(&[Section::Execution], message.text).is_some_and(|advice| advice.is_of_operands());
-        if is_of_operands
-            && let Some(operands) = advice::operands(function)
-            && self.taught.insert(function)
-        {
-            let is_variable = function == b":=" && message.text.ends_with(b" is not a function");
-            let hint = match operands.contains(' ') {
-                _ if is_variable => ": is there a `'` before the variable?",
-                true => ", pushed in this order",
-                false => "",
-            };
-            self.put_place(&format!("`{}` takes {operands}{hint}", plain(function)))?;
-        }
+        self.teach(message, function)?;
         match self.advice_at(message, function) {
             Some(advice) => self.put_advice(&advice),
             None => self.advise(&[Section::Execution], message.text),
         }
+    }
+
+    /// Says what a function takes, or what its test leaves, where an error is about that; once for each function.
+    fn teach(&mut self, message: &Message<'a>, function: &'a [u8]) -> io::Result<()> {
+        let is_of_operands = message.text == b"You can't pop an empty literal stack"
+            || advice::find(&[Section::Execution], message.text).is_some_and(|advice| advice.is_of_operands());
+        let Some(operands) = advice::operands(function).filter(|_| is_of_operands) else { return Ok(()) };
+        if !self.taught.insert(function) {
+            return Ok(());
+        }
+        if self.is_of_test(message, function) {
+            return self.put_place(TEST_LEAVES);
+        }
+        let is_variable = function == b":=" && message.text.ends_with(b" is not a function");
+        let hint = match operands.contains(' ') {
+            _ if is_variable => ": is there a `'` before the variable?",
+            true => ", pushed in this order",
+            false => "",
+        };
+        self.put_place(&format!("`{}` takes {operands}{hint}", plain(function)))
+    }
+
+    /// Whether an error is about what the test of a `while$` leaves.
+    fn is_of_test(&mut self, message: &Message<'a>, function: &[u8]) -> bool {
+        let code = message.scene.and_then(|scene| Some((self.code_of(scene)?, scene)));
+        code.is_some_and(|(code, scene)| is_of_test_in(code, scene, message.text, function))
     }
 
     /// The code of the style in which a scene is.

@@ -7,7 +7,8 @@ use crate::lint_ties::{Ties, varies};
 use crate::lint_warnings::{Cause, Fault, Growth, Operand, Value, Wanted, Warning, Warnings};
 use crate::notes::Spot;
 use crate::operands::{
-    Said, assigned, assigned_without_entry, compared, exchanged, left_out, let_through, pushed, unquoted, without_entry,
+    MEND_TEST, Said, TEST_LEAVES, assigned, assigned_without_entry, compared, exchanged, left_out, let_through, pushed,
+    tested, unquoted, without_entry,
 };
 use crate::shown_line::ShownLine;
 use crate::terminal::{Terminal, plain};
@@ -151,6 +152,20 @@ fn operand_of(warning: &Warning, place: CodePlace<'_, '_>) -> Option<Said> {
     exchanged(place, is_number_wanted).filter(|_| !takes.contains(' ')).map(|advice| (what, advice))
 }
 
+/// What is said of a `while$` whose test may leave no integer. Of its own two functions the notes name the one that is wrong.
+fn test_of(warning: &Warning, place: Option<CodePlace<'_, '_>>) -> Option<Said> {
+    if warning.next != b"while$" || warning.operand.is_some() {
+        return None;
+    }
+    let usual = match warning.fault {
+        Some(Fault::WrongKind) => "it may leave something else here",
+        Some(Fault::EmptyStack) if place?.is_behind_two_functions() => "it may leave nothing here",
+        _ => return None,
+    };
+    let said = place.and_then(tested).unwrap_or_else(|| (usual.to_string(), MEND_TEST.to_string()));
+    Some((format!("{TEST_LEAVES}: {}", said.0), said.1))
+}
+
 /// What is said of what belongs to each entry where there is none, if the text shows its declaration.
 fn without_entry_of(warning: &Warning, code: &Code<'_>) -> Option<Said> {
     let (what, advice) = (what_of(warning), advice_of(warning));
@@ -167,7 +182,11 @@ fn without_entry_of(warning: &Warning, code: &Code<'_>) -> Option<Said> {
 /// What may go wrong and what to do, in words. The style's text says of some operands more than the notes do.
 pub fn said_of(warning: &Warning, code: &Code<'_>) -> (String, String) {
     let usual = || (what_of(warning), advice_of(warning));
-    let Some(place) = warning.places.first().and_then(|spot| code.place(spot, &warning.next)) else { return usual() };
+    let place = warning.places.first().and_then(|spot| code.place(spot, &warning.next));
+    if let Some(said) = test_of(warning, place) {
+        return said;
+    }
+    let Some(place) = place else { return usual() };
     let next = plain(&warning.next);
     if let Some((what, advice)) = left_out_of(warning, code) {
         return (format!("`{next}` takes VALUE 'VARIABLE: {what}"), advice);
@@ -618,7 +637,7 @@ mod tests {
 
     fn said(notes: &str) -> String {
         let read = read(notes.as_bytes(), b"s.bst");
-        what_of(&read.warnings[0])
+        said_of(&read.warnings[0], &Code::new(b"")).0
     }
 
     #[test]
@@ -656,6 +675,27 @@ mod tests {
             (
                 "warning left first\nnext call.type$\ndepth 2\nitem ITERATE 9 call.type$\n",
                 "ITERATE {call.type$} may leave literals on the stack: 2 where it was met first",
+            ),
+        ];
+        for (notes, wanted) in rows {
+            assert_eq!(said(notes), wanted);
+        }
+    }
+
+    #[test]
+    fn the_test_of_a_loop_has_its_words() {
+        let rows = [
+            (
+                "warning kind first\nnext while$\ndepth 1\nat in 2 0 1 f\n",
+                "the test of this `while$` has to leave one integer, and nothing else: it may leave something else here",
+            ),
+            (
+                "warning stack first\nnext while$\ndepth 0\nat in 2 0 1 f\n",
+                "`while$` takes {TEST} {BODY}, and there may be no literal on the stack here",
+            ),
+            (
+                "warning kind first\nnext while$\noperand 0 integer 0 0\nwants function\nat in 2 0 1 f\n",
+                "`while$` takes {TEST} {BODY}, and its BODY is the integer 0 here",
             ),
         ];
         for (notes, wanted) in rows {

@@ -16,6 +16,27 @@ pub fn unquoted(place: CodePlace<'_, '_>, position: usize) -> Option<Said> {
     Some((format!("what `{name}` in line {line} leaves"), format!("write a ' before it in line {line}: `'{name}`")))
 }
 
+/// What the test of a `while$` has to do.
+pub const TEST_LEAVES: &str = "the test of this `while$` has to leave one integer, and nothing else";
+
+/// What to do where the test of a `while$` doesn't leave an integer.
+pub const MEND_TEST: &str = "let the test leave an integer, as `>`, `<`, `=`, `empty$` and an integer variable do";
+
+/// What is said of a `while$` whose test leaves no integer, if the text shows what it leaves instead.
+pub fn tested(place: CodePlace<'_, '_>) -> Option<Said> {
+    let end = place.end_of_test()?;
+    if let Some(name) = end.quoted() {
+        let name = plain(name);
+        return Some((format!("it leaves the name `'{name}`"), format!("take the ' before `{name}` out of the test")));
+    }
+    let what = match end.left_by(1)? {
+        Left::Number(_) => return None,
+        Left::Text(name) => format!("it leaves `{}`, a string", plain(name)),
+        Left::Field(name) => format!("it leaves `{}`, a field", plain(name)),
+    };
+    Some((what, MEND_TEST.to_string()))
+}
+
 /// What to do where a function that takes one operand finds one of another kind: whether the one that it wants stands below that.
 pub fn exchanged(place: CodePlace<'_, '_>, is_number_wanted: bool) -> Option<String> {
     let (above, below) = (place.left_by(1)?, place.left_by(2)?);
@@ -121,9 +142,12 @@ pub fn pushed(code: &Code<'_>, field: &[u8], line: usize) -> String {
 /// How styles call their function that makes the empty string of a missing field.
 const OR_EMPTY: [&[u8]; 2] = [b"field.or.null", b"field.or.empty"];
 
+/// The message of a function that finds too few literals.
+const EMPTY_STACK: &[u8] = b"You can't pop an empty literal stack";
+
 /// What to do about an error of an execution, where the text at its place says more than the message.
 pub fn advice_at(code: &Code<'_>, scene: &Scene, message: &[u8], function: &[u8]) -> Option<String> {
-    let place = code.place_in(scene.at.line, function, scene.token.map(|(_, number)| number));
+    let place = place_of(code, scene, function);
     if message == b"You can't mess with entries here" {
         let command = scene.callers.last().filter(|call| call.function.starts_with(b"EXECUTE "))?;
         let command = (&plain(&command.function)[..], command.line);
@@ -132,6 +156,10 @@ pub fn advice_at(code: &Code<'_>, scene: &Scene, message: &[u8], function: &[u8]
             .and_then(|place| assigned_without_entry(code, place, &scene.at, command.0, command.1));
         let usual = || without_entry(command.0, command.1);
         return Some(said.map_or_else(usual, |(what, advice)| format!("{what}; {advice}")));
+    }
+    if is_of_test(place, message, function) {
+        let said = place.and_then(tested);
+        return Some(said.map_or(MEND_TEST.to_string(), |(what, advice)| format!("{what}; {advice}")));
     }
     let place = place?;
     let said = match function {
@@ -146,6 +174,22 @@ pub fn advice_at(code: &Code<'_>, scene: &Scene, message: &[u8], function: &[u8]
         _ => None,
     };
     said.map(|(what, advice)| format!("{what}; {advice}"))
+}
+
+/// The place in the code at which a function was executed in a scene.
+fn place_of<'c, 'a>(code: &'c Code<'a>, scene: &Scene, function: &[u8]) -> Option<CodePlace<'c, 'a>> {
+    code.place_in(scene.at.line, function, scene.token.map(|(_, number)| number))
+}
+
+/// Whether an error in a scene is about what the test of a `while$` leaves.
+pub fn is_of_test_in(code: &Code<'_>, scene: &Scene, message: &[u8], function: &[u8]) -> bool {
+    is_of_test(place_of(code, scene, function), message, function)
+}
+
+/// Whether an error of a `while$` is about what its test leaves: the `while$` itself takes two functions.
+fn is_of_test(place: Option<CodePlace<'_, '_>>, message: &[u8], function: &[u8]) -> bool {
+    let has_functions = || place.is_some_and(|place| place.is_behind_two_functions());
+    function == b"while$" && (message.ends_with(b" is not an integer") || message == EMPTY_STACK && has_functions())
 }
 
 /// What is said of a variable of each entry that is assigned by a command without an entry: where it is declared, and which other one may be meant.
@@ -247,6 +291,22 @@ mod tests {
                 "in line 3: choose there by `year empty$`, or `year missing$`; or write `year field.or.null`"
             )
         );
+    }
+
+    #[test]
+    fn tests_of_loops_are_said() {
+        let style = "ENTRY {title}{}{}\nSTRINGS {s}\nINTEGERS {i}\nFUNCTION {f}\n{ { s } { } while$\n { title } { } while$\n\
+            { 'i } { } while$\n { i #0 > } { } while$\n { \"\" if$ } { } while$\n i { } while$ }\n";
+        let code = Code::new(style.as_bytes());
+        let at = |line| code.place_in(line, b"while$", None);
+        let said = [5, 6, 7, 8, 9].map(|line| tested(at(line).unwrap()).map(|(what, _)| what));
+        let wanted = ["it leaves `s`, a string", "it leaves `title`, a field"];
+        let name = "it leaves the name `'i`";
+        assert_eq!(said, [Some(wanted[0].into()), Some(wanted[1].into()), Some(name.into()), None, None]);
+        assert!(is_of_test(None, b"\"A\" is not an integer", b"while$"));
+        assert!(is_of_test(at(5), EMPTY_STACK, b"while$") && !is_of_test(at(10), EMPTY_STACK, b"while$"));
+        assert!(!is_of_test(at(5), b"0 is not a function", b"while$"));
+        assert!(!is_of_test(None, b"missing field is not an integer", b"if$"));
     }
 
     #[test]

@@ -72,6 +72,19 @@ wants_words "$folder/stdout" 'a string and an integer are never equal: `title` i
 wants_words "$folder/stdout" "write a ' before the variable: \`'s\`"
 end
 
+# What the test of a loop leaves: the operands of its `while$` are right, and aren't named.
+begin explained_test_of_a_loop
+use_style 'FUNCTION {f} { { title } { } while$
+{ } { } while$ }
+ITERATE {f}'
+run_search -explain job
+wants_status 2
+wants_words "$folder/stdout" '    the test of this `while$` has to leave one integer, and nothing else'
+wants_words "$folder/stdout" '    what to do: it leaves `title`, a field; let the test leave an integer'
+wants_words "$folder/stdout" '    what to do: let the test leave an integer, as'
+! grep -q '{TEST} {BODY}' "$folder/stdout" || complaints+=("the operands are named in $(cat "$folder/stdout")")
+end
+
 # A variable of each entry that EXECUTE assigns to: its declaration, and one that all entries share.
 begin explained_variable_without_an_entry
 use_style 'STRINGS { last.label }

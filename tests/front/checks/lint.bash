@@ -208,6 +208,19 @@ grep -qE '^    is it output.ti(t)?le\?$' "$folder/stdout" || complaints+=("print
 [ "$(grep -c 'is an unknown function--' "$folder/stdout")" -eq 1 ] || complaints+=('it is said more than once')
 end
 
+# The operands of this `while$` are right: it is its test that leaves no integer.
+begin lint_of_the_test_of_a_loop
+for row in "title|it leaves \`title\`, a field" "cite\$|it leaves \`cite\$\`, a string" "'skip\$|it leaves the name \`'skip\$\`" \
+    '|it may leave nothing here' '#1 #1 + { "" } { #0 } if$|it may leave something else here'; do
+    write_clean
+    sed -i 's/^{ output.title }/{ { '"${row%%|*}"' } { newline$ } while$ output.title }/' clean.bst
+    run_lint clean.bst
+    wants_status 2
+    wants_line_of_output "clean.bst:7: in article: the test of this \`while\$\` has to leave one integer, and nothing else: ${row#*|}"
+    ! grep -q 'push what it takes' "$folder/stdout" || complaints+=("the operands are blamed in $(cat "$folder/stdout")")
+done
+end
+
 begin lint_of_literals_left
 write_clean
 sed -i 's/^{ output.title }/{ output.title "left" }/' clean.bst
