@@ -104,6 +104,20 @@ pub fn left_out(place: CodePlace<'_, '_>) -> Option<Said> {
     ))
 }
 
+/// What is said of a `:=` that finds fewer than two literals: its name was left out, or no value stands below that.
+fn assigned_nothing(place: CodePlace<'_, '_>, scene: &Scene) -> Option<Said> {
+    let name = place.quoted()?;
+    let top = scene.stack.first().and_then(|held| held.literal.strip_prefix(b"'"));
+    if top.map(Folded) != Some(Folded(name)) {
+        return left_out(place);
+    }
+    let name = plain(name);
+    Some((
+        format!("no value stands below `'{name}` on the stack"),
+        format!("push one before `'{name}`, or before the function is run"),
+    ))
+}
+
 /// What is said of a `=` that gets a string and an integer.
 pub fn compared(place: CodePlace<'_, '_>) -> Option<Said> {
     const NEVER: &str = "a string and an integer are never equal";
@@ -167,6 +181,7 @@ pub fn advice_at(code: &Code<'_>, scene: &Scene, message: &[u8], function: &[u8]
             let (Left::Number(name) | Left::Text(name)) = place.variable_itself()? else { return None };
             return Some(format!("write a ' before the variable: `'{}`", plain(name)));
         }
+        b":=" if message == EMPTY_STACK => assigned_nothing(place, scene),
         b":=" if message.starts_with(b"missing field ") => return None,
         b":=" => assigned(code, place, None),
         b"=" => compared(place),
@@ -232,6 +247,7 @@ pub fn without_entry(command: &str, line: usize) -> String {
 #[cfg(test)]
 mod tests {
     use super::*;
+    use crate::scene::Held;
 
     const STYLE: &str = "ENTRY {year}{n}{label}\nSTRINGS {s}\nFUNCTION {f.g} {}\nFUNCTION {h}\n{ n 'label :=\n\"a\" 'n :=\n year #0 =\n s n =\n\
         year f.g \"x\" write$ *\n year f.g *\n 's 'f.g :=\n s label := }\n";
@@ -256,6 +272,23 @@ mod tests {
             assert_eq!(what, wanted);
             assert!(advice.starts_with(begin), "{advice}");
         }
+    }
+
+    #[test]
+    fn a_value_that_is_not_there_is_of_no_kind() {
+        let code = Code::new(b"STRINGS {s}\nFUNCTION {f}\n{ 's := }\nFUNCTION {g}\n{ s := }\n");
+        let said = |line, stack: &[&str]| {
+            let held = |literal: &&str| Held { literal: literal.as_bytes().to_vec(), since: None };
+            let at = Call { function: b"f".to_vec(), file: b"s.bst".to_vec(), line };
+            let stack = stack.iter().map(held).collect();
+            let scene = Scene { at, token: None, callers: Vec::new(), caller_tokens: Vec::new(), stack };
+            advice_at(&code, &scene, EMPTY_STACK, b":=")
+        };
+        let below = "no value stands below `'s` on the stack; push one before `'s`, or before the function is run";
+        assert_eq!(said(3, &["'s"]).as_deref(), Some(below));
+        let unknown = "`s` isn't known here; declare `s` above this function, in a command that is read";
+        assert_eq!(said(3, &["\"A\""]).as_deref(), Some(unknown));
+        assert_eq!((said(3, &[]).as_deref(), said(5, &["\"\""])), (Some(unknown), None));
     }
 
     #[test]

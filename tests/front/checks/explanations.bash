@@ -72,6 +72,21 @@ wants_words "$folder/stdout" 'a string and an integer are never equal: `title` i
 wants_words "$folder/stdout" "write a ' before the variable: \`'s\`"
 end
 
+# A `:=` that finds fewer than two literals: nothing is said of the kind of a value that isn't there.
+begin explained_value_that_is_not_there
+use_style 'STRINGS { s }
+FUNCTION {set} { '"'s"' := }
+ITERATE {set}'
+run_search -explain job
+wants_status 2
+wants_words "$folder/stdout" "    what to do: no value stands below \`'s\` on the stack; push one before \`'s\`, or before the function is run"
+! grep -q 'int.to.str' "$folder/stdout" || complaints+=("a kind is named in $(cat "$folder/stdout")")
+sed -i 's/^STRINGS { s }/&\nSTRING { t }\nSTRINGS { u }\n/; s/STRINGS { s }/INTEGERS { s }/; s/{ .s := }/{ "x" '"'u"' := }/' s.bst
+run_search -explain job
+wants_status 2
+wants_words "$folder/stdout" "    what to do: \`u\` isn't known here; declare \`u\` above this function, in a command that is read"
+end
+
 # What the test of a loop leaves: the operands of its `while$` are right, and aren't named.
 begin explained_test_of_a_loop
 use_style 'FUNCTION {f} { { title } { } while$
