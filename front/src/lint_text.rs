@@ -4,7 +4,7 @@ use crate::advice;
 use crate::code_places::{Code, CodePlace};
 use crate::lint_entry::Shown;
 use crate::lint_ties::{Ties, varies};
-use crate::lint_warnings::{Cause, Fault, Growth, Operand, Value, Wanted, Warning, Warnings};
+use crate::lint_warnings::{Cause, Fault, Growth, Operand, Value, Wanted, Warning, Warnings, text_of_classes};
 use crate::notes::Spot;
 use crate::operands::{
     MEND_TEST, Said, TEST_LEAVES, assigned, assigned_without_entry, compared, exchanged, left_out, let_through, pushed,
@@ -23,7 +23,8 @@ pub type Group = Vec<usize>;
 
 /// What two warnings of one cause have in common: the function, and the field or what else is wrong.
 fn cause_of(warning: &Warning) -> (String, String) {
-    let what = match (&warning.missing, warning.fault) {
+    let field = warning.missing.as_deref().or_else(|| warning.operand.as_ref().and_then(Operand::field));
+    let what = match (field, warning.fault) {
         (Some(field), _) => format!("field {}", plain(field)),
         (None, Some(Fault::EmptyStack | Fault::LeftOver)) => "stack".to_string(),
         (None, fault) => format!("{} {}", fault.map_or("", Fault::word), plain(&warning.next)),
@@ -81,9 +82,7 @@ fn value_text(value: &Value) -> String {
         Value::Integer(..) => "an integer".to_string(),
         Value::Function(name) if name.is_empty() || name.starts_with(b"{") => "a function in braces".to_string(),
         Value::Function(name) => format!("the function `{}`", plain(name)),
-        Value::Text(classes) if classes == b"m" => "a missing field".to_string(),
-        Value::Text(classes) if classes.contains(&b'm') => "a string or a missing field".to_string(),
-        Value::Text(_) => "a string".to_string(),
+        Value::Text(classes) => text_of_classes(classes).to_string(),
         Value::Any => "of a kind that isn't known".to_string(),
     }
 }
@@ -300,10 +299,26 @@ fn advice_of(warning: &Warning) -> String {
     }
 }
 
+/// What to do where a field stands for a number.
+fn advice_on_field(warning: &Warning, takes: &str, field: &[u8]) -> String {
+    const NEVER: &str = "a field is never a number";
+    match &warning.next[..] {
+        b"if$" => {
+            let field = plain(field);
+            format!("{NEVER}: ask by `{field} empty$`, which leaves 1 where it is missing or blank, and else 0")
+        }
+        _ if takes.contains(' ') => format!("{NEVER}: push {takes} in this order"),
+        _ => format!("{NEVER}: push a number there"),
+    }
+}
+
 /// What to do about an operand of another kind.
 fn advice_on_kind(warning: &Warning, takes: &str) -> String {
     let Some(operand) = &warning.operand else { return LEAVE_THE_SAME.to_string() };
     let is_function = matches!(operand.value, Value::Function(_));
+    if let (Some(field), Some(Wanted::Integer)) = (operand.field(), operand.wanted) {
+        return advice_on_field(warning, takes, field);
+    }
     match operand.wanted {
         Some(Wanted::Function) if warning.next == b":=" => {
             let name = operand.owner.as_ref().map_or(String::new(), |(_, name)| format!(": `'{}`", plain(name)));
@@ -701,6 +716,31 @@ mod tests {
         for (notes, wanted) in rows {
             assert_eq!(said(notes), wanted);
         }
+    }
+
+    #[test]
+    fn a_field_that_stands_for_a_number_has_its_advice() {
+        let said = |next: &str, style: &str| {
+            let operand = "operand 1 text mewf\nwants integer\nname field year\nmissing year\nat in 3 0 3 f\n";
+            let found = read(format!("warning kind first\nnext {next}\n{operand}").as_bytes(), b"s.bst");
+            assert_eq!(conditions_of(&found.warnings[0]), None);
+            said_of(&found.warnings[0], &Code::new(style.as_bytes()))
+        };
+        let of = |field: &str| {
+            format!("warning kind first\nnext if$\noperand 2 text mewf\nwants integer\nname field {field}\n")
+        };
+        assert_eq!(verdict(&read([of("year"), of("title")].concat().as_bytes(), b"s.bst")), "2 places");
+        let asked =
+            "a field is never a number: ask by `year empty$`, which leaves 1 where it is missing or blank, and else 0";
+        assert_eq!(said("if$", "").1, asked);
+        assert_eq!(said("+", "").1, "a field is never a number: push NUMBER NUMBER in this order");
+        assert_eq!(said("int.to.str$", "").1, "a field is never a number: push a number there");
+        let (what, advice) = said(":=", "ENTRY {year}{}{}\nINTEGERS {n}\nFUNCTION {f} { year 'n := }\n");
+        assert_eq!(what, "`:=` takes VALUE 'VARIABLE: `n` is an integer (INTEGERS, line 2), and `year` is a field");
+        assert!(
+            advice.starts_with("if `n` is to be a string, declare it in STRINGS, and not in line 2; else"),
+            "{advice}"
+        );
     }
 
     #[test]

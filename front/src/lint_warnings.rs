@@ -61,6 +61,15 @@ pub enum Value {
     Function(Vec<u8>),
 }
 
+/// In words, a string of one of these classes.
+pub fn text_of_classes(classes: &[u8]) -> &'static str {
+    match classes {
+        b"m" => "a missing field",
+        _ if classes.contains(&b'm') => "a string or a missing field",
+        _ => "a string",
+    }
+}
+
 /// What a function wants.
 #[derive(Debug, Clone, Copy, PartialEq, Eq)]
 pub enum Wanted {
@@ -92,7 +101,7 @@ pub struct Warning {
     /// How many literals are on the stack.
     pub depth: Option<usize>,
     pub operand: Option<Operand>,
-    /// The field that may be missing where a string is wanted.
+    /// The field that may be missing where a string is wanted, or something to compare. One that stands for a number is wrong whether it is missing or not.
     pub missing: Option<Vec<u8>>,
     /// The command.
     pub item: Option<Spot>,
@@ -116,13 +125,19 @@ impl Warning {
         self.spot().map_or(0, |spot| spot.call.line)
     }
 
+    /// Whether a string is wanted, or a string or a number, as far as that is known.
+    fn may_want_text(&self) -> bool {
+        let wanted = self.operand.as_ref().and_then(|operand| operand.wanted);
+        !matches!(wanted, Some(Wanted::Integer | Wanted::Function))
+    }
+
     /// Takes a line of its block.
     fn add(&mut self, word: &[u8], rest: &[u8], style: &[u8]) {
         match word {
             b"next" => self.next = rest.to_vec(),
             b"depth" => self.depth = number(rest).map(|(depth, _)| depth),
             b"operand" => self.operand = operand(rest),
-            b"missing" => self.missing = Some(rest.to_vec()),
+            b"missing" => self.missing = Some(rest.to_vec()).filter(|_| self.may_want_text()),
             b"item" => self.item = command(rest, style),
             b"at" | b"from" => self.places.extend(spot(rest, style, false)),
             b"type" => self.types.push(rest.to_vec()),
@@ -139,6 +154,11 @@ impl Warning {
 }
 
 impl Operand {
+    /// The field whose value it is.
+    pub fn field(&self) -> Option<&[u8]> {
+        self.owner.as_ref().filter(|(is_field, _)| *is_field).map(|(_, name)| &name[..])
+    }
+
     fn add(&mut self, word: &[u8], rest: &[u8]) {
         if word == b"name" {
             let (kind, name) = crate::notes::word(rest);
@@ -281,6 +301,17 @@ mod tests {
         assert_eq!((read.causes[0].spot.call.line, read.causes[0].grows), (8, [(-1, 0), (1, 1)]));
         assert!(read.is_partial);
         assert_eq!((read.shown(), read.hidden()), (vec![kind], 1));
+    }
+
+    #[test]
+    fn a_field_that_stands_for_a_number_is_not_missing() {
+        let missing = |wanted: &str| {
+            let notes =
+                format!("warning kind first\nnext +\noperand 0 text mewf\n{wanted}name field year\nmissing year\n");
+            read(notes.as_bytes(), b"s.bst").warnings[0].missing.is_some()
+        };
+        assert!(missing("wants text\n") && missing(""));
+        assert!(!missing("wants integer\n") && !missing("wants function\n"));
     }
 
     #[test]

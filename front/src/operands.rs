@@ -2,7 +2,7 @@
 
 use crate::code_places::{Code, CodePlace, Declared, Left};
 use crate::database::Folded;
-use crate::lint_warnings::Value;
+use crate::lint_warnings::{Value, text_of_classes};
 use crate::scene::{Call, Scene};
 use crate::terminal::plain;
 
@@ -61,16 +61,13 @@ pub fn assigned(code: &Code<'_>, place: CodePlace<'_, '_>, value: Option<&Value>
             return Some((format!("`{name}` is {sort}, and no variable"), advice.to_string()));
         }
     };
-    let given = match place.left_by(2) {
-        Some(Left::Number(given)) => Some((plain(given), "an integer")),
-        Some(Left::Text(given) | Left::Field(given)) => Some((plain(given), "a string")),
-        None => None,
-    };
-    let what = match (given.filter(|(_, kind)| *kind == other), value) {
-        (Some((given, kind)), _) => format!("`{given}` is {kind}"),
-        (None, Some(Value::Integer(..))) if other == "an integer" => "it gets an integer here".to_string(),
-        (None, Some(Value::Text(_))) if other == "a string" => "it gets a string here".to_string(),
-        (None, _) => "what it gets may be none".to_string(),
+    let what = match (place.left_by(2), value) {
+        (Some(Left::Number(given)), _) if other == "an integer" => format!("`{}` is an integer", plain(given)),
+        (Some(Left::Text(given)), _) if other == "a string" => format!("`{}` is a string", plain(given)),
+        (Some(Left::Field(given)), _) if other == "a string" => format!("`{}` is a field", plain(given)),
+        (_, Some(Value::Integer(..))) if other == "an integer" => "it gets an integer here".to_string(),
+        (_, Some(Value::Text(classes))) if other == "a string" => format!("it gets {} here", text_of_classes(classes)),
+        _ => "what it gets may be none".to_string(),
     };
     let declare = (what != "what it gets may be none" && code.gets_only(variable, place, other))
         .then(|| declare_otherwise(code, variable, declared))
@@ -159,6 +156,18 @@ const OR_EMPTY: [&[u8]; 2] = [b"field.or.null", b"field.or.empty"];
 /// The message of a function that finds too few literals.
 const EMPTY_STACK: &[u8] = b"You can't pop an empty literal stack";
 
+/// The message of a function that finds a missing field for a string.
+const NO_TEXT: &[u8] = b"missing field is not a string";
+
+/// What a message on an operand of another kind says of that operand, which it begins with.
+fn value_of(message: &[u8]) -> Option<Value> {
+    match message {
+        [b'"', ..] => Some(Value::Text(b"ewf".to_vec())),
+        [b'-' | b'0'..=b'9', ..] => Some(Value::Integer(None, None)),
+        _ => message.starts_with(b"missing field ").then(|| Value::Text(b"m".to_vec())),
+    }
+}
+
 /// What to do about an error of an execution, where the text at its place says more than the message.
 pub fn advice_at(code: &Code<'_>, scene: &Scene, message: &[u8], function: &[u8]) -> Option<String> {
     let place = place_of(code, scene, function);
@@ -182,10 +191,10 @@ pub fn advice_at(code: &Code<'_>, scene: &Scene, message: &[u8], function: &[u8]
             return Some(format!("write a ' before the variable: `'{}`", plain(name)));
         }
         b":=" if message == EMPTY_STACK => assigned_nothing(place, scene),
-        b":=" if message.starts_with(b"missing field ") => return None,
-        b":=" => assigned(code, place, None),
+        b":=" if message == NO_TEXT => return None,
+        b":=" => assigned(code, place, value_of(message).as_ref()),
         b"=" => compared(place),
-        _ if message == b"missing field is not a string" => return let_through(place, None),
+        _ if message == NO_TEXT => return let_through(place, None),
         _ => None,
     };
     said.map(|(what, advice)| format!("{what}; {advice}"))

@@ -87,6 +87,17 @@ wants_status 2
 wants_words "$folder/stdout" "    what to do: \`u\` isn't known here; declare \`u\` above this function, in a command that is read"
 end
 
+# A missing field for an integer variable: its value would be wrong, too.
+begin explained_field_for_a_number
+use_style 'INTEGERS { n }
+FUNCTION {f} { note '"'n"' := }
+ITERATE {f}'
+sed -i 's/ENTRY *{ *title/ENTRY {note title/' s.bst
+run_search -explain job
+wants_status 2
+wants_words "$folder/stdout" '    what to do: `n` is an integer (INTEGERS, line 1), and `note` is a field; if `n` is to be a string, declare it in STRINGS'
+end
+
 # What the test of a loop leaves: the operands of its `while$` are right, and aren't named.
 begin explained_test_of_a_loop
 use_style 'FUNCTION {f} { { title } { } while$

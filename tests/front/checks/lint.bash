@@ -208,6 +208,22 @@ grep -qE '^    is it output.ti(t)?le\?$' "$folder/stdout" || complaints+=("print
 [ "$(grep -c 'is an unknown function--' "$folder/stdout")" -eq 1 ] || complaints+=('it is said more than once')
 end
 
+# A field that stands for a number is wrong whether it is missing or not: no condition is named, and nothing that asks for it alone.
+begin lint_of_a_field_for_a_number
+for row in "author { newline\$ } 'skip\$ if\$|a field is never a number: ask by \`author empty\$\`, which leaves 1 where it is missing or blank, and else 0" \
+    'author #1 + pop$|a field is never a number: push NUMBER NUMBER in this order' \
+    "author 'n :=|if \`n\` is to be a string, declare it in STRINGS, and not in line 6; else assign it to a variable that is declared as a string: no function makes a number of digits"; do
+    write_clean
+    sed -i 's/^FUNCTION {article}/INTEGERS { n }\n\n&/; s/^{ output.title }/{ '"${row%%|*}"' output.title }/' clean.bst
+    run_lint clean.bst
+    wants_status 2
+    wants_line_of_output "    do: ${row#*|}"
+    ! grep -q '^    when: ' "$folder/stdout" || complaints+=("a condition is named in $(cat "$folder/stdout")")
+    run_lint --json clean.bst
+    ! grep -q '"missing"' "$folder/stdout" || complaints+=("printed is $(cat "$folder/stdout")")
+done
+end
+
 # The operands of this `while$` are right: it is its test that leaves no integer.
 begin lint_of_the_test_of_a_loop
 for row in "title|it leaves \`title\`, a field" "cite\$|it leaves \`cite\$\`, a string" "'skip\$|it leaves the name \`'skip\$\`" \

@@ -155,7 +155,7 @@ printf "ENTRY{title}{}{}\nINTEGERS{n}\nSTRINGS{s}\nFUNCTION {misc} { title 's :=
 run_search -explain job
 wants_status 2
 wants_line "$folder/stdout" "    what to do: \`s\` is a string (STRINGS, line 3), and \`#1\` is an integer; write \`int.to.str\$\` before \`'s\`: it makes a string of a number"
-wants_words "$folder/stdout" '    what to do: `n` is an integer (INTEGERS, line 2), and `title` is a string; if `n` is to be a string, declare it in STRINGS, and not in line 2; else assign it'
+wants_words "$folder/stdout" '    what to do: `n` is an integer (INTEGERS, line 2), and `title` is a field; if `n` is to be a string, declare it in STRINGS, and not in line 2; else assign it'
 end
 
 # The field that is missing is named, through callers and built-in functions; where a function of the style leaves it, those that this function reads.
