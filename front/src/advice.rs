@@ -56,6 +56,11 @@ impl Advice<'_> {
         self.is_of_operands() || of_code.iter().any(|begin| ROWS[self.number].1.starts_with(begin))
     }
 
+    /// Whether the message is about a type of entry that the style doesn't know.
+    pub fn is_of_unknown_type(&self) -> bool {
+        ROWS[self.number].1.starts_with("entry type for ")
+    }
+
     /// Whether the message is about an operand of a wrong kind.
     pub fn is_of_operands(&self) -> bool {
         ROWS[self.number].2.starts_with("push the operands ")
@@ -250,7 +255,7 @@ const ROWS: &[Row] = &[
     (Section::Entries, "you've nested cross references--entry \"*\" refers to entry \"*\"", "`$2` has a `crossref` of its own: give `$1` its fields, since they may not come down"),
     (Section::Entries, "I didn't find a database entry for \"~\"", "the key is cited, or is a parent, and no database has it: look for its spelling"),
     (Section::Entries, "I'm ignoring ~'s extra \"~\" field", "delete one of the two"),
-    (Section::Entries, "entry type for \"~\" isn't style-file defined", "the style has no function of that name; it treats the entry by `default.type`"),
+    (Section::Entries, "entry type for \"~\" isn't style-file defined", "the style has no function of that name; it treats the entry by `default.type`, if it has that"),
     (Section::Entries, "string name \"*\" is undefined", "define `$1` by `@string` above its use, or put braces or quotes round a text"),
     (Section::Entries, "string name \"~\" is used in its own definition", "a `@string` can't be made longer by itself: give the new one another name"),
 ];

@@ -47,6 +47,9 @@ impl Declared {
 /// The function that executes that of the entry's type.
 pub const CALLS_TYPE: &[u8] = b"call.type$";
 
+/// The function of entries whose type the style doesn't know.
+pub const DEFAULT_TYPE: &[u8] = b"default.type";
+
 /// Of each function of a style the functions that it names, with the first place of each in the text.
 pub type NamesOfFunctions<'a> = HashMap<Folded<'a>, Vec<(usize, Folded<'a>)>>;
 

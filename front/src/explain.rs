@@ -1,9 +1,10 @@
 //! A log for its reader: each message, the line and the entry that it is about, and what to do.
 
 use crate::advice::{self, Section};
-use crate::code_places::Code;
+use crate::code_places::{Code, DEFAULT_TYPE};
 use crate::database::Item;
 use crate::entries::{Entries, Stored};
+use crate::hints::functions_above_read;
 use crate::job::{File, Files};
 use crate::log::{Content, Ended, Line, Log, Message, Place, Severity};
 use crate::operands::{TEST_LEAVES, advice_at, is_of_test_in};
@@ -272,9 +273,20 @@ impl<'a, W: Write> Explainer<'a, W> {
     /// What to do about a message; once for each kind of message.
     fn advise(&mut self, sections: &[Section], text: &[u8]) -> io::Result<()> {
         match advice::find(sections, text) {
-            Some(advice) if self.advised.insert(advice.number) => self.put_advice(&advice.text()),
+            Some(advice) if self.advised.insert(advice.number) => {
+                let is_treated = if advice.is_of_unknown_type() { self.has_default_type() } else { None };
+                let text =
+                    is_treated.map_or_else(|| advice.text(), |is_treated| by_default_type(is_treated).to_string());
+                self.put_advice(&text)
+            }
             _ => Ok(()),
         }
+    }
+
+    /// Whether the style has a function for entries whose type it doesn't know; None where the style isn't there.
+    fn has_default_type(&self) -> Option<bool> {
+        let style = self.files.with_ending(".bst").next()?.bytes.as_deref()?;
+        Some(functions_above_read(style).any(|name| name.eq_ignore_ascii_case(DEFAULT_TYPE)))
     }
 
     /// A line of a file, and a mark below the part of it that a message is about.
@@ -678,6 +690,15 @@ fn fields_in_words(fields: &[&[u8]]) -> String {
     format!("{}{rest}", names.join(", "))
 }
 
+/// What to do about an entry of a type that the style doesn't know, where it is known whether it has a function for these.
+fn by_default_type(has_one: bool) -> &'static str {
+    if has_one {
+        "the style has no function of that name; it treats the entry by `default.type`"
+    } else {
+        "the style has no function of that name, and no `default.type` above READ: `call.type$` does nothing for the entry"
+    }
+}
+
 /// The error at the end of a style whose last command isn't closed.
 const AT_END: &[u8] = b"Illegal end of style file";
 
@@ -813,6 +834,20 @@ Error--nosuch is an unknown function--line 5 of file s.bst\n";
 Error--x is an unknown function--line 5 of file s.bst\n";
         assert!(told.starts_with(begin), "{told}");
         assert!(told.ends_with("    (1 more error follows from that in line 1)\n"), "{told}");
+    }
+
+    #[test]
+    fn a_type_that_is_not_known_is_treated_by_what_there_is() {
+        let log = "Warning--entry type for \"k\" isn't style-file defined--line 1 of file d.bib\n";
+        let said = |style: &str| explain(log, style, "@odd{k}");
+        let advised = |advice: &str| format!("    what to do: {advice}\n");
+        assert!(said("FUNCTION {Default.Type} {}\nREAD\n").ends_with(&advised(by_default_type(true))));
+        for style in ["READ\n", "READ\nFUNCTION {default.type} {}\n"] {
+            assert!(said(style).ends_with(&advised(by_default_type(false))), "{}", said(style));
+        }
+        let without_style = Files { top: b"job.aux".to_vec(), all: vec![file("d.bib", "@odd{k}")] };
+        let general = explained(&Log::new(log.as_bytes()), &without_style, &Terminal::NONE);
+        assert!(general.ends_with(&advised(&(by_default_type(true).to_string() + ", if it has that"))), "{general}");
     }
 
     #[test]

@@ -1,6 +1,7 @@
 //! What a style's designer may want to look at although no run logs a fault by it: functions and variables without a use, integers that always have one value, and loops
 //! that don't change what their test reads.
 
+use crate::code_places::DEFAULT_TYPE;
 use crate::database::Folded;
 use crate::style_text::{Command, Kind, Token, Tokens, commands, commands_among};
 use crate::terminal::plain;
@@ -121,7 +122,7 @@ fn declared<'a>(bytes: &'a [u8], commands: &[Command<'a>]) -> Vec<Declared<'a>> 
         let mut add = |sort, token: &Token| {
             let name = of(inside, token);
             let is_type_to_a_run = sort == Sort::Function && command.start < read;
-            let is_meant = !name.contains(&b'.') || name.eq_ignore_ascii_case(b"default.type");
+            let is_meant = !name.contains(&b'.') || name.eq_ignore_ascii_case(DEFAULT_TYPE);
             let may_be_type = is_type_to_a_run && is_meant;
             found.push(Declared { name, sort, start: begin + token.start, is_type_to_a_run, may_be_type });
         };

@@ -1,7 +1,7 @@
 //! From which `if$` whose branches leave different numbers of literals a warning may follow: from those that can have been executed before it in
 //! the same visit.
 
-use crate::code_places::{CALLS_TYPE, Code, NamesOfFunctions};
+use crate::code_places::{CALLS_TYPE, Code, DEFAULT_TYPE, NamesOfFunctions};
 use crate::database::Folded;
 use crate::lint_warnings::{Cause, Fault, Warning};
 use crate::notes::Spot;
@@ -14,9 +14,6 @@ const MOST_TIES: usize = 8;
 
 /// How many names of functions are looked at for all warnings of a style. Behind these, an `if$` may be before each warning.
 const MOST_NAMES: usize = 20_000_000;
-
-/// The function of entries whose type the style doesn't know.
-const DEFAULT_TYPE: &[u8] = b"default.type";
 
 /// The unequal `if$` of a style, and what its functions name.
 pub struct Ties<'w, 'c, 'a> {

@@ -132,6 +132,17 @@ wants_words "$folder/stdout" 'there is no current entry: take EXECUTE {f} in lin
 grep -q '^([0-9]* more errors follow from `Error--You can.t mess with entries here while executing title` in line 1 of the style)$' "$folder/stdout" || complaints+=("printed was $(cat "$folder/stdout")")
 end
 
+# An entry of a type that the style doesn't know is treated by `default.type` only where there is one.
+begin explained_type_that_is_not_known
+use_style 'ITERATE {call.type$}'
+echo '@odd{k, title = {T}}' >d.bib
+run_search -explain job
+wants_words "$folder/stdout" '    what to do: the style has no function of that name, and no `default.type` above READ: `call.type$` does nothing for the entry'
+sed -i 's/READ/FUNCTION {default.type} { } READ/' s.bst
+run_search -explain job
+wants_words "$folder/stdout" '    what to do: the style has no function of that name; it treats the entry by `default.type`'
+end
+
 # A misspelt function is named once, with the name that is near.
 begin explained_misspelt
 use_style 'FUNCTION {field.or.nul} { pop$ }
