@@ -272,6 +272,17 @@ impl<'a> Code<'a> {
         None
     }
 
+    /// The `while$` of the style, in the order of the text: the function in which each stands, and its line.
+    pub fn loops(&self) -> Vec<(&'a [u8], usize)> {
+        let commands = commands(self.text.bytes);
+        let is_loop = |index: &usize| self.kind(*index) == Kind::Name && Folded(self.of(*index)) == Folded(b"while$");
+        let placed = |index: usize| {
+            let above = commands.partition_point(|command| command.start < self.tokens[index].start);
+            Some((commands[..above].last()?.name?, self.line(index)))
+        };
+        (0..self.tokens.len()).filter(is_loop).filter_map(placed).collect()
+    }
+
     /// The fields that stand in these tokens, or in the functions that these name.
     pub(crate) fn fields_read(&self, tokens: &[Range<usize>]) -> Vec<&'a [u8]> {
         let (mut open, mut seen) = (tokens.to_vec(), HashSet::new());
@@ -486,6 +497,13 @@ mod tests {
         assert_eq!(code.declaration(b"label").as_deref(), Some("a string of each entry (ENTRY, line 1)"));
         assert_eq!((code.declaration(b"year").as_deref(), code.line_of(b"i")), (Some("a field (line 1)"), Some(2)));
         assert_eq!((code.shared_like(b"LABEL"), code.shared_like(b"year")), (vec![&b"s"[..]], vec![]));
+    }
+
+    #[test]
+    fn loops_are_listed() {
+        let style = b"STRINGS {s}\nFUNCTION {f}\n{ { s } { pop$ }\n while$ } % while$\nFUNCTION {g} { 'f \"while$\" {} {} While$ }\n";
+        assert_eq!(Code::new(style).loops(), [(&b"f"[..], 4), (&b"g"[..], 5)]);
+        assert_eq!(Code::new(STYLE.as_bytes()).loops(), []);
     }
 
     #[test]

@@ -11,7 +11,7 @@ use crate::lint_warnings::{Cause, Fault, Operand, Value, Warning};
 use crate::log::Log;
 use crate::notes::Spot;
 use crate::shapes::Part;
-use crate::style_check::StyleCheck;
+use crate::style_check::{MOST_TIME, StyleCheck};
 use crate::terminal::{Terminal, plain};
 use std::io::{self, Write};
 
@@ -41,12 +41,13 @@ pub fn write_for_people(linted: &Linted, terminal: &Terminal, out: &mut impl Wri
     if check.messages.count > 0 {
         explain::write(&Log::new(&check.messages.log), &check.files, Part::Mistakes, terminal, out)?;
     }
-    let style = Style { path: &path, code: &code_of(check), terminal, has_mistakes: check.messages.count > 0 };
+    let code = code_of(check);
+    let style = Style { path: &path, code: &code, terminal, has_mistakes: check.messages.count > 0 };
     write(&style, &check.found, check.entries.as_deref(), out)?;
     for hint in check.hints.iter().filter(|hint| !hint.is_of_loop) {
         writeln!(out, "{path}:{}: hint: {}", hint.line, hint.text)?;
     }
-    write_verdict(&path, check, out)?;
+    write_verdict(&style, check, out)?;
     if let Some(uncovered) = types_said(linted).and_then(Types::uncovered_text) {
         writeln!(out, "    not covered: {uncovered}")?;
     }
@@ -62,7 +63,8 @@ fn types_said(linted: &Linted) -> Option<&Types> {
     linted.types.as_ref().filter(|_| matches!(linted.check.word(), "clean" | "warnings"))
 }
 
-fn write_verdict(path: &str, check: &StyleCheck, out: &mut impl Write) -> io::Result<()> {
+fn write_verdict(style: &Style<'_, '_>, check: &StyleCheck, out: &mut impl Write) -> io::Result<()> {
+    let path = style.path;
     match &check.verdict {
         _ if check.messages.count > 0 => write_mistakes(path, check, out),
         _ if !check.messages.is_whole => writeln!(
@@ -83,11 +85,35 @@ fn write_verdict(path: &str, check: &StyleCheck, out: &mut impl Write) -> io::Re
             }
         }
         Some(Verdict::Warnings(_)) => writeln!(out, "{path}: warnings: {}", verdict(&check.found)),
-        _ => writeln!(
-            out,
-            "{path}: incomplete: the check didn't come to its end: it took too long (--steps=N), the style goes too deep, or it leaves too many literals"
-        ),
+        Some(Verdict::Incomplete(_)) => write_unended(style, check.steps, out),
+        None => {
+            writeln!(out, "{path}: incomplete: the check took more than {} seconds of a processor", MOST_TIME / 100)
+        }
     }
+}
+
+/// How many loops are named at most.
+const MOST_LOOPS: usize = 5;
+
+/// The verdict on a style whose check took all its steps, or was given up before: the library doesn't say which of them. The loops of the style are named.
+fn write_unended(style: &Style<'_, '_>, steps: u64, out: &mut impl Write) -> io::Result<()> {
+    let (path, loops) = (style.path, style.code.loops());
+    let by_loop = if loops.is_empty() { "" } else { "a loop may leave more literals at each turn, " };
+    writeln!(
+        out,
+        "{path}: incomplete: the check didn't come to its end: {by_loop}the style may go too deep, or the check may need more than {steps} steps (--steps=N)"
+    )?;
+    if loops.is_empty() {
+        return Ok(());
+    }
+    let named = |(function, line): &(&[u8], usize)| format!("{} (line {line})", plain(function));
+    let mut names: Vec<String> = loops.iter().take(MOST_LOOPS).map(named).collect();
+    names.extend(loops.len().checked_sub(MOST_LOOPS + 1).map(|more| format!("{} more", more + 1)));
+    writeln!(out, "    loops: {}", names.join(", "))?;
+    writeln!(
+        out,
+        "    do: let the body of each loop leave as many literals as it finds: a string that `format.name$` leaves has to be joined by `*`, written or assigned at each turn"
+    )
 }
 
 /// The verdict on a style whose text has mistakes, whatever is found of the rest.
@@ -243,6 +269,27 @@ fn json_of_warning(warning: &Warning, code: &Code<'_>, entry: Option<&Shown>) ->
 #[cfg(test)]
 mod tests {
     use super::*;
+
+    #[test]
+    fn loops_are_named_where_a_check_does_not_end() {
+        let unended = |bytes: &[u8]| {
+            let code = Code::new(bytes);
+            let style = Style { path: "s.bst", code: &code, terminal: &Terminal::NONE, has_mistakes: false };
+            let mut out = Vec::new();
+            write_unended(&style, 7, &mut out).unwrap();
+            String::from_utf8(out).unwrap()
+        };
+        let rest = "the style may go too deep, or the check may need more than 7 steps (--steps=N)\n";
+        let begin = "s.bst: incomplete: the check didn't come to its end: ";
+        assert_eq!(unended(b"FUNCTION {f} { }\n"), [begin, rest].concat());
+        let with_loops =
+            [begin, "a loop may leave more literals at each turn, ", rest, "    loops: f (line 1)"].concat();
+        let found = unended(b"FUNCTION {f} { {} {} while$ }\n");
+        assert!(found.starts_with(&(with_loops.clone() + "\n    do: let the body of each loop")), "{found}");
+        let loops = "{} {} while$ ".repeat(7);
+        let found = unended(format!("FUNCTION {{f}} {{ {loops}}}\n").as_bytes());
+        assert!(found.starts_with(&(with_loops + &", f (line 1)".repeat(4) + ", 2 more\n")), "{found}");
+    }
 
     #[test]
     fn texts_of_json() {

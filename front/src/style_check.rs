@@ -24,7 +24,7 @@ const STEPS_OF_READING: u64 = 100_000;
 const STACK: usize = 1 << 21;
 
 /// How many hundredths of a second of the processor a check may take, and how often that is looked at.
-const MOST_TIME: u64 = 500;
+pub const MOST_TIME: u64 = 500;
 const TURN: Duration = Duration::from_millis(50);
 
 /// The room for the log of a style's own messages.
@@ -48,6 +48,8 @@ pub struct StyleCheck {
     pub messages: Messages,
     /// None where the check took too long, or the style is too long.
     pub verdict: Option<Verdict>,
+    /// How many steps the check could take.
+    pub steps: u64,
     /// Where it may go wrong, if it isn't clean.
     pub found: Warnings,
     /// Whether an entry shows each of the warnings that are shown, where that was asked.
@@ -69,7 +71,7 @@ impl StyleCheck {
         let entries = if has_entries { Some(entries(&style, &found.shown())?) } else { None };
         let files = job_of(style);
         let messages = messages_of(&files)?;
-        Ok(StyleCheck { files, messages, verdict, found, entries, hints: hints(&bytes) })
+        Ok(StyleCheck { files, messages, verdict, steps, found, entries, hints: hints(&bytes) })
     }
 
     /// The verdict, in a word. A style whose text has mistakes isn't called clean, whatever is said of what could be read of it.

@@ -435,6 +435,34 @@ wants_output 'clean.bst: incomplete, messages 0, hints 0
 '
 end
 
+# The body of a loop that leaves a literal at each turn: the loops are named.
+begin lint_of_a_loop_that_leaves_literals
+cat >grows.bst <<'END'
+ENTRY { author } {} {}
+INTEGERS { n }
+
+FUNCTION {names}
+{ cite$ num.names$ 'n :=
+  { n #0 > }
+    { cite$ n "{ll}" format.name$
+      n #1 - 'n :=
+    }
+  while$
+}
+
+READ
+
+ITERATE {names}
+END
+run_lint grows.bst
+wants_status 3
+wants_line_of_output "grows.bst: incomplete: the check didn't come to its end: a loop may leave more literals at each turn, the style may go too deep, or the check may need more than 2000000 steps (--steps=N)"
+wants_line_of_output '    loops: names (line 10)'
+sed -i 's/format.name\$/& write$/' grows.bst
+run_lint --line grows.bst
+grep -q '^grows.bst: clean' "$folder/stdout" || complaints+=("where each turn takes what it leaves it prints $(cat "$folder/stdout")")
+end
+
 begin lint_refuses
 run_lint
 wants_status 1
