@@ -74,7 +74,7 @@ fn write_verdict(style: &Style<'_, '_>, check: &StyleCheck, out: &mut impl Write
         Some(Verdict::Clean { literals, bodies, types }) => {
             writeln!(
                 out,
-                "{path}: clean: no run with a budget of at most 1,500,000,000 steps logs a fault of its own (at most {literals} literals, {bodies} bodies)"
+                "{path}: clean: no run with a budget of at most 1,500,000,000 steps logs a fault of its own (at most {bodies} bodies are open; {literals} literals were met)"
             )?;
             let types: Vec<String> = types.iter().map(|name| plain(name)).collect();
             match types.is_empty() {

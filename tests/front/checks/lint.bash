@@ -49,7 +49,7 @@ write_clean
 run_lint clean.bst
 wants_status 0
 wants_error ''
-wants_output 'clean.bst: clean: no run with a budget of at most 1,500,000,000 steps logs a fault of its own (at most 3 literals, 4 bodies)
+wants_output 'clean.bst: clean: no run with a budget of at most 1,500,000,000 steps logs a fault of its own (at most 4 bodies are open; 3 literals were met)
     for entries of the types article, and of all that it doesn'"'"'t know
     not covered: entries of 2 types with a dot in their names: these functions stand above READ and aren'"'"'t taken as types
 '
