@@ -655,6 +655,13 @@ mod tests {
         said_of(&read.warnings[0], &Code::new(b"")).0
     }
 
+    // Each of these notes has these words.
+    fn all_are_said(rows: &[(&str, &str)]) {
+        for (notes, wanted) in rows {
+            assert_eq!(said(notes), *wanted);
+        }
+    }
+
     #[test]
     fn each_fault_has_its_words() {
         let rows = [
@@ -692,9 +699,7 @@ mod tests {
                 "ITERATE {call.type$} may leave literals on the stack: 2 where it was met first",
             ),
         ];
-        for (notes, wanted) in rows {
-            assert_eq!(said(notes), wanted);
-        }
+        all_are_said(&rows);
     }
 
     #[test]
@@ -713,9 +718,7 @@ mod tests {
                 "`while$` takes {TEST} {BODY}, and its BODY is the integer 0 here",
             ),
         ];
-        for (notes, wanted) in rows {
-            assert_eq!(said(notes), wanted);
-        }
+        all_are_said(&rows);
     }
 
     #[test]

@@ -208,15 +208,20 @@ grep -qE '^    is it output.ti(t)?le\?$' "$folder/stdout" || complaints+=("print
 [ "$(grep -c 'is an unknown function--' "$folder/stdout")" -eq 1 ] || complaints+=('it is said more than once')
 end
 
+# lints_with TOKENS [ABOVE]: lints the clean style with these tokens at the front of its function for articles, and with this text above that.
+lints_with() {
+    write_clean
+    sed -i 's/^FUNCTION {article}/'"${2-}"'&/; s/^{ output.title }/{ '"$1"' output.title }/' clean.bst
+    run_lint clean.bst
+    wants_status 2
+}
+
 # A field that stands for a number is wrong whether it is missing or not: no condition is named, and nothing that asks for it alone.
 begin lint_of_a_field_for_a_number
 for row in "author { newline\$ } 'skip\$ if\$|a field is never a number: ask by \`author empty\$\`, which leaves 1 where it is missing or blank, and else 0" \
     'author #1 + pop$|a field is never a number: push NUMBER NUMBER in this order' \
     "author 'n :=|if \`n\` is to be a string, declare it in STRINGS, and not in line 6; else assign it to a variable that is declared as a string: no function makes a number of digits"; do
-    write_clean
-    sed -i 's/^FUNCTION {article}/INTEGERS { n }\n\n&/; s/^{ output.title }/{ '"${row%%|*}"' output.title }/' clean.bst
-    run_lint clean.bst
-    wants_status 2
+    lints_with "${row%%|*}" 'INTEGERS { n }\n\n'
     wants_line_of_output "    do: ${row#*|}"
     ! grep -q '^    when: ' "$folder/stdout" || complaints+=("a condition is named in $(cat "$folder/stdout")")
     run_lint --json clean.bst
@@ -228,10 +233,7 @@ end
 begin lint_of_the_test_of_a_loop
 for row in "title|it leaves \`title\`, a field" "cite\$|it leaves \`cite\$\`, a string" "'skip\$|it leaves the name \`'skip\$\`" \
     '|it may leave nothing here' '#1 #1 + { "" } { #0 } if$|it may leave something else here'; do
-    write_clean
-    sed -i 's/^{ output.title }/{ { '"${row%%|*}"' } { newline$ } while$ output.title }/' clean.bst
-    run_lint clean.bst
-    wants_status 2
+    lints_with "{ ${row%%|*} } { newline\$ } while\$"
     wants_line_of_output "clean.bst:7: in article: the test of this \`while\$\` has to leave one integer, and nothing else: ${row#*|}"
     ! grep -q 'push what it takes' "$folder/stdout" || complaints+=("the operands are blamed in $(cat "$folder/stdout")")
 done
