@@ -456,7 +456,7 @@ class Reports(InFolder):
     def test_interrupted(self):
         for number in range(40):
             self.job(f"job{number}", b"k: T\n", **{"s.bst": STYLE.replace(b"{cite$", b"{{#1} {skip$} while$ cite$")})
-        words = [sys.executable, "-m", "btx", "compare", str(self.folder), "--processes", "2", "--budget", "30000000"]
+        words = [sys.executable, "-m", "btx", "compare", str(self.folder), "--processes", "2", "--budget", "100000000"]
         process = self.interruptible(words, env=ENVIRONMENT, stderr=subprocess.DEVNULL, text=True)
         time.sleep(3)
         process.send_signal(2)
