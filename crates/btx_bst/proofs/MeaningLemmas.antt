@@ -8,11 +8,7 @@ use Rattle.std.proofs.lemmas.Slice.Eq.{bytes_eq-Decides}
 use Rattle.std.proofs.lemmas.Option.{slice_get-get_or, same_Some}
 use Rattle.btx_text.specs.language.Keys.{folded}
 use Rattle.btx_bst.specs.declared.built_in.BuiltIn.{BuiltIn}
-use Rattle.btx_bst.specs.declared.built_in.BuiltIn.TheVariants.{Equals, Greater, Less, Plus, Minus, Concatenate, Assign, AddPeriod, CallType, ChangeCase}
-use Rattle.btx_bst.specs.declared.built_in.BuiltIn.TheVariants.{ChrToInt, Cite, Duplicate, Empty, FormatName, If, IntToChr, IntToStr, Missing, NewLine}
-use Rattle.btx_bst.specs.declared.built_in.BuiltIn.TheVariants.{NumNames, Pop, Preamble, Purify, Quote, Skip, Stack, Substring, Swap, TextLength, TextPrefix}
-use Rattle.btx_bst.specs.declared.built_in.BuiltIn.TheVariants.{Top, Warning, While, Width, Write}
-use Rattle.btx_bst.specs.declared.built_in.BuiltIn.TheVariants as built_in
+use Rattle.btx_bst.specs.declared.built_in.BuiltIn.TheVariants.{Equals}
 use Rattle.btx_bst.specs.declared.callee.Callee.{Callee}
 use Rattle.btx_bst.specs.declared.callee.Callee.TheVariants.{User, Field, EntryInteger, EntryString, GlobalInteger, GlobalString}
 use Rattle.btx_bst.specs.declared.callee.Callee.TheVariants as callee
@@ -225,42 +221,7 @@ clear-style file text = kept-style Clear clear_keeps file text (fine_start file,
 built_in_word : (b : BuiltIn) → built_in_of (built_in_name b) ≡ Some b
 unfolding built_in_of built_ins
 built_in_word Equals = refl
-built_in_word Greater = refl
-built_in_word Less = refl
-built_in_word Plus = refl
-built_in_word Minus = refl
-built_in_word Concatenate = refl
-built_in_word Assign = refl
-built_in_word AddPeriod = refl
-built_in_word CallType = refl
-built_in_word ChangeCase = refl
-built_in_word ChrToInt = refl
-built_in_word Cite = refl
-built_in_word Duplicate = refl
-built_in_word Empty = refl
-built_in_word FormatName = refl
-built_in_word If = refl
-built_in_word IntToChr = refl
-built_in_word IntToStr = refl
-built_in_word Missing = refl
-built_in_word NewLine = refl
-built_in_word NumNames = refl
-built_in_word Pop = refl
-built_in_word Preamble = refl
-built_in_word Purify = refl
-built_in_word Quote = refl
-built_in_word Skip = refl
-built_in_word Stack = refl
-built_in_word Substring = refl
-built_in_word Swap = refl
-built_in_word TextLength = refl
-built_in_word TextPrefix = refl
-built_in_word Top = refl
-built_in_word built_in.Type = refl
-built_in_word Warning = refl
-built_in_word While = refl
-built_in_word Width = refl
-built_in_word Write = refl
+built_in_word _ = refl
 
 word_named : (a : Names) (b : BuiltIn) → named_lower a (built_in_name b) ≡ Some (callee.BuiltIn b)
 unfolding named_lower

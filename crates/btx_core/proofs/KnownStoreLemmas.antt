@@ -1,6 +1,6 @@
 -- All that stands on the stack of a run is known to its style: what a step pushes and runs is what the style has.
 use Rattle.std.proofs.Common.{◌≡◌, ℕ, ℤ, pos, negsuc, zero, suc, ◌<◌, Bool, true, false, if◌then◌else◌, List, [], ◌∷◌, ◌++◌, length, drop, take, nat_lt, Option}
-use Rattle.std.proofs.Common.{None, Some, option_and_then, sym, subst, refl, codes, int_eq, int_lt, ◌+ℤ◌, ◌-ℤ◌}
+use Rattle.std.proofs.Common.{None, Some, option_and_then, sym, subst, refl, codes, int_eq}
 use Rattle.std.specs.Option.{option_or, option_map_or}
 use Rattle.std.specs.Str.{bytes_eq}
 use Rattle.std.specs.List.{list_all}
@@ -219,14 +219,7 @@ module _ (job : Job) (refers : RefersWithin job.style) where
 
   row_fine : (types : (e n : ℕ) → entry_type (entries.entry_of job e) ≡ Some n → n < length job.style.bodies) (f : BuiltIn)
       → IsFine (row f).operands ((row f).does job)
-  row_fine types built_in.Equals = λ x p y q s k. equals_fine x y s k
-  row_fine types built_in.Greater = λ b p a q s k. truths (int_lt b a) s k
-  row_fine types built_in.Less = λ b p a q s k. truths (int_lt a b) s k
-  row_fine types built_in.Plus = λ b p a q s k. result_fine (a +ℤ b) s k
-  row_fine types built_in.Minus = λ b p a q s k. result_fine (a -ℤ b) s k
-  row_fine types built_in.Concatenate = λ b p a q s k. texting said.Nothing (a ++ b) s k
   row_fine types built_in.Assign = λ c p v q s k. assigns_fine c v s k
-  row_fine types built_in.AddPeriod = λ t p s k. texting said.Nothing _ s k
   row_fine types built_in.CallType = λ s k. in_entry_fine _ s.current s k (λ e. type_fine _ s (both e) k) where
     either : (own other : Option ℕ) → ((n : ℕ) → own ≡ Some n → n < length job.style.bodies) → ((n : ℕ) → other ≡ Some n → n < length job.style.bodies)
         → (n : ℕ) → option_or own other ≡ Some n → n < length job.style.bodies
@@ -235,34 +228,10 @@ module _ (job : Job) (refers : RefersWithin job.style) where
 
     both : (e n : ℕ) → option_or (entry_type (entries.entry_of job e)) (type_of job.style (codes "default.type")) ≡ Some n → n < length job.style.bodies
     both e n is = either (entry_type (entries.entry_of job e)) (type_of job.style (codes "default.type")) (types e) (refers.types (codes "default.type")) n is
-  row_fine types built_in.ChangeCase = λ l p t q s k. texting _ _ s k
-  row_fine types built_in.ChrToInt = λ t p s k. code_fine t s k
   row_fine types built_in.Cite = λ s k. in_entry_fine _ s.current s k (λ e. texting said.Nothing _ s k)
-  row_fine types built_in.Duplicate = λ v p s k. pushing said.Nothing v (with_literals (v ∷ s.literals) s) p (p, k)
-  row_fine types built_in.Empty = λ f p s k. empty_fine f s k
-  row_fine types built_in.FormatName = λ f p n q t r s k. texting _ _ s k
   row_fine types built_in.If = λ f p g q n r s k. (k, if_fine (control.is_positive n) g f q p)
-  row_fine types built_in.IntToChr = λ n p s k. character_fine n s k
-  row_fine types built_in.IntToStr = λ n p s k. pushing said.Nothing _ s tt k
-  row_fine types built_in.Missing = λ f p s k. missing_fine f s k
-  row_fine types built_in.NewLine = λ s k. (k, tt)
-  row_fine types built_in.NumNames = λ t p s k. pushing said.Nothing _ s tt k
-  row_fine types built_in.Pop = λ v p s k. (k, tt)
-  row_fine types built_in.Preamble = λ s k. pushing said.Nothing _ s tt k
-  row_fine types built_in.Purify = λ t p s k. texting said.Nothing _ s k
-  row_fine types built_in.Quote = λ s k. pushing said.Nothing _ s tt k
-  row_fine types built_in.Skip = λ s k. (k, tt)
-  row_fine types built_in.Stack = λ s k. (tt, tt)
-  row_fine types built_in.Substring = λ n p m q t r s k. texting said.Nothing _ s k
-  row_fine types built_in.Swap = λ x p y q s k. ((q, (p, k)), tt)
-  row_fine types built_in.TextLength = λ t p s k. pushing said.Nothing _ s tt k
-  row_fine types built_in.TextPrefix = λ n p t q s k. texting said.Nothing _ s k
-  row_fine types built_in.Top = λ v p s k. (k, tt)
   row_fine types built_in.Type = λ s k. in_entry_fine _ s.current s k (λ e. texting said.Nothing _ s k)
-  row_fine types built_in.Warning = λ t p s k. (k, tt)
-  row_fine types built_in.While = λ f p g q s k. (k, (q, p))
-  row_fine types built_in.Width = λ t p s k. pushing said.Nothing _ s tt k
-  row_fine types built_in.Write = λ t p s k. (k, tt)
+  row_fine types f = search (pushing, texting, truths, equals_fine, result_fine, code_fine, character_fine, empty_fine, missing_fine)
 
   field_fine : (o : Option (List ℕ)) (s : Store) → HasAll s.literals → Fine (pushes said.Nothing (option_map_or literal.Text o literal.Missing) s)
   field_fine None s k = pushing said.Nothing _ s tt k

@@ -1,7 +1,7 @@
 -- The table of built-in functions, in names: what each does is what it does with numbers. Numbers of functions and of entries are named by `of` and `entry`.
 use Rattle.std.proofs.Common.{◌≡◌, ℕ, ℤ, pos, negsuc, zero, suc, ◌-◌, ◌<◌, ◌≤◌, ◌==◌, Bool, true, false, not, List, [], ◌∷◌, ◌++◌, length, map, drop, take}
 use Rattle.std.proofs.Common.{replicate, slice_set, decimal, Option, None, Some, Result, Ok, Err, option_map, option_and_then, is_none, if◌then◌else◌, nat_lt}
-use Rattle.std.proofs.Common.{sym, ap, ap₂, subst, ◌∙◌, refl, arith, append_assoc, append-nil, true≢false, codes, int_eq, int_lt, ◌+ℤ◌, ◌-ℤ◌}
+use Rattle.std.proofs.Common.{sym, ap, ap₂, subst, ◌∙◌, refl, arith, append_assoc, append-nil, true≢false, codes, int_eq}
 use Rattle.std.specs.List.{list_all}
 use Rattle.std.specs.Option.{option_or, option_map_or}
 use Rattle.std.specs.Str.{bytes_eq}
@@ -52,23 +52,19 @@ use Rattle.btx_core.specs.language.Functions.{function_effect, push_truth, push_
 use Rattle.btx_core.specs.language.Functions.{is_empty_field, is_positive, calls_type, row, built_in_effect, missing_without_entry, swaps, formats_name}
 use Rattle.btx_core.specs.language.Functions.{assigns, tested}
 use Rattle.btx_core.specs.language.Names.{sections, has_third, numbered_name}
-use Rattle.btx_core.specs.language.Strings.{in_case, purified, text_length, text_prefix, width}
+use Rattle.btx_core.specs.language.Strings.{in_case}
 use Rattle.btx_core.proofs.ComputedLemmas.{computed, in_case_same, formatted_same}
 use Rattle.btx_text.specs.declared.element_kind.TextMode.TheVariants.{Bytes}
 use Rattle.btx_text.specs.language.Class.{is_white}
 use Rattle.btx_text.specs.language.Elements.{elements_of}
 use Rattle.btx_strings.specs.declared.conversions.Conversion.{Conversion}
 use Rattle.btx_strings.specs.language.Case.{cased_parts, conversion_of}
-use Rattle.btx_strings.specs.language.Positions.{add_period_of, substring_of}
-use Rattle.btx_strings.specs.language.Purify.{purify_of}
-use Rattle.btx_strings.specs.language.Lengths.{text_length_of, text_prefix_of}
-use Rattle.btx_strings.specs.language.Width.{width_of}
-use Rattle.btx_names.specs.language.NameLists.{names_of}
 use Rattle.btx_step.specs.language.Arithmetic as arithmetic
 use Rattle.btx_step.specs.language.Control as control
 use Rattle.btx_step.specs.language.Entries as entries
 use Rattle.btx_step.specs.language.Names as names
 use Rattle.btx_step.specs.language.Strings as strings
+use Rattle.btx_step.proofs.RuleLemmas.{pushed_by}
 use Rattle.btx_step.specs.language.Table as table
 use Rattle.btx_step.specs.language.Variables as variables
 use Rattle.btx_strings.specs.language.Answers.{no_complaints}
@@ -585,45 +581,11 @@ module _ (job : NumberedJob) (style : Style) (library : Library) (naming : Namin
   abbrev RowSame : BuiltIn → Type 0
   RowSame f = Same (by_rule (row computed here f)) (table.runs f ((table.row f).does job))
 
-  abbrev two_integers : List Operand
-  two_integers = AnInteger ∷ AnInteger ∷ []
-
-  equals_row : RowSame built_in.Equals
-  equals_row = rule (AnyLiteral ∷ AnyLiteral ∷ []) stand_in.Zero equals arithmetic.equals equals_same
-
-  greater_row : RowSame built_in.Greater
-  greater_row = rule two_integers stand_in.Zero (λ b a. push_truth (int_lt b a)) (λ b a. answers.pushed (answers.truth (int_lt b a)))
-      (λ b a. truth_same (int_lt b a))
-
-  less_row : RowSame built_in.Less
-  less_row = rule two_integers stand_in.Zero (λ b a. push_truth (int_lt a b)) (λ b a. answers.pushed (answers.truth (int_lt a b)))
-      (λ b a. truth_same (int_lt a b))
-
-  plus_row : RowSame built_in.Plus
-  plus_row = rule two_integers stand_in.Zero (λ b a. push_result (a +ℤ b)) (λ b a. arithmetic.result_of (a +ℤ b)) (λ b a. result_same (a +ℤ b))
-
-  minus_row : RowSame built_in.Minus
-  minus_row = rule two_integers stand_in.Zero (λ b a. push_result (a -ℤ b)) (λ b a. arithmetic.result_of (a -ℤ b)) (λ b a. result_same (a -ℤ b))
-
-  concatenate_row : RowSame built_in.Concatenate
-  concatenate_row = rule (AString ∷ AString ∷ []) stand_in.Empty (λ last first. push_text (first ++ last)) (λ last first. answers.pushed_text (first ++ last))
-      (λ last first. texts_same (first ++ last))
-
-  add_period_row : RowSame built_in.AddPeriod
-  add_period_row = rule (AString ∷ []) stand_in.Empty (λ text. push_text (add_period_of text)) (λ text. answers.pushed_text (add_period_of text))
-      (λ text. texts_same (add_period_of text))
-
   call_type_row : RowSame built_in.CallType
   call_type_row = rule [] stand_in.Nothing (in_entry (calls_type computed here)) ((table.row built_in.CallType).does job)
       (in_entry_same (calls_type computed here) _ (λ i frame s e.
       ap₂ (λ own other. option_map_or (λ (f : Function). Runs f (in_names frame s)) (option_or own other) (Leaves (in_names frame s))) (typed i) default
       ∙ calls_same (entry_type (entry_of job i)) (type_of job.style (codes "default.type")) frame s))
-
-  change_case_row : RowSame built_in.ChangeCase
-  change_case_row = rule (AString ∷ AString ∷ []) stand_in.Empty (changes_case computed here) strings.changes_case case_same
-
-  chr_row : RowSame built_in.ChrToInt
-  chr_row = rule (AString ∷ []) stand_in.Zero code_of arithmetic.gives_code code_same
 
   cite_row : RowSame built_in.Cite
   cite_row = rule [] stand_in.Nothing (in_entry (λ entry. push_text entry.key)) ((table.row built_in.Cite).does job)
@@ -633,9 +595,6 @@ module _ (job : NumberedJob) (style : Style) (library : Library) (naming : Namin
   duplicate_row : RowSame built_in.Duplicate
   duplicate_row = rule (AnyLiteral ∷ []) stand_in.Nothing (λ x s. push x (record s { literals = x ∷ s.literals })) ((table.row built_in.Duplicate).does job)
       (λ v frame s. pushed_same v frame (answers.with_literals (v ∷ s.literals) s))
-
-  empty_row : RowSame built_in.Empty
-  empty_row = rule (AField ∷ []) stand_in.Zero (λ f. push_truth (is_empty_field f)) strings.finds_empty empty_same
 
   if_row : RowSame built_in.If
   if_row = rule (AFunction ∷ AFunction ∷ AnInteger ∷ []) stand_in.Nothing (λ otherwise positive n. Runs (if is_positive n then positive else otherwise))
@@ -649,13 +608,6 @@ module _ (job : NumberedJob) (style : Style) (library : Library) (naming : Namin
         is otherwise positive n frame s =
             ap (λ (b : Bool). Runs (if b then of positive else of otherwise) (in_names frame s)) (positive_same n)
             ∙ ap (λ f. Runs f (in_names frame s)) (choose (control.is_positive n) otherwise positive)
-
-  int_chr_row : RowSame built_in.IntToChr
-  int_chr_row = rule (AnInteger ∷ []) stand_in.Empty character_of arithmetic.gives_character character_same
-
-  int_str_row : RowSame built_in.IntToStr
-  int_str_row = rule (AnInteger ∷ []) stand_in.Empty (λ n. push (Text (signed_decimal n))) ((table.row built_in.IntToStr).does job)
-      (λ n. pushed_same (literal.Text (signed_decimal n)))
 
   -- `missing$` without an entry
   missing_none : (xs : List Numbered) (frame : State) (s : Store)
@@ -673,49 +625,13 @@ module _ (job : NumberedJob) (style : Style) (library : Library) (naming : Namin
   missing_row : RowSame built_in.Missing
   missing_row = rule (AField ∷ []) stand_in.Zero (λ f. push_truth (is_none f)) entries.finds_missing missing_same
 
-  newline_row : RowSame built_in.NewLine
-  newline_row = rule [] stand_in.Nothing (λ s. Leaves (record s { lines = s.lines ++ s.pending ∷ []; pending = [] })) ((table.row built_in.NewLine).does job)
-      (λ frame s. refl)
-
-  num_names_row : RowSame built_in.NumNames
-  num_names_row = rule (AString ∷ []) stand_in.Zero (λ text. push (Integer (pos (length (names_of text))))) ((table.row built_in.NumNames).does job)
-      (λ text. pushed_same (literal.Integer (pos (length (names_of text)))))
-
-  pop_row : RowSame built_in.Pop
-  pop_row = rule (AnyLiteral ∷ []) stand_in.Nothing (λ x. Leaves) ((table.row built_in.Pop).does job) (λ x frame s. refl)
-
   preamble_row : RowSame built_in.Preamble
   preamble_row = rule [] stand_in.Nothing (push (Text library.preamble)) ((table.row built_in.Preamble).does job)
       (λ frame s. ap (λ t. push (Text t) (in_names frame s)) preamble ∙ pushed_same (literal.Text job.library.preamble) frame s)
 
-  purify_row : RowSame built_in.Purify
-  purify_row = rule (AString ∷ []) stand_in.Empty (λ text. push_text (purified computed text)) ((table.row built_in.Purify).does job)
-      (λ text. texts_same (purify_of text))
-
-  quote_row : RowSame built_in.Quote
-  quote_row = rule [] stand_in.Nothing (push (Text (codes "\""))) ((table.row built_in.Quote).does job) (pushed_same (literal.Text (codes "\"")))
-
-  skip_row : RowSame built_in.Skip
-  skip_row = rule [] stand_in.Nothing Leaves ((table.row built_in.Skip).does job) (λ frame s. refl)
-
   stack_row : RowSame built_in.Stack
   stack_row = rule [] stand_in.Nothing (λ s. Leaves (record (shows s.literals s) { literals = [] })) ((table.row built_in.Stack).does job)
       (λ frame s. ap (λ t. Leaves (record t { literals = [] })) (shows_same s.literals frame s))
-
-  substring_row : RowSame built_in.Substring
-  substring_row = rule (AnInteger ∷ AnInteger ∷ AString ∷ []) stand_in.Empty (λ size start text. push_text (substring_of text start size))
-      ((table.row built_in.Substring).does job)
-      (λ size start text. texts_same (substring_of text start size))
-
-  text_length_row : RowSame built_in.TextLength
-  text_length_row = rule (AString ∷ []) stand_in.Zero (λ text. push (Integer (pos (text_length computed job.mode text))))
-      ((table.row built_in.TextLength).does job)
-      (λ text. pushed_same (literal.Integer (pos (text_length_of job.mode text))))
-
-  text_prefix_row : RowSame built_in.TextPrefix
-  text_prefix_row = rule (AnInteger ∷ AString ∷ []) stand_in.Empty (λ count text. push_text (text_prefix computed job.mode text count))
-      ((table.row built_in.TextPrefix).does job)
-      (λ count text. texts_same (text_prefix_of job.mode text count))
 
   top_row : RowSame built_in.Top
   top_row = rule (AnyLiteral ∷ []) stand_in.Nothing (λ x s. Leaves (shows (x ∷ []) s)) ((table.row built_in.Top).does job)
@@ -731,18 +647,6 @@ module _ (job : NumberedJob) (style : Style) (library : Library) (naming : Namin
   warning_row : RowSame built_in.Warning
   warning_row = rule (AString ∷ []) stand_in.Nothing (λ text s. Leaves (logs line.Warning text s)) ((table.row built_in.Warning).does job)
       (λ text frame s. ap (λ l. Leaves (record (in_names frame s) { log = frame.log ++ l ∷ [] })) (warning_line frame s.current text))
-
-  while_row : RowSame built_in.While
-  while_row = rule (AFunction ∷ AFunction ∷ []) stand_in.Nothing (λ body test. Loops test body) ((table.row built_in.While).does job)
-      (λ body test frame s. refl)
-
-  width_row : RowSame built_in.Width
-  width_row = rule (AString ∷ []) stand_in.Zero (λ text. push (Integer (pos (width computed text)))) ((table.row built_in.Width).does job)
-      (λ text. pushed_same (literal.Integer (pos (width_of text))))
-
-  write_row : RowSame built_in.Write
-  write_row = rule (AString ∷ []) stand_in.Nothing (λ text s. Leaves (record s { pending = s.pending ++ text })) ((table.row built_in.Write).does job)
-      (λ text frame s. refl)
 
   -- ---- `format.name$`
 
@@ -873,43 +777,22 @@ module _ (job : NumberedJob) (style : Style) (library : Library) (naming : Namin
   -- of variables are different names.
   pub built_in_same : (f : BuiltIn) → (f ≡ built_in.Assign → ⊥) → Same (built_in_effect computed here f) (built_in_run job f)
   unfolding built_in_run
-  built_in_same built_in.Equals apart = equals_row
-  built_in_same built_in.Greater apart = greater_row
-  built_in_same built_in.Less apart = less_row
-  built_in_same built_in.Plus apart = plus_row
-  built_in_same built_in.Minus apart = minus_row
-  built_in_same built_in.Concatenate apart = concatenate_row
   built_in_same built_in.Assign apart = λ frame s. absurd (apart refl)
-  built_in_same built_in.AddPeriod apart = add_period_row
   built_in_same built_in.CallType apart = call_type_row
-  built_in_same built_in.ChangeCase apart = change_case_row
-  built_in_same built_in.ChrToInt apart = chr_row
   built_in_same built_in.Cite apart = cite_row
   built_in_same built_in.Duplicate apart = duplicate_row
-  built_in_same built_in.Empty apart = empty_row
   built_in_same built_in.FormatName apart = format_row
   built_in_same built_in.If apart = if_row
-  built_in_same built_in.IntToChr apart = int_chr_row
-  built_in_same built_in.IntToStr apart = int_str_row
   built_in_same built_in.Missing apart = λ frame s. missing_with s.current frame s refl
-  built_in_same built_in.NewLine apart = newline_row
-  built_in_same built_in.NumNames apart = num_names_row
-  built_in_same built_in.Pop apart = pop_row
   built_in_same built_in.Preamble apart = preamble_row
-  built_in_same built_in.Purify apart = purify_row
-  built_in_same built_in.Quote apart = quote_row
-  built_in_same built_in.Skip apart = skip_row
   built_in_same built_in.Stack apart = stack_row
-  built_in_same built_in.Substring apart = substring_row
   built_in_same built_in.Swap apart = λ frame s. swap_with s.literals frame s
-  built_in_same built_in.TextLength apart = text_length_row
-  built_in_same built_in.TextPrefix apart = text_prefix_row
   built_in_same built_in.Top apart = top_row
   built_in_same built_in.Type apart = type_row
   built_in_same built_in.Warning apart = warning_row
-  built_in_same built_in.While apart = while_row
-  built_in_same built_in.Width apart = width_row
-  built_in_same built_in.Write apart = write_row
+  built_in_same f apart =
+      rule (row computed here f).operands (pushed_by (table.row f).default) (row computed here f).does ((table.row f).does job)
+      (search (pushed_same, texts_same, truth_same, result_same, equals_same, case_same, code_same, character_same, empty_same))
 
   -- ---- the test of a loop
 
