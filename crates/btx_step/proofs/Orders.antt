@@ -23,15 +23,15 @@ compares_bytes = precedes_reads
 
 -- ---- ties are equal keys
 
-pub neither : (o : Ordering) → not (is_lt o) && not (is_lt (ordering_reverse o)) ≡ is_eq o
+neither : (o : Ordering) → not (is_lt o) && not (is_lt (ordering_reverse o)) ≡ is_eq o
 neither Less = refl
 neither Equal = refl
 neither Greater = refl
 
-pub equal_is : (a b : List ℕ) → is_eq (slice_cmp nat_cmp a b) ≡ pointwise nat_eq a b
+equal_is : (a b : List ℕ) → is_eq (slice_cmp nat_cmp a b) ≡ pointwise nat_eq a b
 equal_is a b = same_from_slice_cmp nat_cmp is_eq (pointwise nat_eq) refl (λ _ _. refl) (λ _ _. refl) (λ x y xs ys o e. grind (arith, nat_tests)) a b _ refl
 
-ties_are : (key : ℕ → List ℕ) (z x : ℕ) → ties (by_key key) z x ≡ bytes_eq (key x) (key z)
+pub ties_are : {A : Type 0} (key : A → List ℕ) (z x : A) → ties (by_key key) z x ≡ bytes_eq (key x) (key z)
 ties_are key z x =
     ap (λ o. not (is_lt (slice_cmp nat_cmp (key z) (key x))) && not (is_lt o)) (nat_list_cmp_total.antisymm (key x) (key z))
     ∙ neither (slice_cmp nat_cmp (key z) (key x)) ∙ equal_is (key z) (key x) ∙ nat_list_eq_equiv.symm (key z) (key x)
@@ -57,7 +57,7 @@ ascends_back key (y ∷ ys) up = (none_before_back key y ys up.0, ascends_back k
 -- ---- the law
 
 -- of two keys one of which comes before the other, one alone is the wanted one
-tells : (key : ℕ → List ℕ) (wanted : List ℕ) (x y : ℕ) → by_key key y x ≡ true → bytes_eq (key x) wanted ≡ true → bytes_eq (key y) wanted ≡ false
+pub tells : {A : Type 0} (key : A → List ℕ) (wanted : List ℕ) (x y : A) → by_key key y x ≡ true → bytes_eq (key x) wanted ≡ true → bytes_eq (key y) wanted ≡ false
 tells key wanted x y below one =
     ⊎_elim
     (λ t. absurd (true≢false (sym below ∙ ap (λ k. precedes k (key x)) ((bytes_eq-Decides (key y) wanted).0 t ∙ sym ((bytes_eq-Decides (key x) wanted).0 one))
