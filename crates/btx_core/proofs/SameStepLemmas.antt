@@ -51,7 +51,7 @@ use Rattle.btx_core.specs.language.Functions.{not_what_was_asked, on_literals, o
 use Rattle.btx_core.specs.language.Meanings.{deeper}
 use Rattle.btx_core.specs.language.Notes.{empty_stack, error, errors}
 use Rattle.btx_core.specs.language.Notes.{name_of as shown_name}
-use Rattle.btx_core.specs.language.Styles.{Body, Declared, Entry, Function, Integer, Job, Library, Literal, Missing, Quoted, State, Style, Text, Then, Word}
+use Rattle.btx_core.specs.language.Styles.{Body, Declared, Entry, Function, Integer, Job, Library, Literal, Quoted, State, Style, Then, Word}
 use Rattle.btx_core.proofs.ComputedLemmas.{computed}
 use Rattle.btx_core.proofs.KnownStoreLemmas.{Has, HasLiteral, HasAll, HasNext, Fine, step_fine, tested_fine}
 use Rattle.btx_core.proofs.MeaningSame as meaning

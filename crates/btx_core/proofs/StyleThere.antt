@@ -6,7 +6,6 @@ use Rattle.btx_text.specs.language.Keys.{folded}
 use Rattle.btx_text.specs.laws.Bytes.{open_brace, close_brace}
 use Rattle.btx_bst.specs.declared.callee.Kind.{Kind}
 use Rattle.btx_bst.specs.declared.command.Command.{Command as CommandName}
-use Rattle.btx_bst.specs.declared.command.Command.TheVariants as command
 use Rattle.btx_bst.specs.language.Places.{Place, ink, place_at, size}
 use Rattle.btx_bst.specs.language.Reads.{Read, Took, Slip}
 use Rattle.btx_bst.specs.language.Complaints.{Complaint, NoOpen, NoClose, NoName, NoCommand, NotCommand, Unknown, NoQuoteEnd, EndOfFile}
