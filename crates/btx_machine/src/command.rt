@@ -2,6 +2,8 @@
 ghost use Rattle.std.specs.Prelude.{◌≡◌};
 ghost use Rattle.btx_machine.specs.language.Commands.{command_word};
 
+use btx_bst::Command as StyleCommand;
+
 /// A command that executes a function.
 #[derive(Clone, Copy, Debug, PartialEq, Eq)]
 pub enum Command {
@@ -16,10 +18,11 @@ impl Command {
     pub fn word(self) -> &'static [u8]
         ensures { result.now ≡ command_word self }
     {
-        match self {
-            Command::Execute => b"EXECUTE",
-            Command::Iterate => b"ITERATE",
-            Command::Reverse => b"REVERSE",
-        }
+        let command = match self {
+            Command::Execute => StyleCommand::Execute,
+            Command::Iterate => StyleCommand::Iterate,
+            Command::Reverse => StyleCommand::Reverse,
+        };
+        command.word()
     }
 }
