@@ -63,25 +63,7 @@ fn plain_of(function: BuiltIn) -> Option<Plain>
         BuiltIn::Type => of_entry,
         BuiltIn::Warning => nothing,
         BuiltIn::Width => pushing(Value::any_count()),
-        BuiltIn::Assign
-        | BuiltIn::CallType
-        | BuiltIn::Concatenate
-        | BuiltIn::Duplicate
-        | BuiltIn::Empty
-        | BuiltIn::Equals
-        | BuiltIn::Greater
-        | BuiltIn::If
-        | BuiltIn::Less
-        | BuiltIn::Minus
-        | BuiltIn::Missing
-        | BuiltIn::NumNames
-        | BuiltIn::Plus
-        | BuiltIn::Pop
-        | BuiltIn::Skip
-        | BuiltIn::Stack
-        | BuiltIn::Swap
-        | BuiltIn::While
-        | BuiltIn::Write => return None,
+        _ => return None,
     })
 }
 
