@@ -69,13 +69,11 @@ const SUBSTRINGS: [Substring; 16] = [
 ];
 
 fn first_wrong_substring(alloc: Global, rows: &[Substring]) -> usize {
-    for (number, (start, length, string, want)) in rows.iter().enumerate() {
+    let is_wrong = |(start, length, string, want): &Substring| {
         let call = Call::Substring(*start, *length);
-        if !answers(alloc, call, string, want, Complaints::NONE) {
-            return number;
-        }
-    }
-    rows.len()
+        !answers(alloc, call, string, want, Complaints::NONE)
+    };
+    rows.iter().position(is_wrong).unwrap_or(rows.len())
 }
 
 type Prefix = (i32, TextMode, &'static [u8], &'static [u8]);
@@ -95,13 +93,11 @@ const PREFIXES: [Prefix; 11] = [
 ];
 
 fn first_wrong_prefix(alloc: Global, rows: &[Prefix]) -> usize {
-    for (number, (count, mode, string, want)) in rows.iter().enumerate() {
+    let is_wrong = |(count, mode, string, want): &Prefix| {
         let call = Call::TextPrefix(*count, *mode);
-        if !answers(alloc, call, string, want, Complaints::NONE) {
-            return number;
-        }
-    }
-    rows.len()
+        !answers(alloc, call, string, want, Complaints::NONE)
+    };
+    rows.iter().position(is_wrong).unwrap_or(rows.len())
 }
 
 type Case = (&'static [u8], &'static [u8], &'static [u8]);
@@ -175,12 +171,8 @@ const PURIFIED: [Alone; 7] = [
 ];
 
 fn first_wrong_alone(alloc: Global, call: Call, rows: &[Alone]) -> usize {
-    for (number, (string, want)) in rows.iter().enumerate() {
-        if !answers(alloc, call, string, want, Complaints::NONE) {
-            return number;
-        }
-    }
-    rows.len()
+    let is_wrong = |(string, want): &Alone| !answers(alloc, call, string, want, Complaints::NONE);
+    rows.iter().position(is_wrong).unwrap_or(rows.len())
 }
 
 // Each table by itself.
@@ -251,13 +243,11 @@ const LENGTHS: [(&[u8], i32, i32); 10] = [
 ];
 
 fn first_wrong_length(rows: &[(&[u8], i32, i32)]) -> usize {
-    for (number, (string, bytes, wide)) in rows.iter().enumerate() {
+    let is_wrong = |(string, bytes, wide): &(&[u8], i32, i32)| {
         let found = numbers_of(string);
-        if found.0 != *bytes || found.1 != *wide {
-            return number;
-        }
-    }
-    rows.len()
+        found.0 != *bytes || found.1 != *wide
+    };
+    rows.iter().position(is_wrong).unwrap_or(rows.len())
 }
 
 // A string, and its width.
@@ -275,12 +265,8 @@ const WIDTHS: [(&[u8], i32); 10] = [
 ];
 
 fn first_wrong_width(rows: &[(&[u8], i32)]) -> usize {
-    for (number, (string, want)) in rows.iter().enumerate() {
-        if numbers_of(string).2 != *want {
-            return number;
-        }
-    }
-    rows.len()
+    let is_wrong = |(string, want): &(&[u8], i32)| numbers_of(string).2 != *want;
+    rows.iter().position(is_wrong).unwrap_or(rows.len())
 }
 
 const MARKS: [i32; 16] = [
@@ -459,12 +445,8 @@ const LINES: [(&[u8], &[u8]); 5] = [
 ];
 
 fn first_wrong_lines(rows: &[(&[u8], &[u8])]) -> usize {
-    for (number, (text, want)) in rows.iter().enumerate() {
-        if behind_lines(want, text) != Some(b"".as_slice()) {
-            return number;
-        }
-    }
-    rows.len()
+    let is_wrong = |(text, want): &(&[u8], &[u8])| behind_lines(want, text) != Some(b"".as_slice());
+    rows.iter().position(is_wrong).unwrap_or(rows.len())
 }
 
 // Two keys, and whether they are the same.
@@ -478,12 +460,8 @@ const KEYS: [(&[u8], &[u8], bool); 6] = [
 ];
 
 fn first_wrong_key(rows: &[(&[u8], &[u8], bool)]) -> usize {
-    for (number, (one, other, same)) in rows.iter().enumerate() {
-        if same_key(one, other) != *same {
-            return number;
-        }
-    }
-    rows.len()
+    let is_wrong = |(one, other, same): &(&[u8], &[u8], bool)| same_key(one, other) != *same;
+    rows.iter().position(is_wrong).unwrap_or(rows.len())
 }
 
 // Whether a key is folded.
