@@ -61,6 +61,11 @@ def written(name, body, result, **more):
     return Job(name, b"FUNCTION {f} {" + body + b"} EXECUTE {f}", bbl=result, **more)
 
 
+def formatted(name, authors, format_text, result, **more):
+    """A function that writes the first of some authors as a format says, run once."""
+    return value(name, b'"%s" #1 "%s" format.name$' % (authors, format_text), result, **more)
+
+
 ONE_A = b'FUNCTION {f} {"a" write$ newline$} EXECUTE {f}'
 ABC = b'FUNCTION {f} {"abc" write$ newline$} EXECUTE {f}'
 TWO_STEPS = b"FUNCTION {f} {#1 pop$} EXECUTE {f}"
@@ -191,14 +196,13 @@ JOBS = [
           messages=[b"Error--Integer overflow while executing +"]),
 
     # ---- names ----
-    value("a name of many parts",
-          b'"Charles Louis Xavier Joseph de la Vall{\\\'e}e Poussin" #1 "{vv~}{ll}{, jj}{, f}?" format.name$',
-          b"de~la Vall{\\'e}e~Poussin, C. L. X.~J?"),
+    formatted("a name of many parts",
+              b"Charles Louis Xavier Joseph de la Vall{\\'e}e Poussin", b"{vv~}{ll}{, jj}{, f}?", b"de~la Vall{\\'e}e~Poussin, C. L. X.~J?"),
     value("three names", b'"A and {B and C} AND D" num.names$ int.to.str$', b"3"),
     value("no name", b'"" num.names$ int.to.str$', b"0"),
-    value("a hyphen", b'"Jean-Paul Sartre" #1 "{f.~}{ll}" format.name$', b"J.-P. Sartre"),
-    value("an initial", b'"D. Knuth" #1 "{f.~}{ll}" format.name$', b"D.~Knuth"),
-    value("a Jr", b'"Smith, Jr, John" #1 "{ff }{vv }{ll}{, jj}" format.name$', b"John Smith, Jr"),
+    formatted("a hyphen", b"Jean-Paul Sartre", b"{f.~}{ll}", b"J.-P. Sartre"),
+    formatted("an initial", b"D. Knuth", b"{f.~}{ll}", b"D.~Knuth"),
+    formatted("a Jr", b"Smith, Jr, John", b"{ff }{vv }{ll}{, jj}", b"John Smith, Jr"),
     titled("the last of a thousand names", b"{" + b" and ".join([b"Ab Cd"] * 1000) + b"}",
            b'title #1000 "{f.~}{ll}" format.name$', b"A.~Cd"),
 
