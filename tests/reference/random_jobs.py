@@ -2,8 +2,8 @@
 
 import corner_jobs
 import worked_jobs as worked
+from interpreter import BUILT_IN
 from seeded import Seeded
-from styles import BUILT_IN
 
 # Wherever a name may stand, some have byte 127 or bytes from 128 up.
 KEYS = [b"a", b"b", b"c", b"a", b"b", b"c", b"p", b"A", b"P", b"", b"k)", b"\xe9", b"d\x7f", b"\xc3\xa9\x80"]

@@ -2,48 +2,12 @@
 
 from typing import NamedTuple
 
+from interpreter import BUILT_IN
+from meanings import (CROSSREF, ENTRY_MAX, GLOBAL_MAX, SORT_KEY, BuiltIn, Executed, Field, Function, Integer, Quoted, String,
+                      Variable)
 from texts import is_digit, is_letter, is_white, lines, lowered, name_at, raised
 
-# ---- what a name stands for ----
-
-
-class Function(NamedTuple):
-    """A function of the style, by its number; `name` is empty for a nameless one."""
-    number: int
-    name: bytes
-
-
-class BuiltIn(NamedTuple):
-    name: bytes
-
-
-class Field(NamedTuple):
-    name: bytes
-
-
-class Variable(NamedTuple):
-    name: bytes
-    of_entry: bool
-    is_string: bool
-
-
-# ---- tokens, items ----
-
-
-class String(NamedTuple):
-    text: bytes
-
-
-class Integer(NamedTuple):
-    value: int
-
-
-class Quoted(NamedTuple):
-    meaning: object
-
-
-class Executed(NamedTuple):
-    meaning: object
+# ---- a style and its items ----
 
 
 class Message(NamedTuple):
@@ -53,16 +17,6 @@ class Message(NamedTuple):
 class Command(NamedTuple):
     word: bytes
     meaning: object = None
-
-
-BUILT_IN = b"""= > < + - * := add.period$ call.type$ change.case$ chr.to.int$ cite$ duplicate$ empty$ format.name$ if$
-int.to.chr$ int.to.str$ missing$ newline$ num.names$ pop$ preamble$ purify$ quote$ skip$ stack$ substring$ swap$
-text.length$ text.prefix$ top$ type$ warning$ while$ width$ write$""".split()
-
-CROSSREF = Field(b"crossref")
-SORT_KEY = Variable(b"sort.key$", True, True)
-ENTRY_MAX = Variable(b"entry.max$", False, False)
-GLOBAL_MAX = Variable(b"global.max$", False, False)
 
 
 class Style:

@@ -10,8 +10,8 @@ systematic_mixed.py have. What they give isn't written out: the built program is
 import itertools
 import re
 
+from interpreter import BUILT_IN
 from product import Options, run
-from styles import BUILT_IN
 from systematic_mixed import all_mixed
 from systematic_readings import all_readings
 from systematic_texts import all_texts, in_groups, jobs_of, style, texts_of
