@@ -15,9 +15,11 @@ use Rattle.btx_bst.specs.declared.callee.Callee.TheVariants as callee
 use Rattle.btx_stack.specs.declared.literal.Literal.{Literal}
 use Rattle.btx_stack.specs.declared.literal.Literal.TheVariants.{Integer, Text, Function, Missing}
 use Rattle.btx_step.specs.declared.said.Note.TheVariants as note
+use Rattle.btx_step.specs.declared.said.Said.{Said}
+use Rattle.btx_step.specs.declared.said.Said.TheVariants as said
 use Rattle.btx_step.specs.language.Jobs.{Job}
 use Rattle.btx_step.specs.language.Stores.{Store, EntryVariables}
-use Rattle.btx_step.specs.language.Answers.{Answer, noted, with_literals}
+use Rattle.btx_step.specs.language.Answers.{Answer, noted, says, with_literals}
 use Rattle.btx_step.specs.declared.literal.Wanted.TheVariants as wanted
 use Rattle.btx_step.specs.declared.operands.Operand.TheVariants.{Of}
 use Rattle.btx_step.specs.language.Table.{row}
@@ -30,11 +32,11 @@ use Rattle.btx_check.specs.declared.description.Value.TheVariants as value
 use Rattle.btx_check.specs.declared.description.Upper.{Upper}
 use Rattle.btx_check.specs.Calm.{Calm}
 use Rattle.btx_check.specs.Descriptions.{White, Full, class_of, allows, Is, cut}
-use Rattle.btx_check.specs.States.{Abstract, Values, values_in, named, slot, at, Stands, Holds, In, with_stack, putting, putting_text}
+use Rattle.btx_check.specs.States.{Abstract, Values, values_in, named, slot, at, Fits, Stack, Stands, Holds, In, with_stack, keeping, putting, putting_text}
 use Rattle.btx_check.specs.Inclusion.{Into}
 use Rattle.btx_check.specs.Running.{Sized, Leads, StyleRule}
 use Rattle.btx_check.specs.Answers.{OpFits, TopsFit}
-use Rattle.btx_check.proofs.Holding.{at-last, fits-append, stack-append, stands-append}
+use Rattle.btx_check.proofs.Holding.{at-last, numbered}
 use Rattle.btx_check.proofs.Known.{OnKnown, OnwardAt, row_known}
 
 -- ---- lists in which one element was set
@@ -59,6 +61,11 @@ set_slots (o ∷ os) zero (suc j) n Q new none old = old (λ e. omega (arith, e)
 set_slots (o ∷ os) (suc k) zero n Q new none old = old (λ e. omega (arith, e))
 set_slots (o ∷ os) (suc k) (suc j) n Q new none old = set_slots os k j n (λ m. Q (suc m)) new (λ m. none (suc m)) (λ ne. old (λ e. ne (omega (arith, e))))
 
+-- the same of the slots of one kind of names
+set_kind : (make : ℕ → Callee) (os : List (Option ℕ)) (k j n : ℕ) (P : Callee → Option ℕ → Type 0) → (make j ≡ make k → j ≡ k) → P (make k) (Some n)
+    → ((g : Callee) → P g None) → ((make j ≡ make k → ⊥) → P (make j) (get_or os j None)) → P (make j) (get_or (slice_set os k (Some n)) j None)
+set_kind make os k j n P same new none old = set_slots os k j n (λ m. P (make m)) new (λ m. none (make m)) (λ ne. old (λ e. ne (same e)))
+
 abbrev pub IsVariable : Callee → Type 0
 IsVariable (callee.GlobalInteger k) = Unit {0}
 IsVariable (callee.GlobalString k) = Unit {0}
@@ -69,22 +76,19 @@ IsVariable _ = ⊥
 
 slot_put : (a : Abstract) (n : ℕ) (f : Callee) → IsVariable f → (P : Callee → Option ℕ → Type 0) → P f (Some n) → ((g : Callee) → P g None)
     → ((g : Callee) → (g ≡ f → ⊥) → P g (slot a g)) → (g : Callee) → P g (slot (putting f n a) g)
-slot_put a n (callee.GlobalInteger k) v P new none old (callee.GlobalInteger j) = set_slots a.global_integers k j n (λ m. P (callee.GlobalInteger m)) new
-    (λ m. none (callee.GlobalInteger m)) (λ ne. old (callee.GlobalInteger j) (λ e. ne (cc)))
-slot_put a n (callee.GlobalInteger k) v P new none old g = old g (λ e. absurd (cc))
-slot_put a n (callee.GlobalString k) v P new none old (callee.GlobalString j) = set_slots a.global_strings k j n (λ m. P (callee.GlobalString m)) new
-    (λ m. none (callee.GlobalString m)) (λ ne. old (callee.GlobalString j) (λ e. ne (cc)))
-slot_put a n (callee.GlobalString k) v P new none old g = old g (λ e. absurd (cc))
-slot_put a n (callee.EntryInteger k) v P new none old (callee.EntryInteger j) = set_slots a.entry_integers k j n (λ m. P (callee.EntryInteger m)) new
-    (λ m. none (callee.EntryInteger m)) (λ ne. old (callee.EntryInteger j) (λ e. ne (cc)))
-slot_put a n (callee.EntryInteger k) v P new none old g = old g (λ e. absurd (cc))
-slot_put a n (callee.EntryString k) v P new none old (callee.EntryString j) = set_slots a.entry_strings k j n (λ m. P (callee.EntryString m)) new
-    (λ m. none (callee.EntryString m)) (λ ne. old (callee.EntryString j) (λ e. ne (cc)))
-slot_put a n (callee.EntryString k) v P new none old g = old g (λ e. absurd (cc))
-slot_put a n (callee.Field k) v P new none old (callee.Field j) = set_slots a.fields k j n (λ m. P (callee.Field m)) new (λ m. none (callee.Field m))
-    (λ ne. old (callee.Field j) (λ e. ne (cc)))
-slot_put a n (callee.Field k) v P new none old g = old g (λ e. absurd (cc))
-slot_put a n _ v P new none old g = absurd v
+slot_put a n (callee.BuiltIn b) v P new none old g = absurd v
+slot_put a n (callee.User i) v P new none old g = absurd v
+slot_put a n (callee.GlobalInteger k) v P new none old (callee.GlobalInteger j) =
+    set_kind callee.GlobalInteger a.global_integers k j n P (λ e. cc) new none (old (callee.GlobalInteger j))
+slot_put a n (callee.GlobalString k) v P new none old (callee.GlobalString j) =
+    set_kind callee.GlobalString a.global_strings k j n P (λ e. cc) new none (old (callee.GlobalString j))
+slot_put a n (callee.EntryInteger k) v P new none old (callee.EntryInteger j) =
+    set_kind callee.EntryInteger a.entry_integers k j n P (λ e. cc) new none (old (callee.EntryInteger j))
+slot_put a n (callee.EntryString k) v P new none old (callee.EntryString j) =
+    set_kind callee.EntryString a.entry_strings k j n P (λ e. cc) new none (old (callee.EntryString j))
+slot_put a n (callee.Field k) v P new none old (callee.Field j) =
+    set_kind callee.Field a.fields k j n P (λ e. cc) new none (old (callee.Field j))
+slot_put a n f v P new none old g = old g (λ e. absurd (cc))
 
 -- the names after an assignment
 pub put_names : (job : Job) (left : ℕ) (a : Abstract) (n m : Values) (f : Callee) (i : ℕ) (x : Literal) (v : List Literal) → IsVariable f
@@ -157,6 +161,53 @@ assign_row job left f j i d a below to s e df di h stored = row_known job left l
     (λ w q o x q2 o2. let same : f ≡ w = subst (λ (c : Value). Is left c (Function w)) df o in
     subst (λ (g : Callee). OnwardAt job left left a h.0 below to s (assigns job g x)) same (stored x q2 (subst (λ (c : Value). Is left c x) di o2))))
 
+-- the parts of a description that it keeps where a name's value has another number
+put_keeps : (P : List Value → List ℕ → Bool → Type 0) (f : Callee) (i : ℕ) (a : Abstract) → P a.values a.stack a.entry
+    → P (putting f i a).values (putting f i a).stack (putting f i a).entry
+put_keeps P (callee.GlobalInteger k) i a h = h
+put_keeps P _ i a h = h
+
+-- what follows where a variable has another value in `t` than in `s`: the literal `x`, whose number is `i`; `words` are written or logged
+assigned : (job : Job) (left : ℕ) (f : Callee) (i : ℕ) (x : Literal) (a : Abstract) (to : List Abstract) (s t : Store) (v : List Literal) (words : Said)
+    → IsVariable f → Calm words → t.deepest ≡ s.deepest → (Sized job (values_in s) → Sized job (values_in t)) → t.current ≡ s.current
+    → Into (putting f i a) to → Holds job left a (values_in s) t.literals v → at v i ≡ Some x → named job (values_in t) f ≡ Some x
+    → ((g : Callee) → (g ≡ f → ⊥) → named job (values_in t) g ≡ named job (values_in s) g) → Leads job left to s (says words t)
+assigned job left f i x a to s t v words var calm deepest sized current go w k e others =
+    let keeps : Fits left (putting f i a).values v × Stack v (putting f i a).stack t.literals × (is_some t.current ≡ (putting f i a).entry) =
+    put_keeps (λ ds is entry. Fits left ds v × Stack v is t.literals × (is_some t.current ≡ entry)) f i a
+    (w.values, w.stack, ap (λ (o : Option ℕ). is_some o) current ∙ w.entry) in
+    record {
+      calm = calm;
+      deepest = deepest;
+      sized = sized;
+      goes = go.into job left t (
+        v,
+        record {
+          values = keeps.0;
+          stack = keeps.1;
+          steps = w.steps;
+          entry = keeps.2;
+          names = put_names job left a (values_in s) (values_in t) f i x v var e k others w.names;
+        },
+      );
+    }
+
+cut_calm : (b : Bool) (n most : ℕ) → Calm (noted (only_if b (note.Cut n most)))
+cut_calm true n most = refl
+cut_calm false n most = tt
+
+-- .. where it is the first bytes of a string, at most `most`, which get a number of their own
+assigned_text : (job : Job) (left : ℕ) (f : Callee) (m : Mask) (most : ℕ) (text : List ℕ) (a : Abstract) (to : List Abstract) (s t : Store) (v : List Literal)
+    → IsVariable f → 1 ≤ most → allows m (class_of text) ≡ true → t.deepest ≡ s.deepest → (Sized job (values_in s) → Sized job (values_in t))
+    → t.current ≡ s.current → Into (putting_text f m a) to → Holds job left a (values_in s) t.literals v
+    → named job (values_in t) f ≡ Some (Text (take most text)) → ((g : Callee) → (g ≡ f → ⊥) → named job (values_in t) g ≡ named job (values_in s) g)
+    → Leads job left to s (says (noted (only_if (nat_lt most (length text)) (note.Cut (length text) most))) t)
+assigned_text job left f m most text a to s t v var l o deepest sized current go w e others =
+    let y = Text (take most text) in
+    assigned job left f (length a.values) y (keeping m a) to s t (v ++ y ∷ []) (noted (only_if (nat_lt most (length text)) (note.Cut (length text) most))) var
+    (cut_calm (nat_lt most (length text)) (length text) most) deepest sized current go
+    (numbered job left a (values_in s) v t.literals (value.Text (cut m)) y (cut_is left m most text l o) w) (at-last left a.values v y w.values) e others
+
 -- a variable that there is
 declared : (style : Style) (job : Job) (left : ℕ) (k n : ℕ) (count : Style → ℕ) → job.style ≡ style → k < count style → n ≡ count job.style → k < n
 declared style job left k n count e l q = let m = ap count e in omega (arith, l, m, q)
@@ -177,33 +228,15 @@ rule_assign_global_integer style allowed k j i lo hi a below to lk e df di go jo
     stored (Text t) q o under w = absurd o
     stored (Function g) q o under w = absurd o
     stored Missing q o under w = absurd o
-    stored (Integer n) q o under w = record {
-      calm = tt;
-      deepest = refl;
-      sized = λ y. record {
-        integers = length-set s.integers k n ∙ y.integers;
-        strings = y.strings;
-        entries = y.entries;
-        entry_integers = y.entry_integers;
-        entry_strings = y.entry_strings;
-        current = y.current;
-      };
-      goes = go.into job left (with_global_integer k n (with_literals under s)) (
-        h.0,
-        record {
-          values = w.values;
-          stack = w.stack;
-          steps = w.steps;
-          entry = w.entry;
-          names = put_names job left (with_stack below a) (values_in s) (values_in (with_global_integer k n s)) (callee.GlobalInteger k) i (Integer n) h.0 tt
-              (ap (λ (o : Option ℤ). Some (Integer (unwrap_or o (pos 0)))) (get_set s.integers k n size)) q (integer_others job left s k n) w.names;
-        },
-      );
-    }
-
-cut_calm : (b : Bool) (n most : ℕ) → Calm (noted (only_if b (note.Cut n most)))
-cut_calm true n most = refl
-cut_calm false n most = tt
+    stored (Integer n) q o under w = assigned job left (callee.GlobalInteger k) i (Integer n) (with_stack below a) to (with_literals under s)
+        (with_global_integer k n (with_literals under s)) h.0 said.Nothing tt tt refl (λ y. record {
+          integers = length-set s.integers k n ∙ y.integers;
+          strings = y.strings;
+          entries = y.entries;
+          entry_integers = y.entry_integers;
+          entry_strings = y.entry_strings;
+          current = y.current;
+        }) refl go w q (ap (λ (o : Option ℤ). Some (Integer (unwrap_or o (pos 0)))) (get_set s.integers k n size)) (integer_others job left s k n)
 
 pub rule_assign_global_string : (style : Style) (allowed : List ℕ) (k j i : ℕ) (m : Mask) (a : Abstract) (below : List ℕ) (to : List Abstract)
     → k < length style.names.global_strings → a.stack ≡ j ∷ i ∷ below
@@ -220,35 +253,16 @@ rule_assign_global_string style allowed k j i m a below to lk e df di there go j
     stored (Integer n) q o under w = absurd o
     stored (Function g) q o under w = absurd o
     stored Missing q o under w = absurd (cc)
-    stored (Text t) q o under w =
-        let y = Text (take job.global_max t) in
-        let v2 = h.0 ++ y ∷ [] in
-        record {
-          calm = cut_calm (nat_lt job.global_max (length t)) (length t) job.global_max;
-          deepest = refl;
-          sized = λ y. record {
-            integers = y.integers;
-            strings = length-set s.strings k (take job.global_max t) ∙ y.strings;
-            entries = y.entries;
-            entry_integers = y.entry_integers;
-            entry_strings = y.entry_strings;
-            current = y.current;
-          };
-          goes = go.into job left (with_global_string k (take job.global_max t) (with_literals under s)) (
-            v2,
-            record {
-              values = fits-append left a.values h.0 (value.Text (cut m)) y w.values (cut_is left m job.global_max t of.global_max o);
-              stack = stack-append h.0 y below under w.stack;
-              steps = w.steps;
-              entry = w.entry;
-              names = put_names job left (record a { stack = below; values = a.values ++ value.Text (cut m) ∷ [] }) (values_in s)
-                  (values_in (with_global_string k (take job.global_max t) s)) (callee.GlobalString k) (length a.values) y v2 tt
-                  (ap (λ (o : Option (List ℕ)). Some (Text (unwrap_or o []))) (get_set s.strings k (take job.global_max t) size))
-                  (at-last left a.values h.0 y w.values) (string_others job left s k (take job.global_max t))
-                  (λ g x p. stands-append h.0 y (slot a g) x (w.names g x p));
-            },
-          );
-        }
+    stored (Text t) q o under w = assigned_text job left (callee.GlobalString k) m job.global_max t (with_stack below a) to (with_literals under s)
+        (with_global_string k (take job.global_max t) (with_literals under s)) h.0 tt of.global_max o refl (λ y. record {
+          integers = y.integers;
+          strings = length-set s.strings k (take job.global_max t) ∙ y.strings;
+          entries = y.entries;
+          entry_integers = y.entry_integers;
+          entry_strings = y.entry_strings;
+          current = y.current;
+        }) refl go w (ap (λ (o : Option (List ℕ)). Some (Text (unwrap_or o []))) (get_set s.strings k (take job.global_max t) size))
+        (string_others job left s k (take job.global_max t))
 
 -- ---- variables of entries
 
@@ -333,12 +347,9 @@ pub rule_assign_entry_integer : (style : Style) (allowed : List ℕ) (k j i : �
 rule_assign_entry_integer style allowed k j i lo hi a below to en lk e df di go job of left s z h =
     assign_row job left (callee.EntryInteger k) j i (value.Integer lo hi) a below to s e df di h stored
   where
-    there : (entry : ℕ) → s.current ≡ Some entry → entry < length s.entries
-    there entry c = z.current entry c
-
     size : (entry : ℕ) → s.current ≡ Some entry → k < length (values_of s.entries entry).integers
     size entry c = declared style job left k (length (values_of s.entries entry).integers) (λ st. length st.names.entry_integers) of.same lk
-        (z.entry_integers entry (there entry c))
+        (z.entry_integers entry (z.current entry c))
 
     one : (n : ℤ) → at h.0 i ≡ Some (Integer n) → (under : List Literal) → Holds job left (with_stack below a) (values_in s) under h.0 → (entry : ℕ)
         → s.current ≡ Some entry
@@ -346,26 +357,13 @@ rule_assign_entry_integer style allowed k j i lo hi a below to en lk e df di go 
     one n q under w entry c =
         let own = values_of s.entries entry in
         let new : EntryVariables = record own { integers = slice_set own.integers k n } in
-        record {
-          calm = tt;
-          deepest = refl;
-          sized = λ y. set_sized job (values_in s) entry new (there entry c) (length-set own.integers k n) refl y;
-          goes = go.into job left (with_entry_integer entry k n (with_literals under s)) (
-            h.0,
-            record {
-              values = w.values;
-              stack = w.stack;
-              steps = w.steps;
-              entry = w.entry;
-              names = put_names job left (with_stack below a) (values_in s) (values_in (with_entry_integer entry k n s)) (callee.EntryInteger k) i (Integer n)
-                  h.0 tt
-                  (map_at s.current entry (λ e. Integer (integer_of (slice_set s.entries entry new) e k)) (Integer n) c
-                  (ap (λ (v : EntryVariables). Integer (unwrap_or (slice_get v.integers k) (pos 0))) (values_set s.entries entry new (there entry c))
-                  ∙ ap (λ (o : Option ℤ). Integer (unwrap_or o (pos 0))) (get_set own.integers k n (size entry c))))
-                  q (entry_integer_others job left s entry k n c (there entry c)) w.names;
-            },
-          );
-        }
+        assigned job left (callee.EntryInteger k) i (Integer n) (with_stack below a) to (with_literals under s)
+        (with_entry_integer entry k n (with_literals under s)) h.0 said.Nothing tt tt refl
+        (λ y. set_sized job (values_in s) entry new (z.current entry c) (length-set own.integers k n) refl y) refl go w q
+        (map_at s.current entry (λ e. Integer (integer_of (slice_set s.entries entry new) e k)) (Integer n) c
+        (ap (λ (v : EntryVariables). Integer (unwrap_or (slice_get v.integers k) (pos 0))) (values_set s.entries entry new (z.current entry c))
+        ∙ ap (λ (o : Option ℤ). Integer (unwrap_or o (pos 0))) (get_set own.integers k n (size entry c))))
+        (entry_integer_others job left s entry k n c (z.current entry c))
 
     stored : (x : Literal) → at h.0 i ≡ Some x → Is left (value.Integer lo hi) x
         → OnwardAt job left left a h.0 below to s (assigns job (callee.EntryInteger k) x)
@@ -383,43 +381,24 @@ pub rule_assign_entry_string : (style : Style) (allowed : List ℕ) (k j i : ℕ
 rule_assign_entry_string style allowed k j i m a below to en lk e df di full go job of left s z h =
     assign_row job left (callee.EntryString k) j i (value.Text m) a below to s e df di h stored
   where
-    there : (entry : ℕ) → s.current ≡ Some entry → entry < length s.entries
-    there entry c = z.current entry c
-
     size : (entry : ℕ) → s.current ≡ Some entry → k < length (values_of s.entries entry).strings
     size entry c = declared style job left k (length (values_of s.entries entry).strings) (λ st. length st.names.entry_strings) of.same lk
-        (z.entry_strings entry (there entry c))
+        (z.entry_strings entry (z.current entry c))
 
     one : (t : List ℕ) → Is left (value.Text m) (Text t) → (under : List Literal) → Holds job left (with_stack below a) (values_in s) under h.0 → (entry : ℕ)
         → s.current ≡ Some entry
         → Leads job left to (with_literals under s) (stores_string job.entry_max (with_entry_string entry k) (Text t) (with_literals under s))
     one t o under w entry c =
         let kept = take job.entry_max t in
-        let y = Text kept in
-        let v2 = h.0 ++ y ∷ [] in
         let own = values_of s.entries entry in
         let new : EntryVariables = record own { strings = slice_set own.strings k kept } in
-        record {
-          calm = cut_calm (nat_lt job.entry_max (length t)) (length t) job.entry_max;
-          deepest = refl;
-          sized = λ y. set_sized job (values_in s) entry new (there entry c) refl (length-set own.strings k kept) y;
-          goes = go.into job left (with_entry_string entry k kept (with_literals under s)) (
-            v2,
-            record {
-              values = fits-append left a.values h.0 (value.Text (cut m)) y w.values (cut_is left m job.entry_max t of.entry_max o);
-              stack = stack-append h.0 y below under w.stack;
-              steps = w.steps;
-              entry = w.entry;
-              names = put_names job left (record a { stack = below; values = a.values ++ value.Text (cut m) ∷ [] }) (values_in s)
-                  (values_in (with_entry_string entry k kept s)) (callee.EntryString k) (length a.values) y v2 tt
-                  (map_at s.current entry (λ e. Text (string_of (slice_set s.entries entry new) e k)) y c
-                  (ap (λ (v : EntryVariables). Text (unwrap_or (slice_get v.strings k) [])) (values_set s.entries entry new (there entry c))
-                  ∙ ap (λ (o : Option (List ℕ)). Text (unwrap_or o [])) (get_set own.strings k kept (size entry c))))
-                  (at-last left a.values h.0 y w.values) (entry_string_others job left s entry k kept c (there entry c))
-                  (λ g x p. stands-append h.0 y (slot a g) x (w.names g x p));
-            },
-          );
-        }
+        assigned_text job left (callee.EntryString k) m job.entry_max t (with_stack below a) to (with_literals under s)
+        (with_entry_string entry k kept (with_literals under s)) h.0 tt of.entry_max o refl
+        (λ y. set_sized job (values_in s) entry new (z.current entry c) refl (length-set own.strings k kept) y) refl go w
+        (map_at s.current entry (λ e. Text (string_of (slice_set s.entries entry new) e k)) (Text kept) c
+        (ap (λ (v : EntryVariables). Text (unwrap_or (slice_get v.strings k) [])) (values_set s.entries entry new (z.current entry c))
+        ∙ ap (λ (o : Option (List ℕ)). Text (unwrap_or o [])) (get_set own.strings k kept (size entry c))))
+        (entry_string_others job left s entry k kept c (z.current entry c))
 
     stored : (x : Literal) → at h.0 i ≡ Some x → Is left (value.Text m) x → OnwardAt job left left a h.0 below to s (assigns job (callee.EntryString k) x)
     stored (Integer n) q o under w = absurd o

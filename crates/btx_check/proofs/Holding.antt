@@ -61,15 +61,21 @@ module _ (job : Job) (left : ℕ) (a : Abstract) (n : Values) (v : List Literal)
   pub restack : (is : List ℕ) (xs ys : List Literal) → Stack v is ys → Holds job left a n xs v → Holds job left (with_stack is a) n ys v
   restack is xs ys k h = record { values = h.values; stack = k; names = h.names; steps = h.steps; entry = h.entry }
 
-  -- a literal that no number stands for yet
-  pub fresh : (xs : List Literal) (d : Value) (y : Literal) → Is left d y → Holds job left a n xs v → Holds job left (pushing_new d a) n (y ∷ xs) (v ++ y ∷ [])
-  fresh xs d y k h = record {
+  -- a literal of a new number
+  pub numbered : (xs : List Literal) (d : Value) (y : Literal) → Is left d y → Holds job left a n xs v
+      → Holds job left (record a { values = a.values ++ d ∷ [] }) n xs (v ++ y ∷ [])
+  numbered xs d y k h = record {
     values = fits-append left a.values v d y h.values k;
-    stack = (at-last left a.values v y h.values, stack-append v y a.stack xs h.stack);
+    stack = stack-append v y a.stack xs h.stack;
     names = λ f x e. stands-append v y (slot a f) x (h.names f x e);
     steps = h.steps;
     entry = h.entry;
   }
+
+  -- .. which is pushed
+  pub fresh : (xs : List Literal) (d : Value) (y : Literal) → Is left d y → Holds job left a n xs v → Holds job left (pushing_new d a) n (y ∷ xs) (v ++ y ∷ [])
+  fresh xs d y k h = let m = numbered xs d y k h in
+      record { values = m.values; stack = (at-last left a.values v y h.values, m.stack); names = m.names; steps = m.steps; entry = m.entry }
 
   -- what is known better
   pub known : (xs : List Literal) (i : ℕ) (d : Value) (x : Literal) → at v i ≡ Some x → Is left d x → Holds job left a n xs v
