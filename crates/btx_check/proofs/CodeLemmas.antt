@@ -1,29 +1,24 @@
 -- The rows in the form in which the code meets them.
-use Rattle.std.proofs.Common.{◌≡◌, ℕ, ◌<◌, ℤ, pos, List, [], ◌∷◌, length, Option, None, Some, Bool, true, false, get_or, refl, sym, ap, subst, ◌∙◌, arith}
+use Rattle.std.proofs.Common.{◌≡◌, ℕ, ◌<◌, ℤ, pos, List, [], ◌∷◌, length, Option, Some, Bool, true, false, get_or, sym, ap, subst, ◌∙◌, arith}
 use Rattle.std.specs.Prelude.{slice_index_or}
 use Rattle.btx_bst.specs.language.Style.{Style}
 use Rattle.btx_bst.specs.declared.built_in.BuiltIn.TheVariants as built_in
 use Rattle.btx_bst.specs.declared.callee.Callee.{Callee}
 use Rattle.btx_bst.specs.declared.callee.Callee.TheVariants as callee
 use Rattle.btx_bst.specs.declared.token.Token.TheVariants as token
-use Rattle.btx_stack.specs.declared.literal.Literal.TheVariants.{Text, Integer}
+use Rattle.btx_stack.specs.declared.literal.Literal.TheVariants.{Text}
 use Rattle.btx_check.specs.declared.description.Mask.{Mask}
 use Rattle.btx_check.specs.declared.description.Value.{Value}
 use Rattle.btx_check.specs.declared.description.Value.TheVariants as value
-use Rattle.std.specs.Prelude.{◌+ℤ◌, ◌-ℤ◌, int_lt, IsTrue}
-use Rattle.std.proofs.lemmas.Int.{ints}
-use Rattle.std.specs.Ordering.{int_eq}
-use Rattle.std.proofs.lemmas.Bool.Decides.{Decides-int_eq, Decides-like, same_from_decides}
-use Rattle.btx_step.specs.declared.operands.Operand.TheVariants.{Any}
+use Rattle.std.specs.Prelude.{◌+ℤ◌, ◌-ℤ◌, IsTrue}
 use Rattle.btx_check.specs.declared.description.Upper.{Upper}
-use Rattle.btx_check.specs.declared.description.Upper.TheVariants as upper
-use Rattle.btx_check.specs.Descriptions.{Is, exactly, blank, filled, followed, gone, nothing, open_end, present, something, Above, Below}
+use Rattle.btx_check.specs.Descriptions.{Is, exactly, blank, filled, followed, gone, nothing, open_end, present, something}
 use Rattle.btx_check.specs.States.{Abstract, slot, putting, pushing, pushing_new, knowing, with_stack, putting_text}
 use Rattle.btx_check.specs.Names.{IsName, NeedsEntry, kind_of, IsIntegerOf, IsStringOf}
 use Rattle.btx_check.specs.Bounds.{Narrows, SumIs, Matches}
 use Rattle.btx_check.specs.Inclusion.{Into}
 use Rattle.btx_check.specs.Running.{RuleNow}
-use Rattle.btx_check.specs.Answers.{Ruled, Added, TopIs, TwoAre, Stepped, Comparable}
+use Rattle.btx_check.specs.Answers.{Ruled, Added, TopIs, TwoAre, BothAnswers, Stepped, Comparable}
 use Rattle.btx_check.proofs.AddLemmas.{sub_then, into_sub}
 use Rattle.btx_check.proofs.RunLemmas.{rest_into, ruled}
 use Rattle.btx_check.proofs.RowLemmas.{rule_duplicate, rule_pop, rule_skip, rule_swap, rule_write, rule_empty}
@@ -66,28 +61,6 @@ two_at a b j i d c d' c' w e f = record { stack = w.stack; rest = w.rest; first 
 pub entry_is : (r e : Bool) → r ≡ e → IsTrue r → e ≡ true
 entry_is r e q t = subst (λ (x : Bool). x ≡ true) q t
 
--- ---- comparisons
-
-below_less : (left : ℕ) (high : Upper) (x y : ℤ) → int_lt y x ≡ false → Below left high y → Below left high x
-below_less left (upper.Number None) x y e h = tt
-below_less left (upper.Number (Some n)) x y e h = grind (arith, ints)
-below_less left upper.Counter x y e h = grind (arith, ints)
-
-above_more : (low : Option ℤ) (x y : ℤ) → int_lt y x ≡ false → Above low x → Above low y
-above_more None x y e h = tt
-above_more (Some n) x y e h = grind (arith, ints)
-
-pub narrows_up : (lo : Option ℤ) (hi : Upper) (lo2 : Option ℤ) (hi2 : Upper) (n r : Option ℤ) (p l : Upper)
-    → ((x y : ℤ) → Above lo2 y → int_lt y x ≡ true → Above n x) → ((m : ℤ) → Above lo m → Above n m → Above r m)
-    → ((left : ℕ) (x y : ℤ) → Below left hi x → int_lt y x ≡ true → Below left p y) → ((left : ℕ) (m : ℤ) → Below left hi2 m → Below left p m → Below left l m)
-    → Narrows true (value.Integer lo hi) (value.Integer lo2 hi2) (value.Integer r hi) (value.Integer lo2 l)
-narrows_up lo hi lo2 hi2 n r p l f g h k left x y o q e = ((g x o.0 (f x y q.0 e), o.1), (q.0, k left y q.1 (h left x y o.1 e)))
-
-pub narrows_down : (lo : Option ℤ) (hi : Upper) (lo2 : Option ℤ) (hi2 : Upper) (r : Option ℤ) (l : Upper)
-    → ((left : ℕ) (m : ℤ) → Below left hi m → Below left hi2 m → Below left l m) → ((m : ℤ) → Above lo2 m → Above lo m → Above r m)
-    → Narrows false (value.Integer lo hi) (value.Integer lo2 hi2) (value.Integer lo l) (value.Integer r hi2)
-narrows_down lo hi lo2 hi2 r l f g left x y o q e = ((o.0, f left x o.1 (below_less left hi2 x y e q.1)), (g y q.0 (above_more lo x y e o.0), q.1))
-
 pub code_write : (a b : Abstract) (i : ℕ) (m : Mask) (old new : List Abstract) → TopIs a i (value.Text m) b → m.missing ≡ false → Added b old new
     → Ruled (callee.BuiltIn built_in.Write) a old new
 code_write a b i m old new t there x = ruled _ _ _ _ (rule_write a i b.stack m new t.stack t.known there (rest_into a b (λ x. x) new t.rest x.into)) (x.sub)
@@ -113,7 +86,7 @@ found_at b b' i d d' r r' old new e f g h =
     ∙ (ap (λ (x : Value). pushing_new r' (knowing i x b)) f ∙ ap (λ (x : Value). pushing_new x (knowing i d b)) g)) h
 
 -- a literal, where two numbers are known better
-tested_at : (b b' : Abstract) (j i : ℕ) (d c r r' : Value) (old new : List Abstract) → b' ≡ b → r' ≡ r
+pub tested_at : (b b' : Abstract) (j i : ℕ) (d c r r' : Value) (old new : List Abstract) → b' ≡ b → r' ≡ r
     → Added (pushing_new r' (knowing j d (knowing i c b'))) old new → Added (pushing_new r (knowing j d (knowing i c b))) old new
 tested_at b b' j i d c r r' old new e g h =
     added_at _ _ old new (ap (λ (x : Abstract). pushing_new r' (knowing j d (knowing i c x))) e
@@ -166,69 +139,34 @@ code_equals a b j i d c old mid new t k x y =
     (λ p q. rule_equals a j i b.stack new t.stack (room_two a b j i d c t) p q
     (subst (λ (e : Value). Comparable e (get_or a.values i value.Any)) (sym t.first) (subst (λ (e : Value). Comparable d e) (sym t.second) k)))
 
-int_eq_is : (x y : ℤ) → int_eq x y ≡ true → x ≡ y
-int_eq_is x y e = (Decides-int_eq x y).0 e
-
-int_eq_back : (x y : ℤ) → int_eq x y ≡ false → int_eq y x ≡ false
-int_eq_back x y e = same_from_decides (int_eq y x) (int_eq x y) (Decides-like (int_eq y x) (λ q. sym q) (λ q. sym q) (Decides-int_eq y x)) (Decides-int_eq x y)
-    ∙ e
-
--- both are what both say
-pub matches_same : (c d r : Value) → ((left : ℕ) (n : ℤ) → Is left c (Integer n) → Is left d (Integer n) → Is left r (Integer n)) → Matches true c d r r
-matches_same c d r f left x y o p e =
-    let q = int_eq_is x y e in
-    let k : Is left r (Integer x) = f left x o (subst (λ (n : ℤ). Is left d (Integer n)) (sym q) p) in
-    (k, subst (λ (n : ℤ). Is left r (Integer n)) q k)
-
--- each is what it is where the other is not the same
-pub matches_other : (c d c' d' : Value) → ((left : ℕ) (x y : ℤ) → Is left c (Integer x) → Is left d (Integer y) → int_eq x y ≡ false → Is left c' (Integer x))
-    → ((left : ℕ) (x y : ℤ) → Is left d (Integer x) → Is left c (Integer y) → int_eq x y ≡ false → Is left d' (Integer x))
-    → Matches false c d c' d'
-matches_other c d c' d' f g left x y o p e = (f left x y o p e, g left y x p o (int_eq_back x y e))
-
 -- the two integers on top were compared, and what each answer says of them was added
-pub record Compared (a b : Abstract) (j i : ℕ) (p q c d c' d' : Value) (old new : List Abstract) : Type 0 where
-  pub two : TwoAre a j i p q b
-  pub mid : List Abstract
-  pub so : Added (pushing_new (exactly (pos 1)) (knowing j d (knowing i c b))) old mid
-  pub other : Added (pushing_new (exactly (pos 0)) (knowing j d' (knowing i c' b))) mid new
+module _ (a b : Abstract) (j i : ℕ) (p q : Value) (lo : Option ℤ) (hi : Upper) (lo2 : Option ℤ) (hi2 : Upper) (c d c' d' : Value) (old new : List Abstract)
+    (two : TwoAre a j i p q b) (first : p ≡ value.Integer lo hi) (second : q ≡ value.Integer lo2 hi2) (added : BothAnswers b j i c d c' d' old new) where
+  integers : TwoAre a j i (value.Integer lo hi) (value.Integer lo2 hi2) b
+  integers = two_at a b j i p q (value.Integer lo hi) (value.Integer lo2 hi2) two first second
 
-pub compared_at : (a b copied : Abstract) (j i : ℕ) (first second p q c d c' d' r r' : Value) (old mid new : List Abstract)
-    → TwoAre a j i first second b → first ≡ p → second ≡ q → copied ≡ b → r ≡ exactly (pos 1) → r' ≡ exactly (pos 0)
-    → Added (pushing_new r (knowing j d (knowing i c copied))) old mid → Added (pushing_new r' (knowing j d' (knowing i c' b))) mid new
-    → Compared a b j i p q c d c' d' old new
-compared_at a b copied j i first second p q c d c' d' r r' old mid new w e f g k l x y =
-    record {
-      two = two_at a b j i first second p q w e f;
-      mid = mid;
-      so = tested_at b copied j i d c (exactly (pos 1)) r old mid g k x;
-      other = tested_at b b j i d' c' (exactly (pos 0)) r' mid new refl l y;
-    }
-
-module _ (a b : Abstract) (j i : ℕ) (lo : Option ℤ) (hi : Upper) (lo2 : Option ℤ) (hi2 : Upper) (c d c' d' : Value) (old new : List Abstract)
-    (k : Compared a b j i (value.Integer lo hi) (value.Integer lo2 hi2) c d c' d' old new) where
   compared : (f : Callee) → (Into (pushing_new (exactly (pos 1)) (knowing j d (knowing i c (with_stack b.stack a)))) new
       → Into (pushing_new (exactly (pos 0)) (knowing j d' (knowing i c' (with_stack b.stack a)))) new → RuleNow f a new) → Ruled f a old new
   compared f rule = both_added f a b (λ z. pushing_new (exactly (pos 1)) (knowing j d (knowing i c z)))
-      (λ z. pushing_new (exactly (pos 0)) (knowing j d' (knowing i c' z))) old k.mid new k.two.rest k.so k.other rule
+      (λ z. pushing_new (exactly (pos 0)) (knowing j d' (knowing i c' z))) old added.between new two.rest added.so added.other rule
 
   two_room : length b.stack < 1000
-  two_room = room_two a b j i (value.Integer lo hi) (value.Integer lo2 hi2) k.two
+  two_room = room_two a b j i p q two
 
   pub code_greater : Narrows true (value.Integer lo2 hi2) (value.Integer lo hi) c d → Narrows false (value.Integer lo2 hi2) (value.Integer lo hi) c' d'
       → Ruled (callee.BuiltIn built_in.Greater) a old new
   code_greater up down = compared _
-      (λ p q. rule_greater_known a j i b.stack lo hi lo2 hi2 c d c' d' new k.two.stack two_room k.two.first k.two.second p q up down)
+      (λ p q. rule_greater_known a j i b.stack lo hi lo2 hi2 c d c' d' new two.stack two_room integers.first integers.second p q up down)
 
   pub code_less : Narrows true (value.Integer lo hi) (value.Integer lo2 hi2) d c → Narrows false (value.Integer lo hi) (value.Integer lo2 hi2) d' c'
       → Ruled (callee.BuiltIn built_in.Less) a old new
   code_less up down = compared _
-      (λ p q. rule_less_known a j i b.stack lo hi lo2 hi2 c d c' d' new k.two.stack two_room k.two.first k.two.second p q up down)
+      (λ p q. rule_less_known a j i b.stack lo hi lo2 hi2 c d c' d' new two.stack two_room integers.first integers.second p q up down)
 
   pub code_equals_integers : Matches true (value.Integer lo2 hi2) (value.Integer lo hi) c d
       → Matches false (value.Integer lo2 hi2) (value.Integer lo hi) c' d' → Ruled (callee.BuiltIn built_in.Equals) a old new
   code_equals_integers same other = compared _
-      (λ p q. rule_equals_integers a j i b.stack lo hi lo2 hi2 c d c' d' new k.two.stack two_room k.two.first k.two.second p q same other)
+      (λ p q. rule_equals_integers a j i b.stack lo hi lo2 hi2 c d c' d' new two.stack two_room integers.first integers.second p q same other)
 
 -- a sum or a difference of the two integers on top was added
 module _ (a b : Abstract) (j i : ℕ) (lo : Option ℤ) (hi : Upper) (lo2 : Option ℤ) (hi2 : Upper) (r : Value) (old new : List Abstract)
@@ -255,8 +193,12 @@ code_concatenate a b j i m n r old new t mj ni e x = ruled _ _ _ _
 
 -- ---- `:=`
 
+-- an entry that is current where operands are taken off was so before
+entry_below : (a b : Abstract) → b ≡ with_stack b.stack a → b.entry ≡ true → a.entry ≡ true
+entry_below a b e h = sym (ap (λ (x : Abstract). x.entry) e) ∙ h
+
 pub code_assign_integer : (style : Style) (allowed : List ℕ) (deep loops : ℕ) (a b : Abstract) (j i : ℕ) (f : Callee) (lo : Option ℤ) (hi : Upper)
-    (old new : List Abstract) → TwoAre a j i (value.Function f) (value.Integer lo hi) b → IsIntegerOf style f a
+    (old new : List Abstract) → TwoAre a j i (value.Function f) (value.Integer lo hi) b → IsIntegerOf style f b
     → Added (putting f i b) old new → Stepped style allowed (token.Run (callee.BuiltIn built_in.Assign)) (a ∷ []) deep loops old new
 code_assign_integer style allowed deep loops a b j i (callee.GlobalInteger k) lo hi old new t v x = record {
   steps = style_rule_runs style allowed (callee.BuiltIn built_in.Assign) a deep loops new
@@ -266,25 +208,14 @@ code_assign_integer style allowed deep loops a b j i (callee.GlobalInteger k) lo
 }
 code_assign_integer style allowed deep loops a b j i (callee.EntryInteger k) lo hi old new t v x = record {
   steps = style_rule_runs style allowed (callee.BuiltIn built_in.Assign) a deep loops new
-      (rule_assign_entry_integer style allowed k j i lo hi a b.stack new v.1 v.0 t.stack t.first t.second
+      (rule_assign_entry_integer style allowed k j i lo hi a b.stack new (entry_below a b t.rest v.1) v.0 t.stack t.first t.second
       (rest_into a b (λ x. putting (callee.EntryInteger k) i x) new t.rest x.into));
   sub = x.sub;
 }
 code_assign_integer style allowed deep loops a b j i _ lo hi old new t v x = absurd v
 
--- a variable that can be assigned where its operands are taken off can be assigned before
-pub integer_below : (style : Style) (f : Callee) (a b : Abstract) → b ≡ with_stack b.stack a → IsIntegerOf style f b → IsIntegerOf style f a
-integer_below style (callee.GlobalInteger k) a b e h = h
-integer_below style (callee.EntryInteger k) a b e h = (h.0, sym (ap (λ (x : Abstract). x.entry) e) ∙ h.1)
-integer_below style _ a b e h = absurd h
-
-pub string_below : (style : Style) (f : Callee) (a b : Abstract) → b ≡ with_stack b.stack a → IsStringOf style f b → IsStringOf style f a
-string_below style (callee.GlobalString k) a b e h = h
-string_below style (callee.EntryString k) a b e h = (h.0, sym (ap (λ (x : Abstract). x.entry) e) ∙ h.1)
-string_below style _ a b e h = absurd h
-
 pub code_assign_text : (style : Style) (allowed : List ℕ) (deep loops : ℕ) (a b : Abstract) (j i : ℕ) (f : Callee) (m : Mask) (old new : List Abstract)
-    → TwoAre a j i (value.Function f) (value.Text m) b → m.missing ≡ false → IsStringOf style f a
+    → TwoAre a j i (value.Function f) (value.Text m) b → m.missing ≡ false → IsStringOf style f b
     → Added (putting_text f m b) old new → Stepped style allowed (token.Run (callee.BuiltIn built_in.Assign)) (a ∷ []) deep loops old new
 code_assign_text style allowed deep loops a b j i (callee.GlobalString k) m old new t there v x = record {
   steps = style_rule_runs style allowed (callee.BuiltIn built_in.Assign) a deep loops new
@@ -294,7 +225,7 @@ code_assign_text style allowed deep loops a b j i (callee.GlobalString k) m old 
 }
 code_assign_text style allowed deep loops a b j i (callee.EntryString k) m old new t there v x = record {
   steps = style_rule_runs style allowed (callee.BuiltIn built_in.Assign) a deep loops new
-      (rule_assign_entry_string style allowed k j i m a b.stack new v.1 v.0 t.stack t.first t.second there
+      (rule_assign_entry_string style allowed k j i m a b.stack new (entry_below a b t.rest v.1) v.0 t.stack t.first t.second there
       (rest_into a b (λ x. putting_text (callee.EntryString k) m x) new t.rest x.into));
   sub = x.sub;
 }

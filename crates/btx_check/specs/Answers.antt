@@ -1,5 +1,5 @@
 -- What the calls of the checker answer.
-use Rattle.std.specs.Prelude.{◌≡◌, ℕ, ◌<◌, length, List, [], ◌∷◌, slice_index_or, Option, None, Some, true, false}
+use Rattle.std.specs.Prelude.{◌≡◌, ℕ, ◌<◌, pos, length, List, [], ◌∷◌, slice_index_or, Option, None, Some, true, false}
 use Rattle.btx_bst.specs.language.Style.{Style}
 use Rattle.btx_bst.specs.declared.built_in.BuiltIn.{BuiltIn}
 use Rattle.btx_bst.specs.declared.callee.Callee.{Callee}
@@ -15,7 +15,8 @@ use Rattle.btx_check.specs.declared.plain_rules.Plain.{Plain}
 use Rattle.btx_bst.specs.declared.callee.Callee.TheVariants as callee
 use Rattle.btx_bst.specs.declared.token.Token.TheVariants as token
 use Rattle.btx_check.specs.Promise.{is_among}
-use Rattle.btx_check.specs.States.{Abstract, with_stack, pushing_new}
+use Rattle.btx_check.specs.Descriptions.{exactly}
+use Rattle.btx_check.specs.States.{Abstract, with_stack, pushing_new, knowing}
 use Rattle.btx_check.specs.Inclusion.{Sub, Into}
 use Rattle.btx_check.specs.Running.{Rule, RuleNow, RunsFrom, BodyRuns, Turned, Closed}
 
@@ -82,6 +83,13 @@ pub record TwoAre (a : Abstract) (j i : ℕ) (d c : Value) (b : Abstract) : Type
   pub first : slice_index_or a.values j Unknown ≡ d
   pub second : slice_index_or a.values i Unknown ≡ c
   pub room : length a.stack < 1000
+
+-- after a comparison of the number `i` and of `j`, which is on top: what is so where it answers 1 was added, and then what is so where it answers 0;
+-- `c` and `d` are known of `i` and `j` where it answers 1, and `c'` and `d'` where it answers 0
+pub record BothAnswers (b : Abstract) (j i : ℕ) (c d c' d' : Value) (before after : List Abstract) : Type 0 where
+  pub between : List Abstract
+  pub so : Added (pushing_new (exactly (pos 1)) (knowing j d (knowing i c b))) before between
+  pub other : Added (pushing_new (exactly (pos 0)) (knowing j d' (knowing i c' b))) between after
 
 -- two integers, or two strings that are there: what `=` compares
 abbrev pub Comparable : Value → Value → Type 0

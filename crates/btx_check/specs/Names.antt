@@ -1,5 +1,5 @@
 -- What is known of names: of a style's variables and fields.
-use Rattle.std.specs.Prelude.{◌≡◌, ◌<◌, length, true, None}
+use Rattle.std.specs.Prelude.{◌≡◌, ◌<◌, length, true, false, None}
 use Rattle.btx_bst.specs.language.Style.{Style}
 use Rattle.btx_bst.specs.declared.callee.Callee.{Callee}
 use Rattle.btx_bst.specs.declared.callee.Callee.TheVariants as callee
@@ -40,3 +40,9 @@ abbrev pub IsStringOf : Style → Callee → Abstract → Type 0
 IsStringOf style (callee.GlobalString k) a = k < length style.names.global_strings
 IsStringOf style (callee.EntryString k) a = (k < length style.names.entry_strings) × (a.entry ≡ true)
 IsStringOf style _ a = ⊥
+
+-- a literal of which this is known can be assigned to it: an integer to an integer variable, and a string that is there to a string variable
+abbrev pub IsAssignable : Style → Callee → Value → Abstract → Type 0
+IsAssignable style f (value.Integer low high) a = IsIntegerOf style f a
+IsAssignable style f (value.Text m) a = (m.missing ≡ false) × IsStringOf style f a
+IsAssignable style f _ a = ⊥

@@ -7,6 +7,7 @@ ghost use Rattle.btx_step.specs.language.Control.{is_positive};
 ghost use Rattle.btx_check.specs.declared.description.Value.TheVariants as value;
 ghost use Rattle.btx_check.specs.declared.description.Upper.TheVariants as upper;
 ghost use Rattle.btx_check.specs.Descriptions.{Above, Below, Is};
+ghost use Rattle.btx_check.specs.Bounds.{Narrows, Matches};
 
 use crate::description::{Upper, Value};
 
@@ -36,8 +37,8 @@ pub(crate) fn lower(high: Upper, to: Upper) -> Upper
     }
 }
 
-/// A lower bound of what is greater.
-pub(crate) fn next(low: Option<i32>) -> Option<i32>
+// A lower bound of what is greater.
+fn next(low: Option<i32>) -> Option<i32>
     ensures { (x y : ℤ) → Above low y → int_lt y x ≡ true → Above result x }
 {
     match low {
@@ -46,8 +47,8 @@ pub(crate) fn next(low: Option<i32>) -> Option<i32>
     }
 }
 
-/// An upper bound of what is less.
-pub(crate) fn previous(high: Upper) -> Upper
+// An upper bound of what is less.
+fn previous(high: Upper) -> Upper
     ensures { (left : ℕ) (x y : ℤ) → Below left high x → int_lt y x ≡ true → Below left result y }
 {
     match high {
@@ -177,11 +178,61 @@ pub(crate) fn difference_high(a: Upper, b: Option<i32>) -> Upper
     }
 }
 
-/// What is known of an integer that is described twice.
-pub(crate) fn both(low: Option<i32>, high: Upper, low2: Option<i32>, high2: Upper) -> Value
+// What is known of an integer that is described twice.
+fn both(low: Option<i32>, high: Upper, low2: Option<i32>, high2: Upper) -> Value
     ensures { (left : ℕ) (n : ℤ) → Is left (value.Integer low high) (Integer n) → Is left (value.Integer low2 high2) (Integer n) → Is left result (Integer n) }
 {
     Value::Integer(raise(low, low2), lower(high, high2))
+}
+
+/// What is known of two integers if a comparison of them answers 1, and if it answers 0.
+#[derive(Clone, Copy)]
+pub(crate) struct Compared {
+    pub first: Value,
+    pub second: Value,
+    pub other_first: Value,
+    pub other_second: Value,
+}
+
+/// What is known of two integers if the first is greater, and if it isn't.
+pub(crate) fn if_greater(low: Option<i32>, high: Upper, low2: Option<i32>, high2: Upper) -> Compared
+    ensures so { Narrows true (value.Integer low high) (value.Integer low2 high2) result.first result.second }
+    ensures other { Narrows false (value.Integer low high) (value.Integer low2 high2) result.other_first result.other_second }
+{
+    Compared {
+        first: Value::Integer(raise(low, next(low2)), high),
+        second: Value::Integer(low2, lower(high2, previous(high))),
+        other_first: Value::Integer(low, lower(high, high2)),
+        other_second: Value::Integer(raise(low2, low), high2),
+    }
+}
+
+/// What is known of two integers if the first is less, and if it isn't.
+pub(crate) fn if_less(low: Option<i32>, high: Upper, low2: Option<i32>, high2: Upper) -> Compared
+    ensures so { Narrows true (value.Integer low2 high2) (value.Integer low high) result.second result.first }
+    ensures other { Narrows false (value.Integer low2 high2) (value.Integer low high) result.other_second result.other_first }
+{
+    let turned = if_greater(low2, high2, low, high);
+    Compared {
+        first: turned.second,
+        second: turned.first,
+        other_first: turned.other_second,
+        other_second: turned.other_first,
+    }
+}
+
+/// What is known of two integers if they are equal, and if they aren't.
+pub(crate) fn if_equal(low: Option<i32>, high: Upper, low2: Option<i32>, high2: Upper) -> Compared
+    ensures so { Matches true (value.Integer low high) (value.Integer low2 high2) result.first result.second }
+    ensures other { Matches false (value.Integer low high) (value.Integer low2 high2) result.other_first result.other_second }
+{
+    let same = both(low, high, low2, high2);
+    Compared {
+        first: same,
+        second: same,
+        other_first: other_than(low, high, low2, high2),
+        other_second: other_than(low2, high2, low, high),
+    }
 }
 
 // The number that an integer of these bounds is, if it can be one alone.
@@ -228,8 +279,8 @@ fn high_without(high: Upper, n: i32) -> Upper
     }
 }
 
-/// What is known of an integer that isn't another one.
-pub(crate) fn other_than(low: Option<i32>, high: Upper, low2: Option<i32>, high2: Upper) -> Value
+// What is known of an integer that isn't another one.
+fn other_than(low: Option<i32>, high: Upper, low2: Option<i32>, high2: Upper) -> Value
     ensures { (left : ℕ) (x y : ℤ) → Is left (value.Integer low high) (Integer x) → Is left (value.Integer low2 high2) (Integer y) → int_eq x y ≡ false → Is left result (Integer x) }
 {
     match only(low2, high2) {

@@ -3,12 +3,12 @@ ghost use Rattle.std.specs.Prelude.{◌≡◌, ℕ, List, IsTrue, true, false, O
 ghost use Rattle.std.specs.Result.{IfOk};
 ghost use Rattle.btx_bst.specs.declared.built_in.BuiltIn.TheVariants as built_in;
 ghost use Rattle.btx_bst.specs.declared.callee.Callee.TheVariants as callee;
-ghost use Rattle.btx_check.specs.Answers.{Ruled, Comparable};
+ghost use Rattle.btx_check.specs.Answers.{Ruled, Comparable, BothAnswers};
 
-use crate::adding::{Known, add_found, add_new, add_tested};
-use crate::bounds::{both, lower, next, other_than, previous, raise};
+use crate::adding::{add_found, add_new, add_tested};
+use crate::bounds::{Compared, if_equal, if_greater, if_less};
 use crate::description::Value;
-use crate::operands::{fitting, pair_of, top_of};
+use crate::operands::{Pair, fitting, pair_of, top_of};
 use crate::state::State;
 use crate::sums::{difference_of, sum_of};
 use crate::work::Work;
@@ -19,50 +19,35 @@ macro_rules! add_either {
     ($work:ident, $t:ident, $so:expr => $answer:expr, $other:expr => $otherwise:expr, $out:ident) => {{
         let so = Value::Text($so);
         let other = Value::Text($other);
-        add_found($work, $t.below.copy()?, $t.number, so, $answer, $out)?;
-        add_found($work, $t.below, $t.number, other, $otherwise, $out)?;
+        add_found($work, $t.below.copy()?, $t.known.number, so, $answer, $out)?;
+        add_found($work, $t.below, $t.known.number, other, $otherwise, $out)?;
         Ok(true)
     }};
 }
 
-// What is known of the literal of a number.
-macro_rules! known {
-    ($number:expr, $value:expr) => {
-        Known {
-            number: $number,
-            value: $value,
-        }
-    };
-}
-
-// Adds what follows a comparison of two integers: what is known of the one on top and of the one below where it answers 1, and where it answers 0.
-macro_rules! add_compared {
-    ($work:ident, $t:ident, ($top:expr, $below:expr), ($other_top:expr, $other_below:expr), $out:ident) => {{
-        let first = known!($t.first, $top);
-        let second = known!($t.second, $below);
-        add_tested($work, $t.below.copy()?, first, second, Value::one(), $out)?;
-        let first = known!($t.first, $other_top);
-        let second = known!($t.second, $other_below);
-        add_tested($work, $t.below, first, second, Value::zero(), $out)?;
-        Ok(true)
-    }};
-}
-
-// What is known of two integers where the first is greater, and where it isn't.
-macro_rules! let_greater {
-    (($low:ident, $high:ident) > ($low2:ident, $high2:ident) => $up:ident, $up2:ident, $down:ident, $down2:ident) => {
-        let $up = Value::Integer(raise($low, next($low2)), $high);
-        let $up2 = Value::Integer($low2, lower($high2, previous($high)));
-        let $down = Value::Integer($low, lower($high, $high2));
-        let $down2 = Value::Integer(raise($low2, $low), $high2);
-    };
+// Adds what follows a comparison of the two integers on top, the first of which is the one below.
+fn add_compared(
+    work: &Work,
+    mut t: Pair,
+    compared: Compared,
+    out: &mut Vec<State>,
+) -> Result<(), AllocError>
+    ensures { IfOk result (λ _. BothAnswers t.below t.first.number t.second.number compared.first compared.second compared.other_first compared.other_second out.old.items out.new.items) }
+{
+    t.first.value = compared.second;
+    t.second.value = compared.first;
+    add_tested(work, t.below.copy()?, t.first, t.second, Value::one(), out)?;
+    t.first.value = compared.other_second;
+    t.second.value = compared.other_first;
+    add_tested(work, t.below, t.first, t.second, Value::zero(), out)?;
+    Ok(())
 }
 
 /// `empty$`.
 pub fn empty(work: &Work, a: State, out: &mut Vec<State>) -> Result<bool, AllocError>
     ensures { IfOk result (λ ok. IsTrue ok → Ruled (callee.BuiltIn built_in.Empty) a out.old.items out.new.items) }
 {
-    fitting!(top_of(a), t, t.value, Value::Text(m) => {
+    fitting!(top_of(a), t, t.known.value, Value::Text(m) => {
         add_either!(work, t, m.blank() => Value::one(), m.filled() => Value::zero(), out)
     })
 }
@@ -74,7 +59,7 @@ pub fn missing(work: &Work, a: State, out: &mut Vec<State>) -> Result<bool, Allo
     if !a.has_entry() {
         return Ok(false);
     }
-    fitting!(top_of(a), t, t.value, Value::Text(m) => {
+    fitting!(top_of(a), t, t.known.value, Value::Text(m) => {
         add_either!(work, t, m.gone() => Value::one(), m.present() => Value::zero(), out)
     })
 }
@@ -83,7 +68,7 @@ pub fn missing(work: &Work, a: State, out: &mut Vec<State>) -> Result<bool, Allo
 pub fn num_names(work: &Work, a: State, out: &mut Vec<State>) -> Result<bool, AllocError>
     ensures { IfOk result (λ ok. IsTrue ok → Ruled (callee.BuiltIn built_in.NumNames) a out.old.items out.new.items) }
 {
-    fitting!(top_of(a), t, t.value, Value::Text(m) => {
+    fitting!(top_of(a), t, t.known.value, Value::Text(m) => {
         if m.missing {
             return Ok(false);
         }
@@ -95,7 +80,7 @@ pub fn num_names(work: &Work, a: State, out: &mut Vec<State>) -> Result<bool, Al
 pub fn concatenate(work: &Work, a: State, out: &mut Vec<State>) -> Result<bool, AllocError>
     ensures { IfOk result (λ ok. IsTrue ok → Ruled (callee.BuiltIn built_in.Concatenate) a out.old.items out.new.items) }
 {
-    fitting!(pair_of(a), t, (t.first_value, t.second_value), (Value::Text(m), Value::Text(n)) => {
+    fitting!(pair_of(a), t, (t.first.value, t.second.value), (Value::Text(m), Value::Text(n)) => {
         if m.missing {
             return Ok(false);
         }
@@ -112,7 +97,7 @@ pub fn concatenate(work: &Work, a: State, out: &mut Vec<State>) -> Result<bool, 
 pub fn plus(work: &Work, a: State, out: &mut Vec<State>) -> Result<bool, AllocError>
     ensures { IfOk result (λ ok. IsTrue ok → Ruled (callee.BuiltIn built_in.Plus) a out.old.items out.new.items) }
 {
-    fitting!(pair_of(a), t, (t.first_value, t.second_value), (Value::Integer(low, high), Value::Integer(low2, high2)) => {
+    fitting!(pair_of(a), t, (t.first.value, t.second.value), (Value::Integer(low, high), Value::Integer(low2, high2)) => {
         add_new(work, t.below, sum_of(low2, high2, low, high), out)?;
         Ok(true)
     })
@@ -122,7 +107,7 @@ pub fn plus(work: &Work, a: State, out: &mut Vec<State>) -> Result<bool, AllocEr
 pub fn minus(work: &Work, a: State, out: &mut Vec<State>) -> Result<bool, AllocError>
     ensures { IfOk result (λ ok. IsTrue ok → Ruled (callee.BuiltIn built_in.Minus) a out.old.items out.new.items) }
 {
-    fitting!(pair_of(a), t, (t.first_value, t.second_value), (Value::Integer(low, high), Value::Integer(low2, high2)) => {
+    fitting!(pair_of(a), t, (t.first.value, t.second.value), (Value::Integer(low, high), Value::Integer(low2, high2)) => {
         add_new(work, t.below, difference_of(low2, high2, low, high), out)?;
         Ok(true)
     })
@@ -132,9 +117,9 @@ pub fn minus(work: &Work, a: State, out: &mut Vec<State>) -> Result<bool, AllocE
 pub fn greater(work: &Work, a: State, out: &mut Vec<State>) -> Result<bool, AllocError>
     ensures { IfOk result (λ ok. IsTrue ok → Ruled (callee.BuiltIn built_in.Greater) a out.old.items out.new.items) }
 {
-    fitting!(pair_of(a), t, (t.first_value, t.second_value), (Value::Integer(low, high), Value::Integer(low2, high2)) => {
-        let_greater!((low2, high2) > (low, high) => up, up_top, down, down_top);
-        add_compared!(work, t, (up_top, up), (down_top, down), out)
+    fitting!(pair_of(a), t, (t.first.value, t.second.value), (Value::Integer(low, high), Value::Integer(low2, high2)) => {
+        add_compared(work, t, if_greater(low2, high2, low, high), out)?;
+        Ok(true)
     })
 }
 
@@ -142,9 +127,9 @@ pub fn greater(work: &Work, a: State, out: &mut Vec<State>) -> Result<bool, Allo
 pub fn less(work: &Work, a: State, out: &mut Vec<State>) -> Result<bool, AllocError>
     ensures { IfOk result (λ ok. IsTrue ok → Ruled (callee.BuiltIn built_in.Less) a out.old.items out.new.items) }
 {
-    fitting!(pair_of(a), t, (t.first_value, t.second_value), (Value::Integer(low, high), Value::Integer(low2, high2)) => {
-        let_greater!((low, high) > (low2, high2) => up_top, up, down_top, down);
-        add_compared!(work, t, (up_top, up), (down_top, down), out)
+    fitting!(pair_of(a), t, (t.first.value, t.second.value), (Value::Integer(low, high), Value::Integer(low2, high2)) => {
+        add_compared(work, t, if_less(low2, high2, low, high), out)?;
+        Ok(true)
     })
 }
 
@@ -154,15 +139,13 @@ pub fn equals(work: &Work, a: State, out: &mut Vec<State>) -> Result<bool, Alloc
 {
     match pair_of(a) {
         None => Ok(false),
-        Some(t) => match (t.first_value, t.second_value) {
+        Some(t) => match (t.first.value, t.second.value) {
             (Value::Integer(low, high), Value::Integer(low2, high2)) => {
-                let same = both(low2, high2, low, high);
-                let below = other_than(low2, high2, low, high);
-                let top = other_than(low, high, low2, high2);
-                add_compared!(work, t, (same, same), (top, below), out)
+                add_compared(work, t, if_equal(low2, high2, low, high), out)?;
+                Ok(true)
             }
             _ => {
-                if !is_comparable(t.first_value, t.second_value) {
+                if !is_comparable(t.first.value, t.second.value) {
                     return Ok(false);
                 }
                 add_new(work, t.below.copy()?, Value::one(), out)?;

@@ -23,12 +23,12 @@ pub(crate) fn turn(
 {
     match top_of(a.copy()?) {
         None => Ok(false),
-        Some(t) => match t.value {
+        Some(t) => match t.known.value {
             Value::Integer(low, high) => {
                 let on = positive(low, high);
                 let off = not_positive(low, high);
-                add_known(work, t.below.copy()?, t.number, on, again)?;
-                add_known(work, t.below, t.number, off, ends)?;
+                add_known(work, t.below.copy()?, t.known.number, on, again)?;
+                add_known(work, t.below, t.known.number, off, ends)?;
                 Ok(true)
             }
             _ => Ok(false),

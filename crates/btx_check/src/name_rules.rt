@@ -5,11 +5,11 @@ ghost use Rattle.btx_bst.specs.declared.built_in.BuiltIn.TheVariants as built_in
 ghost use Rattle.btx_bst.specs.declared.callee.Callee.TheVariants as callee;
 ghost use Rattle.btx_bst.specs.declared.token.Token.TheVariants as token;
 ghost use Rattle.btx_check.specs.Answers.{Ruled, Stepped};
-ghost use Rattle.btx_check.specs.Names.{IsName, NeedsEntry, kind_of, IsIntegerOf, IsStringOf};
+ghost use Rattle.btx_check.specs.Names.{IsName, NeedsEntry, kind_of, IsAssignable};
 
 use crate::adding::{add_pushed, add_put, add_recalled, add_text_put};
 use crate::description::{Mask, Value};
-use crate::operands::pair_of;
+use crate::operands::{fitting, pair_of};
 use crate::state::State;
 use crate::work::Work;
 use btx_bst::{Callee, Style};
@@ -77,24 +77,20 @@ pub(crate) fn name(
     }
 }
 
-/// Whether there is such a variable in the style, and an entry where it needs one.
-pub(crate) fn is_integer_variable(style: &Style, a: &State, f: Callee) -> bool
-    ensures { IsTrue result → IsIntegerOf style.now f a.now }
+/// Whether a literal of which `value` is known can be assigned to `f`: an integer to an integer variable of the style, a string that is there to a string
+/// variable. A variable of entries needs an entry.
+pub(crate) fn is_assignable(style: &Style, a: &State, f: Callee, value: Value) -> bool
+    ensures { IsTrue result → IsAssignable style.now f value a.now }
 {
-    match f {
-        Callee::GlobalInteger(k) => (k as usize) < style.global_integers(),
-        Callee::EntryInteger(k) => (k as usize) < style.entry_integers() && a.has_entry(),
-        _ => false,
-    }
-}
-
-/// Whether there is such a variable in the style, and an entry where it needs one.
-pub(crate) fn is_string_variable(style: &Style, a: &State, f: Callee) -> bool
-    ensures { IsTrue result → IsStringOf style.now f a.now }
-{
-    match f {
-        Callee::GlobalString(k) => (k as usize) < style.global_strings(),
-        Callee::EntryString(k) => (k as usize) < style.entry_strings() && a.has_entry(),
+    match (f, value) {
+        (Callee::GlobalInteger(k), Value::Integer(_, _)) => (k as usize) < style.global_integers(),
+        (Callee::GlobalString(k), Value::Text(m)) => (k as usize) < style.global_strings()
+            && !m.missing,
+        (Callee::EntryInteger(k), Value::Integer(_, _)) => (k as usize) < style.entry_integers()
+            && a.has_entry(),
+        (Callee::EntryString(k), Value::Text(m)) => (k as usize) < style.entry_strings()
+            && !m.missing
+            && a.has_entry(),
         _ => false,
     }
 }
@@ -108,27 +104,20 @@ pub fn assign(
 ) -> Result<bool, AllocError>
     ensures { IfOk result (λ ok. IsTrue ok → (allowed : List ℕ) (deep loops : ℕ) → Stepped style.now allowed (token.Run (callee.BuiltIn built_in.Assign)) (a ∷ []) deep loops out.old.items out.new.items) }
 {
-    match pair_of(a) {
-        None => Ok(false),
-        Some(t) => match (t.first_value, t.second_value) {
-            (Value::Function(f), Value::Integer(_, _)) => {
-                if !is_integer_variable(style, &t.below, f) {
-                    return Ok(false);
-                }
-                add_put(work, t.below, f, t.second, out)?;
+    fitting!(pair_of(a), t, t.first.value, Value::Function(f) => {
+        if !is_assignable(style, &t.below, f, t.second.value) {
+            return Ok(false);
+        }
+        match t.second.value {
+            Value::Integer(_, _) => {
+                add_put(work, t.below, f, t.second.number, out)?;
                 Ok(true)
             }
-            (Value::Function(f), Value::Text(m)) => {
-                if m.missing {
-                    return Ok(false);
-                }
-                if !is_string_variable(style, &t.below, f) {
-                    return Ok(false);
-                }
+            Value::Text(m) => {
                 add_text_put(work, t.below, f, m, out)?;
                 Ok(true)
             }
             _ => Ok(false),
-        },
-    }
+        }
+    })
 }

@@ -4,7 +4,7 @@ ghost use Rattle.std.specs.Option.{IfSome};
 ghost use Rattle.std.specs.Result.{IfOk};
 ghost use Rattle.btx_check.specs.Answers.{TopIs, TwoAre, ThreeAre, OpFits, Taken, Followed};
 
-use crate::adding::{add_new, add_sure};
+use crate::adding::{Known, add_new, add_sure};
 use crate::description::Value;
 use crate::state::State;
 use crate::work::Work;
@@ -44,14 +44,13 @@ pub(crate) use taking;
 /// The number on top, what is known of it, and what is below it.
 #[derive(Drop)]
 pub(crate) struct Top {
-    pub number: usize,
-    pub value: Value,
+    pub known: Known,
     pub below: State,
 }
 
 /// What stands on top, if there is something.
 pub(crate) fn top_of(a: State) -> Option<Top>
-    ensures { IfSome result (λ t. TopIs a t.number t.value t.below) }
+    ensures { IfSome result (λ t. TopIs a t.known.number t.known.value t.below) }
 {
     if !a.has_room() {
         return None;
@@ -59,65 +58,52 @@ pub(crate) fn top_of(a: State) -> Option<Top>
     let mut below = a;
     let number = below.pop()?;
     let value = below.value(number);
-    Some(Top {
-        number,
-        value,
-        below,
-    })
+    let known = Known { number, value };
+    Some(Top { known, below })
 }
 
 /// The two numbers on top, what is known of them, and what is below them.
 #[derive(Drop)]
 pub(crate) struct Pair {
-    pub first: usize,
-    pub first_value: Value,
-    pub second: usize,
-    pub second_value: Value,
+    pub first: Known,
+    pub second: Known,
     pub below: State,
 }
 
 /// The two literals on top of the stack, if there are two.
 #[tactic(auto, using(crate::proofs::RunLemmas::two_are))]
 pub(crate) fn pair_of(a: State) -> Option<Pair>
-    ensures { IfSome result (λ t. TwoAre a t.first t.second t.first_value t.second_value t.below) }
+    ensures { IfSome result (λ t. TwoAre a t.first.number t.second.number t.first.value t.second.value t.below) }
 {
-    let t = top_of(a)?;
-    let u = top_of(t.below)?;
+    let Top { known, below } = top_of(a)?;
+    let next = top_of(below)?;
     Some(Pair {
-        first: t.number,
-        first_value: t.value,
-        second: u.number,
-        second_value: u.value,
-        below: u.below,
+        first: known,
+        second: next.known,
+        below: next.below,
     })
 }
 
 /// The three numbers on top, what is known of them, and what is below them.
 #[derive(Drop)]
 pub(crate) struct Triple {
-    pub first: usize,
-    pub first_value: Value,
-    pub second: usize,
-    pub second_value: Value,
-    pub third: usize,
-    pub third_value: Value,
+    pub first: Known,
+    pub second: Known,
+    pub third: Known,
     pub below: State,
 }
 
 /// The three literals on top of the stack, if there are three.
 #[tactic(auto, using(crate::proofs::RunLemmas::three_are))]
 pub(crate) fn triple_of(a: State) -> Option<Triple>
-    ensures { IfSome result (λ t. ThreeAre a t.first t.second t.third t.first_value t.second_value t.third_value t.below) }
+    ensures { IfSome result (λ t. ThreeAre a t.first.number t.second.number t.third.number t.first.value t.second.value t.third.value t.below) }
 {
     let p = pair_of(a)?;
     let t = top_of(p.below)?;
     Some(Triple {
         first: p.first,
-        first_value: p.first_value,
         second: p.second,
-        second_value: p.second_value,
-        third: t.number,
-        third_value: t.value,
+        third: t.known,
         below: t.below,
     })
 }

@@ -164,7 +164,7 @@ pub fn run_all(
     Ok(true)
 }
 
-/// The next token of a body, from each of `states`, which then are what it leads to.
+/// A token, from each of `states`, which then are what it leads to.
 #[cycle(search)]
 #[inline(never)]
 pub fn run_next(
@@ -355,16 +355,17 @@ pub fn run_if(
             work.warn(Callee::BuiltIn(BuiltIn::If), missing)?;
             Ok(false)
         }
-        Some(t) => match (t.first_value, t.second_value, t.third_value) {
+        Some(t) => match (t.first.value, t.second.value, t.third.value) {
             (Value::Function(g), Value::Function(f), Value::Integer(low, high)) => {
+                let number = t.third.number;
                 let mut yes = t.below.copy()?;
-                yes.know(t.third, positive(low, high));
+                yes.know(number, positive(low, high));
                 let mut no = t.below;
-                no.know(t.third, not_positive(low, high));
-                if !run_where(work, memo, style, allowed, room, yes, t.third, f, out)? {
+                no.know(number, not_positive(low, high));
+                if !run_where(work, memo, style, allowed, room, yes, number, f, out)? {
                     return Ok(false);
                 }
-                run_where(work, memo, style, allowed, room, no, t.third, g, out)
+                run_where(work, memo, style, allowed, room, no, number, g, out)
             }
             _ => {
                 work.warn(Callee::BuiltIn(BuiltIn::If), missing)?;
@@ -404,7 +405,7 @@ pub fn run_while(
             work.warn(Callee::BuiltIn(BuiltIn::While), missing)?;
             Ok(false)
         }
-        Some(t) => match (t.first_value, t.second_value) {
+        Some(t) => match (t.first.value, t.second.value) {
             (Value::Function(g), Value::Function(f)) => run_loop(
                 work, memo, style, allowed, inside, &t.below, f, g, out,
             ),
@@ -437,18 +438,8 @@ pub fn run_loop(
     let mut heads: Vec<State> = Vec::new(work.alloc);
     heads.push(first)?;
     for round in 0..60 {
-        let copies = copies_of(work, &heads)?;
-        let mut tests: Vec<State> = Vec::new(work.alloc);
-        if !run_all(
-            work,
-            memo,
-            style,
-            allowed,
-            room,
-            copies,
-            Token::Run(f),
-            &mut tests,
-        )? {
+        let mut tests = copies_of(work, &heads)?;
+        if !run_next(work, memo, style, allowed, room, Token::Run(f), &mut tests)? {
             return Ok(false);
         }
         let mut again: Vec<State> = Vec::new(work.alloc);
@@ -457,17 +448,8 @@ pub fn run_loop(
             work.warn(Callee::BuiltIn(BuiltIn::While), missing_field(b))?;
             return Ok(false);
         }
-        let mut bodies: Vec<State> = Vec::new(work.alloc);
-        if !run_all(
-            work,
-            memo,
-            style,
-            allowed,
-            room,
-            again,
-            Token::Run(g),
-            &mut bodies,
-        )? {
+        let mut bodies = again;
+        if !run_next(work, memo, style, allowed, room, Token::Run(g), &mut bodies)? {
             return Ok(false);
         }
         if is_in(work, b, &heads)? && all_in(work, &bodies, &heads)? {

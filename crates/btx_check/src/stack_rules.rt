@@ -16,7 +16,7 @@ use std::alloc::AllocError;
 pub fn duplicate(work: &Work, a: State, out: &mut Vec<State>) -> Result<bool, AllocError>
     ensures { IfOk result (λ ok. IsTrue ok → Ruled (callee.BuiltIn built_in.Duplicate) a out.old.items out.new.items) }
 {
-    taking!(top_of(a), t => add_pushed_both(work, t.below, t.number, t.number, out))
+    taking!(top_of(a), t => add_pushed_both(work, t.below, t.known.number, t.known.number, out))
 }
 
 /// `pop$`.
@@ -46,14 +46,14 @@ pub fn stack(work: &Work, a: State, out: &mut Vec<State>) -> Result<bool, AllocE
 pub fn swap(work: &Work, a: State, out: &mut Vec<State>) -> Result<bool, AllocError>
     ensures { IfOk result (λ ok. IsTrue ok → Ruled (callee.BuiltIn built_in.Swap) a out.old.items out.new.items) }
 {
-    taking!(pair_of(a), t => add_pushed_both(work, t.below, t.first, t.second, out))
+    taking!(pair_of(a), t => add_pushed_both(work, t.below, t.first.number, t.second.number, out))
 }
 
 /// `write$`.
 pub fn write(work: &Work, a: State, out: &mut Vec<State>) -> Result<bool, AllocError>
     ensures { IfOk result (λ ok. IsTrue ok → Ruled (callee.BuiltIn built_in.Write) a out.old.items out.new.items) }
 {
-    fitting!(top_of(a), t, t.value, Value::Text(m) => {
+    fitting!(top_of(a), t, t.known.value, Value::Text(m) => {
         if m.missing {
             return Ok(false);
         }

@@ -10,5 +10,5 @@ returns-in_ok-add_known-in-Integer-2 c = λ t. turn_one _ _ _ _ _ _ _ _ _ _ _ (t
     c.top_of.ensures) c.in-Integer.is)
     (splits_of (value.Integer c.in-Integer.low c.in-Integer.high) c.positive-on.result c.not_positive-off.result c.positive-on.ensures
     c.not_positive-off.ensures)
-    (added_at _ _ _ _ (ap (λ (x : Abstract). knowing c.in-Some.t.number c.positive-on.result x) c.in_ok-copy-in-Integer.ensures)
+    (added_at _ _ _ _ (ap (λ (x : Abstract). knowing c.in-Some.t.known.number c.positive-on.result x) c.in_ok-copy-in-Integer.ensures)
     c.in_ok-add_known-in-Integer.ensures) c.in_ok-add_known-in-Integer-2.ensures

@@ -109,7 +109,7 @@ run_if-returns-else-not-branch t c = ok_map c.run_where-in-Function-Function-Int
       if_ran_of _ _ _ _ c.know.new.self c.know-in-Function-Function-Integer.new.self _ _ _ _ _ c.in-Function-Function-Integer.low
           c.in-Function-Function-Integer.high _ _ _ c.positive.result c.not_positive.result _ _ _ c.run_where.new.out.items _
           (rw c.in-Some.is at c.triple_of.ensures) c.in-Function-Function-Integer.is-0 c.in-Function-Function-Integer.is-1 c.in-Function-Function-Integer.is-2
-          (c.know.ensures ∙ ap (λ (x : Abstract). knowing c.in-Some.t.third c.positive.result x) c.in_ok-yes-in-Function-Function-Integer.ensures)
+          (c.know.ensures ∙ ap (λ (x : Abstract). knowing c.in-Some.t.third.number c.positive.result x) c.in_ok-yes-in-Function-Function-Integer.ensures)
           c.know-in-Function-Function-Integer.ensures
           (splits_of (value.Integer c.in-Function-Function-Integer.low c.in-Function-Function-Integer.high) c.positive.result
           c.not_positive.result c.positive.ensures
@@ -120,16 +120,16 @@ run_if-returns-else-not-branch t c = ok_map c.run_where-in-Function-Function-Int
 
 pub run_loop-returns-then-branch-2 : goal.run_loop-returns-then-branch-2
 run_loop-returns-then-branch-2 t c = λ ok. (
-  looped _ _ _ _ _ _ _ c.loop-round.heads.items c.run_all.new.out.items c.turn_all.new.again.items
-      c.turn_all.new.ends.items c.run_all-in-loop-round.new.out.items _ _ _ _ _ _
+  looped _ _ _ _ _ _ _ c.loop-round.heads.items c.run_next.new.states.items c.turn_all.new.again.items
+      c.turn_all.new.ends.items c.run_next-in-loop-round.new.states.items _ _ _ _ _ _
       (into_at _ _ _ c.deref-in-loop-round-2.ensures.value (c.in_ok-is_in.ensures (search (rules, c.if-branch.true))))
-      (stepped_at _ _ _ _ _ _ _ _ _ (c.in_ok-copies.ensures ∙ c.deref.ensures.value) (c.in_ok-run_all.ensures (search (rules, c.if-not-branch.false))).0)
+      (stepped_at _ _ _ _ _ _ _ _ _ (c.in_ok-tests.ensures ∙ c.deref.ensures.value) (c.in_ok-run_next.ensures (search (rules, c.if-not-branch.false))).0)
       (turned_at _ _ _ _ _ _ c.deref-in-loop-round.ensures.value (c.in_ok-turn_all.ensures (search (rules, c.if-not-branch-2.false))))
-      (c.in_ok-run_all-2.ensures (search (rules, c.if-not-branch-3.false))).0
+      (c.in_ok-run_next-2.ensures (search (rules, c.if-not-branch-3.false))).0
       (sub_at _ _ _ _ c.deref-then-branch.ensures.value c.deref-then-branch-2.ensures.value (c.in_ok-all_in.ensures (search (rules, c.if-branch-2.true))))
       c.in_ok-add_all.ensures.these
       (sub_then _ _ _ c.loop-round.invariant.0 c.in_ok-add_all.ensures.sub),
-  (c.in_ok-run_all-2.ensures (search (rules, c.if-not-branch-3.false))).1,
+  (c.in_ok-run_next-2.ensures (search (rules, c.if-not-branch-3.false))).1,
 )
 
 pub run_types-loop-number-preserved : goal.run_types-loop-number-preserved

@@ -14,7 +14,7 @@ abbrev pub decreases-run_if : goal.decreases-run_if
 decreases-run_if l = 8 * l.room.fuel + 2
 
 abbrev pub decreases-run_loop : goal.decreases-run_loop
-decreases-run_loop l = 8 * l.room.fuel + 3
+decreases-run_loop l = 8 * l.room.fuel + 4
 
 abbrev pub decreases-run_next : goal.decreases-run_next
 decreases-run_next l = 8 * l.room.fuel + 3
@@ -41,7 +41,7 @@ abbrev pub decreases-run_body : goal.decreases-run_body
 decreases-run_body l = 8 * l.room.fuel + 4
 
 abbrev pub decreases-run_while : goal.decreases-run_while
-decreases-run_while l = 8 * l.room.fuel + 4
+decreases-run_while l = 8 * l.room.fuel + 5
 
 abbrev pub invariant-run_all-loop-a : goal.invariant-run_all-loop-a
 invariant-run_all-loop-a l = Stepped l.style l.allowed l.t l.yielded l.room.deep l.room.loops l.initial.out.items l.out.items
