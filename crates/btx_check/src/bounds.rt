@@ -185,53 +185,53 @@ fn both(low: Option<i32>, high: Upper, low2: Option<i32>, high2: Upper) -> Value
     Value::Integer(raise(low, low2), lower(high, high2))
 }
 
-/// What is known of two integers if a comparison of them answers 1, and if it answers 0.
+/// What is known of the two integers of a comparison, the left one and the right one, if it answers 1, and otherwise.
 #[derive(Clone, Copy)]
 pub(crate) struct Compared {
-    pub first: Value,
-    pub second: Value,
-    pub other_first: Value,
-    pub other_second: Value,
+    pub left: Value,
+    pub right: Value,
+    pub left_otherwise: Value,
+    pub right_otherwise: Value,
 }
 
 /// What is known of two integers if the first is greater, and if it isn't.
 pub(crate) fn if_greater(low: Option<i32>, high: Upper, low2: Option<i32>, high2: Upper) -> Compared
-    ensures so { Narrows true (value.Integer low high) (value.Integer low2 high2) result.first result.second }
-    ensures other { Narrows false (value.Integer low high) (value.Integer low2 high2) result.other_first result.other_second }
+    ensures so { Narrows true (value.Integer low high) (value.Integer low2 high2) result.left result.right }
+    ensures other { Narrows false (value.Integer low high) (value.Integer low2 high2) result.left_otherwise result.right_otherwise }
 {
     Compared {
-        first: Value::Integer(raise(low, next(low2)), high),
-        second: Value::Integer(low2, lower(high2, previous(high))),
-        other_first: Value::Integer(low, lower(high, high2)),
-        other_second: Value::Integer(raise(low2, low), high2),
+        left: Value::Integer(raise(low, next(low2)), high),
+        right: Value::Integer(low2, lower(high2, previous(high))),
+        left_otherwise: Value::Integer(low, lower(high, high2)),
+        right_otherwise: Value::Integer(raise(low2, low), high2),
     }
 }
 
 /// What is known of two integers if the first is less, and if it isn't.
 pub(crate) fn if_less(low: Option<i32>, high: Upper, low2: Option<i32>, high2: Upper) -> Compared
-    ensures so { Narrows true (value.Integer low2 high2) (value.Integer low high) result.second result.first }
-    ensures other { Narrows false (value.Integer low2 high2) (value.Integer low high) result.other_second result.other_first }
+    ensures so { Narrows true (value.Integer low2 high2) (value.Integer low high) result.right result.left }
+    ensures other { Narrows false (value.Integer low2 high2) (value.Integer low high) result.right_otherwise result.left_otherwise }
 {
     let turned = if_greater(low2, high2, low, high);
     Compared {
-        first: turned.second,
-        second: turned.first,
-        other_first: turned.other_second,
-        other_second: turned.other_first,
+        left: turned.right,
+        right: turned.left,
+        left_otherwise: turned.right_otherwise,
+        right_otherwise: turned.left_otherwise,
     }
 }
 
 /// What is known of two integers if they are equal, and if they aren't.
 pub(crate) fn if_equal(low: Option<i32>, high: Upper, low2: Option<i32>, high2: Upper) -> Compared
-    ensures so { Matches true (value.Integer low high) (value.Integer low2 high2) result.first result.second }
-    ensures other { Matches false (value.Integer low high) (value.Integer low2 high2) result.other_first result.other_second }
+    ensures so { Matches true (value.Integer low high) (value.Integer low2 high2) result.left result.right }
+    ensures other { Matches false (value.Integer low high) (value.Integer low2 high2) result.left_otherwise result.right_otherwise }
 {
     let same = both(low, high, low2, high2);
     Compared {
-        first: same,
-        second: same,
-        other_first: other_than(low, high, low2, high2),
-        other_second: other_than(low2, high2, low, high),
+        left: same,
+        right: same,
+        left_otherwise: other_than(low, high, low2, high2),
+        right_otherwise: other_than(low2, high2, low, high),
     }
 }
 

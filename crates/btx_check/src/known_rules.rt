@@ -25,20 +25,20 @@ macro_rules! add_either {
     }};
 }
 
-// Adds what follows a comparison of the two integers on top, the first of which is the one below.
+// Adds what follows a comparison of the two integers on top: the right one is the first of the stack.
 fn add_compared(
     work: &Work,
     mut t: Pair,
     compared: Compared,
     out: &mut Vec<State>,
 ) -> Result<(), AllocError>
-    ensures { IfOk result (λ _. BothAnswers t.below t.first.number t.second.number compared.first compared.second compared.other_first compared.other_second out.old.items out.new.items) }
+    ensures { IfOk result (λ _. BothAnswers t.below t.first.number t.second.number compared.left compared.right compared.left_otherwise compared.right_otherwise out.old.items out.new.items) }
 {
-    t.first.value = compared.second;
-    t.second.value = compared.first;
+    t.first.value = compared.right;
+    t.second.value = compared.left;
     add_tested(work, t.below.copy()?, t.first, t.second, Value::one(), out)?;
-    t.first.value = compared.other_second;
-    t.second.value = compared.other_first;
+    t.first.value = compared.right_otherwise;
+    t.second.value = compared.left_otherwise;
     add_tested(work, t.below, t.first, t.second, Value::zero(), out)?;
     Ok(())
 }

@@ -30,8 +30,8 @@ fn pushing(value: Value) -> Plain
     }
 }
 
-// The row of a function, if it has one: of the others more has to be known than what they push. A row may say too little, as that any string is pushed; then the
-// checker knows less, and is as right as before.
+// The row of a function, if it has one: of the others more has to be known than what they push, or nothing is known yet. A row may say too little, as that any
+// string is pushed; then the checker knows less, and is as right as before.
 fn plain_of(function: BuiltIn) -> Option<Plain>
     ensures { IfSome result (λ plain. PlainRule function plain) }
 {

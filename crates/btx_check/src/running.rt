@@ -164,7 +164,7 @@ pub fn run_all(
     Ok(true)
 }
 
-/// A token, from each of `states`, which then are what it leads to.
+/// Runs a token from each of `states`, and leaves in their place what it leads to.
 #[cycle(search)]
 #[inline(never)]
 pub fn run_next(
