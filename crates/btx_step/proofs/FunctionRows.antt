@@ -1,5 +1,5 @@
--- Worked functions, computed from the definition.
-use Rattle.std.proofs.Common.{refl, []}
+-- Worked functions, computed from the definition: each row holds by `refl`, which the search finds in tables of up to 200 rows.
+use Rattle.std.proofs.Common.{[]}
 use Rattle.std.specs.Fmt.{digits}
 use Rattle.btx_step.proofs.Common.{built_in_run, function_run}
 use Rattle.btx_text.specs.declared.element_kind.TextMode.TheVariants.{Bytes, Utf8}
@@ -28,110 +28,48 @@ use Rattle.btx_step.specs.laws.WorkedAssignments as assigned
 use Rattle.btx_step.specs.laws.WorkedAssignments.{AreAssigned, AreTested}
 use Rattle.btx_step.specs.laws.WorkedStores.{job, job_without_default, outside_entries, in_knuth, in_lamport, one_below}
 
-infixr 5 ◌⨾◌
--- a row is so, and so are the rows behind it
-◌⨾◌ : {A B : Type 0} → A → B → A × B
-here ⨾ behind = (here, behind)
-
-pub comparisons-worked : AreSo (job Bytes) outside_entries one_below row.comparisons
+-- where no entry is current
+pub outside-worked : AreSo (job Bytes) outside_entries one_below row.comparisons
+    × AreSo (job Bytes) outside_entries one_below row.integers
+    × AreSo (job Bytes) outside_entries one_below row.stack
+    × AreSo (job Bytes) outside_entries one_below row.choices
+    × AreSo (job Bytes) outside_entries one_below row.wrong_operands
+    × AreSo (job Bytes) outside_entries [] row.whole_stacks
+    × AreSo (job Bytes) outside_entries one_below row.no_entry
 unfolding named_lower built_in_of built_ins function_run built_in_run form_of place_of note_text note_kind has_place note_line mark_of digits
-comparisons-worked = refl ⨾ refl ⨾ refl ⨾ refl ⨾ refl ⨾ refl ⨾ refl ⨾ refl ⨾ refl ⨾ refl ⨾ refl ⨾ refl ⨾ tt
+outside-worked = (search parts 200, search parts 200, search parts 200, search parts 200, search parts 200, search parts 200, search parts 200)
 
-pub integers-worked : AreSo (job Bytes) outside_entries one_below row.integers
+-- in an entry; assignments, and what the test of a loop leaves
+pub within-worked : AreSo (job Bytes) in_knuth one_below row.of_knuth
+    × AreSo (job Bytes) in_lamport one_below row.of_lamport
+    × AreSo job_without_default in_lamport one_below row.of_lamport_without_default
+    × AreAssigned outside_entries assigned.assignments
+    × AreAssigned in_knuth assigned.assignments_of_knuth
+    × AreAssigned in_lamport assigned.assignments_of_lamport
+    × AreTested assigned.loop_tests
 unfolding named_lower built_in_of built_ins function_run built_in_run form_of place_of note_text note_kind has_place note_line mark_of digits
-integers-worked = refl ⨾ refl ⨾ refl ⨾ refl ⨾ refl ⨾ refl ⨾ refl ⨾ refl ⨾ refl ⨾ refl ⨾ refl ⨾ refl ⨾ refl ⨾ refl ⨾ refl ⨾ refl ⨾ refl ⨾ refl ⨾ refl ⨾ refl ⨾
-    refl ⨾ refl ⨾ refl ⨾ tt
+within-worked = (search parts 200, search parts 200, search parts 200, search parts 200, search parts 200, search parts 200, search parts 200)
 
 pub strings-worked : AreSo (job Bytes) outside_entries one_below row.strings
 unfolding named_lower built_in_of built_ins function_run built_in_run form_of place_of note_text note_kind has_place note_line mark_of digits elements_of
     elements_from kind_at group_len class_of control_name glyphs_from glyphs_of letters_of without_white cased_parts cased_control take_characters control_width
-strings-worked = refl ⨾ refl ⨾ refl ⨾ refl ⨾ refl ⨾ refl ⨾ refl ⨾ refl ⨾ refl ⨾ refl ⨾ refl ⨾ refl ⨾ refl ⨾ refl ⨾ refl ⨾ refl ⨾ refl ⨾ refl ⨾ refl ⨾ refl ⨾
-    refl ⨾ refl ⨾ refl ⨾ refl ⨾ refl ⨾ refl ⨾ refl ⨾ refl ⨾ refl ⨾ refl ⨾ refl ⨾ refl ⨾ refl ⨾ refl ⨾ tt
+strings-worked = search parts 200
 
 pub names-worked : AreSo (job Bytes) outside_entries one_below row.names
 unfolding named_lower built_in_of built_ins function_run built_in_run form_of place_of note_text note_kind has_place note_line mark_of digits elements_of
     elements_from kind_at group_len is_separator pieces_from names_of run_len tokens_from tokens_of letters_of is_lower_special first_is_lower is_von
     split_at_comma sections_of ends_in_comma before_final up_to_last before_first part_named piece_item inside_item group_item items_from items_of initial_of
     between_text with_tokens finished piece_text names_before nth_name one_name_text one_name_complaints
-names-worked = refl ⨾ refl ⨾ refl ⨾ refl ⨾ refl ⨾ refl ⨾ refl ⨾ refl ⨾ refl ⨾ refl ⨾ refl ⨾ tt
-
-pub stack-worked : AreSo (job Bytes) outside_entries one_below row.stack
-unfolding named_lower built_in_of built_ins function_run built_in_run form_of place_of note_text note_kind has_place note_line mark_of digits
-stack-worked = refl ⨾ refl ⨾ refl ⨾ refl ⨾ refl ⨾ refl ⨾ refl ⨾ refl ⨾ refl ⨾ refl ⨾ refl ⨾ refl ⨾ refl ⨾ refl ⨾ tt
-
-pub choices-worked : AreSo (job Bytes) outside_entries one_below row.choices
-unfolding named_lower built_in_of built_ins function_run built_in_run form_of place_of note_text note_kind has_place note_line mark_of digits
-choices-worked = refl ⨾ refl ⨾ refl ⨾ refl ⨾ tt
-
-pub wrong_operands-worked : AreSo (job Bytes) outside_entries one_below row.wrong_operands
-unfolding named_lower built_in_of built_ins function_run built_in_run form_of place_of note_text note_kind has_place note_line mark_of digits
-wrong_operands-worked = refl ⨾ refl ⨾ refl ⨾ refl ⨾ refl ⨾ refl ⨾ refl ⨾ refl ⨾ refl ⨾ refl ⨾ refl ⨾ refl ⨾ refl ⨾ refl ⨾ refl ⨾ refl ⨾ refl ⨾ refl ⨾ refl ⨾
-    refl ⨾ refl ⨾ refl ⨾ refl ⨾ refl ⨾ refl ⨾ refl ⨾ refl ⨾ refl ⨾ refl ⨾ refl ⨾ refl ⨾ refl ⨾ refl ⨾ refl ⨾ refl ⨾ refl ⨾ refl ⨾ tt
-
-pub whole_stacks-worked : AreSo (job Bytes) outside_entries [] row.whole_stacks
-unfolding named_lower built_in_of built_ins function_run built_in_run form_of place_of note_text note_kind has_place note_line mark_of digits
-whole_stacks-worked = refl ⨾ refl ⨾ refl ⨾ refl ⨾ refl ⨾ refl ⨾ refl ⨾ refl ⨾ refl ⨾ refl ⨾ refl ⨾ refl ⨾ refl ⨾ refl ⨾ refl ⨾ refl ⨾ refl ⨾ refl ⨾ refl ⨾
-    refl ⨾ refl ⨾ refl ⨾ refl ⨾ refl ⨾ refl ⨾ refl ⨾ refl ⨾ refl ⨾ refl ⨾ refl ⨾ refl ⨾ refl ⨾ refl ⨾ refl ⨾ refl ⨾ refl ⨾ tt
+names-worked = search parts 200
 
 pub bytes_characters-worked : AreSo (job Bytes) outside_entries one_below row.bytes_characters
 unfolding named_lower built_in_of built_ins function_run built_in_run form_of place_of note_text note_kind has_place note_line mark_of digits elements_of
     elements_from kind_at group_len take_characters
-bytes_characters-worked = refl ⨾ refl ⨾ tt
+bytes_characters-worked = search parts 200
 
 pub utf8_characters-worked : AreSo (job Utf8) outside_entries one_below row.utf8_characters
 unfolding named_lower built_in_of built_ins function_run built_in_run form_of place_of note_text note_kind has_place note_line mark_of digits elements_of
     elements_from kind_at group_len take_characters sequence_size second_fits is_sequence begins_sequence
-utf8_characters-worked = refl ⨾ refl ⨾ tt
+utf8_characters-worked = search parts 200
 
-pub no_entry-worked : AreSo (job Bytes) outside_entries one_below row.no_entry
-unfolding named_lower built_in_of built_ins function_run built_in_run form_of place_of note_text note_kind has_place note_line mark_of digits
-no_entry-worked = refl ⨾ refl ⨾ refl ⨾ refl ⨾ refl ⨾ refl ⨾ refl ⨾ refl ⨾ refl ⨾ refl ⨾ tt
-
-pub of_knuth-worked : AreSo (job Bytes) in_knuth one_below row.of_knuth
-unfolding named_lower built_in_of built_ins function_run built_in_run form_of place_of note_text note_kind has_place note_line mark_of digits
-of_knuth-worked = refl ⨾ refl ⨾ refl ⨾ refl ⨾ refl ⨾ refl ⨾ refl ⨾ refl ⨾ refl ⨾ refl ⨾ refl ⨾ tt
-
-pub of_lamport-worked : AreSo (job Bytes) in_lamport one_below row.of_lamport
-unfolding named_lower built_in_of built_ins function_run built_in_run form_of place_of note_text note_kind has_place note_line mark_of digits
-of_lamport-worked = refl ⨾ refl ⨾ refl ⨾ tt
-
-pub of_lamport_without_default-worked : AreSo job_without_default in_lamport one_below row.of_lamport_without_default
-unfolding named_lower built_in_of built_ins function_run built_in_run form_of place_of note_text note_kind has_place note_line mark_of digits
-of_lamport_without_default-worked = refl ⨾ tt
-
-pub assignments-worked : AreAssigned outside_entries assigned.assignments
-unfolding named_lower built_in_of built_ins function_run built_in_run form_of place_of note_text note_kind has_place note_line mark_of digits
-assignments-worked = refl ⨾ refl ⨾ refl ⨾ refl ⨾ refl ⨾ refl ⨾ refl ⨾ refl ⨾ refl ⨾ refl ⨾ tt
-
-pub assignments_of_knuth-worked : AreAssigned in_knuth assigned.assignments_of_knuth
-unfolding named_lower built_in_of built_ins function_run built_in_run form_of place_of note_text note_kind has_place note_line mark_of digits
-assignments_of_knuth-worked = refl ⨾ refl ⨾ refl ⨾ refl ⨾ refl ⨾ tt
-
-pub assignments_of_lamport-worked : AreAssigned in_lamport assigned.assignments_of_lamport
-unfolding named_lower built_in_of built_ins function_run built_in_run form_of place_of note_text note_kind has_place note_line mark_of digits
-assignments_of_lamport-worked = refl ⨾ tt
-
-pub loop_tests-worked : AreTested assigned.loop_tests
-unfolding named_lower built_in_of built_ins function_run built_in_run form_of place_of note_text note_kind has_place note_line mark_of digits
-loop_tests-worked = ((refl, refl, refl), ((refl, refl, refl), ((refl, refl, refl), ((refl, refl, refl), ((refl, refl, refl), tt)))))
-
-pub ruleset worked_rows = (
-  comparisons-worked,
-  integers-worked,
-  strings-worked,
-  names-worked,
-  stack-worked,
-  choices-worked,
-  wrong_operands-worked,
-  whole_stacks-worked,
-  bytes_characters-worked,
-  utf8_characters-worked,
-  no_entry-worked,
-  of_knuth-worked,
-  of_lamport-worked,
-  of_lamport_without_default-worked,
-  assignments-worked,
-  assignments_of_knuth-worked,
-  assignments_of_lamport-worked,
-  loop_tests-worked,
-)
+pub ruleset worked_rows = (outside-worked, within-worked, strings-worked, names-worked, bytes_characters-worked, utf8_characters-worked)

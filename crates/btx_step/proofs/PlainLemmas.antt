@@ -104,11 +104,9 @@ module _ (R : List Literal → Type 0) (P : Store → Answer → Type 0) (so : O
   entry_string i None s r = complains _ stand_in.Nothing s r
   entry_string i (Some entry) s r = so.string said.Nothing _ s r
 
-  -- on all operands, whatever Q holds of them
+  -- on all operands, whatever Q holds of them: what a function pushes is found among the lemmas above, but for a sum and a difference
   pub plain_row : (Q : Literal → Type 0) (job : Job) (f : BuiltIn) → IsPlain f → Each Q R P (row f).operands ((row f).does job)
-  plain_row Q job built_in.Equals p = λ x u y v s r. equals x y s r
-  plain_row Q job built_in.Greater p = λ b u a v s r. calculated Greater b a s r
-  plain_row Q job built_in.Less p = λ b u a v s r. calculated Less b a s r
   plain_row Q job built_in.Plus p = λ b u a v s r. calculated Plus b a s r
   plain_row Q job built_in.Minus p = λ b u a v s r. calculated Minus b a s r
-  plain_row Q job f p = search (so.words, so.integer, so.string, so.text, code, cites, emptiness, character, absence, gives_type)
+  plain_row Q job f p =
+      search (so.words, so.integer, so.string, so.text, truth_pushed, equals, code, cites, emptiness, character, absence, gives_type)
