@@ -1,4 +1,4 @@
-"""The table of the 37 functions of styles: each with its number, what docs/RULES.md says of it, and its row in the core."""
+"""The table of the functions of styles: each with its number, what docs/RULES.md says of it, and its row in the core."""
 
 import re
 
@@ -28,11 +28,15 @@ def rows_of_rules():
     return rows
 
 
+def variants(by_id):
+    """The variant of each function, by its name in BibTeX."""
+    return {found[2]: found[1] for found in re.finditer(r"built_in_name (?:built_in\.)?(\w+) = codes \"([^\"]+)\"", "\n".join(by_id[NAMES].lines))}
+
+
 def formulas(by_id):
     """What the core's table has for each function, by its name in BibTeX."""
-    variants = {found[2]: found[1] for found in re.finditer(r"built_in_name (?:built_in\.)?(\w+) = codes \"([^\"]+)\"", "\n".join(by_id[NAMES].lines))}
     rows = {found[1]: found[2] for found in re.finditer(r"(?m)^\s*row built_in\.(\w+) = takes (.*)$", "\n".join(by_id[TABLE].lines))}
-    return {name: rows[variant] for name, variant in variants.items() if variant in rows}
+    return {name: rows[variant] for name, variant in variants(by_id).items() if variant in rows}
 
 
 def table(by_id):
@@ -43,5 +47,5 @@ def table(by_id):
 
 def lacking(by_id):
     """What is wrong with the table, as messages."""
-    found = table(by_id)
-    return [f"the table of functions has {len(found)} rows, and 37 are expected"] * (len(found) != 37) + [f"the core has no row for {it.name}" for it in found if not it.formula]
+    found, wanted = table(by_id), len(variants(by_id))
+    return [f"the table of functions has {len(found)} rows, and {wanted} are expected"] * (len(found) != wanted) + [f"the core has no row for {it.name}" for it in found if not it.formula]

@@ -124,7 +124,7 @@ def functions_html(by_id):
     rows = "".join(f'<tr id="function-{it.number}"><td><a href="#function-{it.number}">{it.number}</a></td><td><a href="#{rules.row_anchor(it.name.strip("`"))}">{text(it.name)}</a></td>'
                    f"<td>{text(it.operands)}</td><td>{text(it.does)}{'. <i>Errors:</i> ' + text(it.errors) if it.errors else ''}</td><td>{text(it.default)}</td><td>{text(it.example)}</td></tr>"
                    for it in functions.table(by_id))
-    return ('<div class="functions"><p>The 37 functions of styles. Operands are named from the top: I an integer, S a string, F a function, M a string or a missing field, L any literal.</p>'
+    return ('<div class="functions"><p>The built-in functions of styles. Operands are named from the top: I an integer, S a string, F a function, M a string or a missing field, L any literal.</p>'
             f'<div class="wide"><table><tr><th></th><th>function</th><th>operands</th><th>what it does, and errors of its own</th><th>default</th><th>example</th></tr>{rows}</table></div></div>')
 
 

@@ -30,7 +30,8 @@ end
 # Each function of the language stands in the page's table, with what the explanations say that it takes.
 begin operands_of_the_page
 sed -n '/^## What each function takes/,/^## Checking/p' "$sources/docs/STYLES.md" | grep '^| `' | sed 's/ *| */|/g; s/^|//' | cut -d '|' -f 1,2 >rows
-[ "$(cut -d '|' -f 1 rows | tr ' ' '\n' | grep -c '`')" -eq 37 ] || complaints+=('the table has not 37 functions')
+[ "$(cut -d '|' -f 1 rows | tr ' ' '\n' | grep -c '`')" -eq "$(grep -c '^built_in_name ' "$sources/crates/btx_bst/specs/language/BuiltIns.antt")" ] ||
+    complaints+=('the table has not all functions')
 sed -n 's/^    ("\([^"]*\)", "\([A-Z'"'"'{} ]*\)"),$/\1|\2/p' "$sources/front/src/advice.rs" >operands
 while IFS='|' read -r name takes; do
     grep -F "\`$name\`" rows | cut -d '|' -f 2 | grep -qE "^$(sed 's/[{}]/\\&/g' <<<"$takes")(:.*)?$" || complaints+=("the row of $name doesn't say $takes")
