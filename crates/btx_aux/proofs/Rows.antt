@@ -1,5 +1,5 @@
 -- Worked examples of the definitions, which compute.
-use Rattle.std.proofs.Common.{◌≡◌, ℕ, zero, suc, ◌+◌, List, [], ◌∷◌, ◌++◌, replicate, length, Option, None, Some, refl}
+use Rattle.std.proofs.Common.{◌≡◌, ℕ, zero, suc, ◌+◌, false, List, [], ◌∷◌, ◌++◌, replicate, length, Option, None, Some, refl}
 use Rattle.std.specs.Prelude.{codes}
 use Rattle.btx_text.specs.language.Lines.{line_pieces, trimmed}
 use Rattle.btx_aux.specs.declared.end.End.{End}
@@ -10,6 +10,7 @@ use Rattle.btx_aux.specs.language.Grammar.{pieces_of, aux_command_named, words_o
 use Rattle.btx_aux.specs.language.Events.{AuxEvent, said, job_events}
 use Rattle.btx_aux.specs.language.Notes.{AuxComplaint, Slipped, AnotherBibdata, AnotherBibstyle, CaseMismatch, SecondStar, WrongExtension, AlreadyMet}
 use Rattle.btx_aux.specs.language.Notes.{NotOpened, RepeatedDatabase, AuxNote, TopFile, LevelFile, Wrong, NoCitations, NoBibdata, NoBibstyle}
+use Rattle.btx_aux.specs.language.Names.{has_ending}
 use Rattle.btx_aux.specs.language.Job.{cited_keys, all_of, notes_of, end_of}
 use Rattle.btx_aux.specs.refinement.Job.{databases_of, style_name_of}
 
@@ -132,6 +133,10 @@ one_piece : shown (job_events (files_of_pairs ((top, codes "\\citation{k}\n\\bib
     )
 unfolding job_events said words_of aux_command_named pieces_of line_pieces trimmed
 one_piece = refl
+
+-- an ending is in lower case
+capitals : has_ending (codes ".bib") (codes "d.BIB") ≡ false
+capitals = refl
 
 -- an empty top file
 nothing : shown (job_events (files_of_pairs ((top, []) ∷ [])) top) ≡ ([], None, [], None, found_top ∷ NoCitations ∷ NoBibdata ∷ NoBibstyle ∷ [], end.Whole)

@@ -2,7 +2,6 @@
 use Rattle.std.proofs.Common.{◌≡◌, ℕ, zero, suc, ◌+◌, ◌<◌, arith, Bool, true, false, if◌then◌else◌, List, [], ◌∷◌, ◌++◌, drop, get_or, length, Option, None}
 use Rattle.std.proofs.Common.{Some, is_some, refl, sym, ap, subst, ◌∙◌, append_assoc}
 use Rattle.std.proofs.lemmas.List.{at_drop_more}
-use Rattle.btx_bib.specs.declared.databases.Source.{Source}
 use Rattle.btx_bib.specs.declared.end.End.TheVariants.{FileLimit}
 use Rattle.btx_bib.specs.declared.gathering.Gathering.{Gathering}
 use Rattle.btx_bib.specs.declared.grammar.commands.Wanted.{Wanted as Next}
@@ -17,7 +16,7 @@ use Rattle.btx_bib.specs.language.Stored.{entry_with_key}
 use Rattle.btx_bib.specs.language.Messages.{Database, event_messages}
 use Rattle.btx_bib.specs.language.Wanted.{Request}
 use Rattle.btx_bib.specs.refinement.Gatherings.{closed, events_with, is_kept, kept_after, kept_along, kept_messages}
-use Rattle.btx_bib.specs.refinement.Sources.{source_database, source_databases}
+use Rattle.btx_bib.specs.refinement.Pairs.{BorrowedPair, database_of_pair, databases_of_pairs}
 use Rattle.btx_bib.specs.refinement.Readings.{kept_by_all, kept_one, messages_of_all, messages_of_one}
 use Rattle.btx_bib.proofs.ApartLemmas.{known_all, known_one, messages_from_all, messages_along, messages_one}
 use Rattle.btx_bib.proofs.GrammarLemmas.LengthLemmas.{events-none, events-some, events-less}
@@ -27,25 +26,25 @@ use Rattle.btx_bib.proofs.KeptLemmas.{IsFresh, Sound, closed-kept, closed-sound,
 use Rattle.btx_text.specs.language.Limits.{is_too_long}
 use Rattle.btx_bib.specs.refinement.Grammar.Items.{known_step}
 
--- ---- one source, and the others
+-- ---- one database, and the others
 
-module _ (wanted : Request) (sources : List Source) (place : ℕ) (d : Source) (before now : Gathering) (within : place < length sources)
-    (is : now ≡ kept_one wanted before (source_database (get_or sources place d))) where
-  pub all-next : kept_by_all wanted now (source_databases (drop (place + 1) sources)) ≡ kept_by_all wanted before (source_databases (drop place sources))
+module _ (wanted : Request) (pairs : List BorrowedPair) (place : ℕ) (d : BorrowedPair) (before now : Gathering) (within : place < length pairs)
+    (is : now ≡ kept_one wanted before (database_of_pair (get_or pairs place d))) where
+  pub all-next : kept_by_all wanted now (databases_of_pairs (drop (place + 1) pairs)) ≡ kept_by_all wanted before (databases_of_pairs (drop place pairs))
   all-next =
-      ap (λ (k : Gathering). kept_by_all wanted k (source_databases (drop (place + 1) sources))) is
-      ∙ sym (at_drop_more (λ (ss : List Source). kept_by_all wanted before (source_databases ss)) sources place d within)
+      ap (λ (k : Gathering). kept_by_all wanted k (databases_of_pairs (drop (place + 1) pairs))) is
+      ∙ sym (at_drop_more (λ (ss : List BorrowedPair). kept_by_all wanted before (databases_of_pairs ss)) pairs place d within)
 
-  pub all-logged-next : (messages messages' : List Message) → messages' ≡ messages ++ messages_of_one wanted before (source_database (get_or sources place d))
-      → messages' ++ messages_of_all wanted now (source_databases (drop (place + 1) sources)) ≡ messages
-      ++ messages_of_all wanted before (source_databases (drop place sources))
+  pub all-logged-next : (messages messages' : List Message) → messages' ≡ messages ++ messages_of_one wanted before (database_of_pair (get_or pairs place d))
+      → messages' ++ messages_of_all wanted now (databases_of_pairs (drop (place + 1) pairs)) ≡ messages
+      ++ messages_of_all wanted before (databases_of_pairs (drop place pairs))
   all-logged-next messages messages' logs =
-      let one = messages_of_one wanted before (source_database (get_or sources place d)) in
-      ap (λ (ms : List Message). ms ++ messages_of_all wanted now (source_databases (drop (place + 1) sources))) logs
-      ∙ append_assoc messages one (messages_of_all wanted now (source_databases (drop (place + 1) sources)))
-      ∙ ap (λ (k : Gathering). messages ++ (one ++ messages_of_all wanted k (source_databases (drop (place + 1) sources)))) is
+      let one = messages_of_one wanted before (database_of_pair (get_or pairs place d)) in
+      ap (λ (ms : List Message). ms ++ messages_of_all wanted now (databases_of_pairs (drop (place + 1) pairs))) logs
+      ∙ append_assoc messages one (messages_of_all wanted now (databases_of_pairs (drop (place + 1) pairs)))
+      ∙ ap (λ (k : Gathering). messages ++ (one ++ messages_of_all wanted k (databases_of_pairs (drop (place + 1) pairs)))) is
       ∙ ap (λ (ms : List Message). messages ++ ms)
-      (sym (at_drop_more (λ (ss : List Source). messages_of_all wanted before (source_databases ss)) sources place d within))
+      (sym (at_drop_more (λ (ss : List BorrowedPair). messages_of_all wanted before (databases_of_pairs ss)) pairs place d within))
 
 -- ---- repeated entries
 

@@ -9,7 +9,7 @@ pub mod Drafts
 pub mod KnownFields
 pub mod Requests
 pub mod Strings
-pub mod Sources
+pub mod Pairs
 pub mod Sites
 pub mod Gatherings
 pub mod Readings

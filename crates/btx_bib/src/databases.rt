@@ -16,14 +16,8 @@ use btx_bst::{Macros, Style};
 use btx_text::{Fault, GREATEST_FILE, Text};
 use std::alloc::{AllocError, Global};
 
-/// A database: the name of its file, and its bytes.
-#[derive(Drop)]
-pub struct Source<'a> {
-    /// The name of the file.
-    pub name: &'a [u8],
-    /// The bytes.
-    pub bytes: &'a [u8],
-}
+// A database: the name of its file, and its bytes.
+type Pair<'a> = (&'a [u8], &'a [u8]);
 
 impl<'a> Gathering<'a> {
     ghost use Rattle.std.specs.Prelude.{◌≡◌, ◌++◌, true, IfOk, OnOk};
@@ -34,25 +28,26 @@ impl<'a> Gathering<'a> {
     ghost use Rattle.btx_bib.specs.refinement.Readings.{IsListed, kept_macro, kept_macros, nothing_gathered, library_kept, listed_draft, kept_by_all, kept_one};
     ghost use Rattle.btx_bib.specs.refinement.Readings.{messages_of_all, messages_of_one};
     ghost use Rattle.btx_bib.specs.refinement.Requests.{wanted};
-    ghost use Rattle.btx_bib.specs.refinement.Sources.{source_database, source_databases};
+    ghost use Rattle.btx_bib.specs.refinement.Pairs.{database_of_pair, databases_of_pairs};
 
     // A database that isn't too long.
     fn read_short(
         &mut self,
         alloc: Global,
         request: &Request<'_, 'a>,
-        source: &Source<'a>,
+        database: &Pair<'a>,
         messages: &mut Messages<'a>,
     ) -> Result<(), AllocError>
         requires { goes_on self.old.ending ≡ true }
         ensures state { OnOk result (self.new ≡ closed (wanted request.now)
-            (kept_along (wanted request.now) self.old (events_with (wanted request.now) self.old next.Item source.now.bytes.now))) }
-        ensures logged { OnOk result (messages.new ≡ messages.old ++ kept_messages (wanted request.now) (source_database source.now) self.old
-            (events_with (wanted request.now) self.old next.Item source.now.bytes.now)) }
+            (kept_along (wanted request.now) self.old (events_with (wanted request.now) self.old next.Item database.now.1.now))) }
+        ensures logged { OnOk result (messages.new ≡ messages.old ++ kept_messages (wanted request.now) (database_of_pair database.now) self.old
+            (events_with (wanted request.now) self.old next.Item database.now.1.now)) }
     {
+        let (name, text) = *database;
         let site = Site {
-            file: Word::new(source.name),
-            lines: LineCounter::of(source.bytes),
+            file: Word::new(name),
+            lines: LineCounter::of(text),
         };
         let mut reading = Reading {
             alloc,
@@ -60,7 +55,7 @@ impl<'a> Gathering<'a> {
             site,
             messages: std::mem::replace(messages, Messages::new(alloc)),
         };
-        self.read_events(source.bytes, &mut reading)?;
+        self.read_events(text, &mut reading)?;
         let Reading { messages: read, .. } = reading;
         let _before = std::mem::replace(messages, read);
         self.close(alloc, request)
@@ -71,20 +66,20 @@ impl<'a> Gathering<'a> {
         &mut self,
         alloc: Global,
         request: &Request<'_, 'a>,
-        source: &Source<'a>,
+        database: &Pair<'a>,
         messages: &mut Messages<'a>,
     ) -> Result<(), AllocError>
-        ensures state { OnOk result (self.new ≡ kept_one (wanted request.now) self.old (source_database source.now)) }
-        ensures logged { OnOk result (messages.new ≡ messages.old ++ messages_of_one (wanted request.now) self.old (source_database source.now)) }
+        ensures state { OnOk result (self.new ≡ kept_one (wanted request.now) self.old (database_of_pair database.now)) }
+        ensures logged { OnOk result (messages.new ≡ messages.old ++ messages_of_one (wanted request.now) self.old (database_of_pair database.now)) }
     {
         if self.has_ended() {
             return Ok(());
         }
-        if source.bytes.len() > GREATEST_FILE {
+        if database.1.len() > GREATEST_FILE {
             self.ending = End::FileLimit;
             return Ok(());
         }
-        self.read_short(alloc, request, source, messages)
+        self.read_short(alloc, request, database, messages)
     }
 
     // All databases, one after the other.
@@ -92,14 +87,14 @@ impl<'a> Gathering<'a> {
         &mut self,
         alloc: Global,
         request: &Request<'_, 'a>,
-        sources: &[Source<'a>],
+        databases: &[Pair<'a>],
         messages: &mut Messages<'a>,
     ) -> Result<(), AllocError>
-        ensures state { OnOk result (self.new ≡ kept_by_all (wanted request.now) self.old (source_databases sources.now)) }
-        ensures logged { OnOk result (messages.new ≡ messages.old ++ messages_of_all (wanted request.now) self.old (source_databases sources.now)) }
+        ensures state { OnOk result (self.new ≡ kept_by_all (wanted request.now) self.old (databases_of_pairs databases.now)) }
+        ensures logged { OnOk result (messages.new ≡ messages.old ++ messages_of_all (wanted request.now) self.old (databases_of_pairs databases.now)) }
     {
-        for source in sources {
-            self.read_one(alloc, request, source, messages)?;
+        for database in databases {
+            self.read_one(alloc, request, database, messages)?;
         }
         Ok(())
     }
@@ -195,22 +190,22 @@ ghost use Rattle.btx_text.specs.declared.fault.Fault.TheVariants.{Memory};
 ghost use Rattle.btx_bib.specs.language.Databases.{library_of};
 ghost use Rattle.btx_bib.specs.language.Requests.{asked};
 ghost use Rattle.btx_bib.specs.refinement.Requests.{wanted};
-ghost use Rattle.btx_bib.specs.refinement.Sources.{source_databases};
+ghost use Rattle.btx_bib.specs.refinement.Pairs.{databases_of_pairs};
 
-/// Reads the databases of a job: what they give to it and its style, where an entry that isn't cited stays if at least `min_crossrefs` others refer to it.
-/// The library has the bytes of the files and of the cited keys; style and sources are used in the call alone. The only fault is want
-/// of memory.
+/// Reads the databases of a job, given as pairs of name and bytes: what they give to it and its style, where an entry that isn't cited stays if at least
+/// `min_crossrefs` others refer to it. The library borrows the bytes of the files and of the cited keys; the style and the list of pairs are used in the
+/// call alone. The only fault is want of memory.
 pub fn read_databases<'a>(
     alloc: Global,
     style: &Style<'a>,
     job: &'a AuxJob,
-    sources: &[Source<'a>],
+    databases: &[(&'a [u8], &'a [u8])],
     min_crossrefs: u32,
 ) -> Result<Library<'a>, Fault>
-    ensures library { IfOk result (λ library. library ≡ library_of (asked style.now job.now min_crossrefs) style.now.macros (source_databases sources.now)) }
+    ensures library { IfOk result (λ library. library ≡ library_of (asked style.now job.now min_crossrefs) style.now.macros (databases_of_pairs databases.now)) }
     ensures fault { IfErr result (λ fault. fault ≡ Memory) }
 {
-    Ok(library_read(alloc, style, job, sources, min_crossrefs)?)
+    Ok(library_read(alloc, style, job, databases, min_crossrefs)?)
 }
 
 // The library of a job.
@@ -218,13 +213,13 @@ fn library_read<'a>(
     alloc: Global,
     style: &Style<'a>,
     job: &'a AuxJob,
-    sources: &[Source<'a>],
+    databases: &[Pair<'a>],
     min_crossrefs: u32,
 ) -> Result<Library<'a>, AllocError>
-    ensures { IfOk result (λ library. library ≡ library_of (asked style.now job.now min_crossrefs) style.now.macros (source_databases sources.now)) }
+    ensures { IfOk result (λ library. library ≡ library_of (asked style.now job.now min_crossrefs) style.now.macros (databases_of_pairs databases.now)) }
 {
     let request = Request::of(alloc, style, job, min_crossrefs)?;
-    library_requested(alloc, &request, style.macros(), sources)
+    library_requested(alloc, &request, style.macros(), databases)
 }
 
 // The library that a request asks for.
@@ -232,12 +227,12 @@ fn library_requested<'a>(
     alloc: Global,
     request: &Request<'_, 'a>,
     macros: &Macros<'a>,
-    sources: &[Source<'a>],
+    databases: &[Pair<'a>],
 ) -> Result<Library<'a>, AllocError>
-    ensures { IfOk result (λ library. library ≡ library_of (wanted request.now) macros.now (source_databases sources.now)) }
+    ensures { IfOk result (λ library. library ≡ library_of (wanted request.now) macros.now (databases_of_pairs databases.now)) }
 {
     let mut gathering = Gathering::of_macros(alloc, request, macros)?;
     let mut messages = Messages::new(alloc);
-    gathering.read_all(alloc, request, sources, &mut messages)?;
+    gathering.read_all(alloc, request, databases, &mut messages)?;
     gathering.library(alloc, request, messages)
 }

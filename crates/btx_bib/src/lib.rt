@@ -26,7 +26,7 @@ mod style_fields;
 mod texts;
 mod values;
 
-pub use databases::{Source, read_databases};
+pub use databases::read_databases;
 pub use end::End;
 pub use entry::Entry;
 pub use library::Library;

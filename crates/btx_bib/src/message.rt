@@ -3,25 +3,28 @@ use crate::grammar::slip::Slip;
 use crate::spelling::{Spelling, Word};
 use btx_text::List;
 
-/// The file and the line that a message is about.
+/// The place of a database that a message is about: its file, a line of it, and where the reading stood.
 #[derive(Drop)]
 pub struct Spot<'a> {
     /// The name of the file.
     pub file: Word<'a>,
     /// The line, from 1 up.
     pub line: usize,
+    /// Where the reading stood: the number of bytes of the file before that place.
+    pub at: usize,
 }
 
 impl<'a> Spot<'a> {
     ghost use Rattle.std.specs.Prelude.{◌≡◌};
 
-    /// A line of this file.
-    pub fn of(file: &Word<'a>, line: usize) -> Spot<'a>
-        ensures { result ≡ record { file = file.now; line = line } }
+    /// Makes the spot of the line `line` of the file `file`, where the reading stood after `at` of its bytes.
+    pub fn of(file: &Word<'a>, line: usize, at: usize) -> Spot<'a>
+        ensures { result ≡ record { file = file.now; line = line; at = at } }
     {
         Spot {
             file: file.copy(),
             line,
+            at,
         }
     }
 }

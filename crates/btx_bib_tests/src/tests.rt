@@ -4,6 +4,7 @@ mod hostile;
 mod libraries;
 mod limits;
 mod passed_rows;
+mod places;
 mod rows;
 mod showing;
 mod usual;

@@ -126,15 +126,15 @@ body_turn-size names s =
 abbrev left_in : Inside → ℕ
 left_in s = size s.place
 
-falls : (names : Names) (s : Inside) → OnTurn (λ t. left_in t < left_in s) (λ (r : BodyEnd). Unit {0}) (body_turn names s)
-falls names s = at (body_turn names s) (body_turn-size names s) where
+pub body_turn-falls : (names : Names) (s : Inside) → OnTurn (λ t. left_in t < left_in s) (λ (r : BodyEnd). Unit {0}) (body_turn names s)
+body_turn-falls names s = at (body_turn names s) (body_turn-size names s) where
   at : (t : Turn Inside BodyEnd) → BodyTurn (size s.place) t → OnTurn (λ t. left_in t < left_in s) (λ (r : BodyEnd). Unit {0}) t
   at (Again u) h = h
   at (Ends r) h = tt
 
 pub body_end-next : (names : Names) (s : Inside) → body_end names s ≡ after_turn (body_end names) (body_turn names s)
 unfolding body_end
-body_end-next names s = turns-next (body_turn names) (Broken EndOfFile) left_in (falls names) s
+body_end-next names s = turns-next (body_turn names) (Broken EndOfFile) left_in (body_turn-falls names) s
 
 pub body_end-again : (names : Names) (s t : Inside) → body_turn names s ≡ Again t → body_end names s ≡ body_end names t
 body_end-again names s t e = rw (body_end-next names s, e) refl

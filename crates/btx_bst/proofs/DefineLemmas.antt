@@ -1,5 +1,6 @@
 -- A function whose body is broken off.
 use Rattle.std.proofs.Common.{◌≡◌, ℕ, List, [], length, take, ap, ◌∙◌, Some}
+use Rattle.btx_bst.specs.declared.token.Token.{Token}
 use Rattle.btx_bst.specs.language.Places.{Place}
 use Rattle.btx_bst.specs.language.Complaints.{Complaint}
 use Rattle.btx_bst.specs.language.BodyText.{Inside, Broken, body_end}
@@ -10,7 +11,7 @@ use Rattle.btx_bst.specs.refinement.Views.{OpenBodies, open_bodies, inside_of_re
 use Rattle.btx_bst.proofs.StyleLemmas.{broken-grows}
 use Rattle.btx_bst.specs.refinement.Bodies.{FunctionBody}
 
-pub defined-broken : (style : Style) (lowered : List ℕ) (p : Place) (o : OpenBodies) (c : Complaint) (t : Inside) (n m : ℕ) (bodies : List FunctionBody)
+pub defined-broken : (style : Style) (lowered : List ℕ) (p : Place) (o : OpenBodies Token) (c : Complaint) (t : Inside) (n m : ℕ) (bodies : List FunctionBody)
     (texts : List (List ℕ)) → o ≡ open_bodies [] [] → Broken c t ≡ body_end style.names (inside_of_reader p o style.bodies style.texts style.items)
     → n ≡ length style.bodies → bodies ≡ take n t.bodies → m ≡ length style.texts → texts ≡ take m t.texts
     → outcome (Some c) (record style { bodies = bodies; texts = texts; items = t.items }) t.place

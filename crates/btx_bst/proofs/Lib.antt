@@ -11,6 +11,9 @@ pub mod IntegerLemmas
 pub mod ListLemmas
 pub mod BodyTurnLemmas
 pub mod StyleLemmas
+pub mod RecordedLemmas
+pub mod StylePlaceLemmas
+pub mod SpotLemmas
 pub mod DefineLemmas
 pub mod PredefinedLemmas
 pub mod RoomLemmas

@@ -340,15 +340,15 @@ item_turn-within : (s : StyleState) → ItemTurn s (item_turn s)
 unfolding item_turn
 item_turn-within s = item_in-within s.style (ink s.place) (ink s.place).line (size s.place) refl (ink-size s.place) (λ h. h)
 
-item_turn-size : (s : StyleState) → OnTurn (λ t. left_in t < left_in s) (λ (r : Style). Unit {0}) (item_turn s)
-item_turn-size s = at (item_turn s) (item_turn-within s) where
+pub item_turn-falls : (s : StyleState) → OnTurn (λ t. left_in t < left_in s) (λ (r : Style). Unit {0}) (item_turn s)
+item_turn-falls s = at (item_turn s) (item_turn-within s) where
   at : (t : Turn StyleState Style) → ItemTurn s t → OnTurn (λ u. left_in u < left_in s) (λ (r : Style). Unit {0}) t
   at (Again u) h = h.0
   at (Ends r) h = tt
 
 pub style_from-next : (s : StyleState) → style_from s ≡ after_turn style_from (item_turn s)
 unfolding style_from
-style_from-next s = turns-next item_turn style_so_far left_in item_turn-size s
+style_from-next s = turns-next item_turn style_so_far left_in item_turn-falls s
 
 pub style_from-again : (s t : StyleState) → item_turn s ≡ Again t → style_from s ≡ style_from t
 style_from-again s t e = rw (style_from-next s, e) refl
@@ -357,7 +357,7 @@ pub style_from-ends : (s : StyleState) (r : Style) → item_turn s ≡ Ends r �
 style_from-ends s r e = rw (style_from-next s, e) refl
 
 pub item_turn-less : (s t : StyleState) → item_turn s ≡ Again t → size t.place < size s.place
-item_turn-less s t e = let h : OnTurn (λ t. left_in t < left_in s) (λ (r : Style). Unit {0}) (Again t) = rw e at (item_turn-size s) in h
+item_turn-less s t e = let h : OnTurn (λ t. left_in t < left_in s) (λ (r : Style). Unit {0}) (Again t) = rw e at (item_turn-falls s) in h
 
 -- a style keeps its room, item by item
 pub item_turn-room : (s t : StyleState) → item_turn s ≡ Again t → HasRoom s.style s.place → HasRoom t.style t.place

@@ -17,3 +17,5 @@ pub mod CommandSpelling
 pub mod Fronts
 pub mod StyleText
 pub mod Places
+pub mod Recorded
+pub mod StylePlaces

@@ -1,7 +1,6 @@
-//! The bodies of functions, all in one list of tokens.
+//! The bodies of functions, all in one list of tokens, or of what is recorded of each token.
 ghost use Rattle.std.specs.Prelude.{◌≡◌, ◌≤◌, ◌<◌, [], ◌∷◌, ◌++◌, OnOk, length, take, slice_index_or};
 
-use crate::token::Token;
 use std::alloc::{AllocError, Global};
 use std::marker::Model;
 
@@ -16,24 +15,23 @@ pub struct Range {
 
 /// Bodies, in the order of their numbers.
 #[derive(Drop)]
-pub struct Bodies {
-    tokens: Vec<Token>,
+pub struct Bodies<T> {
+    tokens: Vec<T>,
     ranges: Vec<Range>,
 }
 
-impl Model for Bodies {
+impl<T> Model for Bodies<T> {
     ghost use Rattle.std.specs.Prelude.{◌≤◌, List, length, map, All};
-    ghost use Rattle.btx_bst.specs.refinement.Bodies.{FunctionBody};
     ghost use Rattle.btx_bst.specs.refinement.Ranges.{tokens_in};
 
-    ghost Value = { List FunctionBody };
+    ghost Value = { List (List T) };
 
     ghost view = { λ b. map (tokens_in b.tokens.items) b.ranges.items };
 
     ghost invariant = { λ b. All (λ r. (r.from ≤ r.to) × (r.to ≤ length b.tokens.items)) b.ranges.items };
 }
 
-impl Bodies {
+impl<T: Copy> Bodies<T> {
     /// No body.
     pub fn new(alloc: Global) -> Self
         ensures { result ≡ [] }
@@ -52,7 +50,7 @@ impl Bodies {
     }
 
     /// One more body.
-    pub fn add(&mut self, body: &[Token]) -> Result<(), AllocError>
+    pub fn add(&mut self, body: &[T]) -> Result<(), AllocError>
         ensures { OnOk result (self.new ≡ self.old ++ body.now ∷ []) }
     {
         let from = self.tokens.len();
@@ -66,14 +64,13 @@ impl Bodies {
 
     /// Leaves the first bodies alone.
     pub fn cut(&mut self, count: usize)
-        requires { count ≤ length self.old }
         ensures { self.new ≡ take count self.old }
     {
         self.ranges.truncate(count);
     }
 
     /// The tokens of the function of a number.
-    pub fn body(&self, number: usize) -> &[Token]
+    pub fn body(&self, number: usize) -> &[T]
         requires { number < length self.now }
         ensures { result.now ≡ slice_index_or self.now number [] }
     {

@@ -2,12 +2,14 @@
 ghost use Rattle.std.specs.Prelude.{◌≡◌, ◌≤◌, length};
 ghost use Rattle.btx_bst.specs.language.Places.{Place, ink, skipped};
 ghost use Rattle.btx_bst.specs.language.Lists.{brace_in, closing, front_of, letters_at, next_name, opening, quoted_at};
-ghost use Rattle.btx_bst.specs.language.Words.{met_at};
+ghost use Rattle.btx_bst.specs.language.Words.{met_in};
 ghost use Rattle.btx_bst.specs.refinement.Views.{complaint_view, read_text, read_unit, word_view};
 ghost use Rattle.btx_bst.specs.laws.Places.{beginning};
+ghost use Rattle.btx_bst.specs.laws.Recorded.{spot_at};
 
 use crate::complaint::Complaint;
 use crate::fronts::{behind_white, letters_len, name_len, quote_len, word_front};
+use crate::span::Spot;
 use crate::word::Word;
 use btx_text::Lines;
 use std::marker::Model;
@@ -51,6 +53,16 @@ impl<'a> Cursor<'a> {
         self.number
     }
 
+    /// The place, as it is recorded.
+    pub fn spot(&self) -> Spot
+        ensures { result ≡ spot_at self.now }
+    {
+        Spot {
+            line: self.number,
+            left: self.line.len(),
+        }
+    }
+
     /// Goes to what stands next.
     #[tactic(auto, using(crate::proofs::PlaceLemmas::ink_steps))]
     pub fn go_to_ink(&mut self)
@@ -85,12 +97,11 @@ impl<'a> Cursor<'a> {
         }
     }
 
-    /// Takes the next word of a body.
+    /// Takes the word of a body that stands here.
     pub fn word(&mut self) -> Word<'a>
-        ensures word { word_view result ≡ (met_at self.old).word }
-        ensures place { self.new ≡ (met_at self.old).place }
+        ensures word { word_view result ≡ (met_in self.old self.old.line).word }
+        ensures place { self.new ≡ (met_in self.old self.old.line).place }
     {
-        self.go_to_ink();
         match self.line {
             [] => Word::Ended,
             [first, after @ ..] => {

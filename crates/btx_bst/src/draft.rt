@@ -9,6 +9,7 @@ ghost use Rattle.btx_bst.specs.language.Names.{named_lower};
 ghost use Rattle.btx_bst.specs.refinement.DraftViews.{draft_view, outcome_view};
 ghost use Rattle.btx_bst.specs.refinement.Weights.{HasRoom};
 ghost use Rattle.btx_bst.specs.laws.StyleText.{unread_style};
+ghost use Rattle.btx_bst.specs.laws.Recorded.{Records, command_recorded, function_command_recorded, function_recorded};
 
 use crate::bodies::Bodies;
 use crate::body_words::{body, find};
@@ -21,6 +22,8 @@ use crate::lists::list;
 use crate::macros::Macros;
 use crate::names::Names;
 use crate::open::Open;
+use crate::recorder::Recording;
+use crate::token::Token;
 use btx_text::Lowered;
 use std::alloc::{AllocError, Global};
 
@@ -56,7 +59,7 @@ pub struct Draft<'a> {
     /// The macros.
     pub macros: Macros<'a>,
     /// The bodies of the functions.
-    pub bodies: Bodies,
+    pub bodies: Bodies<Token>,
     /// The strings that stand in bodies.
     pub texts: Vec<&'a [u8]>,
     /// The items.
@@ -84,14 +87,21 @@ impl<'a> Draft<'a> {
         }
     }
 
-    /// Takes the rest of a command.
-    pub fn command(&mut self, alloc: Global, cursor: &mut Cursor<'a>, command: Command) -> Taken<'a>
+    /// Takes the rest of a command, and records where the tokens of its body stand.
+    pub fn command<R: Recording>(
+        &mut self,
+        alloc: Global,
+        cursor: &mut Cursor<'a>,
+        command: Command,
+        recorder: &mut R,
+    ) -> Taken<'a>
         requires { HasRoom (draft_view self.old) cursor.old }
-        ensures { IfOk result (λ complaint. outcome_view complaint (draft_view self.new) cursor.new ≡ command_at command (draft_view self.old) cursor.old) }
+        ensures outcome { IfOk result (λ complaint. outcome_view complaint (draft_view self.new) cursor.new ≡ command_at command (draft_view self.old) cursor.old) }
+        ensures recorded { OnOk result (Records (command_recorded command (draft_view self.old) cursor.old) (R.recorded recorder.old) (R.recorded recorder.new)) }
     {
         match command {
             Command::Entry => self.entry(alloc, cursor),
-            Command::Function => self.function(alloc, cursor),
+            Command::Function => self.function(alloc, cursor, recorder),
             Command::Read => self.read(),
             Command::Execute => self.run(alloc, cursor, command),
             Command::Iterate => self.run(alloc, cursor, command),
@@ -209,10 +219,16 @@ impl<'a> Draft<'a> {
     }
 
     // Takes the rest of a FUNCTION.
-    #[tactic(auto, unfolding(crate::specs::language::Commands::function_command))]
-    fn function(&mut self, alloc: Global, cursor: &mut Cursor<'a>) -> Taken<'a>
+    #[tactic(auto, unfolding(crate::specs::language::Commands::function_command, crate::specs::laws::Recorded::function_command_recorded))]
+    fn function<R: Recording>(
+        &mut self,
+        alloc: Global,
+        cursor: &mut Cursor<'a>,
+        recorder: &mut R,
+    ) -> Taken<'a>
         requires { HasRoom (draft_view self.old) cursor.old }
-        ensures { IfOk result (λ complaint. outcome_view complaint (draft_view self.new) cursor.new ≡ function_command (draft_view self.old) cursor.old) }
+        ensures outcome { IfOk result (λ complaint. outcome_view complaint (draft_view self.new) cursor.new ≡ function_command (draft_view self.old) cursor.old) }
+        ensures recorded { OnOk result (Records (function_command_recorded (draft_view self.old) cursor.old) (R.recorded recorder.old) (R.recorded recorder.new)) }
     {
         taken!(cursor.opening());
         let name = taken!(cursor.name());
@@ -222,15 +238,22 @@ impl<'a> Draft<'a> {
         }
         taken!(cursor.closing());
         taken!(cursor.opening());
-        self.define(alloc, cursor, lowered)
+        self.define(alloc, cursor, lowered, recorder)
     }
 
     // Takes a body, and defines its function.
-    fn define(&mut self, alloc: Global, cursor: &mut Cursor<'a>, lowered: Lowered<'a>) -> Taken<'a>
+    fn define<R: Recording>(
+        &mut self,
+        alloc: Global,
+        cursor: &mut Cursor<'a>,
+        lowered: Lowered<'a>,
+        recorder: &mut R,
+    ) -> Taken<'a>
         requires new { named_lower (draft_view self.old).names lowered ≡ None }
         requires room { HasRoom (draft_view self.old) cursor.old }
-        ensures { IfOk result (λ complaint. outcome_view complaint (draft_view self.new) cursor.new
+        ensures outcome { IfOk result (λ complaint. outcome_view complaint (draft_view self.new) cursor.new
             ≡ function_ended (draft_view self.old) lowered.entry (body_end (draft_view self.old).names (inside_at (draft_view self.old) cursor.old))) }
+        ensures recorded { OnOk result (Records (function_recorded (draft_view self.old).names (inside_at (draft_view self.old) cursor.old)) (R.recorded recorder.old) (R.recorded recorder.new)) }
     {
         let count = self.bodies.len();
         let texts = self.texts.len();
@@ -243,6 +266,7 @@ impl<'a> Draft<'a> {
             &mut self.bodies,
             &mut self.texts,
             &mut self.items,
+            recorder,
         )? {
             self.bodies.cut(count);
             self.texts.truncate(texts);

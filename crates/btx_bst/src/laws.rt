@@ -9,6 +9,7 @@ ghost use Rattle.btx_bst.specs.laws.Nexts.{BodyNextLaw, ListNextLaw, StyleNextLa
 ghost use Rattle.btx_bst.specs.laws.Order.{MacroLaw, OnceLaw, OrderLaw};
 ghost use Rattle.btx_bst.specs.laws.Passages.{CommandLaw, InkLaw, SkipLaw};
 ghost use Rattle.btx_bst.specs.laws.References.{ReferencesLaw, ItemsLaw, ExecutedLaw};
+ghost use Rattle.btx_bst.specs.laws.StylePlaces.{SpotLaw};
 ghost use Rattle.btx_bst.specs.laws.Spelling.{SpelledLaw, BrokenLaw, DividedLaw};
 ghost use Rattle.btx_bst.specs.laws.WordSpelling.{TokensLaw};
 ghost use Rattle.btx_bst.specs.laws.WorkedStyles as worked;
@@ -117,4 +118,9 @@ pub fn all_of_a_text_is_read()
     ensures white { InkLaw }
     ensures command { CommandLaw }
     ensures skipped { SkipLaw }
+{}
+
+/// A place is counted: what is left of a line stands in the text behind as many bytes as its spot says, and behind as many line feeds as lines came before.
+pub fn places_are_counted()
+    ensures { SpotLaw }
 {}

@@ -3,23 +3,22 @@ ghost use Rattle.std.specs.Prelude.{◌≡◌, [], ◌∷◌, ◌++◌, OnOk};
 ghost use Rattle.btx_bst.specs.refinement.Pending.{is_nested};
 ghost use Rattle.btx_bst.specs.refinement.Views.{open_bodies, left_alone};
 
-use crate::token::Token;
 use std::alloc::{AllocError, Global};
 use std::marker::Model;
 
-/// The tokens so far of the innermost function, and those of the functions round it: one list, in which each function but the outermost
-/// has a start.
+/// The tokens so far of the innermost function, and those of the functions round it, or what is recorded of each: one list, in which each
+/// function but the outermost has a start.
 #[derive(Drop)]
-pub struct Open {
-    tokens: Vec<Token>,
+pub struct Open<T> {
+    tokens: Vec<T>,
     starts: Vec<usize>,
 }
 
-impl Model for Open {
+impl<T> Model for Open<T> {
     ghost use Rattle.std.specs.Prelude.{reverse};
     ghost use Rattle.btx_bst.specs.refinement.Views.{OpenBodies};
 
-    ghost Value = { OpenBodies };
+    ghost Value = { OpenBodies T };
 
     ghost use Rattle.btx_bst.specs.refinement.Pending.{opened_in, StartsNest};
 
@@ -28,7 +27,7 @@ impl Model for Open {
     ghost invariant = { λ o. StartsNest o.tokens.items (reverse o.starts.items) };
 }
 
-impl Open {
+impl<T: Copy> Open<T> {
     /// One function, without tokens.
     pub fn new(alloc: Global) -> Self
         ensures { result ≡ open_bodies [] [] }
@@ -47,7 +46,7 @@ impl Open {
     }
 
     /// One more token.
-    pub fn push(&mut self, token: Token) -> Result<(), AllocError>
+    pub fn push(&mut self, token: T) -> Result<(), AllocError>
         ensures { OnOk result (self.new ≡ open_bodies (self.old.tokens ++ token ∷ []) self.old.around) }
     {
         self.tokens.push(token)?;
@@ -72,8 +71,16 @@ impl Open {
         }
     }
 
+    /// One function, without tokens, in place of all.
+    pub fn reset(&mut self)
+        ensures { self.new ≡ open_bodies [] [] }
+    {
+        self.tokens.clear();
+        self.starts.clear();
+    }
+
     /// The tokens of the innermost function.
-    pub fn tokens(&self) -> &[Token]
+    pub fn tokens(&self) -> &[T]
         ensures { result.now ≡ self.now.tokens }
     {
         match self.starts.last() {

@@ -3,72 +3,95 @@ ghost use Rattle.std.specs.Prelude.{◌≡◌, IfOk, OnOk};
 ghost use Rattle.btx_text.specs.language.Keys.{folded};
 ghost use Rattle.btx_bst.specs.language.Commands.{command_named};
 ghost use Rattle.btx_bst.specs.language.Outcomes.{after_read};
-ghost use Rattle.btx_bst.specs.language.Lists.{letters_at};
-ghost use Rattle.btx_bst.specs.language.StyleText.{item_turn, style_state, style_from, command_outcome};
+ghost use Rattle.btx_bst.specs.language.StyleText.{item_turn, style_state, style_from};
 ghost use Rattle.btx_bst.specs.refinement.Weights.{HasRoom};
 ghost use Rattle.btx_bst.specs.refinement.DraftViews.{draft_view, item_turn_view, outcome_view};
-ghost use Rattle.btx_bst.specs.refinement.StyleText.{resumed_after, word_outcome};
+ghost use Rattle.btx_bst.specs.refinement.StyleText.{word_outcome};
+ghost use Rattle.btx_bst.specs.refinement.Views.{read_text};
+ghost use Rattle.btx_bst.specs.laws.Recorded.{Records, item_recorded, known_recorded, recorded_after, style_recorded};
 
 use crate::command::Command;
 use crate::complaint::Complaint;
 use crate::cursor::Cursor;
 use crate::draft::Draft;
 use crate::message::logged;
+use crate::recorder::Recording;
+use crate::span::Stretch;
 use btx_text::Lowered;
 use std::alloc::{AllocError, Global};
 
-/// Takes all items that are left.
+/// Takes all items that are left, and records where they stand.
 #[tactic(auto, using(crate::proofs::StyleLemmas::style_steps))]
-pub fn items<'a>(
+pub fn items<'a, R: Recording>(
     alloc: Global,
     cursor: &mut Cursor<'a>,
     draft: &mut Draft<'a>,
+    recorder: &mut R,
 ) -> Result<(), AllocError>
     requires { HasRoom (draft_view draft.old) cursor.old }
-    ensures { OnOk result (draft_view draft.new ≡ style_from (style_state (draft_view draft.old) cursor.old)) }
+    ensures style { OnOk result (draft_view draft.new ≡ style_from (style_state (draft_view draft.old) cursor.old)) }
+    ensures recorded { OnOk result (Records (style_recorded (style_state (draft_view draft.old) cursor.old)) (R.recorded recorder.old) (R.recorded recorder.new)) }
 {
-    while item(alloc, cursor, draft)? {}
+    while item(alloc, cursor, draft, recorder)? {}
     Ok(())
 }
 
 // Takes an item, if there is one.
 #[tactic(auto, unfolding(crate::specs::language::StyleText::item_turn))]
-fn item<'a>(
+fn item<'a, R: Recording>(
     alloc: Global,
     cursor: &mut Cursor<'a>,
     draft: &mut Draft<'a>,
+    recorder: &mut R,
 ) -> Result<bool, AllocError>
     requires { HasRoom (draft_view draft.old) cursor.old }
-    ensures { IfOk result (λ more. item_turn_view more (draft_view draft.new) cursor.new ≡ item_turn (style_state (draft_view draft.old) cursor.old)) }
+    ensures turn { IfOk result (λ more. item_turn_view more (draft_view draft.new) cursor.new ≡ item_turn (style_state (draft_view draft.old) cursor.old)) }
+    ensures recorded { OnOk result (Records (item_recorded (style_state (draft_view draft.old) cursor.old)) (R.recorded recorder.old) (R.recorded recorder.new)) }
 {
     cursor.go_to_ink();
     if cursor.line().is_empty() {
         return Ok(false);
     }
-    if let Some(complaint) = command(alloc, cursor, draft)? {
-        draft.items.push(logged(complaint, cursor.number()))?;
-        cursor.skip();
+    let from = cursor.spot();
+    let word = cursor.letters();
+    let to = cursor.spot();
+    match command(alloc, cursor, draft, word, recorder)? {
+        None => recorder.item(Stretch { from, to })?,
+        Some(complaint) => {
+            let fault = cursor.spot();
+            draft.items.push(logged(complaint, cursor.number()))?;
+            recorder.item(Stretch {
+                from: fault,
+                to: fault,
+            })?;
+            cursor.skip();
+        }
     }
     Ok(true)
 }
 
-// Takes a command.
-fn command<'a>(
+// Takes the rest of a command, whose word was read, or was not.
+fn command<'a, R: Recording>(
     alloc: Global,
     cursor: &mut Cursor<'a>,
     draft: &mut Draft<'a>,
+    word: Result<&'a [u8], Complaint<'a>>,
+    recorder: &mut R,
 ) -> Result<Option<Complaint<'a>>, AllocError>
     requires { HasRoom (draft_view draft.old) cursor.old }
-    ensures { IfOk result (λ complaint. outcome_view complaint (draft_view draft.new) cursor.new ≡ command_outcome (draft_view draft.old) cursor.old) }
+    ensures outcome { IfOk result (λ complaint. outcome_view complaint (draft_view draft.new) cursor.new
+        ≡ after_read (draft_view draft.old) (read_text word.entry cursor.old) (λ word place. word_outcome (draft_view draft.old) place word (command_named (folded word)))) }
+    ensures recorded { OnOk result (Records (recorded_after (read_text word.entry cursor.old)
+        (λ word place. known_recorded (draft_view draft.old) place (command_named (folded word)))) (R.recorded recorder.old) (R.recorded recorder.new)) }
 {
-    let word = match cursor.letters() {
+    let word = match word {
         Ok(word) => word,
         Err(complaint) => return Ok(Some(complaint)),
     };
     let lowered = Lowered::of(alloc, word)?;
     match command_named(lowered.as_bytes()) {
         None => Ok(Some(Complaint::NotCommand(word))),
-        Some(command) => draft.command(alloc, cursor, command),
+        Some(command) => draft.command(alloc, cursor, command, recorder),
     }
 }
 

@@ -1,14 +1,16 @@
 //! A style that has been read.
-ghost use Rattle.std.specs.Prelude.{◌≡◌, ◌<◌, ◌≤◌, length, slice_index_or, [], IfOk, OnOk};
+ghost use Rattle.std.specs.Prelude.{◌≡◌, ◌<◌, ◌≤◌, length, slice_index_or, [], IfOk, OnOk, Some};
 ghost use Rattle.btx_bst.specs.language.Predefined.{predefined};
 ghost use Rattle.btx_bst.specs.language.StyleText.{style_of};
-ghost use Rattle.btx_bst.specs.refinement.StyleReads.{Reads};
+ghost use Rattle.btx_bst.specs.refinement.StyleReads.{Reads, style_in};
 ghost use Rattle.btx_bst.specs.laws.References.{RefersWithin};
 ghost use Rattle.btx_bst.specs.language.Names.{named_lower, name_of};
 ghost use Rattle.btx_bst.specs.language.Style.{field_of, type_of};
 ghost use Rattle.btx_bst.specs.refinement.Views.{items_view};
 ghost use Rattle.btx_text.specs.language.Limits.{greatest_file};
 ghost use Rattle.btx_bst.specs.laws.Names.{no_names};
+ghost use Rattle.btx_bst.specs.laws.Recorded.{nothing_recorded, recorded_of};
+ghost use Rattle.btx_bst.specs.laws.StylePlaces.{places_of};
 
 use crate::callee::{Callee, Kind};
 use crate::cursor::Cursor;
@@ -17,6 +19,8 @@ use crate::item::Item;
 use crate::macros::Macros;
 use crate::names::Names;
 use crate::reader::items;
+use crate::recorder::{NoRecord, Recorder, Recording};
+use crate::style_places::{StylePlaces, line_ends};
 use crate::token::Token;
 use btx_text::limits::GREATEST_FILE;
 use btx_text::{Fault, Lowered};
@@ -53,22 +57,68 @@ pub fn read_style<'a>(
     if text.len() > GREATEST_FILE {
         return Err(Fault::FileLimit);
     }
-    Ok(read_text(alloc, file_name, text)?)
+    Ok(read_text(alloc, file_name, text, &mut NoRecord)?)
 }
 
-// Reads a style.
-#[tactic(auto, unfolding(crate::specs::language::StyleText::style_of))]
-fn read_text<'a>(
+/// A style that has been read, and where its tokens and items stand in its text.
+#[derive(Drop)]
+pub struct PlacedStyle<'a> {
+    /// The style.
+    pub style: Style<'a>,
+    /// Where its tokens and items stand.
+    pub places: StylePlaces,
+}
+
+/// Reads a style as `read_style` does, and notes where its tokens and items stand.
+pub fn read_placed_style<'a>(
     alloc: Global,
     file_name: &'a [u8],
     text: &'a [u8],
+) -> Result<PlacedStyle<'a>, Fault>
+    ensures style { Reads (style_in result) file_name.now text.now }
+    ensures places { IfOk result (λ placed. placed.places ≡ places_of file_name.now text.now) }
+{
+    if text.len() > GREATEST_FILE {
+        return Err(Fault::FileLimit);
+    }
+    Ok(read_with_places(alloc, file_name, text)?)
+}
+
+// Reads a style and its places.
+#[tactic(auto, unfolding(crate::specs::laws::StylePlaces::places_of))]
+fn read_with_places<'a>(
+    alloc: Global,
+    file_name: &'a [u8],
+    text: &'a [u8],
+) -> Result<PlacedStyle<'a>, AllocError>
+    requires { length text.now ≤ greatest_file }
+    ensures style { IfOk result (λ placed. placed.style ≡ style_of file_name.now text.now) }
+    ensures places { IfOk result (λ placed. placed.places ≡ places_of file_name.now text.now) }
+{
+    let ends = line_ends(alloc, text)?;
+    let mut recorder = Recorder::new(alloc);
+    let style = read_text(alloc, file_name, text, &mut recorder)?;
+    Ok(PlacedStyle {
+        style,
+        places: StylePlaces::of(recorder, ends),
+    })
+}
+
+// Reads a style, and records where its tokens and items stand, if anything is recorded.
+#[tactic(auto, unfolding(crate::specs::language::StyleText::style_of, crate::specs::laws::Recorded::recorded_of))]
+fn read_text<'a, R: Recording>(
+    alloc: Global,
+    file_name: &'a [u8],
+    text: &'a [u8],
+    recorder: &mut R,
 ) -> Result<Style<'a>, AllocError>
     requires { length text.now ≤ greatest_file }
-    ensures { IfOk result (λ style. style ≡ style_of file_name.now text.now) }
+    ensures style { IfOk result (λ style. style ≡ style_of file_name.now text.now) }
+    ensures recorded { OnOk result (R.recorded recorder.old ≡ Some nothing_recorded → R.recorded recorder.new ≡ Some (recorded_of file_name.now text.now)) }
 {
     let mut draft = Draft::new(alloc, file_name, predefined(alloc)?);
     let mut cursor = Cursor::of(text);
-    items(alloc, &mut cursor, &mut draft)?;
+    items(alloc, &mut cursor, &mut draft, recorder)?;
     Ok(Style { draft })
 }
 

@@ -4,4 +4,5 @@ mod calls;
 mod hostile;
 mod long_style;
 mod messages;
+mod places;
 mod showing;

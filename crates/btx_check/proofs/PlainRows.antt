@@ -100,8 +100,8 @@ pub change_case : PlainRule built_in.ChangeCase a_text
 unfolding built_in_run
 change_case = ruled_by built_in.ChangeCase a_text (λ job s. refl)
     (λ job left a below to l en go letter text. text_onward job left a below to l
-    (noted (only_if (case_complaints letter).illegal_conversion (note.NoConversion letter))) (change_case_of text letter)
-    (one_calm (case_complaints letter).illegal_conversion (note.NoConversion letter) refl) go)
+    (noted (only_if (case_complaints letter).x9 (note.NoConversion letter))) (change_case_of text letter)
+    (one_calm (case_complaints letter).x9 (note.NoConversion letter) refl) go)
 
 names_calm : (b c d e : Bool) (n : ℤ) (names format : List ℕ)
     → Calm (noted (only_if b (note.NoSuchName n names) ++ only_if c (note.FinalComma n names) ++ only_if d (note.TooManyCommas n names)
@@ -128,7 +128,7 @@ unfolding built_in_run
 format_name = ruled_by built_in.FormatName a_text (λ job s. refl)
     (λ job left a below to l en go format number names. let c = format_name_complaints names number format in
     text_onward job left a below to l _ (format_name_text job.mode names number format)
-    (names_calm c.no_such_name c.comma_at_end c.too_many_commas c.illegal_format number names format) go)
+    (names_calm c.x10 c.x11 c.x12 c.x13 number names format) go)
 
 pub int_to_str : PlainRule built_in.IntToStr a_text
 unfolding built_in_run

@@ -1,5 +1,5 @@
 -- How the program ends: which end each answer has, and which exit status each end has. No other definition of the program gives a status.
-use Rattle.std.specs.Prelude.{◌≡◌, ◌⊎◌, ℕ, ⊤, Result, Ok, Err}
+use Rattle.std.specs.Prelude.{◌≡◌, ◌⊎◌, ℕ, ⊤, List, [], Result, Ok, Err, string_bytes}
 use Rattle.clap.specs.declared.error.kind.ErrorKind.{ErrorKind}
 use Rattle.clap.specs.declared.error.kind.ErrorKind.TheVariants.{DisplayHelp, DisplayVersion, OutOfMemory}
 use Rattle.btx_machine.specs.declared.report.Report.{Report}
@@ -37,6 +37,12 @@ abbrev pub refusal_exit : Refusal → Exit
 refusal_exit (refusal.Shown _) = Shown
 refusal_exit (refusal.Mistake _) = Refused
 refusal_exit refusal.Memory = refused_memory
+
+-- the text of a refusal: what was asked for, or why the words are refused; none where memory was refused
+abbrev pub refusal_text : Refusal → List ℕ
+refusal_text (refusal.Shown text) = string_bytes text
+refusal_text (refusal.Mistake text) = string_bytes text
+refusal_text refusal.Memory = []
 
 -- that of a fault of the words: help and the version are shown, all mistakes are refused, and memory may be refused
 abbrev pub fault_exit : ErrorKind → Exit

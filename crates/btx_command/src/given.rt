@@ -1,6 +1,6 @@
 //! What a command line says.
 ghost use Rattle.std.specs.Prelude.{◌≡◌};
-ghost use Rattle.btx_command.specs.Status.{refusal_exit};
+ghost use Rattle.btx_command.specs.Status.{refusal_exit, refusal_text, status_at};
 
 use crate::outcome::Exit;
 use btx_run::{Options, RunFault};
@@ -40,6 +40,23 @@ impl Refusal {
             Refusal::Shown(_) => Exit::Shown,
             Refusal::Mistake(_) => Exit::Refused,
             Refusal::Memory => Exit::Failed(RunFault::Memory),
+        }
+    }
+
+    /// Answers the exit status: 0 for a text that was asked for, 1 for a mistake, 5 for want of memory.
+    pub fn status(&self) -> u8
+        ensures { result ≡ status_at (refusal_exit self.now) }
+    {
+        self.exit().status()
+    }
+
+    /// Answers the text: what is printed on standard output where it was asked for, and on standard error for a mistake. It is empty for want of memory.
+    pub fn text(&self) -> &str
+        ensures { result.now ≡ refusal_text self.now }
+    {
+        match self {
+            Refusal::Shown(text) | Refusal::Mistake(text) => text.as_str(),
+            Refusal::Memory => "",
         }
     }
 }

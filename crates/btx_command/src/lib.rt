@@ -23,7 +23,7 @@ pub use given::{Refusal, Settings};
 pub use job::{printed_log, run_job};
 pub use list_file::{EmptiedFile, SystemFile};
 pub use options::{ABOUT, STATUSES};
-pub use outcome::Exit;
+pub use outcome::{Exit, exit_status};
 pub use outputs::{Outputs, SystemOutputs};
 pub use paths::path_of;
 pub use program::run_command_line;

@@ -49,6 +49,13 @@ impl Exit {
     }
 }
 
+/// Answers the exit status for what a run answered: the report's, 5 for want of memory, 6 for a device.
+pub fn exit_status(answer: &Result<Report, RunFault>) -> u8
+    ensures { result ≡ status_at (exit_of answer.now) }
+{
+    Exit::of(*answer).status()
+}
+
 /// Answers the fault that an output's error is for the program.
 pub(crate) fn output_fault(error: &io::Error) -> RunFault
     ensures { result ≡ output_fault (error_kind error.now) }

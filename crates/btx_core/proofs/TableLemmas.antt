@@ -534,7 +534,7 @@ module _ (job : NumberedJob) (style : Style) (library : Library) (naming : Namin
         (push_text_in (error (no_conversion letter) (in_names frame s)) text (in_names frame s))
         ≡ answered frame (answers.pushes_text
         (answers.noted (only_if (option_map_or (λ (to : Conversion). no_complaints) c
-        (record no_complaints { illegal_conversion = true })).illegal_conversion (note.NoConversion letter)))
+        (record no_complaints { x9 = true })).x9 (note.NoConversion letter)))
         (option_map_or (λ (to : Conversion). cased_parts to [] (elements_of Bytes text)) c text) s)
     by None = ap (λ t. push_text_in t text (in_names frame s)) (error_same frame s (note.NoConversion letter) (no_conversion letter) (no_conversion_is letter))
         ∙ text_same (said.Noted (note.NoConversion letter ∷ [])) text frame s
@@ -682,11 +682,11 @@ module _ (job : NumberedJob) (style : Style) (library : Library) (naming : Namin
   -- the notes of complaints
   abbrev notes_for : List ℕ → ℤ → List ℕ → Complaints → List Note
   notes_for format number string c =
-      only_if c.no_such_name (note.NoSuchName number string) ++ only_if c.comma_at_end (note.FinalComma number string)
-      ++ only_if c.too_many_commas (note.TooManyCommas number string) ++ only_if c.illegal_format (note.IllegalFormat format)
+      only_if c.x10 (note.NoSuchName number string) ++ only_if c.x11 (note.FinalComma number string)
+      ++ only_if c.x12 (note.TooManyCommas number string) ++ only_if c.x13 (note.IllegalFormat format)
 
   by_found : (format : List ℕ) (number : ℤ) (string : List ℕ) (items : List FormatItem) (c m b : Bool)
-      → AreErrors (notes_for format number string (record no_complaints { comma_at_end = c; too_many_commas = m; illegal_format = not b }))
+      → AreErrors (notes_for format number string (record no_complaints { x11 = c; x12 = m; x13 = not b }))
       (only_if c (final_comma number string) ++ only_if m (too_many_commas number string) ++ only_if (is_none (if b then Some items else None))
       (illegal_format format))
   by_found format number string items true true true = (final_is number string, (many_is number string, refl))
@@ -715,7 +715,7 @@ module _ (job : NumberedJob) (style : Style) (library : Library) (naming : Namin
 
   name_notes : (format : List ℕ) (number : ℤ) (string : List ℕ) (n : Option (List ℕ))
       → AreErrors (notes_for format number string
-      (option_map_or (λ (name : List ℕ). one_name_complaints name format) n (record no_complaints { no_such_name = true })))
+      (option_map_or (λ (name : List ℕ). one_name_complaints name format) n (record no_complaints { x10 = true })))
       (option_map_or (texts_for format number string) n (no_such_name number string ∷ []))
   name_notes format number string None = (no_name_is number string, refl)
   name_notes format number string (Some name) = found_name format number string name

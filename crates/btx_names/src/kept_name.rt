@@ -197,11 +197,11 @@ impl KeptName {
         ensures { result ≡ complaints_with (spec.ends_in_comma (kept_bytes self.now)) (spec.has_third_comma (spec.sections_of (kept_bytes self.now))) is_legal }
     {
         Complaints {
-            illegal_conversion: false,
-            no_such_name: false,
-            comma_at_end: self.ends_in_comma,
-            too_many_commas: self.has_third_comma,
-            illegal_format: !is_legal,
+            x9: false,
+            x10: false,
+            x11: self.ends_in_comma,
+            x12: self.has_third_comma,
+            x13: !is_legal,
         }
     }
 }

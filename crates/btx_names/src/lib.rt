@@ -27,5 +27,5 @@ mod token_list;
 mod von_tokens;
 mod writer;
 
-pub use name_formatter::NameFormatter;
+pub use name_formatter::{NameFormatter, format_name};
 pub use name_list::num_names;

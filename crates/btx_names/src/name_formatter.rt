@@ -41,8 +41,8 @@ impl NameFormatter {
         }
     }
 
-    /// A name of a string in a format, with what was wrong: `no_such_name` where there is no name of the number, which counts from 1, and else
-    /// `comma_at_end`, `too_many_commas` and `illegal_format`, each as it holds. With `no_such_name` or `illegal_format` the text is empty.
+    /// A name of a string in a format, with what was wrong: `x10` where there is no name of the number, which counts from 1, and else
+    /// `x11` (a comma at the name's end), `x12` (a third comma) and `x13` (an illegal format), each as it holds. With `x10` or `x13` the text is empty.
     /// [`Fault::StringLimit`] where the text would be longer than a string may be, [`Fault::Memory`] where memory is refused.
     pub fn format(
         &mut self,
@@ -65,7 +65,7 @@ impl NameFormatter {
             None => Answer::new(
                 Vec::new(self.alloc),
                 Complaints {
-                    no_such_name: true,
+                    x10: true,
                     ..Complaints::NONE
                 },
             ),
@@ -106,6 +106,24 @@ impl NameFormatter {
     {
         self.writer.text()
     }
+}
+
+/// Formats the name with the number `number`, counted from 1, of the string `names`, as `format` says. It keeps nothing for a later call: who formats
+/// many names has a [`NameFormatter`].
+///
+/// The complaints are `x10` where there is no name of the number, and else `x11` (a comma at the name's end), `x12` (a third comma) and `x13` (an illegal
+/// format), each as it holds. With `x10` or `x13` the text is empty.
+/// Errors: [`Fault::Memory`]; [`Fault::StringLimit`] where the text would be over 1,000,000 bytes.
+pub fn format_name(
+    alloc: Global,
+    names: &[u8],
+    number: i32,
+    format: &[u8],
+    mode: TextMode,
+) -> Result<Answer, Fault>
+    ensures { Answers result (spec.format_name_text mode names.now number format.now) (spec.format_name_complaints names.now number format.now) }
+{
+    NameFormatter::new(alloc).format(names, number, format, mode)
 }
 
 // How many names stand before the one of a number.

@@ -21,6 +21,11 @@ pub const STYLE: &[u8] =
 pub const FOUND: &[u8] =
     b"The top-level auxiliary file: job.aux\nThe style file: s.bst\nDatabase file #1: d.bib\n";
 
+/// The first of these lines, and the others.
+pub const TOP: &[u8] = b"The top-level auxiliary file: job.aux\n";
+
+pub const FILES: &[u8] = b"The style file: s.bst\nDatabase file #1: d.bib\n";
+
 /// What a run wrote, and what it answered. A test that holds a finder and the outputs themselves takes long to prove, since each `?` is
 /// a way out on which all of them is dropped.
 #[derive(Drop)]
@@ -55,6 +60,24 @@ pub fn job_of<'a>(aux: &'a [u8], style: &'a [u8], database: &'a [u8]) -> [File<'
     [(b"job.aux", aux), (b"s.bst", style), (b"d.bib", database)]
 }
 
+/// Runs the job `name` over `files`, with these options.
+pub fn run_with(
+    alloc: Global,
+    files: &[File<'_>],
+    name: &[u8],
+    options: &Options,
+) -> Result<Outputs, Fault> {
+    let mut finder = MemoryFinder::new(alloc, files)?;
+    let mut bbl = Over::new(Vec::new(alloc));
+    let mut log = Over::new(Vec::new(alloc));
+    let answer = run(alloc, &mut finder, name, options, &mut bbl, &mut log);
+    Ok(Outputs {
+        bbl: bbl.writer,
+        log: log.writer,
+        answer,
+    })
+}
+
 /// Runs the job `name` over `files`, with at most `budget` steps.
 pub fn run_named(
     alloc: Global,
@@ -62,22 +85,7 @@ pub fn run_named(
     name: &[u8],
     budget: u64,
 ) -> Result<Outputs, Fault> {
-    let mut finder = MemoryFinder::new(alloc, files)?;
-    let mut bbl = Over::new(Vec::new(alloc));
-    let mut log = Over::new(Vec::new(alloc));
-    let answer = run(
-        alloc,
-        &mut finder,
-        name,
-        &options(budget),
-        &mut bbl,
-        &mut log,
-    );
-    Ok(Outputs {
-        bbl: bbl.writer,
-        log: log.writer,
-        answer,
-    })
+    run_with(alloc, files, name, &options(budget))
 }
 
 /// The status of a run of the job `name` over `files`, and 255 after a fault.
@@ -111,8 +119,6 @@ pub fn run_over(alloc: Global, files: &[File<'_>], budget: u64) -> Result<Output
 pub enum Ending {
     /// It finished without a warning: the errors, the steps, and the most bodies open at once.
     Finished(u64, u64, usize),
-    /// It finished with one warning: the errors. It took no steps.
-    Warned(u64),
     /// It was stopped: the steps done, and the most bodies open at once.
     Stopped(u64, usize),
     /// It went past a limit: the steps done, and the most bodies open at once.
@@ -127,7 +133,6 @@ impl Ending {
         let (status, end, errors, steps, deepest) = match self {
             Ending::Finished(0, steps, deepest) => (0, End::Finished, 0, steps, deepest),
             Ending::Finished(errors, steps, deepest) => (2, End::Finished, errors, steps, deepest),
-            Ending::Warned(errors) => (2, End::Finished, errors, 0, 0),
             Ending::Stopped(steps, deepest) => (4, End::Stopped, 0, steps, deepest),
             Ending::Past(limit, steps, deepest) => (3, End::Limit(limit), 0, steps, deepest),
             Ending::NoTopFile => (3, End::NoTopFile, 0, 0, 0),
@@ -137,42 +142,39 @@ impl Ending {
             end,
             steps,
             deepest,
-            warnings: if matches!(self, Ending::Warned(_)) {
-                1
-            } else {
-                0
-            },
+            warnings: 0,
             errors,
         }
     }
+}
 
-    // How the log's last line names it.
-    fn name(self) -> &'static str {
-        match self {
-            Ending::Finished(_, _, _) | Ending::Warned(_) => "finished",
-            Ending::Stopped(_, _) => "stopped",
-            Ending::Past(limit, _, _) => limit_name(limit),
-            Ending::NoTopFile => "no top file",
-        }
-    }
-
-    // The log's last line.
-    fn last_line(self, alloc: Global) -> Result<String, AllocError> {
-        let (name, report) = (self.name(), self.report());
-        let (warnings, errors, steps) = (report.warnings, report.errors, report.steps);
-        format!(in alloc; "Ended: {name}, warnings {warnings}, errors {errors}, steps {steps}\n")
+// The words for a limit in the log.
+fn limit_words(limit: Limit) -> &'static str {
+    match limit {
+        Limit::Literals => "limit literals",
+        Limit::Calls => "limit calls",
+        Limit::Loops => "limit loops",
+        Limit::String => "limit string",
+        Limit::File => "limit file",
+        Limit::Files => "limit files",
     }
 }
 
-// The name of a limit in the log.
-fn limit_name(limit: Limit) -> &'static str {
-    match limit {
-        Limit::String => "limit string",
-        Limit::Calls => "limit calls",
-        Limit::Literals => "limit literals",
-        Limit::Files => "limit files",
-        _ => "another limit",
+// The words for an end in the log.
+fn words_of(end: End) -> &'static str {
+    match end {
+        End::Finished => "finished",
+        End::Stopped => "stopped",
+        End::Limit(limit) => limit_words(limit),
+        End::NoTopFile => "no top file",
     }
+}
+
+// The log's last line.
+fn last_line(alloc: Global, report: &Report) -> Result<String, AllocError> {
+    let words = words_of(report.end);
+    let (warnings, errors, steps) = (report.warnings, report.errors, report.steps);
+    format!(in alloc; "Ended: {words}, warnings {warnings}, errors {errors}, steps {steps}\n")
 }
 
 // What of a text is behind these pieces; None if it doesn't begin so.
@@ -184,17 +186,17 @@ fn behind<'a>(text: &'a [u8], pieces: &[&[u8]]) -> Option<&'a [u8]> {
     Some(rest)
 }
 
-// Whether a run wrote and answered so.
-fn is_ended(
+/// Whether a run wrote and answered so; the log is given in pieces, without the last line, which the report gives.
+pub fn is_ended(
     alloc: Global,
     ran: &Outputs,
     bbl: &[u8],
     log: &[&[u8]],
-    ending: Ending,
+    report: Report,
 ) -> Result<bool, AllocError> {
-    let last = ending.last_line(alloc)?;
+    let last = last_line(alloc, &report)?;
     Ok(
-        ran.answer == Ok(ending.report())
+        ran.answer == Ok(report)
             && ran.bbl.as_slice() == bbl
             && behind(ran.log.as_slice(), log) == Some(last.as_bytes()),
     )
@@ -209,30 +211,6 @@ pub fn ends_as(
     ending: Ending,
 ) -> Result<(), Fail> {
     let ran = ran?;
-    assert!(rt; is_ended(rt.alloc(), &ran, bbl, log, ending)?);
-    Ok(())
-}
-
-/// A job, and what comes of it: the list, the log in pieces without its last line, and how the run ends.
-pub struct Row {
-    pub aux: &'static [u8],
-    pub database: &'static [u8],
-    pub style: &'static [u8],
-    pub budget: u64,
-    pub bbl: &'static [u8],
-    pub log: &'static [&'static [u8]],
-    pub ending: Ending,
-}
-
-// Runs the job of a row.
-fn run_row(alloc: Global, row: &Row) -> Result<Outputs, Fault> {
-    run_over(alloc, &job_of(row.aux, row.style, row.database), row.budget)
-}
-
-/// Asserts what comes of each job.
-pub fn all_end(rt: &(impl Abort + AllocGlobal), rows: &[Row]) -> Result<(), Fail> {
-    for row in rows {
-        ends_as(rt, run_row(rt.alloc(), row), row.bbl, row.log, row.ending)?;
-    }
+    assert!(rt; is_ended(rt.alloc(), &ran, bbl, log, ending.report())?);
     Ok(())
 }

@@ -6,6 +6,12 @@ mod failing_runs;
 #[cfg(test)]
 mod jobs;
 #[cfg(test)]
+mod long_jobs;
+#[cfg(test)]
 mod rows;
 #[cfg(test)]
 mod runs;
+#[cfg(test)]
+mod spoilt;
+#[cfg(test)]
+mod worked;

@@ -1,6 +1,6 @@
 //! Whole runs: what they write to both outputs, and what they answer.
 use crate::jobs::{
-    AUX, DATABASE, Ending, FOUND, File, Outputs, Row, STYLE, all_end, ends_as, greatest_options,
+    AUX, DATABASE, Ending, FILES, FOUND, File, Outputs, STYLE, TOP, ends_as, greatest_options,
     job_of, run_named, run_over, status_of, status_with,
 };
 use btx_run::{Limit, RunFault, budget_law};
@@ -28,28 +28,14 @@ type Body = (&'static [u8], u64, &'static [u8], Ending);
 
 const ONE: &[u8] = b"\"a\" write$ newline$";
 
-const THREE: &[u8] = b"\"abc\" write$ newline$";
-
-// A line that is written in two pieces, and its lines.
-const IN_PIECES: &[u8] =
-    b"\"aaaaaaaaaaaaaaaaaaaaaaaaaaaaaaaaaaaaaaaaaaaaaaaaaaaaaaaaaaaaaaaaaaaaaaaaaaaaaaaa \" write$ \" b\" write$ newline$";
-
-const BROKEN: &[u8] =
-    b"aaaaaaaaaaaaaaaaaaaaaaaaaaaaaaaaaaaaaaaaaaaaaaaaaaaaaaaaaaaaaaaaaaaaaaaaaaaaaaaa\n  b\n";
-
 // Short bodies, with budgets that cover them and that don't.
-const BODIES: [Body; 16] = [
+const BODIES: [Body; 10] = [
     (ONE, 0, b"", Ending::Stopped(0, 0)),
     (ONE, 1, b"", Ending::Stopped(1, 1)),
     (ONE, 2, b"", Ending::Stopped(2, 1)),
     (ONE, 3, b"", Ending::Stopped(3, 1)),
-    (ONE, 4, b"a\n", Ending::Finished(0, 4, 1)),
     (ONE, 5, b"a\n", Ending::Finished(0, 4, 1)),
-    (THREE, 3, b"", Ending::Stopped(3, 1)),
-    (THREE, 4, b"abc\n", Ending::Finished(0, 4, 1)),
     (b"", 1, b"", Ending::Finished(0, 1, 1)),
-    (b"newline$", 9, b"\n", Ending::Finished(0, 2, 1)),
-    (b"\" \" write$ newline$", 9, b"", Ending::Finished(0, 4, 1)),
     // What is pending at the end is a line, unless it is whitespace alone.
     (
         b"\"a\" write$ \"b \" write$",
@@ -70,8 +56,6 @@ const BODIES: [Body; 16] = [
         b"\n\n",
         Ending::Stopped(4, 1),
     ),
-    // A line is broken in the same way where it is written in two pieces.
-    (IN_PIECES, 6, BROKEN, Ending::Finished(0, 6, 1)),
     // Where function literals stand before `if$` alone, no more bodies are open at once than the style has functions: here two of three.
     (
         b"#1 { newline$ } 'skip$ if$",
@@ -231,36 +215,6 @@ fn bounds_strings(rt: HostRuntime) -> Result<(), Fail> {
     all_written(&rt, &BEFORE_TOO_LONG)
 }
 
-const SHARED: &[u8] =
-    b"ENTRY {title}{count}{label} FUNCTION {misc} {\"x\" write$} READ FUNCTION {g} {\"y\" write$ newline$} EXECUTE {g} EXECUTE {misc} EXECUTE {g}";
-
-// Functions that are executed one after another share the pending line and the budget.
-const IN_ORDER: [Row; 2] = [
-    Row {
-        aux: AUX,
-        database: DATABASE,
-        style: SHARED,
-        budget: 11,
-        bbl: b"y\nxy\n",
-        log: &[FOUND],
-        ending: Ending::Finished(0, 11, 1),
-    },
-    Row {
-        aux: AUX,
-        database: DATABASE,
-        style: SHARED,
-        budget: 10,
-        bbl: b"y\n",
-        log: &[FOUND],
-        ending: Ending::Stopped(10, 1),
-    },
-];
-
-#[test]
-fn executes_in_order(rt: HostRuntime) -> Result<(), Fail> {
-    all_end(&rt, &IN_ORDER)
-}
-
 // Asserts what comes of a job's files.
 fn files_end(
     rt: &(impl Abort + AllocGlobal),
@@ -307,10 +261,6 @@ fn have_statuses(rt: &(impl Abort + AllocGlobal), names: &[(&[u8], u8)]) -> Resu
 fn takes_the_ending_of_a_job(rt: HostRuntime) -> Result<(), Fail> {
     have_statuses(&rt, &NAMES)
 }
-
-const TOP: &[u8] = b"The top-level auxiliary file: job.aux\n";
-
-const FILES: &[u8] = b"The style file: s.bst\nDatabase file #1: d.bib\n";
 
 // A top file, what the log has of what is wrong in it, and how many errors that is.
 type Wrong = (&'static [u8], &'static [u8], u64);

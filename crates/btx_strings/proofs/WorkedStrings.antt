@@ -1,5 +1,5 @@
 -- Worked strings, by computation.
-use Rattle.std.proofs.Common.{◌≡◌, ℕ, ◌+◌, ℤ, pos, negsuc, List, [], ◌∷◌, map, refl}
+use Rattle.std.proofs.Common.{◌≡◌, ℕ, ◌+◌, ℤ, pos, negsuc, List, [], ◌∷◌, map, None, refl}
 use Rattle.std.specs.Prelude.{codes}
 use Rattle.btx_text.specs.declared.element_kind.TextMode.{TextMode}
 use Rattle.btx_text.specs.declared.element_kind.TextMode.TheVariants.{Bytes, Utf8}
@@ -11,7 +11,7 @@ use Rattle.btx_strings.specs.language.Controls.{control_name, glyphs_from, glyph
 use Rattle.btx_strings.specs.language.Lengths.{take_characters, text_prefix_of, text_length_of}
 use Rattle.btx_strings.specs.language.Positions.{add_period_of, substring_of}
 use Rattle.btx_strings.specs.language.Purify.{purify_of}
-use Rattle.btx_strings.specs.language.Case.{cased_parts, cased_control, change_case_of, case_complaints}
+use Rattle.btx_strings.specs.language.Case.{cased_parts, cased_control, change_case_of, case_complaints, conversion_of}
 use Rattle.btx_strings.specs.language.Width.{control_width, width_of}
 use Rattle.btx_strings.specs.refinement.Answers.{wrong_conversion}
 
@@ -40,6 +40,10 @@ period_after_braces = refl
 
 pub period_after_parenthesis : add_period_of (codes "a)") ≡ codes "a)."
 period_after_parenthesis = refl
+
+-- only closing braces are passed over on the way to the last mark
+pub period_after_bracket : add_period_of (codes "a.]") ≡ codes "a.]."
+period_after_bracket = refl
 
 -- ---- characters of text
 
@@ -98,6 +102,8 @@ abbrev purified_strings : List (Worked (List ℕ) (List ℕ))
 purified_strings =
     purified (codes "{\\\"o}sterreich--{\\oe}uvre~1") (codes "osterreich  oeuvre 1")
     ∷ purified (codes "{\\'e}-{\\relax x}") (codes "e x")
+    -- in a special character a hyphen and a tie go
+    ∷ purified (codes "{\\'e-~o}") (codes "eo")
     -- a foreign control sequence becomes its two letters, if it is one of `oe OE ae AE ss`, and else its first
     ∷ purified (codes "{\\i\\j\\o\\oe\\ae\\aa\\l\\ss\\O\\OE\\AE\\AA\\L}") (codes "ijooeaealssOOEAEAL")
     ∷ []
@@ -107,6 +113,10 @@ unfolding elements_of elements_from kind_at group_len class_of control_name glyp
 purified-worked = refl
 
 -- ---- case
+
+-- a conversion is named by one letter, and by no longer word
+pub conversion_of_two_letters : conversion_of (codes "tt") ≡ None
+conversion_of_two_letters = refl
 
 -- a string, a conversion, and the string in that case
 abbrev cased : List ℕ → List ℕ → List ℕ → Worked (List ℕ × List ℕ) (List ℕ)

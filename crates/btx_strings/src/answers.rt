@@ -6,29 +6,30 @@ use crate::limit::within_limit;
 use btx_text::Fault;
 use std::alloc::Global;
 
-/// What was wrong with the operands of a string function or a name function.
+/// What was wrong with the operands of a string function or a name function: a flag for each of its five errors, in the order of the messages in
+/// `docs/RULES.md`. More than one can be set.
 #[derive(Clone, Copy, Debug, PartialEq, Eq)]
 pub struct Complaints {
-    /// The conversion of a case change was not one of the letters `t`, `l` and `u`.
-    pub illegal_conversion: bool,
-    /// There is no name of the number asked for.
-    pub no_such_name: bool,
-    /// The name had a comma at its end.
-    pub comma_at_end: bool,
-    /// The name had more than two commas.
-    pub too_many_commas: bool,
-    /// The format string was illegal.
-    pub illegal_format: bool,
+    /// `"TEXT" is an illegal case-conversion string`: the conversion of `change.case$` is not one of the letters `t`, `l` and `u`.
+    pub x9: bool,
+    /// `There is no name number N in "NAMES"`: the number that `format.name$` is given is below 1 or above the number of names.
+    pub x10: bool,
+    /// `Name N in "NAMES" has a comma at the end`: a comma of the name has no token after it.
+    pub x11: bool,
+    /// `Too many commas in name N of "NAMES"`: the name has more than two commas.
+    pub x12: bool,
+    /// `The format string "FORMAT" is illegal`: its braces are unbalanced, or a piece has another letter than one of `f v l j`, once or twice.
+    pub x13: bool,
 }
 
 impl Complaints {
     /// Nothing was wrong.
     pub const NONE: Complaints = Complaints {
-        illegal_conversion: false,
-        no_such_name: false,
-        comma_at_end: false,
-        too_many_commas: false,
-        illegal_format: false,
+        x9: false,
+        x10: false,
+        x11: false,
+        x12: false,
+        x13: false,
     };
 }
 

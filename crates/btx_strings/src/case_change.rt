@@ -30,7 +30,7 @@ enum Place {
 }
 
 /// A string in the case that a conversion names: `t` for a title, `l` for lower and `u` for upper case, each in either case. Any
-/// other conversion is the complaint `illegal_conversion`, and the string stays.
+/// other conversion sets `x9` of the complaints, and the string stays.
 ///
 /// Bytes at depth 0 and special characters change. A title keeps the first element, and each that follows a depth-0 colon and whitespace.
 /// Errors: [`Fault::Memory`]; [`Fault::StringLimit`] where the text would be over 1,000,000 bytes.
@@ -43,7 +43,7 @@ pub fn change_case(alloc: Global, string: &[u8], conversion: &[u8]) -> Result<An
             alloc,
             string,
             Complaints {
-                illegal_conversion: true,
+                x9: true,
                 ..Complaints::NONE
             },
         ),

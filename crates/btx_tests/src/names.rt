@@ -1,7 +1,7 @@
 //! Names: how many, and in the formats that styles use. A row's helper answers whether it holds, and a test asserts that no row is the first
 //! wrong one: so no test holds an answer.
-use btx_names::{NameFormatter, num_names};
-use btx_strings::{Answer, Complaints};
+use btx_names::{format_name, num_names};
+use btx_strings::Complaints;
 use btx_text::{Fault, TextMode};
 use std::alloc::{AllocError, Global};
 
@@ -18,43 +18,43 @@ const RUN_TOGETHER: &str = "{ll{}}";
 
 // Complaints of a name's number, of a comma at its end, of too many commas, of the format, and of the last three.
 const NUMBER: Complaints = Complaints {
-    illegal_conversion: false,
-    no_such_name: true,
-    comma_at_end: false,
-    too_many_commas: false,
-    illegal_format: false,
+    x9: false,
+    x10: true,
+    x11: false,
+    x12: false,
+    x13: false,
 };
 
 const COMMA: Complaints = Complaints {
-    illegal_conversion: false,
-    no_such_name: false,
-    comma_at_end: true,
-    too_many_commas: false,
-    illegal_format: false,
+    x9: false,
+    x10: false,
+    x11: true,
+    x12: false,
+    x13: false,
 };
 
 const COMMAS: Complaints = Complaints {
-    illegal_conversion: false,
-    no_such_name: false,
-    comma_at_end: false,
-    too_many_commas: true,
-    illegal_format: false,
+    x9: false,
+    x10: false,
+    x11: false,
+    x12: true,
+    x13: false,
 };
 
 const FORMAT: Complaints = Complaints {
-    illegal_conversion: false,
-    no_such_name: false,
-    comma_at_end: false,
-    too_many_commas: false,
-    illegal_format: true,
+    x9: false,
+    x10: false,
+    x11: false,
+    x12: false,
+    x13: true,
 };
 
 const ALL: Complaints = Complaints {
-    illegal_conversion: false,
-    no_such_name: false,
-    comma_at_end: true,
-    too_many_commas: true,
-    illegal_format: true,
+    x9: false,
+    x10: false,
+    x11: true,
+    x12: true,
+    x13: true,
 };
 
 // Whether a name has this text in a format, and these complaints.
@@ -68,17 +68,6 @@ fn has_text(
 ) -> bool {
     let name = (names, number);
     has_bytes(alloc, name, format, text.as_bytes(), mode, complaints)
-}
-
-// A name in a format, by a formatter that keeps nothing from before.
-fn format_name(
-    alloc: Global,
-    names: &[u8],
-    number: i32,
-    format: &[u8],
-    mode: TextMode,
-) -> Result<Answer, Fault> {
-    NameFormatter::new(alloc).format(names, number, format, mode)
 }
 
 // Whether a name has these bytes in a format, and these complaints.

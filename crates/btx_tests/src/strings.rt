@@ -130,7 +130,7 @@ const NO_CASES: [Case; 4] = [
 
 fn first_wrong_case(alloc: Global, rows: &[Case], illegal_conversion: bool) -> usize {
     let complaints = Complaints {
-        illegal_conversion,
+        x9: illegal_conversion,
         ..Complaints::NONE
     };
     for (number, (conversion, string, want)) in rows.iter().enumerate() {

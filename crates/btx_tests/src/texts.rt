@@ -42,3 +42,23 @@ pub fn spoilt(alloc: Global, text: &[u8], place: usize, byte: u8) -> Result<Vec<
     }
     Ok(bytes)
 }
+
+/// Repeats a text `count` times.
+pub fn repeated(alloc: Global, text: &[u8], count: usize) -> Result<Vec<u8>, AllocError> {
+    let mut whole = Vec::new(alloc);
+    for _ in 0..count {
+        whole.extend_from_slice(text)?;
+    }
+    Ok(whole)
+}
+
+/// Makes the text of `count` functions of a style, `f1` and so on. The first has an empty body, and each other one calls the one before.
+pub fn calling_functions(alloc: Global, count: usize) -> Result<Vec<u8>, AllocError> {
+    let mut text = Vec::from_slice(alloc, b"FUNCTION {f1} {}")?;
+    for before in 1..count {
+        let number = before.saturating_add(1);
+        let function = format!(in alloc; " FUNCTION {{f{number}}} {{f{before}}}")?;
+        text.extend_from_slice(function.as_bytes())?;
+    }
+    Ok(text)
+}

@@ -5,6 +5,7 @@ use Rattle.btx_text.specs.declared.element_kind.Kind.{Kind}
 use Rattle.btx_text.specs.declared.element_kind.Kind.TheVariants.{Byte, Open, Close, Special, Wide}
 use Rattle.btx_text.specs.declared.element_kind.TextMode.{TextMode}
 use Rattle.btx_text.specs.declared.element_kind.TextMode.TheVariants.{Bytes, Utf8}
+use Rattle.btx_text.specs.language.Keys.{folded}
 use Rattle.btx_text.specs.language.Sequences.{sequence_size, second_fits, is_sequence, begins_sequence}
 use Rattle.btx_text.specs.language.Lines.{line_pieces, trimmed, lines_of}
 use Rattle.btx_text.specs.language.Elements.{Element, kind_at, group_len, elements_from, elements_of}
@@ -28,6 +29,15 @@ places = refl
 pub nested : kinds Bytes (codes "{{\\o}}{\\o{x}y") ≡ Open ∷ Open ∷ Byte ∷ Byte ∷ Close ∷ Close ∷ Special ∷ []
 unfolding elements_of elements_from kind_at group_len
 nested = refl
+
+-- a brace and a backslash that end a string are a special character
+pub at_the_end : kinds Bytes (codes "a{\\") ≡ Byte ∷ Special ∷ []
+unfolding elements_of elements_from kind_at group_len
+at_the_end = refl
+
+-- the case of a key is that of its ASCII letters alone
+pub folded_byte : folded (0x41 ∷ 0xC9 ∷ []) ≡ 0x61 ∷ 0xC9 ∷ []
+folded_byte = refl
 
 -- a closing brace at depth 0 leaves it at 0
 pub stray : kinds Bytes (codes "}{\\o}") ≡ Close ∷ Special ∷ []

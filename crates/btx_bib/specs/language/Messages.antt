@@ -1,4 +1,4 @@
--- The messages of a database, each with its line: faults, names that stand for no string, types that the style doesn't have, and fields
+-- The messages of a database, each with its line and the byte at which it is met: faults, names that stand for no string, types that the style doesn't have, and fields
 -- that an entry has already. They have names and keys as these are spelled there. An entry that isn't stored has no warning, only its faults. The
 -- reading goes from event to event: what is known, and the messages so far.
 use Rattle.std.specs.Prelude.{ℕ, false, List, [], ◌∷◌, ◌++◌, Option, None, Some, is_some, is_none, if◌then◌else◌, suc, ◌-◌, length}
@@ -24,13 +24,17 @@ pub record Database : Type 0 where
   pub file : List ℕ
   pub text : List ℕ
 
--- the place of a message: the file, and the line of the byte with which `rest` begins
+-- the place of a message: the file, the line of the byte with which `rest` begins, and how many bytes of the text are before `rest`
 abbrev pub spot_at : Database → List ℕ → Spot
-spot_at database rest = record { file = database.file; line = lines_begun (suc (length database.text - length rest)) database.text }
+spot_at database rest =
+    let at = length database.text - length rest in
+    record { file = database.file; line = lines_begun (suc at) database.text; at = at }
 
--- the place of a message: the file, and the line of the last byte before `rest`
+-- the same place, with the line of the last byte before `rest`
 abbrev pub spot_before : Database → List ℕ → Spot
-spot_before database rest = record { file = database.file; line = lines_begun (length database.text - length rest) database.text }
+spot_before database rest =
+    let at = length database.text - length rest in
+    record { file = database.file; line = lines_begun at database.text; at = at }
 
 -- the message for a part of a value: a warning if it is a name to which no `@string` and no macro gives a text, or the very name that is being
 -- defined (`own`)

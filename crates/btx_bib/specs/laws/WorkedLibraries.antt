@@ -52,9 +52,13 @@ citing_all keys place = record { cited = keys; all = Some place; field = declare
 abbrev pub database_with : List ℕ → Database
 database_with text = record { file = codes "d.bib"; text = text }
 
--- the line of this number in the database `d.bib`
+-- the spot in the line of this number of the database `d.bib`, behind this number of its bytes
+abbrev pub spot_in : ℕ → ℕ → Spot
+spot_in number place = record { file = codes "d.bib"; line = number; at = place }
+
+-- the line of this number in the database `d.bib`, where its bytes don't matter
 abbrev pub at_line : ℕ → Spot
-at_line number = record { file = codes "d.bib"; line = number }
+at_line number = spot_in number 0
 
 -- an entry with its `crossref`, its `title` and its `booktitle`
 abbrev pub worked_entry : Option ℕ → List ℕ → Option (List ℕ) → Option (List ℕ) → Option (List ℕ) → Entry
@@ -83,23 +87,23 @@ entries =
     -- a string that names itself, a name that stands for no string, and whitespace over parts
     library_row (citing (codes "k" ∷ []) 2) (codes "@string{s = \"x\" # s}\n@misc{k, title = s # \" y \" # zz # {  z}}")
     (whole_library (worked_entry misc (codes "k") None (Some (codes "x y z")) None ∷ [])
-    (message.OwnString (codes "s") (at_line 1) ∷ message.UndefinedString (codes "zz") (at_line 2) ∷ []))
+    (message.OwnString (codes "s") (spot_in 1 19) ∷ message.UndefinedString (codes "zz") (spot_in 2 52) ∷ []))
     -- the case of a string's name doesn't count, in its own definition either
     ∷ library_row (citing (codes "k" ∷ []) 2) (codes "@string{s = {x}}\n@string{S = s # {y}}\n@misc{k, title = s}")
-    (whole_library (worked_entry misc (codes "k") None (Some (codes "y")) None ∷ []) (message.OwnString (codes "s") (at_line 2) ∷ []))
+    (whole_library (worked_entry misc (codes "k") None (Some (codes "y")) None ∷ []) (message.OwnString (codes "s") (spot_in 2 30) ∷ []))
     -- an extra field over two lines, and a name that stands for no string: the first message has the line where the value ends, the other the line of the name
     ∷ library_row (citing (codes "k" ∷ []) 2) (codes "@misc{k, title = {A},\n title = {B\nC},\n booktitle = zz}")
     (whole_library (worked_entry misc (codes "k") None (Some (codes "A")) (Some []) ∷ [])
-    (message.ExtraField (codes "k") (codes "title") (at_line 3) ∷ message.UndefinedString (codes "zz") (at_line 4) ∷ []))
+    (message.ExtraField (codes "k") (codes "title") (spot_in 3 36) ∷ message.UndefinedString (codes "zz") (spot_in 4 53) ∷ []))
     -- a value that ends in a fault isn't stored, and its entry is
     ∷ library_row (citing (codes "k" ∷ []) 2) (codes "@misc(k, title = \"a}b\")")
-    (whole_library (worked_entry misc (codes "k") None None None ∷ []) (message.Wrong Unbalanced (at_line 1) ∷ []))
+    (whole_library (worked_entry misc (codes "k") None None None ∷ []) (message.Wrong Unbalanced (spot_in 1 19) ∷ []))
     -- of two entries with one key the first is stored
     ∷ library_row (citing (codes "k" ∷ []) 2) (codes "@misc{k, title={A}}\n@misc{K, title={B}}")
-    (whole_library (worked_entry misc (codes "k") None (Some (codes "A")) None ∷ []) (message.Wrong Repeated (at_line 2) ∷ []))
+    (whole_library (worked_entry misc (codes "k") None (Some (codes "A")) None ∷ []) (message.Wrong Repeated (spot_in 2 27) ∷ []))
     -- of two fields with one name the first is stored
     ∷ library_row (citing (codes "k" ∷ []) 2) (codes "@misc{k, title={A}, TITLE={B},}")
-    (whole_library (worked_entry misc (codes "k") None (Some (codes "A")) None ∷ []) (message.ExtraField (codes "k") (codes "TITLE") (at_line 1) ∷ []))
+    (whole_library (worked_entry misc (codes "k") None (Some (codes "A")) None ∷ []) (message.ExtraField (codes "k") (codes "TITLE") (spot_in 1 29) ∷ []))
     -- an entry that isn't stored has no message
     ∷ library_row (citing (codes "k" ∷ []) 2) (codes "@misc{j, title = zz} @misc{k}")
     (whole_library (worked_entry misc (codes "k") None None None ∷ []) [])
@@ -112,23 +116,23 @@ entries =
     -- a name that stands for no string has a message each time; a string that is made of it alone is empty
     ∷ library_row (citing (codes "k" ∷ []) 2) (codes "@string{s = zz}\n@misc{k, title = s, booktitle = yy # {B} # yy}")
     (whole_library (worked_entry misc (codes "k") None (Some []) (Some (codes "B")) ∷ [])
-    (message.UndefinedString (codes "zz") (at_line 1) ∷ message.UndefinedString (codes "yy") (at_line 2) ∷ message.UndefinedString (codes "yy") (at_line 2)
-    ∷ []))
+    (message.UndefinedString (codes "zz") (spot_in 1 14) ∷ message.UndefinedString (codes "yy") (spot_in 2 50)
+    ∷ message.UndefinedString (codes "yy") (spot_in 2 61) ∷ []))
     -- and so in a preamble
     ∷ library_row (citing (codes "k" ∷ []) 2) (codes "@preamble{zz}\n@preamble{{x} # yy}@misc{k}") (record {
       entries = worked_entry misc (codes "k") None None None ∷ [];
       preamble = codes "x";
-      messages = message.UndefinedString (codes "zz") (at_line 1) ∷ message.UndefinedString (codes "yy") (at_line 2) ∷ [];
+      messages = message.UndefinedString (codes "zz") (spot_in 1 12) ∷ message.UndefinedString (codes "yy") (spot_in 2 32) ∷ [];
       ending = end.Whole;
     })
     -- at the end of the file the fields that were read stand
     ∷ library_row (citing (codes "k" ∷ []) 2) (codes "@misc{k, title = {A}, note = \"cu")
-    (whole_library (worked_entry misc (codes "k") None (Some (codes "A")) None ∷ []) (message.Wrong EndOfFile (at_line 1) ∷ []))
+    (whole_library (worked_entry misc (codes "k") None (Some (codes "A")) None ∷ []) (message.Wrong EndOfFile (spot_in 1 32) ∷ []))
     -- a type that the style doesn't have; a message has the key as it stands there, and the list as it was cited; preambles are joined
     ∷ library_row (citing (codes "k" ∷ []) 2) (codes "@preamble{\"a \" # {b}}@other{K,\n title={ T  }}@preamble{{c}}") (record {
       entries = worked_entry None (codes "k") None (Some (codes "T")) None ∷ [];
       preamble = codes "a bc";
-      messages = message.UnknownKind (codes "K") (at_line 1) ∷ [];
+      messages = message.UnknownKind (codes "K") (spot_in 1 29) ∷ [];
       ending = end.Whole;
     })
     -- a macro of the style, a string of the first database in the second one, and lines of the second one
@@ -138,7 +142,7 @@ entries =
       databases = database_with (codes "@string{s=jan # { 1}}@misc{k") ∷ record { file = codes "e.bib"; text = codes "\n@misc{j,title=s}@=" } ∷ [];
       library =
           whole_library (worked_entry misc (codes "k") None None None ∷ worked_entry misc (codes "j") None (Some (codes "January 1")) None ∷ [])
-          (message.Wrong EndOfFile (at_line 1) ∷ message.Wrong NoName (record { file = codes "e.bib"; line = 2 }) ∷ []);
+          (message.Wrong EndOfFile (spot_in 1 28) ∷ message.Wrong NoName (record { file = codes "e.bib"; line = 2; at = 18 }) ∷ []);
     }
     ∷ []
 
@@ -159,7 +163,7 @@ reference_rows =
     -- the messages of databases come first, then those of references, and then those of keys without an entry
     ∷ library_row (citing (codes "c" ∷ codes "nope" ∷ []) 2) (codes "@misc{c, crossref={p}}\n@misc{C}")
     (whole_library (worked_entry misc (codes "c") None None None ∷ [])
-    (message.Wrong Repeated (at_line 2) ∷ message.BadReference (codes "c") (codes "p") ∷ message.NoEntry (codes "nope") ∷ message.NoEntry (codes "p") ∷ []))
+    (message.Wrong Repeated (spot_in 2 30) ∷ message.BadReference (codes "c") (codes "p") ∷ message.NoEntry (codes "nope") ∷ message.NoEntry (codes "p") ∷ []))
     -- one reference is fewer than two
     ∷ library_row (citing (codes "c1" ∷ []) 2)
     (codes "@misc{c1, title = {One}, crossref = {p}}\n@misc{c2, title = {Two}, crossref = {p}}\n@book{P, booktitle = {Vol}}")

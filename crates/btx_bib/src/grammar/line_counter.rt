@@ -1,5 +1,5 @@
 //! The lines of places.
-ghost use Rattle.std.specs.Prelude.{◌≡◌, ◌≤◌, ◌+◌, drop, length, take};
+ghost use Rattle.std.specs.Prelude.{◌≡◌, ◌≤◌, ◌+◌, ◌-◌, drop, length, take};
 ghost use Rattle.btx_bib.specs.language.Grammar.PlaceLines as spec;
 ghost use Rattle.btx_bib.specs.refinement.Grammar.PlaceLines as refined;
 
@@ -99,6 +99,13 @@ impl<'a> LineCounter<'a> {
         self.feeds = feeds_before(self.text, self.counted, self.feeds, place);
         self.counted = place;
         self.feeds + 1
+    }
+
+    /// Answers how many bytes of the text are before this rest of it.
+    pub fn bytes_before(&self, rest: &[u8]) -> usize
+        ensures { result ≡ length self.now - length rest.now }
+    {
+        self.text.len().saturating_sub(rest.len())
     }
 
     /// The line of the byte with which this rest of the text begins.

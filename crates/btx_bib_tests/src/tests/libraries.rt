@@ -2,7 +2,6 @@
 use super::passed_rows::PASSED;
 use super::rows::{ENDS, FAULTS, REFERENCES, Row, STYLE, VALUES};
 use super::showing::{Asked, seen_of, shown_of};
-use btx_bib::Source;
 use btx_text::Fault;
 use std::alloc::Global;
 
@@ -14,17 +13,11 @@ fn shown_row(alloc: Global, row: &Row) -> Result<Vec<u8>, Fault> {
         keys: row.keys,
         least: row.least,
     };
-    let sources = [
-        Source {
-            name: b"d.bib",
-            bytes: row.first,
-        },
-        Source {
-            name: b"e.bib",
-            bytes: row.second,
-        },
+    let databases = [
+        (b"d.bib".as_slice(), row.first),
+        (b"e.bib".as_slice(), row.second),
     ];
-    shown_of(alloc, asked, &sources)
+    shown_of(alloc, asked, &databases)
 }
 
 // Whether this is what a row gives: its entries, the end of a line, and its log.
@@ -89,11 +82,8 @@ fn counts_after(alloc: Global, style: &[u8], bytes: &[u8]) -> Result<(usize, usi
         keys: b"K",
         least: 2,
     };
-    let sources = [Source {
-        name: b"d.bib",
-        bytes,
-    }];
-    let seen = seen_of(alloc, asked, &sources)?;
+    let databases = [(b"d.bib".as_slice(), bytes)];
+    let seen = seen_of(alloc, asked, &databases)?;
     let (_, entries, _, _) = seen.size;
     Ok((seen.fields, seen.keys, entries))
 }

@@ -27,7 +27,7 @@ pub const ALONE: Row = Row {
 };
 
 /// Strings, values and what is stored.
-pub const VALUES: [Row; 15] = [
+pub const VALUES: [Row; 16] = [
     // A string in its own definition, a name that is no string, and whitespace across parts.
     Row {
         keys: b"k",
@@ -132,7 +132,15 @@ pub const VALUES: [Row; 15] = [
         log: b"",
         ..ALONE
     },
-    // Of an entry that isn't stored nothing is logged but its faults.
+    // Of an entry that isn't stored nothing is logged.
+    Row {
+        keys: b"k",
+        first: b"@misc{j, title = zz} @misc{k}",
+        entries: b"k=-;-;-;\n[]",
+        log: b"",
+        ..ALONE
+    },
+    // Nor is anything but its faults, where it has some.
     Row {
         keys: b"k",
         first: b"@misc{j, title = zz, title = {B}, note} @misc{k}",
@@ -151,7 +159,7 @@ pub const VALUES: [Row; 15] = [
 ];
 
 /// Each fault and each warning, with its line.
-pub const FAULTS: [Row; 19] = [
+pub const FAULTS: [Row; 20] = [
     // No name behind an at sign.
     Row {
         keys: b"k",
@@ -264,7 +272,15 @@ pub const FAULTS: [Row; 19] = [
         log: b"!Error--Repeated entry--line 1 of file d.bib\n",
         ..ALONE
     },
-    // A field that the entry has, met at the end of its value.
+    // A field that the entry has.
+    Row {
+        keys: b"k",
+        first: b"@misc{k, title={A}, TITLE={B},}",
+        entries: b"k=-;A;-;\n[]",
+        log: b"Warning--I'm ignoring k's extra \"TITLE\" field--line 1 of file d.bib\n",
+        ..ALONE
+    },
+    // The same, met at the end of its value.
     Row {
         keys: b"k",
         first: b"@misc{k, title={A}, TITLE=\n{B}\n,}",

@@ -1,7 +1,8 @@
 //! Libraries as plain texts and numbers, so that a test compares these and holds no library.
 use btx_aux::{AuxJob, MemoryFinder, read_aux};
-use btx_bib::{End, Library, Message, Source, read_databases};
+use btx_bib::{End, Library, Message, read_databases};
 use btx_bst::{Style, read_style};
+use btx_text::log_texts::push_number;
 use btx_text::{Fault, LineKind, LogLine};
 use std::alloc::{AllocError, Global};
 
@@ -27,6 +28,8 @@ pub type Size = (End, usize, usize, usize);
 pub struct Seen {
     /// The library as a text.
     pub shown: Vec<u8>,
+    /// For each message with a place, a space and how many bytes of its database are before that.
+    pub places: Vec<u8>,
     /// Its size.
     pub size: Size,
     /// How many fields the style has, with `crossref`.
@@ -128,6 +131,23 @@ fn library_shown(alloc: Global, fields: u32, library: &Library<'_>) -> Result<Ve
     Ok(shown)
 }
 
+// The place of a message, if it has one.
+fn push_spot(places: &mut Vec<u8>, message: &Message<'_>) -> Result<(), AllocError> {
+    match message.spot() {
+        Some(spot) => push_number(places, b" ", spot.at as u64),
+        None => Ok(()),
+    }
+}
+
+// The places of the messages of a library.
+fn places_shown(alloc: Global, library: &Library<'_>) -> Result<Vec<u8>, AllocError> {
+    let mut places = Vec::new(alloc);
+    for message in library.messages() {
+        push_spot(&mut places, message)?;
+    }
+    Ok(places)
+}
+
 // The text of an `.aux` file that cites these keys.
 fn aux_text(alloc: Global, keys: &[u8]) -> Result<Vec<u8>, AllocError> {
     let mut text = Vec::from_slice(alloc, b"\\citation{")?;
@@ -171,6 +191,7 @@ fn seen_in(
 ) -> Result<Seen, Fault> {
     Ok(Seen {
         shown: library_shown(alloc, fields, library)?,
+        places: places_shown(alloc, library)?,
         size: (
             library.end(),
             library.len(),
@@ -188,9 +209,9 @@ fn seen_with(
     asked: Asked<'_>,
     style: &Style<'_>,
     job: &AuxJob,
-    sources: &[Source<'_>],
+    databases: &[(&[u8], &[u8])],
 ) -> Result<Seen, Fault> {
-    let library = read_databases(alloc, style, job, sources, asked.least)?;
+    let library = read_databases(alloc, style, job, databases, asked.least)?;
     seen_in(alloc, asked.fields, style, job, &library)
 }
 
@@ -199,21 +220,29 @@ fn seen_by(
     alloc: Global,
     asked: Asked<'_>,
     style: &Style<'_>,
-    sources: &[Source<'_>],
+    databases: &[(&[u8], &[u8])],
 ) -> Result<Seen, Fault> {
     let job = citing(alloc, asked.keys)?;
-    seen_with(alloc, asked, style, &job, sources)
+    seen_with(alloc, asked, style, &job, databases)
 }
 
-/// Answers what is seen of what the databases `sources` give to what is asked.
-pub fn seen_of(alloc: Global, asked: Asked<'_>, sources: &[Source<'_>]) -> Result<Seen, Fault> {
+/// Answers what is seen of what the `databases` give to what is asked.
+pub fn seen_of(
+    alloc: Global,
+    asked: Asked<'_>,
+    databases: &[(&[u8], &[u8])],
+) -> Result<Seen, Fault> {
     let style = read_style(alloc, b"s.bst", asked.style)?;
-    seen_by(alloc, asked, &style, sources)
+    seen_by(alloc, asked, &style, databases)
 }
 
-/// Shows what the databases `sources` give to what is asked.
-pub fn shown_of(alloc: Global, asked: Asked<'_>, sources: &[Source<'_>]) -> Result<Vec<u8>, Fault> {
-    let seen = seen_of(alloc, asked, sources)?;
+/// Shows what the `databases` give to what is asked.
+pub fn shown_of(
+    alloc: Global,
+    asked: Asked<'_>,
+    databases: &[(&[u8], &[u8])],
+) -> Result<Vec<u8>, Fault> {
+    let seen = seen_of(alloc, asked, databases)?;
     Ok(seen.shown)
 }
 
@@ -225,10 +254,7 @@ pub fn size_of(alloc: Global, style: &[u8], keys: &[u8], text: &[u8]) -> Result<
         keys,
         least: 2,
     };
-    let sources = [Source {
-        name: b"d.bib",
-        bytes: text,
-    }];
-    let seen = seen_of(alloc, asked, &sources)?;
+    let databases = [(b"d.bib".as_slice(), text)];
+    let seen = seen_of(alloc, asked, &databases)?;
     Ok(seen.size)
 }

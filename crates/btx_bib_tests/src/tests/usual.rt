@@ -1,7 +1,6 @@
 //! A database of two hundred entries of usual types.
 use super::rows::{TEN_ENTRIES, TEN_GIVEN, USUAL_STYLE};
 use super::showing::{Asked, shown_of};
-use btx_bib::Source;
 use btx_text::Fault;
 use std::alloc::{AllocError, Global};
 
@@ -67,11 +66,7 @@ fn shown_text(alloc: Global, bytes: &[u8]) -> Result<Vec<u8>, Fault> {
         keys: b"*",
         least: 2,
     };
-    let sources = [Source {
-        name: b"d.bib",
-        bytes,
-    }];
-    shown_of(alloc, asked, &sources)
+    shown_of(alloc, asked, &[(b"d.bib".as_slice(), bytes)])
 }
 
 // What two hundred entries give.

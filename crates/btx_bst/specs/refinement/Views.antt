@@ -21,6 +21,7 @@ use Rattle.btx_bst.specs.declared.complaint.Complaint.{Complaint}
 use Rattle.btx_bst.specs.declared.complaint.Complaint.TheVariants as complaint
 use Rattle.btx_bst.specs.declared.item.Item.{Item}
 use Rattle.btx_bst.specs.declared.item.Item.TheVariants as item
+use Rattle.btx_bst.specs.declared.token.Token.{Token}
 use Rattle.btx_bst.specs.refinement.Bodies.{FunctionBody}
 
 abbrev pub complaint_view : Complaint → spec.Complaint
@@ -94,23 +95,23 @@ list_turn_view turn.Whole names place = Ends (listed None names place)
 list_turn_view (turn.Broken complaint) names place = Ends (listed (Some (complaint_view complaint)) names place)
 
 -- the functions whose bodies are being read: the tokens of the innermost one, and those of the functions round it
-pub record OpenBodies : Type 0 where
-  pub tokens : FunctionBody
-  pub around : List FunctionBody
+pub record OpenBodies (T : Type 0) : Type 0 where
+  pub tokens : List T
+  pub around : List (List T)
 
-abbrev pub open_bodies : FunctionBody → List FunctionBody → OpenBodies
+abbrev pub open_bodies : {T : Type 0} → List T → List (List T) → OpenBodies T
 open_bodies tokens around = record { tokens = tokens; around = around }
 
 -- the functions round the innermost one, without it
-abbrev pub left_alone : List FunctionBody → OpenBodies
+abbrev pub left_alone : {T : Type 0} → List (List T) → OpenBodies T
 left_alone [] = open_bodies [] []
 left_alone (outer ∷ around) = open_bodies outer around
 
 -- what is known inside a body
-abbrev pub inside_of_reader : Place → OpenBodies → List FunctionBody → List (List ℕ) → List items.Item → Inside
+abbrev pub inside_of_reader : Place → OpenBodies Token → List FunctionBody → List (List ℕ) → List items.Item → Inside
 inside_of_reader place o bodies texts items = record { place = place; tokens = o.tokens; around = o.around; bodies = bodies; texts = texts; items = items }
 
-abbrev pub inside_view : Place → OpenBodies → List FunctionBody → List (Bor (List ℕ)) → List Item → Inside
+abbrev pub inside_view : Place → OpenBodies Token → List FunctionBody → List (Bor (List ℕ)) → List Item → Inside
 inside_view place o bodies texts items = inside_of_reader place o bodies (texts_view texts) (items_view items)
 
 -- how a body ended

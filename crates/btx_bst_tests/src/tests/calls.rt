@@ -1,6 +1,7 @@
 //! A style read and shown by each call.
 use super::showing::look_over;
 use btx_bst::{BuiltIn, Callee, Style, Token, read_style};
+use btx_tests::texts::{calling_functions, joined};
 use btx_text::Fault;
 use std::alloc::Global;
 use std::process::Abort;
@@ -9,21 +10,27 @@ const TEXT: &[u8] =
     b"ENTRY {Title}{n}{label} integers {i} STRINGS {s}\nmacro {jan} {\"January\"} function {misc} {} read\n\
 function {f} {\"a\" write$ {'f title} % none }\n #1 'skip$ if$} EXECUTE {F}\n\nSORT x";
 
-// Styles that are direct.
+// Styles that are direct. The first four are those of worked runs: a line, a loop that doesn't end, branches that show fields, and a loop that fills the
+// stack.
 const DIRECT: &[&[u8]] = &[
-    b"FUNCTION {f} {#1 {#1} 'skip$ if$ pop$}",
+    b"ENTRY {title}{}{} FUNCTION {misc}{} READ FUNCTION {f} {\"a\" write$ newline$} EXECUTE {f}",
+    b"ENTRY {title}{}{} FUNCTION {misc}{} READ FUNCTION {f} {{#1} {skip$} while$} EXECUTE {f}",
+    b"ENTRY {title booktitle}{}{} FUNCTION {misc}{} FUNCTION {book}{} READ FUNCTION {f} {cite$ write$ \":\" write$ crossref missing$ int.to.str$ write$ \":\" write$ booktitle empty$ {\"-\"} {booktitle} if$ write$ newline$} ITERATE {f}",
+    b"ENTRY {title}{}{} FUNCTION {misc}{} READ FUNCTION {f} {{#1} {#7} while$} EXECUTE {f}",
+    b"ENTRY {title}{}{} FUNCTION {misc}{} READ FUNCTION {f} {#1 {#1} 'skip$ if$ pop$}",
     b"FUNCTION {f} {'skip$ {skip$} while$}",
-    b"FUNCTION {f} {#1 'skip$ duplicate$ if$}",
-    b"ENTRY {} {} {} READ ITERATE {call.type$}",
+    b"ENTRY {title}{}{} FUNCTION {misc}{} READ FUNCTION {f} {#1 'skip$ duplicate$ if$}",
+    b"ENTRY {title}{}{} FUNCTION {misc}{} READ ITERATE {call.type$}",
 ];
 
-// Styles that are not.
+// Styles that are not. The first runs itself through the stack.
 const NOT_DIRECT: &[&[u8]] = &[
-    b"FUNCTION {f} {#1 {skip$} duplicate$ if$}",
+    b"ENTRY {title}{}{} FUNCTION {misc}{} READ FUNCTION {h} {duplicate$ #1 swap$ 'skip$ if$} FUNCTION {g} {'h h} EXECUTE {g}",
+    b"ENTRY {title}{}{} FUNCTION {misc}{} READ FUNCTION {f} {#1 {skip$} duplicate$ if$}",
     b"FUNCTION {f} {duplicate$ #1 swap$ {skip$} if$}",
     b"FUNCTION {f} {#1 {skip$} 'skip$ 'skip$ if$}",
     b"FUNCTION {f} {{skip$} 'skip$ 'if$}",
-    b"FUNCTION {f} {'call.type$ pop$}",
+    b"ENTRY {title}{}{} FUNCTION {misc}{} READ FUNCTION {f} {'call.type$ pop$}",
     b"FUNCTION {f} {} FUNCTION {g} {call.type$}",
 ];
 
@@ -94,6 +101,20 @@ fn all_are(alloc: Global, texts: &[&[u8]], direct: bool) -> Result<bool, Fault> 
         }
     }
     Ok(true)
+}
+
+// Whether a style of a type's function and so many others, each of which calls the one before, is direct; and how many functions it has.
+fn calling(alloc: Global, count: usize) -> Result<(bool, usize), Fault> {
+    let functions = calling_functions(alloc, count)?;
+    let start = b"ENTRY {title}{}{} FUNCTION {misc}{} READ ".as_slice();
+    let text = joined(alloc, &[start, &functions])?;
+    let found = look_over(alloc, &text)?;
+    Ok((found.is_direct, found.functions))
+}
+
+#[test]
+fn thousands_of_functions(rt: HostRuntime) {
+    assert!(rt; calling(rt.alloc(), 4_097) == Ok((true, 4_098)));
 }
 
 #[test]

@@ -7,11 +7,7 @@ use std::test::Fail;
 
 // What a refusal has, in one text: its status, and its text.
 fn refusal_text(alloc: Global, refusal: &Refusal) -> Result<String, AllocError> {
-    let status = refusal.exit().status();
-    let text = match refusal {
-        Refusal::Shown(text) | Refusal::Mistake(text) => text.as_str(),
-        Refusal::Memory => "",
-    };
+    let (status, text) = (refusal.status(), refusal.text());
     format!(in alloc; "refused {status} {text}")
 }
 
@@ -162,6 +158,13 @@ fn all_refused(rt: &(impl Abort + AllocGlobal), lines: &[&[u8]]) -> Result<(), F
 #[test]
 fn refuses_mistakes(rt: HostRuntime) -> Result<(), Fail> {
     all_refused(&rt, &MISTAKES)
+}
+
+// Want of memory has a status, and no text.
+#[test]
+fn refuses_without_memory(rt: HostRuntime) {
+    let refusal = Refusal::Memory;
+    assert!(rt; refusal.status() == 5 && refusal.text().is_empty());
 }
 
 // Whether the help says what the program does, and lists the statuses.

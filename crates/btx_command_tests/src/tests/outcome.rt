@@ -1,32 +1,35 @@
-//! The exit status of each end.
-use btx_command::Exit;
+//! The exit status for what a run answers, and of each end of the program.
+use btx_command::{Exit, exit_status};
 use btx_run::{End, Limit, Report, RunFault};
 
-// The program's end for a job that ran to an end with `errors` errors.
-fn exit_after(end: End, errors: u64) -> Exit {
-    Exit::of(Ok(Report {
+// What a run answers that came to an end with `errors` errors.
+fn ended(end: End, errors: u64) -> Result<Report, RunFault> {
+    Ok(Report {
         status: end.status(errors),
         end,
         steps: 4,
         deepest: 1,
         warnings: 0,
         errors,
-    }))
+    })
 }
 
 #[test]
-fn gives_each_status(rt: HostRuntime) {
-    for (exit, status) in [
-        (exit_after(End::Finished, 0), 0),
-        (exit_after(End::Finished, 1), 2),
-        (exit_after(End::Limit(Limit::Calls), 0), 3),
-        (exit_after(End::NoTopFile, 0), 3),
-        (exit_after(End::Stopped, 1), 4),
-        (Exit::of(Err(RunFault::Memory)), 5),
-        (Exit::of(Err(RunFault::Device)), 6),
-        (Exit::Shown, 0),
-        (Exit::Refused, 1),
+fn gives_each_answer_a_status(rt: HostRuntime) {
+    for (answer, status) in [
+        (ended(End::Finished, 0), 0),
+        (ended(End::Finished, 1), 2),
+        (ended(End::Limit(Limit::Calls), 0), 3),
+        (ended(End::NoTopFile, 0), 3),
+        (ended(End::Stopped, 1), 4),
+        (Err(RunFault::Memory), 5),
+        (Err(RunFault::Device), 6),
     ] {
-        assert!(rt; exit.status() == status);
+        assert!(rt; exit_status(&answer) == status && Exit::of(answer).status() == status);
     }
+}
+
+#[test]
+fn gives_words_a_status(rt: HostRuntime) {
+    assert!(rt; Exit::Shown.status() == 0 && Exit::Refused.status() == 1);
 }

@@ -28,16 +28,16 @@ one_name_text mode name format =
     flat_map (item_text mode (parts_by (sections_of name))) (items_of format)
     else []
 
--- what `format.name$` finds wrong with a name and a format: a comma at the name's end, a third comma, an illegal format
+-- what `format.name$` finds wrong with a name and a format: `x11` is a comma at the name's end, `x12` a third comma, `x13` an illegal format
 unfoldable pub one_name_complaints : List ℕ → List ℕ → Complaints
 one_name_complaints name format =
-    record no_complaints { comma_at_end = ends_in_comma name; too_many_commas = has_third_comma (sections_of name); illegal_format = not (is_legal format) }
+    record no_complaints { x11 = ends_in_comma name; x12 = has_third_comma (sections_of name); x13 = not (is_legal format) }
 
 -- `format.name$`: the name of this number in the string `names`, in the format. It is empty if there is no such name or the format is illegal.
 abbrev pub format_name_text : TextMode → List ℕ → ℤ → List ℕ → List ℕ
 format_name_text mode names number format = option_map_or (λ (name : List ℕ). one_name_text mode name format) (nth_name names number) []
 
--- the errors of `format.name$`, for the name of this number in the string `names` and this format; or that there is no such name
+-- the errors of `format.name$`, for the name of this number in the string `names` and this format; or `x10`, that there is no such name
 abbrev pub format_name_complaints : List ℕ → ℤ → List ℕ → Complaints
 format_name_complaints names number format =
-    option_map_or (λ (name : List ℕ). one_name_complaints name format) (nth_name names number) (record no_complaints { no_such_name = true })
+    option_map_or (λ (name : List ℕ). one_name_complaints name format) (nth_name names number) (record no_complaints { x10 = true })

@@ -9,7 +9,7 @@ use Rattle.btx_names.specs.language.Answered.{one_name_text, one_name_complaints
 -- the errors of `format.name$`: a comma at the name's end, a third comma, an illegal format
 abbrev pub complaints_with : Bool → Bool → Bool → Complaints
 complaints_with ends_in_comma has_third_comma is_legal =
-    record no_complaints { comma_at_end = ends_in_comma; too_many_commas = has_third_comma; illegal_format = not is_legal }
+    record no_complaints { x11 = ends_in_comma; x12 = has_third_comma; x13 = not is_legal }
 
 -- the text of `format.name$`, given the name, if there is one; empty if there is none
 abbrev pub text_of_answer : TextMode → Option (List ℕ) → List ℕ → List ℕ
@@ -17,4 +17,4 @@ text_of_answer mode name format = option_map_or (λ (name : List ℕ). one_name_
 
 -- the errors of `format.name$`, given the name, if there is one; or that there is none
 abbrev pub complaints_of_answer : Option (List ℕ) → List ℕ → Complaints
-complaints_of_answer name format = option_map_or (λ (name : List ℕ). one_name_complaints name format) name (record no_complaints { no_such_name = true })
+complaints_of_answer name format = option_map_or (λ (name : List ℕ). one_name_complaints name format) name (record no_complaints { x10 = true })

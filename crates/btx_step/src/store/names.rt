@@ -57,35 +57,27 @@ fn name_said<'a>(
 ) -> Result<Said<'a>, AllocError>
     ensures { IfOk result (λ said. said ≡ kept_spec.name_said complaints names.entry number format.entry) }
 {
-    if !(complaints.no_such_name
-        || complaints.comma_at_end
-        || complaints.too_many_commas
-        || complaints.illegal_format)
-    {
+    if !(complaints.x10 || complaints.x11 || complaints.x12 || complaints.x13) {
         return Ok(Said::Nothing);
     }
     let names = names.share()?;
     let mut notes = Notes::new(alloc);
     push_if(
         &mut notes,
-        complaints.no_such_name,
+        complaints.x10,
         Note::NoSuchName(number, names.copy(alloc)?),
     )?;
     push_if(
         &mut notes,
-        complaints.comma_at_end,
+        complaints.x11,
         Note::FinalComma(number, names.copy(alloc)?),
     )?;
     push_if(
         &mut notes,
-        complaints.too_many_commas,
+        complaints.x12,
         Note::TooManyCommas(number, names),
     )?;
-    push_if(
-        &mut notes,
-        complaints.illegal_format,
-        Note::IllegalFormat(format),
-    )?;
+    push_if(&mut notes, complaints.x13, Note::IllegalFormat(format))?;
     Ok(Said::Noted(notes))
 }
 

@@ -1,7 +1,7 @@
 //! Takes the tokens of a function one after another, and makes one text of all that they answer.
 use super::sorts::order_of;
 use btx_aux::{AuxJob, MemoryFinder, read_aux};
-use btx_bib::{Library, Source, read_databases};
+use btx_bib::{Library, read_databases};
 use btx_bst::{Style, Token, read_style};
 use btx_step::lines::line_of;
 use btx_step::{Job, KeptBytes, Next, Note, Notes, Said, Store};
@@ -121,11 +121,7 @@ fn library_of<'a>(
     citations: &'a AuxJob,
     database: &'a [u8],
 ) -> Result<Library<'a>, Fault> {
-    let sources = [Source {
-        name: database,
-        bytes: database,
-    }];
-    read_databases(alloc, style, citations, &sources, 2)
+    read_databases(alloc, style, citations, &[(database, database)], 2)
 }
 
 fn tried_read(

@@ -111,4 +111,4 @@ change_case_of string conversion =
 abbrev pub case_complaints : List ℕ → Complaints
 case_complaints conversion =
     option_map_or (λ (to : Conversion). no_complaints) (conversion_of conversion)
-    (record no_complaints { illegal_conversion = true })
+    (record no_complaints { x9 = true })

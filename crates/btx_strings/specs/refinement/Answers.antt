@@ -9,7 +9,7 @@ use Rattle.btx_strings.specs.language.Answers.{no_complaints}
 
 -- the conversion of `change.case$` is none of the letters `t`, `l` and `u`
 abbrev pub wrong_conversion : Complaints
-wrong_conversion = record no_complaints { illegal_conversion = true }
+wrong_conversion = record no_complaints { x9 = true }
 
 -- this text with these complaints, where the text is within the limit; the fault of the limit exactly where it is longer; want of
 -- memory says nothing

@@ -21,7 +21,7 @@ cased_by conversion string = option_map_or (λ (to : Conversion). cased_parts to
 
 -- an error if the conversion isn't `t`, `l` or `u`
 abbrev pub complaints_by : Option Conversion → Complaints
-complaints_by conversion = option_map_or (λ (to : Conversion). no_complaints) conversion (record no_complaints { illegal_conversion = true })
+complaints_by conversion = option_map_or (λ (to : Conversion). no_complaints) conversion (record no_complaints { x9 = true })
 
 -- a special character in the case of a conversion
 abbrev pub cased_special : Conversion → List ℕ → List ℕ

@@ -2,7 +2,7 @@ use Rattle.std.proofs.Common.{◌∙◌, ◌++◌, List, ap}
 use Rattle.std.proofs.lemmas.Result.{IfOk-weaker}
 use Rattle.btx_bib.specs.declared.gathering.Gathering.{Gathering}
 use Rattle.btx_bib.specs.declared.message.Message.{Message}
-use Rattle.btx_bib.specs.refinement.Sources.{source_databases}
+use Rattle.btx_bib.specs.refinement.Pairs.{databases_of_pairs}
 use Rattle.btx_bib.specs.refinement.Readings.{kept_by_all, messages_of_all}
 use Rattle.btx_bib.specs.refinement.Requests.{wanted}
 use Rattle.btx_bib.proofs.WholeLemmas.{is-listed, library-is}
@@ -11,14 +11,14 @@ use Rattle.btx_bib.proofs.databases.library_requested.Goals as goal
 pub library-requires : goal.library-requires
 library-requires c =
     let w = wanted c.args.request.now in
-    let databases = source_databases c.args.sources.now in
+    let databases = databases_of_pairs c.args.databases.now in
     is-listed w c.args.macros.now databases c.read_all.new.self
     (c.in_ok-read_all.ensures.state ∙ ap (λ (k : Gathering). kept_by_all w k databases) c.in_ok-gathering.ensures)
 
 pub returns : goal.returns
 returns c =
     let w = wanted c.args.request.now in
-    let databases = source_databases c.args.sources.now in
+    let databases = databases_of_pairs c.args.databases.now in
     let start = c.in_ok-gathering.ensures in
     let kept = c.in_ok-read_all.ensures.state ∙ ap (λ (k : Gathering). kept_by_all w k databases) start in
     let logs =

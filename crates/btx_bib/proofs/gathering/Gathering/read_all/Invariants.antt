@@ -1,15 +1,15 @@
 use Rattle.std.proofs.Common.{◌≡◌, ◌++◌, drop}
-use Rattle.btx_bib.specs.refinement.Sources.{source_databases}
+use Rattle.btx_bib.specs.refinement.Pairs.{databases_of_pairs}
 use Rattle.btx_bib.specs.refinement.Readings.{kept_by_all, messages_of_all}
 use Rattle.btx_bib.specs.refinement.Requests.{wanted}
 use Rattle.btx_bib.proofs.gathering.Gathering.read_all.Given as goal
 
 -- the databases that are left do the rest
-abbrev pub invariant-loop-source : goal.invariant-loop-source
-invariant-loop-source l =
+abbrev pub invariant-loop-database : goal.invariant-loop-database
+invariant-loop-database l =
     let asked = wanted l.request in
     record {
-      state : kept_by_all asked l.self (source_databases (drop l.source-index l.sources)) ≡ kept_by_all asked l.initial.self (source_databases l.sources);
-      logged : l.messages ++ messages_of_all asked l.self (source_databases (drop l.source-index l.sources)) ≡ l.initial.messages
-          ++ messages_of_all asked l.initial.self (source_databases l.sources);
+      state : kept_by_all asked l.self (databases_of_pairs (drop l.database-index l.databases)) ≡ kept_by_all asked l.initial.self (databases_of_pairs l.databases);
+      logged : l.messages ++ messages_of_all asked l.self (databases_of_pairs (drop l.database-index l.databases)) ≡ l.initial.messages
+          ++ messages_of_all asked l.initial.self (databases_of_pairs l.databases);
     }

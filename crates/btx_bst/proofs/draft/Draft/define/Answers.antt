@@ -2,20 +2,13 @@ use Rattle.std.proofs.Common.{◌≡◌, ◌∙◌, ap, arith, ℕ, List, length
 use Rattle.btx_bst.specs.refinement.Views.{texts_view}
 use Rattle.btx_bst.specs.refinement.DraftViews.{draft_view}
 use Rattle.btx_bst.proofs.BodyLemmas.{map-take, texts-length}
-use Rattle.btx_bst.proofs.StyleLemmas.{broken-grows}
 use Rattle.btx_bst.proofs.RoomLemmas.{body-room}
 use Rattle.btx_bst.proofs.DefineLemmas.{defined-broken}
 use Rattle.btx_bst.proofs.draft.Draft.define.Goals as goal
 
-pub cut-requires : goal.cut-requires
-cut-requires c =
-    let e = rw c.in-Some.is at c.in_ok-complaint.ensures in
-    let g = broken-grows _ _ _ _ e in
-    omega (arith, g.0.0, c.len-count.ensures)
-
-pub returns-in-Some : goal.returns-in-Some
-returns-in-Some c =
-    let e = rw c.in-Some.is at c.in_ok-complaint.ensures in
+pub returns-in-Some-clause-outcome : goal.returns-in-Some-clause-outcome
+returns-in-Some-clause-outcome g c =
+    let e = rw c.in-Some.is at c.in_ok-complaint.ensures.body in
     let d = c.args.self.now in
     let n = c.len-texts.result in
     let same : length (texts_view d.texts.items) ≡ length d.texts.items = texts-length d.texts.items in
@@ -25,19 +18,19 @@ returns-in-Some c =
     (ap texts_view c.truncate.ensures.items ∙ map-take (λ (b : Bor (List ℕ)). b.now) n c.body.new.texts.items)
 
 pub overflow_cast-number : goal.overflow_cast-number
-overflow_cast-number c =
-    let g = body-room _ _ _ _ c.in_ok-complaint.ensures in
+overflow_cast-number g c =
+    let g = body-room _ _ _ _ c.in_ok-complaint.ensures.body in
     let r = c.requires.room.0 in
     omega (arith, g.0, r, c.len-number.ensures)
 
 pub overflow_cast-number-2 : goal.overflow_cast-number-2
-overflow_cast-number-2 c =
-    let g = body-room _ _ _ _ c.in_ok-complaint.ensures in
+overflow_cast-number-2 g c =
+    let g = body-room _ _ _ _ c.in_ok-complaint.ensures.body in
     let r = c.requires.room.0 in
     omega (arith, g.0, r, c.len-number.ensures)
 
 pub add_function-requires-clause-further : goal.add_function-requires-clause-further
-add_function-requires-clause-further c =
-    let g = body-room _ _ _ _ c.in_ok-complaint.ensures in
+add_function-requires-clause-further g c =
+    let g = body-room _ _ _ _ c.in_ok-complaint.ensures.body in
     let r = c.requires.room.1 in
     omega (arith, g.1.0.0, r, c.len-number.ensures)

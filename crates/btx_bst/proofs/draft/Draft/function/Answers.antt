@@ -3,7 +3,7 @@ use Rattle.btx_bst.proofs.RoomLemmas.{opening-shorter, closing-shorter, name-sho
 use Rattle.btx_bst.proofs.draft.Draft.function.Goals as goal
 
 pub define-requires-clause-room : goal.define-requires-clause-room
-define-requires-clause-room c =
+define-requires-clause-room g c =
     let a = opening-shorter _ _ _ c.opening.ensures in
     let b = name-shorter _ _ _ c.name.ensures in
     let d = closing-shorter _ _ _ c.closing.ensures in

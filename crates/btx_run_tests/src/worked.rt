@@ -1,0 +1,136 @@
+//! Jobs that were worked by hand, with all that they write and answer.
+use crate::jobs::{AUX, DATABASE, FILES, Outputs, TOP, is_ended, job_of, options, run_with};
+use btx_run::{End, KeptBytes, Limit, LineLength, Options, Report};
+use btx_tests::texts::joined;
+use btx_text::Fault;
+use std::alloc::{AllocError, Global};
+
+/// How the run of a row ends.
+#[derive(Clone, Copy)]
+pub enum Ends {
+    Finished,
+    Stopped,
+    Literals,
+    Calls,
+    Loops,
+    String,
+}
+
+/// A job, and what comes of it. It has byte strings, numbers and plain enums alone, so that a table of rows is one constant.
+#[derive(Clone, Copy)]
+pub struct Row<'a> {
+    pub aux: &'a [u8],
+    pub database: &'a [u8],
+    /// The style up to its READ.
+    pub declared: &'a [u8],
+    /// The style after its READ.
+    pub text: &'a [u8],
+    pub budget: u64,
+    pub line: u32,
+    pub global_max: u32,
+    pub bbl: &'a [u8],
+    /// What the log has after the line of the top file.
+    pub before: &'a [u8],
+    /// What the log has after the line of the database, without its last line.
+    pub after: &'a [u8],
+    pub ends: Ends,
+    pub steps: u64,
+    pub deepest: usize,
+    pub warnings: u64,
+    pub errors: u64,
+}
+
+/// The start of a style with one field and one type of entry.
+pub const DECLARED: &[u8] = b"ENTRY {title}{}{} FUNCTION {misc}{} READ ";
+
+/// The usual job of a style that executes one function, with the default options. It finishes without a message.
+pub const USUAL: Row<'static> = Row {
+    aux: AUX,
+    database: DATABASE,
+    declared: DECLARED,
+    text: b"",
+    budget: 1_000_000_000,
+    line: 79,
+    global_max: 20_000,
+    bbl: b"",
+    before: b"",
+    after: b"",
+    ends: Ends::Finished,
+    steps: 0,
+    deepest: 1,
+    warnings: 0,
+    errors: 0,
+};
+
+impl Ends {
+    // The end, and the status of a run that ends so with `errors` errors.
+    fn end(self, errors: u64) -> (End, u8) {
+        match self {
+            Ends::Finished => (End::Finished, if errors == 0 { 0 } else { 2 }),
+            Ends::Stopped => (End::Stopped, 4),
+            Ends::Literals => (End::Limit(Limit::Literals), 3),
+            Ends::Calls => (End::Limit(Limit::Calls), 3),
+            Ends::Loops => (End::Limit(Limit::Loops), 3),
+            Ends::String => (End::Limit(Limit::String), 3),
+        }
+    }
+}
+
+impl Row<'_> {
+    // What the run answers.
+    fn report(&self) -> Report {
+        let (end, status) = self.ends.end(self.errors);
+        Report {
+            status,
+            end,
+            steps: self.steps,
+            deepest: self.deepest,
+            warnings: self.warnings,
+            errors: self.errors,
+        }
+    }
+
+    // What is asked of the run; a number outside its range is the default.
+    fn options(&self) -> Options {
+        let usual = options(self.budget);
+        Options {
+            line: LineLength::new(self.line).unwrap_or(usual.line),
+            global_max: KeptBytes::new(self.global_max).unwrap_or(usual.global_max),
+            ..usual
+        }
+    }
+}
+
+/// The style of a row.
+pub fn style_of(alloc: Global, row: &Row<'_>) -> Result<Vec<u8>, AllocError> {
+    joined(alloc, &[row.declared, row.text])
+}
+
+/// Runs the job of a row.
+pub fn run_row(alloc: Global, row: &Row<'_>) -> Result<Outputs, Fault> {
+    let style = style_of(alloc, row)?;
+    let files = job_of(row.aux, &style, row.database);
+    run_with(alloc, &files, b"job", &row.options())
+}
+
+/// Whether a run wrote and answered what a row says.
+pub fn is_given(alloc: Global, ran: &Outputs, row: &Row<'_>) -> Result<bool, Fault> {
+    let log = [TOP, row.before, FILES, row.after];
+    Ok(is_ended(alloc, ran, row.bbl, &log, row.report())?)
+}
+
+/// Whether the job of a row writes and answers what the row says.
+pub fn holds(alloc: Global, row: &Row<'_>) -> Result<bool, Fault> {
+    let ran = run_row(alloc, row)?;
+    is_given(alloc, &ran, row)
+}
+
+/// The number of the first row that doesn't hold, from 0, if one doesn't.
+pub fn first_wrong(alloc: Global, rows: &[Row<'_>]) -> Result<Option<usize>, Fault> {
+    for (number, row) in rows.iter().enumerate() {
+        if !holds(alloc, row)? {
+            return Ok(Some(number));
+        }
+    }
+    Ok(None)
+}

@@ -1,0 +1,141 @@
+//! Where files come from, and what the `.aux` files of a job say.
+ghost use Rattle.std.specs.Prelude.{◌≡◌, [], IfErr, None, OnErr, OnOk};
+
+use btx_aux::{AuxJob, End, FetchFault, Finder, History, MemoryFinder, read_aux};
+use btx_text::{Failures, Fault};
+use std::alloc::Global;
+
+// A finder of one file. It doesn't show its content.
+#[derive(Drop)]
+struct OneFile<'a> {
+    name: &'a [u8],
+    bytes: &'a [u8],
+    // Whether its device fails.
+    fails: bool,
+    history: History,
+    failures: Failures,
+}
+
+// Puts `bytes` in place of what `into` had.
+fn fill(into: &mut Vec<u8>, bytes: &[u8]) -> Result<(), FetchFault>
+    ensures ok { OnOk result (into.new.items ≡ bytes.now) }
+    ensures err { OnErr result (into.new.items ≡ []) }
+    ensures fault { IfErr result (λ fault. fault ≡ FetchFault.Memory) }
+{
+    into.clear();
+    into.extend_from_slice(bytes)
+        .map_err(|_| FetchFault::Memory)
+}
+
+impl Finder for OneFile<'_> {
+    ghost content = { λ _. None };
+
+    ghost answers = { λ finder. finder.history };
+
+    ghost failures = { λ finder. finder.failures };
+
+    fn fetch(
+        &mut self,
+        alloc: Global,
+        name: &[u8],
+        into: &mut Vec<u8>,
+    ) -> Result<bool, FetchFault> {
+        let bytes = if name == self.name { self.bytes } else { b"" };
+        let answer = if self.fails {
+            Err(FetchFault::Device)
+        } else {
+            fill(into, bytes).map(|()| name == self.name)
+        };
+        let answer = self.history.answer(alloc, name, answer, into);
+        self.failures
+            .note(matches!(answer, Err(FetchFault::Device)));
+        answer
+    }
+}
+
+// Makes a finder of the file `job.aux`, whose device fails or doesn't.
+fn one_file(alloc: Global, bytes: &[u8], fails: bool) -> OneFile<'_> {
+    OneFile {
+        name: b"job.aux",
+        bytes,
+        fails,
+        history: History::new(alloc),
+        failures: Failures::none(),
+    }
+}
+
+// A letter for each end.
+fn end_letter(end: End) -> u8 {
+    match end {
+        End::Whole => b'w',
+        End::TooManyOpen => b'o',
+        End::TopMissing => b'm',
+        End::FileLimit => b'l',
+    }
+}
+
+// A letter for each fault of a fetch.
+fn fault_letter(fault: FetchFault) -> u8 {
+    match fault {
+        FetchFault::Memory => b'm',
+        FetchFault::Device => b'd',
+    }
+}
+
+// The text of a top file, and what it says: a key, all entries after it, a database and a style.
+const AUX: &[u8] = b"\\citation{k,*}\n\\bibdata{d}\n\\bibstyle{s}\n";
+
+// Whether a job is that of the text, read from its one file.
+fn is_job(job: &AuxJob) -> bool {
+    job.keys().first().map(|key| key.as_slice()) == Some(b"k".as_slice())
+        && job.all() == Some(1)
+        && job.databases().first().map(|name| name.as_slice()) == Some(b"d.bib".as_slice())
+        && job.style() == Some(b"s.bst".as_slice())
+        && job.log().len() == 1
+        && end_letter(job.end()) == b'w'
+}
+
+// Whether the job of these files is that of the text.
+fn reads<F: Finder + Drop>(alloc: Global, finder: F) -> Result<bool, Fault> {
+    let mut finder = finder;
+    read_aux(alloc, &mut finder, b"job.aux").map(|job: AuxJob| is_job(&job))
+}
+
+// The letter of the end of a job without a top file.
+fn missing(alloc: Global) -> Result<u8, Fault> {
+    let mut finder = one_file(alloc, AUX, false);
+    read_aux(alloc, &mut finder, b"none.aux").map(|job: AuxJob| end_letter(job.end()))
+}
+
+// Keeps the text under this name, in memory, after another that has it first.
+fn kept(alloc: Global, name: &[u8]) -> Result<MemoryFinder, FetchFault> {
+    let pairs: [(&[u8], &[u8]); 2] = [(name, b"other"), (name, AUX)];
+    MemoryFinder::new(alloc, &pairs)
+}
+
+// Whether a finder over memory has the file of this name, and its bytes.
+fn fetches(alloc: Global, name: &[u8]) -> Result<(bool, bool), FetchFault> {
+    let mut bytes = Vec::new(alloc);
+    let mut finder = kept(alloc, b"job.aux")?;
+    let found: Result<bool, FetchFault> = finder.fetch(alloc, name, &mut bytes);
+    found.map(|found| (found, bytes.as_slice() == AUX))
+}
+
+// Whether the job of the files in memory is that of the text.
+fn reads_kept(alloc: Global) -> Result<bool, Fault> {
+    match kept(alloc, b"job.aux") {
+        Ok(finder) => reads(alloc, finder),
+        Err(fault) => Err(fault.into()),
+    }
+}
+
+#[test]
+fn files(rt: HostRuntime) {
+    let alloc = rt.alloc();
+    assert!(rt; reads(alloc, one_file(alloc, AUX, false)) == Ok(true));
+    assert!(rt; reads(alloc, one_file(alloc, AUX, true)) == Err(Fault::Device));
+    assert!(rt; missing(alloc) == Ok(b'm'));
+    assert!(rt; fetches(alloc, b"job.aux") == Ok((true, true)));
+    assert!(rt; fetches(alloc, b"none") == Ok((false, false)));
+    assert!(rt; reads_kept(alloc) == Ok(true) && fault_letter(FetchFault::Memory) == b'm');
+}
