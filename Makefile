@@ -2,11 +2,13 @@
 # make library    proves and builds the library for C, library/out; make install-library installs it alone
 # make wheel      builds the package for Python with the library in it, python/dist; it needs make library, and Python's setuptools and wheel
 # make front      builds the front end, front/out/bibtex-search and front/out/bibtex-confined, over the proved library; it needs cargo
+# make web        builds the library as WebAssembly, web/npm, and the page that runs it, web/out/btx.html; it needs make library, binaryen and Node
 # make install    puts the program, the front end, their man pages, completion, the documents and, where it is built, the library below PREFIX
 #                 (DESTDIR before it, where a package is made). The program is installed as NAME, so that it doesn't hide TeX's own bibtex:
 #                 contrib/README.md says why
 # make uninstall  takes them away again
 # make check      the whole gate: every proof, test and end-to-end check from nothing
+# make try        builds the program, the library and the front end of the tree as it stands, without any proof, in out/try; it installs nothing
 # make book       weaves the book of definitions, docs/book/out/book.html and book.md, and checks it; it needs no kit
 
 PREFIX = /usr/local
@@ -27,7 +29,7 @@ title = $(shell printf '%s' '$(page)' | tr a-z A-Z)
 # The commands whose options are completed, beside bibtex-search.
 completed = bibtex-confined bibtex-lint bibtex-proved
 
-.PHONY: all check library wheel front book install install-program install-front install-completion install-documents install-library uninstall
+.PHONY: all check library wheel front try web book install install-program install-front install-completion install-documents install-library uninstall
 
 all:
 	contrib/build
@@ -45,6 +47,13 @@ wheel:
 front:
 	front/build
 
+try:
+	contrib/try
+
+web:
+	web/build
+	python3 -B web/page/build.py
+
 book:
 	python3 -B docs/book/make.py
 
@@ -54,8 +63,7 @@ install-program:
 	@test -x '$(program)' || { echo 'there is no $(program): run make first' >&2; exit 1; }
 	install -d '$(bin)' '$(man)'
 	install -m 755 '$(program)' '$(bin)/$(NAME)'
-	sed -e 's/^\.TH BIBTEX /.TH $(title) /' -e 's/^bibtex \\- /$(page) \\- /' -e 's/^\.B bibtex\( \|$$\)/.B $(page)\1/' docs/bibtex.1 >'$(man)/$(NAME).1'
-	chmod 644 '$(man)/$(NAME).1'
+	sed -e 's/^\.TH BIBTEX /.TH $(title) /' -e 's/^bibtex \\- /$(page) \\- /' -e 's/^\.B bibtex\( \|$$\)/.B $(page)\1/' docs/bibtex.1 | install -m 644 /dev/stdin '$(man)/$(NAME).1'
 
 install-front:
 	@test -x '$(front)/bibtex-search' -a -x '$(front)/bibtex-confined' || { echo 'there is no $(front)/bibtex-search: run make front first' >&2; exit 1; }

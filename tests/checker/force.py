@@ -1,4 +1,4 @@
-"""Styles from a seed that the checker calls clean, run by the reference and by the library: not one may log a fault of its own.
+"""Styles from a seed that the checker calls clean, run by the reference and by the library: not one may log a fault of the stack or of kinds.
 
     python3 force.py [--styles N] [--real N] [--jobs N] [--seed N] [--processes N] [--folder FOLDER] LIBRARY.so
     python3 force.py --self-test [--styles N] [--seed N] LIBRARY.so

@@ -80,19 +80,44 @@ refused_in_sorted() {
     end
 }
 
+# refuses_worked STATUS: the job of the files that are there, which ends with this status where no memory is refused.
+refuses_worked() {
+    run_program job
+    whole_status=$status
+    wants_status "$1"
+    keep job.bbl whole_list
+    keep job.blg whole_log
+    refuses_each wants_fault_or_answer job
+    wants_status "$1"
+}
+
 # refused_in_worked NAME STATUS TEXT: a worked style behind the usual declarations, run for the usual entry, or for those that are cited.
 refused_in_worked() {
     begin "refused_memory_in_$1"
     use_style "$3"
     [ -z "${4:-}" ] || cite "$4"
     [ -z "${5:-}" ] || printf '%s' "$5" >d.bib
-    run_program job
-    whole_status=$status
-    wants_status "$2"
-    keep job.bbl whole_list
-    keep job.blg whole_log
-    refuses_each wants_fault_or_answer job
-    wants_status "$2"
+    refuses_worked "$2"
+    end
+}
+
+# refused_in_children NAME KEYS LIST: two children of one parent, which stays in the list where both are cited.
+refused_in_children() {
+    begin "refused_memory_in_$1"
+    cite "$2"
+    printf '%s\n' '@misc{c1, title = {One}, crossref = {p}}' '@misc{c2, title = {Two}, crossref = {p}}' '@book{P, booktitle = {Vol}}' >d.bib
+    printf '%s\n' 'ENTRY {title booktitle}{}{} FUNCTION {misc}{} FUNCTION {book}{} READ FUNCTION {f} {cite$ write$ ":" write$ crossref missing$ int.to.str$ write$ ":" write$ booktitle empty$ {"-"} {booktitle} if$ write$ newline$} ITERATE {f}' >s.bst
+    refuses_worked 0
+    [ "$whole_list" = "$3" ] || complaints+=("the list is $(printf '%q' "$whole_list")")
+    end
+}
+
+# refused_in_open_argument: a citation whose argument has no end, so that no key is cited.
+refused_in_open_argument() {
+    begin refused_memory_in_an_open_argument
+    printf '\\citation{k\n\\bibdata{d}\n\\bibstyle{s}\n' >job.aux
+    use_style ''
+    refuses_worked 2
     end
 }
 
@@ -125,6 +150,9 @@ refused_in_worked broken_line 0 "FUNCTION {f} {\"$(letters 80 a)  b\" write\$ ne
 refused_in_worked name 0 "FUNCTION {f} {\"Charles Louis Xavier Joseph de la Vall{\\'e}e Poussin\" #1 \"{vv~}{ll}{, jj}{, f}?\" format.name\$ write\$ newline\$} EXECUTE {f}"
 refused_in_worked other_case 2 '' k,K
 refused_in_worked white_in_argument 2 '' 'k, j'
+refused_in_open_argument
+refused_in_children one_child c1 $'c1:1:Vol\n'
+refused_in_children both_children c1,c2 $'c1:0:Vol\nc2:0:Vol\nP:1:Vol\n'
 refused_in_worked sorted_keys 0 "FUNCTION {f} {cite\$ 'sort.key\$ :=} FUNCTION {g} {cite\$ write\$ newline\$} ITERATE {f} SORT ITERATE {g}" b,a,C '@misc{a}@misc{b}@misc{C}'
 first_of_two_faults
 

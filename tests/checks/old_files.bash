@@ -215,3 +215,15 @@ begin no_log_before_the_end
 kill_while_it_writes
 wants_files d.bib job.aux job.bbl s.bst
 end
+
+# Both outputs are one file, and the list is longer than the log, which is written last: no rest of the list stands after it.
+begin list_and_log_in_one_file
+use_style "FUNCTION {f} {$(printf '"%s" write$ newline$ ' {a..z}{0..99})} EXECUTE {f}"
+run_program job
+mv job.blg wanted.blg
+: >job.bbl
+ln job.bbl job.blg
+run_program job
+wants_status 0
+wants_text job.blg "$(cat wanted.blg)"$'\n'
+end

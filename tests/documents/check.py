@@ -2,17 +2,18 @@
 
     python3 check.py
 
-It reads README.md and the .md files of docs/, .ci/, crates/, tests/, examples/, contrib/, library/, python/ and lua/. A table says what its columns hold by their heads. Each
+It reads README.md and the .md files of docs/, .ci/, crates/, tests/, examples/, contrib/, library/, python/, lua/ and web/. A table says what its columns hold by their heads. Each
 failure is a line; the last line is 'N passed, M failed', of citations, and the exit status is 0 only where M is 0. The user's reference also has the
 words that people search for, README is short and has the right sizes; and where there is `rt`, README names the kit that `rt version` prints among those that the program is
 proved with.
 
 Each crate has a README with the parts that one looks for. It names each wrong body of its crate, and its examples of Rattle are lines of the file that it
 says, in the file's order (a line `..` stands for what is left out). docs/PROOFS.md has an index of the promises of each crate with wrong bodies.
-The table at the end of docs/ARCHITECTURE.md, of what a change touches, has the files and numbers that places.py finds. Each recipe of docs/CONTRIBUTING.md that has
+Each recipe of docs/CONTRIBUTING.md that has
 an example names the files of code and definitions that have it, up to three, and no others. Names are as that document says.
 
-The table of crates in .ci/README.md has each crate's number of functions, right within a tenth or two, and of wrong bodies.
+The table of crates in .ci/README.md has each crate's number of functions, right within a tenth or two, and of wrong bodies. Its table of parts names
+those of .ci/parts and no others, and the folders and scripts of each of these are there.
 
 Not checked: the counts in prose and the times of .ci/README.md, which are as they were measured."""
 
@@ -26,7 +27,7 @@ import places
 
 ROOT = pathlib.Path(__file__).resolve().parents[2]
 DOCUMENTS = sorted(path for pattern in ("README.md", "docs/*.md", "docs/book/README.md", ".ci/*.md", "crates/*/README.md", "crates/*/docs/*.md", "tests/**/*.md",
-                                        "examples/**/*.md", "contrib/*.md", "library/*.md", "python/*.md", "lua/*.md") for path in ROOT.glob(pattern))
+                                        "examples/**/*.md", "contrib/*.md", "library/*.md", "python/*.md", "lua/*.md", "web/*.md") for path in ROOT.glob(pattern))
 # What a build makes, and no clone has.
 BUILT = re.compile(r"(?:crates/\w+|library)/out\b")
 PATH = re.compile(r"(?<![\w./-])(?:crates|docs|tests|examples|contrib|library|\.ci|specs|proofs|src)/[\w.*/-]*\w\*?/?")
@@ -214,20 +215,6 @@ def examples():
                     yield f"{crate}: the example of its README has a line that isn't in {cited} there: {line}", is_there
 
 
-def changes():
-    """The rows of the table of changes: each file that a row names, up to `Also`, has the row's example, and its numbers are right within a tenth or three."""
-    text = (ROOT / "docs/ARCHITECTURE.md").read_text(encoding="utf-8")
-    rows = [[it.strip() for it in line.strip("|").split(" | ")] for line in text.split("\n") if line.startswith("| a") and line.count(" | ") == 3]
-    yield "docs/ARCHITECTURE.md: the table of changes hasn't the kinds of tests/documents/places.py", [row[0] for row in rows] == list(places.KINDS)
-    for kind, _, touched, said in (row for row in rows if row[0] in places.KINDS):
-        found = places.files_of(kind)
-        for cited in PATH.findall(touched.split("Also")[0]):
-            yield f"docs/ARCHITECTURE.md: {kind}: {cited} doesn't name the example", cited in found
-        for sort, count in places.counts_of(kind).items():
-            number = int((re.search(rf"(\d+) {sort}", said) or [0, 0])[1])
-            yield f"docs/ARCHITECTURE.md: {kind}: {number} {sort}, and there are {count}", abs(number - count) <= max(3, count // 10)
-
-
 def recipes():
     """The recipes with an example: each has the files of code and definitions that name the example, up to three, and all that it has of these do."""
     text = (ROOT / "docs/CONTRIBUTING.md").read_text(encoding="utf-8")
@@ -284,6 +271,19 @@ def gate_numbers():
             yield f".ci/README.md: {crate}: {number} {what}, and there are {count}", abs(number - count) <= room
 
 
+def gate_parts():
+    """That the gate's table of parts is right: its folders and scripts are there, and .ci/README.md names each part."""
+    rows = [[it.strip() for it in line.split("|", 4)] for line in (ROOT / ".ci/parts").read_text(encoding="utf-8").split("\n") if "|" in line and line[0] != "#"]
+    for name, _, _, folders, command in rows:
+        named = folders.split() + [word for word in command.split() if re.fullmatch(r"[\w./-]*/[\w.-]+", word) and not word.startswith("front/out")]
+        for path in named:
+            yield f".ci/parts: {name}: there is no {path}", (ROOT / path).exists()
+    said = set()
+    for line in (ROOT / ".ci/README.md").read_text(encoding="utf-8").split("## Times")[0].split("\n"):
+        said.update(CODE.findall(line.split("|")[1]) if line.startswith("| `") else ())
+    yield f".ci/README.md: its table has other parts than .ci/parts: {said ^ {row[0] for row in rows}}", said == {row[0] for row in rows}
+
+
 def missing_words():
     """The words that people search for and that the reference doesn't have."""
     text = REFERENCE.read_text(encoding="utf-8").lower()
@@ -333,7 +333,7 @@ def main():
             passed, failed = passed + (wrong is None), failed + (wrong is not None)
             if wrong:
                 print(f"{path.relative_to(ROOT)}, line {number}: `{cited}`: {wrong}")
-    for message, is_right in (*unnamed_bodies(), *missing_parts(), *examples(), *changes(), *recipes(), *names(), *gate_numbers(), *is_short()):
+    for message, is_right in (*unnamed_bodies(), *missing_parts(), *examples(), *recipes(), *names(), *gate_numbers(), *gate_parts(), *is_short()):
         passed, failed = passed + is_right, failed + (not is_right)
         if not is_right:
             print(message)

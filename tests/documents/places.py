@@ -3,8 +3,7 @@
     python3 tests/documents/places.py          each kind of change, with how many files name its example
     python3 tests/documents/places.py KIND     those files, as `places.py 'an option'`
 
-docs/ARCHITECTURE.md ends with a table of these changes. check.py sees that its numbers are still right, up to a tenth or three files, and that each file that it
-names has the example. The recipes of docs/CONTRIBUTING.md for some of them have all of its files of code and definitions."""
+check.py sees that the recipes of docs/CONTRIBUTING.md for some of these kinds have all of their files of code and definitions."""
 
 import functools
 import os

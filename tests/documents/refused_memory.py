@@ -33,7 +33,7 @@ LISTED = {
     ("btx_aux", "MemoryFinder::new"): (1, "a file couldn't be put into the table"),
     ("btx_aux", "fill"): (1, "the file's bytes couldn't be copied"),
     ("btx_aux", "History::answer"): (1, "the answer couldn't be noted"),
-    ("btx_bib", "number_of"): (1, "there are more than 2^32 values, which no memory holds"),
+    ("btx_bib", "number_of"): (1, "there are more than 2^32 values, which take 64 GB or more"),
     ("btx_c", "copy_or_ask"): (1, "the name couldn't be kept"),
     ("btx_command", "refusal_with"): (1, "the words couldn't be kept, or the text of the refusal couldn't be made"),
     ("btx_command", "read_in"): (1, "the path couldn't be made"),

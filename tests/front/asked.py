@@ -54,11 +54,12 @@ def write_job(chance, folder):
 
 
 def opened_by_the_program(trace):
-    """The paths that the program opens, or None where it wasn't started."""
-    started = [match.start() for match in re.finditer(r"execve\(", trace)]
+    """The paths that the program opens, or None where it wasn't started. (bibtex-confined, another process, opens files too.)"""
+    started = list(re.finditer(r"^([0-9]+) +execve\(", trace, re.MULTILINE))
     if len(started) < 2:
         return None
-    paths = re.findall(r'open(?:at)?\((?:AT_FDCWD, )?"((?:[^"\\]|\\.)*)"', trace[started[-1]:])
+    process = started[-1][1]
+    paths = re.findall(rf'^{process} +open(?:at)?\((?:AT_FDCWD, )?"((?:[^"\\]|\\.)*)"', trace[started[-1].start():], re.MULTILINE)
     return [path for path in paths if not path.startswith(SYSTEM)]
 
 

@@ -11,7 +11,7 @@ import sys
 FOUND = re.compile(rb"The top-level auxiliary file: |A level-\d+ auxiliary file: |The style file: |Database file #\d+: |Reallocated |Capacity: ")
 PLACE = re.compile(rb"--line (\d+) of file (.*)", re.S)
 EXECUTED = re.compile(rb"(?s)(.*) \(([^() ]+)\)( for entry .*)?")
-COUNTS = re.compile(rb"\(There (was|were) \d+ (warning|error message)s?\)")
+COUNTS = re.compile(rb"\(There (was|were) \d+ (warning|error message)s?\)|\(Where the style stood isn't known of \d+ errors?: it is looked for at the first ones alone\.\)")
 SKIPPED = re.compile(rb"I'm skipping whatever remains of this (command|entry)")
 # A run's end: at a limit, and how it ended.
 ENDS = (b"Sorry---you've exceeded", b"Ended: ")

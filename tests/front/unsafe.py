@@ -8,8 +8,8 @@ import re
 import sys
 
 COLOUR = re.compile(rb"\x1b\[[0-9;]*m")
-# Control characters but the tab and the line end; those of C1; marks, embeddings, overrides and isolates of direction.
-UNSAFE = re.compile("[\x00-\x08\x0b-\x1f\x7f\x80-\x9f\u061c\u200e\u200f\u202a-\u202e\u2066-\u2069]")
+# Control characters but the tab and the line end; those of C1; marks, separators, embeddings, overrides and isolates of direction.
+UNSAFE = re.compile("[\x00-\x08\x0b-\x1f\x7f\x80-\x9f\u061c\u200e\u200f\u2028-\u202e\u2066-\u2069]")
 
 
 def finds(printed):

@@ -226,16 +226,16 @@ def ended(text, utf8):
 
 class Formatted(NamedTuple):
     text: bytes
-    no_such_name: bool = False
-    comma_at_end: bool = False
-    too_many_commas: bool = False
-    illegal_format: bool = False
+    x10: bool = False   # there is no name of the number
+    x11: bool = False   # the name has a comma at its end
+    x12: bool = False   # the name has more than two commas
+    x13: bool = False   # the format is illegal
 
 
 def format_name(text, number, format_text, utf8=False):
     all_names = names(text)
     if not 1 <= number <= len(all_names):
-        return Formatted(b"", no_such_name=True)
+        return Formatted(b"", x10=True)
     name = divide(all_names[number - 1])
     try:
         items, illegal = read_format(format_text), False

@@ -301,10 +301,11 @@ NO_TOP_FILE = b"Ended: no top file, warnings 0, errors 0, steps 0\n"
 # ---- calls ----
 
 STRING_CALLS = [
-    ("add_period", (b"a.}",), b"a.}"), ("add_period", (b"}",), b"}."), ("add_period", (b"a)",), b"a)."),
+    ("add_period", (b"a.}",), b"a.}"), ("add_period", (b"}",), b"}."), ("add_period", (b"a)",), b"a)."), ("add_period", (b"a.]",), b"a.]."),
     ("text_length", (b"a{b}",), 2), ("width", (b"",), 0), ("width", (b"{\\'e}",), 444),
     ("substring", (b"abc", 4, 1), b""),
     ("change_case", (b"A:B", b"t"), (b"A:b", True)), ("change_case", (b"A: {\\'E} B", b"t"), (b"A: {\\'E} b", True)),
+    ("width", (b"a{\\",), 500), ("purify", (b"{\\'e-~o}",), b"eo"), ("change_case", (b"Ab", b"tt"), (b"Ab", False)),
     ("change_case", (b"Ab", b"x"), (b"Ab", False)), ("purify", (b"{\\'e}-{\\relax x}",), b"e x"),
     ("text_length", (b"\xc3\x89a", True), 2), ("text_length", (b"\xc3\x89a",), 3),
     ("text_prefix", (b"\xc3\x89a", 1, True), b"\xc3\x89"), ("text_prefix", (b"\xc3\x89a", 1), b"\xc3"),
@@ -314,11 +315,11 @@ STRING_CALLS = [
 
 NAME_CALLS = [
     (b"jean de la fontaine", 1, b"{f. }{vv }{ll}", False, b"jean de~la fontaine", ()),
-    (b"Knuth, Donald,", 1, b"{ll}", False, b"Knuth", ("comma_at_end",)),
+    (b"Knuth, Donald,", 1, b"{ll}", False, b"Knuth", ("x11",)),
     (b"{{\\'E}x} Y", 1, b"{f.}", False, b"{\\'E}.", ()),
     (b"A {\\'\\i}b C", 1, b"{vv}", False, b"{\\'\\i}b", ()),
-    (b"A", 2, b"{ll}", False, b"", ("no_such_name",)),
-    (b"A", 1, b"{lll}", False, b"", ("illegal_format",)),
+    (b"A", 2, b"{ll}", False, b"", ("x10",)),
+    (b"A", 1, b"{lll}", False, b"", ("x13",)),
     (b"Cartan, \xc3\x89lie", 1, b"{f. }{ll}", True, b"\xc3\x89. Cartan", ()),
     (b"Cartan, \xc3\x89lie", 1, b"{f. }{ll}", False, b"\xc3. Cartan", ()),
     (b"\xc3\x89lie Cartan", 1, b"{f. }{ll}", True, b"Cartan", ()),

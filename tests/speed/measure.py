@@ -1,10 +1,11 @@
 #!/usr/bin/env python3
 """How fast the program is, beside the original `bibtex` where that is installed.
 
-    python3 tests/speed/measure.py [--aims] [--sizes N,..] [--counted N] [--styles NAME,..] [--runs N] [--seed N] [PROGRAM]
+    python3 tests/speed/measure.py [--aims] [--instructions] [--sizes N,..] [--counted N] [--styles NAME,..] [--runs N] [--seed N] [PROGRAM]
 
 PROGRAM is BIBTEX_PROGRAM, or else crates/bibtex/out/bibtex, if none is given. Instructions are counted by valgrind; without valgrind, or a compiler for
-`once.c`, nothing is measured. Prints a table of jobs, one of loops, and the bars; with --aims the aims that aren't met yet are bars too. Its last line is
+`once.c`, nothing is measured. Prints a table of jobs, one of loops, and the bars; with --aims the aims that aren't met yet are bars too, and with
+--instructions memory is no bar, since what the original takes depends on how much of TeX is installed. Its last line is
 'N bars met, M not'; the exit status is 0 only where M is 0."""
 
 import argparse
@@ -203,7 +204,7 @@ def of_original(measured, job):
     return figures.instructions, figures.megabytes
 
 
-def print_bars(measured, bars):
+def print_bars(measured, bars, is_of_memory):
     for job in measured:
         figures = measured[job]["program"]
         if job.name == jobs.START:
@@ -213,7 +214,7 @@ def print_bars(measured, bars):
             what = f"{job.name}, {job.entries:,} entries"
             if figures.instructions or figures.failure:
                 bars.judge(f"{what}, instructions of the original", figures.failure or figures.instructions, instructions, millions)
-            if job.entries <= MOST_ENTRIES_OF_ORIGINAL:
+            if is_of_memory and job.entries <= MOST_ENTRIES_OF_ORIGINAL:
                 bars.judge(f"{what}, memory of the original", figures.failure or figures.megabytes, megabytes,
                            lambda size: f"{size:.1f} MB")
 
@@ -234,14 +235,14 @@ def share(figure, program, original):
     return figure(program) / figure(original)
 
 
-def print_shares(measured, bars, are_aims):
+def print_shares(measured, bars, are_aims, is_of_memory):
     """The bars of shares: those that are met, or those that are still aims."""
     for job, figures in measured.items():
         if job.name not in INSTRUCTIONS_AIMED or job.entries != (ENTRIES_OF_TYPICAL if job.name == TYPICAL else AIMED_SIZE):
             continue
         program, original = figures["program"], figures.get("original")
         for what, figure, most in shares_of(job):
-            if ((job.name, what) in NOT_MET) != are_aims:
+            if ((job.name, what) in NOT_MET) != are_aims or (what == MEMORY and not is_of_memory):
                 continue
             found = share(figure, program, original) if original else None
             bars.judge(f"{'aim: ' if are_aims else ''}{job.name}, {job.entries:,} entries, share of the original's {what}", found,
@@ -287,6 +288,7 @@ def numbers(text):
 def read_arguments():
     parser = argparse.ArgumentParser()
     parser.add_argument("--aims", action="store_true", help="the aims that aren't met yet are bars too")
+    parser.add_argument("--instructions", action="store_true", help="memory is no bar")
     parser.add_argument("--sizes", type=numbers, default=[1_000, 10_000], help="numbers of entries, rising")
     parser.add_argument("--counted", type=int, default=10_000, help="instructions are counted up to this number of entries")
     parser.add_argument("--styles", type=lambda text: text.split(","), default=[ARTICLE, PLAIN, ALPHA, LONG])
@@ -364,10 +366,10 @@ def main():
         measured = measure_all(tools, arguments, room)
     bars = Bars()
     if any(tool.name == "program" for tool in tools):
-        print_bars(measured, bars)
-        print_shares(measured, bars, False)
+        print_bars(measured, bars, not arguments.instructions)
+        print_shares(measured, bars, False, not arguments.instructions)
         if arguments.aims:
-            print_shares(measured, bars, True)
+            print_shares(measured, bars, True, not arguments.instructions)
     else:
         bars.missed += 1
     for tool in tools:

@@ -2,7 +2,7 @@
 
     python3 compare.py [--jobs N] [--programs N] [--entries N] [--seed N] [--styles FOLDER] LIBRARY.so
 
-LIBRARY.so is the library for C (library/out/libbtx.so.1). Runs the worked and corner jobs, random jobs and programs, and a database of errors with each style of the folder (that of TeX Live,
+LIBRARY.so is the library for C (library/out/libbtx.so.1). Runs the worked and corner jobs, those of functions between which some end in a fault, random jobs and programs, and a database of errors with each style of the folder (that of TeX Live,
 if it is there), and compares all notes of all errors, line by line. The last line is 'N passed, M failed', of jobs; the lines above it count the jobs
 with errors, and the events."""
 
@@ -21,7 +21,9 @@ sys.path.insert(0, str(ROOT / "tests" / "reference"))
 import make_database  # noqa: E402
 from product import Options  # noqa: E402
 from random_jobs import random_jobs, random_programs, worked_jobs  # noqa: E402
+from systematic_turns import functions_again  # noqa: E402
 from trace import trace  # noqa: E402
+from worked_jobs import files_of  # noqa: E402
 
 MOST = 100
 DONE, FULL = 0, 4
@@ -141,7 +143,8 @@ def main():
     seed = seed_of_commit() if arguments.seed is None else arguments.seed
     print(f"the seed is {seed}", flush=True)
     library, results, counts = Library(arguments.library), [], collections.Counter()
-    made = itertools.chain(worked_jobs(), random_jobs(arguments.jobs, seed), random_programs(arguments.programs, seed))
+    again = ((files_of(job), job.options) for job in functions_again())
+    made = itertools.chain(worked_jobs(), again, random_jobs(arguments.jobs, seed), random_programs(arguments.programs, seed))
     if os.path.isdir(arguments.styles):
         made = itertools.chain(made, style_jobs(arguments.styles, arguments.entries))
     for files, given in made:

@@ -1,6 +1,6 @@
 """Plants the wrong bodies that the crates keep, and sees that the prover refuses each of them.
 
-    python3 plant.py [--all] [--named NAME] [--alone] [--kept] [--unplanted] [--jobs N] [CRATE..]
+    python3 plant.py [--all] [--rare] [--named NAME] [--alone] [--kept] [--unplanted] [--jobs N] [CRATE..]
 
 A wrong body is a file crates/NAME/wrong-bodies/*.edit, or must-fail/*.edit: a line 'function:' with the function that must be refused, a line 'file:', and pairs of
 lines 'old:' and 'new:'; each old text stands in that file once. Further lines 'file:' may follow, with their pairs: so a slip is made in a
@@ -19,8 +19,8 @@ One that changes a definition too, a file of specs/, has a round of its own behi
 these in one round could not be distinguished: a law that the one breaks may be refused for the other's definition. But slips that change definitions alone share a round if
 none of the files that the law of the one is proved by, and that its statement is made of, is changed by another: then each law can only be refused for its own slip.
 
-A file with a line 'rare: REASON' is tried only with --all, and the number of those that were left out is printed: the gate has no minutes for a round of its own for each of many slips in one
-definition that others guard too. With --named only the bodies of these names are tried.
+A file with a line 'rare: REASON' is tried only with --all, or with --rare, which tries these alone; else the number of those that were left out is printed: the gate has no minutes for a round of
+its own for each of many slips in one definition that others guard too. With --named only the bodies of these names are tried.
 
 Each file also has a line 'witness:', which witnesses.py checks; here it must only be there.
 
@@ -247,10 +247,15 @@ def kept_folder(crate, room, is_given):
     return str(kept)
 
 
+def is_asked_for(body, given):
+    """Whether the words of the command line are about this wrong body."""
+    return body.name in given.named if given.named else body.is_rare or not given.rare
+
+
 def try_crate(kit, crate, given):
     paths = sorted(path for folder in FOLDERS for path in pathlib.Path(crate.folder, folder).glob("*.edit"))
-    bodies, began = [it for it in map(WrongBody, paths) if not given.named or it.name in given.named], time.monotonic()
-    left_out = [it for it in bodies if it.is_rare and not (given.all or given.named)]
+    bodies, began = [it for it in map(WrongBody, paths) if is_asked_for(it, given)], time.monotonic()
+    left_out = [it for it in bodies if it.is_rare and not (given.all or given.rare or given.named)]
     bodies = [it for it in bodies if it not in left_out]
     if not bodies:
         return []
@@ -273,6 +278,7 @@ def try_crate(kit, crate, given):
 def main():
     parser = argparse.ArgumentParser()
     parser.add_argument("--all", action="store_true")
+    parser.add_argument("--rare", action="store_true")
     parser.add_argument("--named", action="append", default=[])
     parser.add_argument("--alone", action="store_true")
     parser.add_argument("--kept", action="store_true")

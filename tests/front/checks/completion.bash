@@ -58,7 +58,7 @@ done
 begin completion_of_values_and_jobs
 mkdir sub
 cp job.aux other.aux
-wants_completed 'bytes utf8' bibtex-search -text =
+wants_completed 'auto bytes utf8' bibtex-search -text =
 wants_completed utf8 bibtex-search --text u
 wants_completed utf8 bibtex-confined job --text = u
 wants_completed '' bibtex-search -budget ''

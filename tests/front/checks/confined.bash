@@ -104,6 +104,7 @@ end
 begin confined_limits
 cat >shows <<'END'
 #!/bin/sh
+echo "Ended: finished" >job.blg
 {
     for limit in c v f n; do
         echo "$limit $(ulimit -$limit)"
@@ -251,6 +252,52 @@ wants_error_with 'bibtex-confined: the program ./broken can'"'"'t be started: No
 wants_old
 end
 
+# A program's file that is damaged is handed to no shell: an upgrade on a full disk may leave it so.
+for damage in empty zeros comment cut; do
+    begin "confined_program_$damage"
+    leave_old
+    mkdir "$folder/bin"
+    case $damage in
+    empty) : >"$folder/bin/bibtex-proved" ;;
+    zeros) head -c 10000 /dev/zero >"$folder/bin/bibtex-proved" ;;
+    comment) echo '# a comment' >"$folder/bin/bibtex-proved" ;;
+    cut) head -c 100 "$program" >"$folder/bin/bibtex-proved" ;;
+    esac
+    chmod +x "$folder/bin/bibtex-proved"
+    status=0
+    env -u BIBTEX_PROGRAM PATH="$folder/bin:/usr/bin:/bin" "$confined" job </dev/null >"$folder/stdout" 2>"$folder/stderr" || status=$?
+    wants_status 6
+    wants_error_with "bibtex-proved can't be started: Exec format error"
+    wants_old
+    end
+done
+
+# A program that says it ran the job, and left no log of that, didn't: no old list stands for the new one. So it is with a log of another run, and with one that breaks off.
+for said in 0 2 3 4; do
+    for left in ':' 'echo "The style file: s.bst" >job.blg'; do
+        begin "confined_no_log_${said}_$((passed + failed))"
+        echo 'old list' >job.bbl
+        echo 'Ended: finished, warnings 0, errors 0, steps 4' >job.blg
+        printf '#!/bin/sh\n%s\nexit %s\n' "$left" "$said" >claims
+        chmod +x claims
+        BIBTEX_PROGRAM=./claims run_confined job
+        wants_status 6
+        wants_error "bibtex-confined: the program ended with status $said, and job.blg isn't the log of a run that came to its end
+"
+        wants_text job.bbl ''
+        end
+    done
+done
+
+# However soon a job is run again, its log is known for the new one.
+begin confined_again_and_again
+for turn in {1..20}; do
+    run_confined job
+    wants_status 0
+done
+wants_text job.bbl $'a\n'
+end
+
 gcc -O2 -Wall -Werror -shared -fPIC -o "$room/fail_confined_open.so" "$sources/tests/fail_open.c" -ldl
 for reason in 'EMFILE 6 Too many open files' 'EIO 6 Input/output error' 'ENOMEM 5 Cannot allocate memory' '40 1 Too many levels of symbolic links' \
     'EACCES 3 I couldn'"'"'t open file name `job.aux'"'"; do
@@ -321,11 +368,11 @@ wants_error_with 'the .aux files name more than 1 files'
 wants_old
 head -c 2000 /dev/zero | tr '\0' '%' >>job.aux
 run_confined job --limit-aux=1
-wants_error_with 'job.aux has more than 1 KB'
+wants_error_with 'job.aux has 1 KB or more'
 wants_old
 head -c 2000 /dev/zero >>d.bib
 run_confined job --limit-input=1
-wants_error_with 'd.bib has more than 1 KB'
+wants_error_with 'd.bib has 1 KB or more'
 wants_old
 use_style 'FUNCTION {f}{{#1} {"a line" write$ newline$} while$} EXECUTE {f}'
 run_confined job --limit-output=2
@@ -380,7 +427,7 @@ for signal in TERM HUP PIPE INT QUIT; do
 done
 
 begin confined_leaves_no_process
-printf '#!/bin/sh\necho $$ >leader\nsleep 98765 &\necho $! >child\n' >leaves
+printf '#!/bin/sh\necho $$ >leader\nsleep 98765 &\necho $! >child\necho "Ended: finished" >job.blg\n' >leaves
 chmod +x leaves
 BIBTEX_PROGRAM=./leaves run_confined job
 wants_status 0
@@ -453,13 +500,29 @@ run_confined job $'--min-crossrefs=\033[31m'
 wants_refusal "the name '??/d.bib' isn't one of a file of this folder"
 end
 
+# A file may have a byte less than its limit.
+begin confined_limits_to_the_byte
+leave_old
+cp job.aux short.aux
+{ cat short.aux; head -c $((1023 - $(stat -c %s short.aux))) /dev/zero | tr '\0' '%'; } >job.aux
+run_confined job --limit-aux=1
+wants_status 0
+leave_old
+printf '%%' >>job.aux
+run_confined job --limit-aux=1
+wants_status 1
+wants_error 'bibtex-confined: job.aux has 1 KB or more
+'
+wants_old
+end
+
 # A long file without bytes is measured, not read.
 begin confined_sparse
 truncate -s 200G d.bib
 leave_old
 run_confined job
 wants_status 1
-wants_error 'bibtex-confined: d.bib has more than 100000 KB
+wants_error 'bibtex-confined: d.bib has 100000 KB or more
 '
 wants_old
 end

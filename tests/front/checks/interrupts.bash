@@ -65,6 +65,15 @@ wants_begun
 grep -qi 'ctrl-c' "$folder/found" || complaints+=("nothing said that it was still going: $(cat "$folder/found")")
 end
 
+# A signal that comes shortly before the end of a run ends the program too, whatever was written: so it ends a shell's loop.
+begin interrupted_shortly_before_the_end
+use_style 'FUNCTION {f} {#5000000 {duplicate$ #0 >} {#1 -} while$ pop$ "a" write$ newline$} EXECUTE {f}'
+LD_LIBRARY_PATH=$libraries python3 "$here/taken.py" "$search" -terse job >"$folder/found" || complaints+=("$(cat "$folder/found")")
+echo "        $(tail -n 1 "$folder/found")"
+wants_text job.bbl $'a\n'
+wants_files d.bib job.aux job.bbl job.blg s.bst
+end
+
 # A second signal ends it at once.
 begin interrupted_twice
 endless
@@ -231,6 +240,8 @@ wants_bounded 6 300000
 wants_words job.blg -log-room
 wants_words "$folder/stdout" -log-room
 wants_words job.blg 'Warning--a warning of the style'
+# (1,000 lines of the log, and where the rest is)
+[ "$(wc -l <"$folder/stdout")" -eq 1001 ] || complaints+=("$(wc -l <"$folder/stdout") lines were printed")
 end
 
 # Each place in a style has the style's name again: places take as many bytes as the log's room at most.

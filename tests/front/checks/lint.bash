@@ -49,7 +49,7 @@ write_clean
 run_lint clean.bst
 wants_status 0
 wants_error ''
-wants_output 'clean.bst: clean: no run with a budget of at most 1,500,000,000 steps logs a fault of its own (at most 4 bodies are open; 3 literals were met)
+wants_output 'clean.bst: clean: no run with a budget of at most 1,500,000,000 steps logs a fault of the stack or of kinds (at most 4 bodies are open; 3 literals were met)
     for entries of the types article, and of all that it doesn'"'"'t know
     not covered: entries of 2 types with a dot in their names: these functions stand above READ and aren'"'"'t taken as types
 '
@@ -398,6 +398,57 @@ wants_line_of_output 'clean.bst: mistakes in its text (1 message): mend these fi
 ! grep -q clean: "$folder/stdout" || complaints+=('it is called clean')
 end
 
+# write_type FILE BODY: a style whose entries of the type misc have this body.
+write_type() {
+    printf '%s\n' 'ENTRY {title author}{}{}' 'INTEGERS {i}' "FUNCTION {misc} {$2}" READ 'ITERATE {call.type$}' >"$1"
+}
+
+# A function that is met again with another value of a variable, which it reads in a quoted function alone, is followed again.
+begin lint_of_a_function_met_again
+long=$(printf 'skip$ %.0s' {1..12})
+printf '%s\n' 'ENTRY {}{}{}' 'INTEGERS {i}' "FUNCTION {f} {$long #1 {i #1 = {#5 write\$} {skip\$} if\$} {skip\$} if\$}" "FUNCTION {g} {#0 'i := f #1 'i := f}" READ 'ITERATE {g}' >again.bst
+run_lint again.bst
+wants_line_of_output 'again.bst:3: in f: `write$` takes TEXT, and its TEXT is the integer 5 here'
+wants_line_of_output 'again.bst: warnings: 1 place'
+end
+
+# One place may have two faults, each with its own condition.
+begin lint_of_two_faults_at_a_place
+write_type two.bst "title empty$ 'skip$ {#1} if$ write$"
+run_lint two.bst
+wants_line_of_output 'two.bst:3: in misc: `write$` takes TEXT, and there may be no literal on the stack here'
+wants_line_of_output 'two.bst:3: in misc: `write$` takes TEXT, and its TEXT is the integer 1 here'
+wants_line_of_output '    when: title is missing or blank'
+wants_line_of_output '    when: title is given'
+wants_line_of_output 'two.bst: warnings: 2 places'
+end
+
+# The outer of two uneven `if$` is uneven only since the inner one is.
+begin lint_of_an_uneven_choice_in_another
+write_type uneven.bst 'title empty$
+  {author empty$ {"a"} {"a" "b"} if$}
+  {}
+  if$'
+run_lint uneven.bst
+wants_line_of_output 'uneven.bst:4: in misc: the branches of this `if$` leave different numbers of literals: the first leaves 1, the second leaves 2'
+wants_line_of_output '    and, which may follow from it, in line 6'
+end
+
+# What is known of fields and of integers where a warning stands.
+begin lint_of_what_is_known
+write_type blank.bst "title missing$ 'skip$ {title empty$ {#1 write$} 'skip$ if$} if$"
+write_type bounded.bst "#3 'i := {i #9 <} {i #1 + 'i :=} while$ i write$"
+run_lint blank.bst
+wants_line_of_output '    when: title is missing or blank'
+run_lint --json blank.bst bounded.bst
+python3 - "$folder/stdout" <<'END' || complaints+=('the JSON is another')
+import json, sys
+(blank,), (bounded,) = (style["warnings"] for style in json.load(open(sys.argv[1])))
+assert blank["blank"] == ["title"] and blank["operand"]["integer"] == [1, 1], blank
+assert bounded["operand"]["integer"] == [9, None], bounded
+END
+end
+
 begin lint_as_json
 write_clean
 cp clean.bst faulty.bst
@@ -429,12 +480,41 @@ wants_output 'there/clean.bst: clean, literals 3, bodies 4, messages 0, hints 0
 '
 end
 
+# What is promised of a clean style is said exactly: no fault of the stack or of kinds. It may log others.
+begin lint_of_clean_style_with_an_illegal_format
+use_style 'FUNCTION {f} { "A B" "x" change.case$ write$ "A B" #1 "{ff~}{vv~}{ll}{, jj" format.name$ write$ } ITERATE {f}'
+run_lint s.bst
+wants_status 0
+wants_words "$folder/stdout" 'logs a fault of the stack or of kinds'
+run_lint --help
+wants_words "$folder/stdout" 'It may log others, such as a format of names that is illegal.'
+run_search -terse job
+wants_status 2
+end
+
 begin lint_is_incomplete
 write_clean
 run_lint --line --steps=1 clean.bst
 wants_status 3
 wants_output 'clean.bst: incomplete, messages 0, hints 0
 '
+end
+
+# No clock decides about the verdict: where a style has very many names the check takes fewer steps, on each machine as many.
+begin lint_of_very_many_names
+python3 - >many.bst <<'END'
+names = ["v%d" % number for number in range(20_000)]
+print("ENTRY {%s}{}{}\nFUNCTION {f} {%s}\nREAD ITERATE {f}" % (" ".join(names), " ".join(name + " write$" for name in names)))
+END
+run_lint many.bst
+wants_status 2
+wants_no_clock() {
+    ! grep -q 'seconds' "$folder/stdout" || complaints+=("it speaks of seconds: $(grep seconds "$folder/stdout")")
+}
+wants_no_clock
+cp "$folder/stdout" first
+run_lint many.bst
+cmp -s first "$folder/stdout" || complaints+=('another run says something else')
 end
 
 # The body of a loop that leaves a literal at each turn: the loops are named.

@@ -169,6 +169,17 @@ for words in '-line=19' '-line=1001' '-line=x' '-text=latin1' '-entry-max=0' '-g
     end
 done
 
+# A room is 1 TB at most, in each unit.
+for words in '-log-room=1025G' '-list-room=1048577M' '-log-room=1073741825K' '-list-room=1099511627777'; do
+    begin "room_past_its_range_$((passed + failed))"
+    leave_old
+    run_search "$words" job
+    wants_status 1
+    wants_error_with "the value of ${words%=*} is a number from 0 to"
+    wants_old
+    end
+done
+
 # bibtex8's options: -M is min-crossrefs, and the sizes of its tables are nothing that is needed here.
 for words in '-M 3' '-M=3' '-M3'; do
     begin "bibtex8_minimum_$((passed + failed))"

@@ -1,5 +1,15 @@
 # The packages that contrib/make-deb builds: what is in them, whether the links of the documents work, and whether the programs do.
 
+# Where a link stands in a page's place, the file that it leads to stays.
+begin page_installed_over_a_link
+mkdir -p there/share/man/man1
+echo other >other
+ln -s "$PWD/other" there/share/man/man1/bibtex-proved.1
+make -s -C "$sources" install-program PREFIX="$PWD/there" BIBTEX_PROGRAM="$program" >"$folder/stdout" 2>"$folder/stderr" || complaints+=("make fails: $(cat "$folder/stderr")")
+wants_text other $'other\n'
+grep -q '^\.TH BIBTEX' there/share/man/man1/bibtex-proved.1 || complaints+=('the page is not there')
+end
+
 begin links_of_the_sources
 mkdir sources
 (cd "$sources" && cp --parents README.md CHANGELOG.md docs/*.md contrib/*.md examples/*.md examples/*/*.md "$folder/work/sources" && cp -r examples "$folder/work/sources")

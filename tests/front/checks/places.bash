@@ -199,3 +199,29 @@ run_search -explain job
 wants_status 0
 ! grep -q '^    in ' "$folder/stdout" || complaints+=('a place is shown')
 end
+
+# No clock decides what a log says: a run after another one, beside other work or on a machine fifty times as slow writes the same bytes. (Here the places of a few errors of many are
+# looked for, since the run is long.)
+begin places_are_the_same_each_time
+python3 - <<'END'
+open("job.aux", "w").write("\\citation{*}\n\\bibdata{d}\n\\bibstyle{s}\n")
+open("d.bib", "w").write("".join("@misc{k%d, title = {T}, note = {%s}}\n" % (number, "x" * 200) for number in range(1500)))
+body = "#200 'i := {i #0 >} {note #10 #20 substring$ pop$ i #1 - 'i :=} while$\n  title #1 + pop$"
+open("s.bst", "w").write("ENTRY {title note}{}{} INTEGERS {i}\nFUNCTION {misc}\n{ %s }\nREAD\nITERATE {misc}\n" % body)
+END
+run_search -terse job
+cp job.blg first.blg
+cp "$folder/stdout" first
+[ "$(grep -c 'while executing---line 4 of file s.bst' first.blg)" -eq 8 ] || complaints+=("the places found are $(sort first.blg | uniq -c | sort -rn | head -n 3)")
+wants_line first.blg "(Where the style stood isn't known of 1492 errors: it is looked for at the first ones alone.)"
+for turn in $(seq "$([ -n "$few" ] && echo 4 || echo 50)"); do
+    run_search -terse job
+    cmp -s job.blg first.blg && cmp -s "$folder/stdout" first || complaints+=("run $turn has another log")
+done
+if [ -z "$few" ] && there_is valgrind 'the same log on a machine fifty times as slow'; then
+    seconds=900
+    LD_LIBRARY_PATH=$libraries valgrind -q "$search" -terse job </dev/null >"$folder/stdout" 2>/dev/null || true
+    cmp -s job.blg first.blg || complaints+=('under valgrind the log is another one')
+    seconds=60
+fi
+end

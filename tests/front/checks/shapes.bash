@@ -205,15 +205,22 @@ if there_is vim "what vim's :make finds"; then
     fi
     end
 
+    # made_by_compiler FILE: the list of errors that vim has after its compiler for BibTeX, proved, was called for this file.
+    made_by_compiler() {
+        ln -sf "$search" bibtex-search
+        PATH=$PWD:$PATH LD_LIBRARY_PATH=$libraries vim -u NONE -N -es -i NONE --cmd 'set nomore' --cmd "set runtimepath^=$sources/contrib/vim" \
+            -c "edit ${1// /\\ }" -c 'compiler bibtex-search' -c 'silent make!' \
+            -c 'call writefile(map(getqflist(), "v:val.valid . \" \" . bufname(v:val.bufnr) . \":\" . v:val.lnum . \":\" . v:val.type . \":\" . v:val.text"), "quickfix")' \
+            -c 'qa!' </dev/null >/dev/null 2>&1 || true
+        # (a text of two lines has a byte 0 between them)
+        tr '\0' '|' <quickfix >listed && mv listed quickfix
+    }
+
     begin vim_compiler
     printf '%s\n' '\citation{a,A,b,nokey}' '\@input{missing.aux}' '\bibdata{d,nofile}' '\bibstyle{s}' >job.aux
     printf '%s\n' 'ENTRY {title} {} {}' 'FUNCTION {misc} {title #1 + pop$}' 'FUNCTION {f} {nosuch}' 'READ' 'ITERATE {call.type$}' >s.bst
     printf '%s\n' '@misc{a, title = {T}}' '@misc{b, title = {T} author = {A}}' '@misc{b, title = foo}' >d.bib
-    ln -s "$search" bibtex-search
-    PATH=$PWD:$PATH LD_LIBRARY_PATH=$libraries vim -u NONE -N -es -i NONE --cmd 'set nomore' --cmd "set runtimepath^=$sources/contrib/vim" \
-        -c 'edit job.aux' -c 'compiler bibtex-search' -c 'silent make!' \
-        -c 'call writefile(map(getqflist(), "v:val.valid . \" \" . bufname(v:val.bufnr) . \":\" . v:val.lnum . \":\" . v:val.type . \":\" . v:val.text"), "quickfix")' \
-        -c 'qa!' </dev/null >/dev/null 2>&1 || true
+    made_by_compiler job.aux
     wants_text quickfix "1 job.aux:1:E:Case mismatch error between cite keys a and A
 1 job.aux:2:E:I couldn't open auxiliary file missing.aux
 1 job.aux:3:E:I couldn't open database file nofile.bib
@@ -223,6 +230,25 @@ if there_is vim "what vim's :make finds"; then
 1 job.aux:0:W:I didn't find a database entry for \"nokey\"
 1 s.bst:2:E:\"T\" is not an integer (+) for entry a
 1 s.bst:2:E:\"T\" is not an integer (+) for entry b
+"
+    end
+
+    # What a style shows by `top$`, and what is said beside a message, are no messages; a cross-reference is one of two lines; a name may have whitespace.
+    begin vim_compiler_of_other_lines
+    cite b,c
+    mv job.aux 'my paper.aux'
+    printf '%s\n' 'ENTRY {title} {} {}' 'FUNCTION {misc} {}' 'FUNCTION {shows} {"-- a style, version 1.14 --" top$ "" top$}' 'READ' 'EXECUTE {shows}' 'ITERATE {call.type$}' >s.bst
+    printf '%s\n' '@misc{b, title = {T}, crossref = {nope}}' '@misc{c,' '  note' '= 1, }' '@misc{d, crossref = {e}}' '@misc{x, note' '1}' >d.bib
+    made_by_compiler 'my paper.aux'
+    wants_text quickfix "1 d.bib:7:E:I was expecting an =
+1 my paper.aux:0:E:entry \"b\"| to entry \"nope\", which doesn't exist
+1 my paper.aux:0:W:I didn't find a database entry for \"nope\"
+"
+    echo '\relax' >'my paper.aux'
+    made_by_compiler 'my paper.aux'
+    wants_text quickfix "1 my paper.aux:0:E:I found no \citation commands
+1 my paper.aux:0:E:I found no \bibdata command
+1 my paper.aux:0:E:I found no \bibstyle command
 "
     end
 fi

@@ -62,6 +62,17 @@ for evil in "${evils[@]}"; do
     end
 done
 
+# Each mark that turns the direction of a text or ends a line.
+begin terminal_marks
+for mark in $'\xd8\x9c' $'\xe2\x80\x8e' $'\xe2\x80\x8f' $'\xe2\x80\xa8' $'\xe2\x80\xa9' $'\xe2\x80\xaa' $'\xe2\x80\xab' \
+    $'\xe2\x80\xac' $'\xe2\x80\xad' $'\xe2\x80\xae' $'\xe2\x81\xa6' $'\xe2\x81\xa7' $'\xe2\x81\xa8' $'\xe2\x81\xa9'; do
+    printf '\\citation{k}\n\\bibdata{n%so}\n\\bibstyle{s}\n' "$mark" >job.aux
+    shows job
+    wants_words "$folder/one" 'n?o.bib'
+done
+wants_safe "$folder/shown"
+end
+
 # TeX's own library warns of names that it can't read: it is not to print their bytes.
 begin terminal_names_that_tex_warns_of
 printf '\\citation{k}\n\\bibdata{$\e[2J,${\e]0;X\a,$\a}\n\\bibstyle{$\xc2\x9b31m}\n' >job.aux
@@ -133,3 +144,38 @@ on_terminal 80 job >"$folder/found" || true
 grep -q 'note 1}' "$folder/found" || complaints+=("the line isn't shown: $(cat -v "$folder/found")")
 ! grep 'note 1}' "$folder/found" | grep -q '?' || complaints+=("it shows $(cat -v "$folder/found")")
 end
+
+# TeX's search library prints names as they are, where it may not read a file: it isn't asked for such a name, and what it prints of others goes nowhere.
+if has kpsewhich && another_user; then
+    begin terminal_names_in_the_library
+    chmod 755 .
+    chmod 666 job.* d.bib s.bst
+    for evil in "${evils[@]}"; do
+        mkdir -p t/sub
+        : >"t/sub/d$evil.bib"
+        : >"t/sub/s$evil.bst"
+        chmod 0 t/sub/*
+        printf '\\citation{k}\n\\bibdata{d%s,{d}%s}\n\\bibstyle{s}\n' "$evil" "$evil" >job.aux
+        touch job.bbl job.blg
+        chmod 666 job.bbl job.blg
+        BIBINPUTS=.:t// run_as_another -terse job
+        wants_safe "$folder/stderr"
+        ln -sf search "$room/bibtex-lint"
+        LD_LIBRARY_PATH=$libraries BSTINPUTS=.:t// setpriv --reuid 65534 --regid 65534 --clear-groups "$room/bibtex-lint" "s$evil" </dev/null >"$folder/stdout" 2>"$folder/stderr" || true
+        wants_safe "$folder/stderr"
+        rm -rf t
+    done
+    end
+    begin terminal_says_nothing_of_the_library
+    mkdir -p t/sub
+    mv d.bib t/sub
+    chmod 0 t/sub/d.bib
+    chmod 755 .
+    touch job.bbl job.blg
+    chmod 666 job.* s.bst
+    BIBINPUTS=.:t// run_as_another -terse job
+    wants_error ''
+    end
+else
+    echo 'left out: names that TeX Live'"'"'s search library prints (needs TeX, root and setpriv)'
+fi

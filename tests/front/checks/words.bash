@@ -81,7 +81,8 @@ for words in '-min-crossrefs=1' '--min-crossrefs 1' '-text=utf8' '-line=20' '-en
     "$program" --${option#-} job >/dev/null || true
     mv job.bbl wanted
     messages job.blg >wanted_messages
-    run_search $words job
+    # (the program reads text by bytes where nothing else is said)
+    run_search -text=bytes $words job
     cmp -s wanted job.bbl || complaints+=("the list is another than with $words")
     messages job.blg | cmp -s - wanted_messages || complaints+=("the messages are others than with $words")
     end
