@@ -2,7 +2,7 @@
    free, and calls in several threads don't touch one another.
 
    A text is a pointer and a length. A pointer is never null, not even of a text of length 0 (write ""); this holds of every pointer below. Memory in
-   which a call writes overlaps nothing else that the call is given. The library calls malloc, realloc and free, and nothing else; it isn't to be
+   which a call writes overlaps nothing else that the call is given. The library calls malloc, realloc and free, memcpy, memmove and memset, and nothing else; it isn't to be
    called from a signal handler, or in the forked child of a process with threads. A call takes less than 64 KiB of stack, and the check
    of a style less than 1 MiB, however deep the style nests its functions. */
 #ifndef BTX_H
@@ -108,7 +108,7 @@ uint32_t btx_where(const unsigned char *job, size_t job_len, const btx_file *fil
 
 /* What is said of a style. */
 enum {
-    BTX_CLEAN = 0,     /* no run of it logs a fault of its own */
+    BTX_CLEAN = 0,     /* no run of it logs a fault of the stack or of kinds */
     BTX_WARNINGS = 1,  /* it isn't known to be clean */
     BTX_INCOMPLETE = 2 /* the check took as many steps as it may, or the style nests its functions deeper than it follows them */
 };

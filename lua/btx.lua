@@ -72,6 +72,9 @@ end
 -- finder(name) gives the bytes of the file of a name, or nil where there is none. options may have budget, min_crossrefs, line, entry_max,
 -- global_max and utf8. The report has status (0 without errors, 2 with some, 3 at a limit, 4 stopped), steps, warnings and errors.
 function btx.run(job, finder, options)
+    if job:find("\n", 1, true) then
+        error("btx: the name of a job has no line end", 0)
+    end
     local ffi, library = load_library()
     local files = {}
     local new = needed(ffi, library, job, files)
@@ -103,7 +106,7 @@ function btx.run_over(ffi, library, job, files, asked)
         elseif room >= MOST_ROOM then
             error("btx: the list or the log is longer than " .. MOST_ROOM .. " bytes", 0)
         end
-        room = room * 8
+        room = math.min(room * 8, MOST_ROOM)
     end
 end
 
@@ -171,9 +174,9 @@ function btx.lines(text)
     return lines
 end
 
--- The \citation lines of an .aux file and of those that it includes.
-function btx.citations(path, seen)
-    local found, known = {}, seen or {}
+-- The \citation lines of an .aux file and of those that it includes, added to `into` where that is given. `seen` has the files that were read.
+function btx.citations(path, seen, into)
+    local found, known = into or {}, seen or {}
     if known[path] then
         return found
     end
@@ -183,9 +186,7 @@ function btx.citations(path, seen)
         if line:match("^\\citation{") then
             found[#found + 1] = line
         elseif included then
-            for _, its in ipairs(btx.citations(included, known)) do
-                found[#found + 1] = its
-            end
+            btx.citations(included, known, found)
         end
     end
     return found

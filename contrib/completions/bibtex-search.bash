@@ -55,7 +55,12 @@ _bibtex() {
     [[ " $options " = *" $option= "* ]] || option=
     [[ $command != bibtex-search || $word = --* ]] || hyphens=-
     case $option:$word in
-    text:*) _bibtex_complete words "$word" 'bytes utf8' ;;
+    text:*)
+        case $command in
+        bibtex-search) _bibtex_complete words "$word" 'auto bytes utf8' ;;
+        *) _bibtex_complete words "$word" 'bytes utf8' ;;
+        esac
+        ;;
     dir:*) _bibtex_complete folders "$word" ;;
     ?*:*) ;;
     :-*) _bibtex_complete words "$word" "$hyphens${options// / $hyphens}" ;;

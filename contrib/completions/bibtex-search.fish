@@ -11,12 +11,14 @@ end
 
 for command in bibtex-search bibtex-confined bibtex-proved
     set -l form l
+    set -l modes bytes utf8
     if test $command = bibtex-search
         set form o
+        set modes auto bytes utf8
     end
     complete -c $command -f -a '(__fish_complete_suffix .aux)'
     __bibtex_option $command $form min-crossrefs 'List a parent that this number of entries name' 2
-    __bibtex_option $command $form text 'How text is read' bytes utf8
+    __bibtex_option $command $form text 'How text is read' $modes
     __bibtex_option $command $form line 'The length of a line of the list' 79
     __bibtex_option $command $form entry-max 'Bytes of a variable of an entry' 500
     __bibtex_option $command $form global-max 'Bytes of a global variable' 200000
@@ -27,7 +29,7 @@ end
 __bibtex_option bibtex-search o terse 'Print only what went wrong'
 __bibtex_option bibtex-search o explain 'Say where each message stands and what to do'
 __bibtex_option bibtex-search o no-explain 'Print the log as it is'
-__bibtex_option bibtex-search o explain-only 'Explain the log of a job that has run'
+__bibtex_option bibtex-search o explain-only 'Explain what a run says, and write nothing'
 __bibtex_option bibtex-search o budget 'Steps that the style may take' 1000000000
 __bibtex_option bibtex-search o log-room 'Bytes of the log' 64M
 __bibtex_option bibtex-search o list-room 'Bytes of the list' 1G

@@ -7,12 +7,11 @@
 Each machine needs the package `btx`, TeX, and the folders under the same paths. Jobs share nothing. Those of a worker that is lost are run again by
 another one. What is printed is what `python3 -m btx compare` prints on one machine, in the order of the jobs' names."""
 
-import argparse
 import os
-import sys
 from concurrent.futures import CancelledError
 
-from btx.compare import BUDGET, SECONDS, compared_piece, not_run
+from btx.commands import Words
+from btx.compare import add_conditions, compared_piece, complain, found_program, not_run, status_of
 from btx.corpus import found_jobs
 from btx.reports import Table
 from distributed import Client, as_completed
@@ -22,41 +21,44 @@ JOBS_IN_A_PIECE = 50
 
 
 def words():
-    parser = argparse.ArgumentParser(description="Compares reference lists over a Dask cluster.")
-    parser.add_argument("folders", metavar="FOLDER", nargs="+")
+    parser = Words(description="Compares reference lists over a Dask cluster.")
     parser.add_argument("--scheduler", metavar="ADDRESS", required=True, help="where the scheduler listens: HOST:PORT")
-    parser.add_argument("--with", dest="program", metavar="PROGRAM", help="compare with what PROGRAM writes in a copy")
-    parser.add_argument("--budget", type=int, default=BUDGET, metavar="N")
-    parser.add_argument("--time-limit", type=float, default=SECONDS, metavar="S")
+    add_conditions(parser)
     return parser.parse_args()
 
 
 def main():
     given = words()
-    jobs = found_jobs(map(os.fsencode, given.folders), lambda text: print(text, file=sys.stderr))
-    pieces = [jobs[begin:begin + JOBS_IN_A_PIECE] for begin in range(0, len(jobs), JOBS_IN_A_PIECE)]
+    try:
+        program = found_program(given.program)
+    except FileNotFoundError as error:
+        return complain(str(error))
+    refused = []
+    jobs = found_jobs(map(os.fsencode, given.folders), refused.append)
+    status = max(map(complain, refused), default=0)
     table = Table()
     with Client(given.scheduler) as client:
-        def ask(piece):
-            # (two pieces with the same jobs are never the same work: a file may have changed)
-            return client.submit(compared_piece, piece, given.budget, given.program, given.time_limit, pure=False)
-
-        asked = {ask(piece): piece for piece in pieces}
-        waited_for = as_completed(asked)
-        for future in waited_for:
-            piece = asked.pop(future)
-            results, alone = results_of(future, piece)
-            for job in alone:
-                again = ask([job])
-                asked[again] = [job]
-                waited_for.add(again)
-            for result in results:
-                table.add(result)
-    for result in sorted(table.results, key=lambda result: result.job):
+        # (two pieces with the same jobs are never the same work: a file may have changed)
+        compare_all(jobs, lambda piece: client.submit(compared_piece, piece, given.budget, program, given.time_limit, pure=False), table)
+    for result in table.sorted():
         if result.outcome != "equal":
             print(result)
     table.end(False)
-    return 2 if table.differs() else 0
+    return status or status_of(table, given.allow_not_run)
+
+
+def compare_all(jobs, ask, table):
+    """Has all jobs compared in pieces, by what `ask` begins for each; their results go into the table."""
+    asked = {ask(piece): piece for piece in (jobs[begin:begin + JOBS_IN_A_PIECE] for begin in range(0, len(jobs), JOBS_IN_A_PIECE))}
+    waited_for = as_completed(asked)
+    for future in waited_for:
+        results, alone = results_of(future, asked.pop(future))
+        for job in alone:
+            again = ask([job])
+            asked[again] = [job]
+            waited_for.add(again)
+        for result in results:
+            table.add(result)
 
 
 def results_of(future, piece):

@@ -1,9 +1,9 @@
 //! The calls of the proved library, made safe. `library/btx.h` says what each call does; `crates/btx_c` has their contracts.
 
 use crate::job::File;
-use crate::system::{processor_time, trying};
+use crate::letters::line_of_half_letter;
+use crate::system::trying;
 use std::ffi::c_uchar;
-use std::time::Duration;
 
 #[repr(C)]
 struct Text {
@@ -172,8 +172,18 @@ pub struct Ran {
     pub list: Vec<u8>,
     pub log: Vec<u8>,
     pub answer: Answer,
-    /// How long the processor worked for it.
-    pub took: Duration,
+    /// Whether text was read as UTF-8.
+    pub utf8: bool,
+}
+
+impl Ran {
+    /// The first line of the list that has half a letter of UTF-8; None where the run broke off.
+    pub fn line_of_half_letter(&self) -> Option<usize> {
+        match self.answer {
+            Answer::Done(report) => line_of_half_letter(&self.list, report.is_stopped()),
+            _ => None,
+        }
+    }
 }
 
 /// Memory was refused.
@@ -249,9 +259,8 @@ fn room(len: usize) -> Result<Vec<u8>, MemoryRefused> {
 /// Runs a job over these files.
 pub fn run(job: &[u8], files: &[File], options: &Options, rooms: &Rooms) -> Ran {
     let (Ok(mut list), Ok(mut log)) = (room(rooms.list), room(rooms.log)) else {
-        return Ran { list: Vec::new(), log: Vec::new(), answer: Answer::Memory, took: Duration::ZERO };
+        return Ran { list: Vec::new(), log: Vec::new(), answer: Answer::Memory, utf8: options.utf8 };
     };
-    let start = processor_time();
     let given = for_c(files);
     let (wanted, rooms) = (*rooms, Rooms { list: list.capacity().min(rooms.list), log: log.capacity().min(rooms.log) });
     let mut report = Report::default();
@@ -282,7 +291,7 @@ pub fn run(job: &[u8], files: &[File], options: &Options, rooms: &Rooms) -> Ran 
         FULL => Answer::LogFull,
         _ => Answer::Memory,
     };
-    Ran { list, log, answer, took: processor_time().saturating_sub(start) }
+    Ran { list, log, answer, utf8: options.utf8 }
 }
 
 /// The room for notes that is tried first.
@@ -325,7 +334,7 @@ pub fn notes(job: &[u8], files: &[File], options: &Options, most: u32) -> Option
 /// What the proved checker says of a style.
 #[derive(Debug, Clone, PartialEq, Eq)]
 pub enum Verdict {
-    /// No run of it logs a fault of its own, as long as each entry's type is one that the style doesn't know or one of `types`; no more than `bodies` bodies of functions are
+    /// No run of it logs a fault of the stack or of kinds, as long as each entry's type is one that the style doesn't know or one of `types`; no more than `bodies` bodies of functions are
     /// ever open at once. The greatest number of literals isn't proved.
     Clean { literals: u64, bodies: u64, types: Vec<Vec<u8>> },
     /// It isn't known to be clean: notes say where it may go wrong.

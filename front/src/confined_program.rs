@@ -71,8 +71,12 @@ fn confine(request: &Request) -> Result<(), Stop> {
     for line in said.lines() {
         say(line);
     }
-    if !matches!(ending, Ending::Exited(_)) {
+    let lacks_log = ending.says_that_it_ran() && !outputs.log.is_of_ended_run();
+    if lacks_log || !matches!(ending, Ending::Exited(_)) {
         outputs.empty_what_is_old();
+    }
+    if lacks_log {
+        return Err(reason::without_a_log(&ending, &outputs));
     }
     reason::of(&ending, &outputs, &request.limits)
 }

@@ -96,9 +96,14 @@ impl Database {
         &rest[..position(rest, b"\n").unwrap_or(rest.len())]
     }
 
-    /// The paths of the files of this name whose lines begin there.
+    /// The paths of the files of this name whose lines begin there. The places ascend, so each heading is looked for from the place before it on.
     fn paths(&self, name: &[u8], places: impl Iterator<Item = usize>) -> Vec<Vec<u8>> {
-        let folder = |place: usize| heading(&self.text[..place]).and_then(|heading| folder_of(&self.root, heading));
+        let (mut from, mut last) = (0, None);
+        let folder = |place: usize| {
+            last = heading(&self.text[from..place]).or(last);
+            from = place;
+            last.and_then(|heading| folder_of(&self.root, heading))
+        };
         places.filter_map(folder).map(|folder| [&folder, name].concat()).collect()
     }
 }
@@ -186,6 +191,15 @@ mod tests {
         assert_eq!(folder_of(b"/t/", b"./a/b").as_deref(), Some(&b"/t/a/b/"[..]));
         assert_eq!(folder_of(b"/t/", b"/u/a").as_deref(), Some(&b"/u/a/"[..]));
         assert_eq!(folder_of(b"/t/", b"./a/.git"), None);
+    }
+
+    #[test]
+    fn many_files_of_one_name_are_found_in_one_pass() {
+        let text = ["% ls-R\n./a:\n".as_bytes(), &b"d.bib\n".repeat(200_000), b"x:\nd.bib\n\n./b:\nd.bib\n"].concat();
+        let database = Database { root: b"/t/".to_vec(), text, sorted: OnceCell::new() };
+        let paths = database.paths(b"d.bib", database.places(b"d.bib").into_iter());
+        let [.., last, of_b] = &paths[..] else { panic!("{}", paths.len()) };
+        assert_eq!((&last[..], &of_b[..]), (&b"/t/a/d.bib"[..], &b"/t/b/d.bib"[..]));
     }
 
     #[test]

@@ -233,7 +233,16 @@ fn uses<'a>(style: &Read<'a>) -> HashMap<Folded<'a>, Uses> {
             _ => {}
         }
     }
+    for name in style.commands.iter().filter_map(|command| name_that_touches(style.bytes, command)) {
+        uses.entry(Folded(name)).or_default().taken += 1;
+    }
     uses
+}
+
+/// The function that EXECUTE, ITERATE or REVERSE names, where its brace touches the command's word, so that both are one token.
+fn name_that_touches<'a>(bytes: &'a [u8], command: &Command<'a>) -> Option<&'a [u8]> {
+    let is_run = ["execute", "iterate", "reverse"].iter().any(|word| command.is(word));
+    command.name.filter(|_| is_run && bytes.get(command.start + command.word.len()) == Some(&b'{'))
 }
 
 // ---- loops ----
@@ -539,6 +548,8 @@ mod tests {
             said("FUNCTION {a.b} {}\nFUNCTION {Default.Type} {}\nFUNCTION {c.d} {#1 'a.b 'skip$ if$}\nEXECUTE {C.D}\n"),
             []
         );
+        assert_eq!(said("READ FUNCTION {f} {}\nFUNCTION {g.h} {}\nITERATE{f}\nEXECUTE{ g.h }\n"), []);
+        assert_eq!(said("READ FUNCTION{f}{}\n").len(), 1);
         assert_eq!(said(""), []);
         assert_eq!(said("FUNCTION"), []);
     }

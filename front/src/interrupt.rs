@@ -2,10 +2,12 @@
 //! budget that it ends within a second: what that writes begins what the long run would have written.
 
 use crate::btx::{self, Answer, Ran};
-use crate::system::{Held, Signal};
+use crate::system::{self, Held, Signal};
 use std::io;
+use std::sync::Arc;
+use std::sync::atomic::{AtomicBool, Ordering};
 use std::sync::mpsc::{self, Receiver, Sender};
-use std::thread;
+use std::thread::{self, JoinHandle};
 use std::time::{Duration, Instant};
 
 /// After how much time a run is called long.
@@ -28,24 +30,55 @@ const LEAST_BUDGET: u64 = 1;
 /// The stack of the second thread. A run takes 64 KB at most.
 const STACK: usize = 1 << 20;
 
-/// Waits for a signal in a second thread. `on_long` is called where the program still runs after two seconds.
-pub fn watch(
-    held: Held,
-    on_long: impl FnOnce() + Send + 'static,
-    on_signal: impl FnOnce(Signal) + Send + 'static,
-) -> io::Result<()> {
-    let wait = move || {
-        let signal = held.wait(LONG).unwrap_or_else(|| {
-            on_long();
-            loop {
-                if let Some(signal) = held.wait(DAY) {
-                    break signal;
-                }
+/// A second thread that waits for a signal.
+pub struct Watch {
+    thread: JoinHandle<()>,
+    is_over: Arc<AtomicBool>,
+}
+
+impl Watch {
+    /// Begins to wait. `on_long` is called where the program still runs after two seconds.
+    pub fn begin(
+        held: Held,
+        on_long: impl FnOnce() + Send + 'static,
+        on_signal: impl FnOnce(Signal) + Send + 'static,
+    ) -> io::Result<Watch> {
+        let is_over = Arc::new(AtomicBool::new(false));
+        let is_over_there = is_over.clone();
+        let wait = move || {
+            if let Some(signal) = first_signal(held, &is_over_there, on_long) {
+                on_signal(signal);
             }
-        });
-        on_signal(signal);
-    };
-    thread::Builder::new().stack_size(STACK).spawn(wait).map(|_| ())
+        };
+        let thread = thread::Builder::new().stack_size(STACK).spawn(wait)?;
+        Ok(Watch { thread, is_over })
+    }
+
+    /// Ends the wait. Where a signal was taken before, this returns only after all that is done about it.
+    pub fn end(self) {
+        self.is_over.store(true, Ordering::SeqCst);
+        system::wake(&self.thread);
+        // (a thread that panicked has said so)
+        let _ = self.thread.join();
+    }
+}
+
+/// The first signal that comes; None where the wait is over before.
+fn first_signal(held: Held, is_over: &AtomicBool, on_long: impl FnOnce()) -> Option<Signal> {
+    let mut on_long = Some(on_long);
+    let mut time = LONG;
+    while !is_over.load(Ordering::SeqCst) {
+        if let Some(signal) = held.wait(time) {
+            return Some(signal);
+        }
+        if !is_over.load(Ordering::SeqCst)
+            && let Some(say) = on_long.take()
+        {
+            say();
+        }
+        time = DAY;
+    }
+    None
 }
 
 /// A beginning of a run, and whether no longer one is to be tried.
@@ -109,7 +142,7 @@ mod tests {
     fn stopped(budget: u64) -> Ran {
         let mut report = Report::default();
         (report.status, report.steps) = (btx::STOPPED, budget);
-        Ran { list: Vec::new(), log: Vec::new(), answer: Answer::Done(report), took: Duration::ZERO }
+        Ran { list: Vec::new(), log: Vec::new(), answer: Answer::Done(report), utf8: false }
     }
 
     fn steps(ran: &Ran) -> u64 {

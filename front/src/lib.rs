@@ -51,6 +51,7 @@ pub mod hints;
 pub mod interrupt;
 pub mod job;
 pub mod kpathsea;
+pub mod letters;
 pub mod lint_entry;
 pub mod lint_forms;
 pub mod lint_program;

@@ -257,6 +257,9 @@ struct Proof {
     since: Vec<Call>,
 }
 
+/// What an error of a log names: the function that was executed, and the error's text.
+type FunctionAndText<'log> = (&'log [u8], &'log [u8]);
+
 /// A case that shows a warning, where one was found.
 type Found = Option<(Case, Proof)>;
 
@@ -333,7 +336,7 @@ impl Search<'_> {
             cases.iter().enumerate().flat_map(|(number, case)| case.text(&format!("e{number}"))).collect();
         let files = self.job(database);
         let (log, _) = self.run(&files, &Options::usual(STEPS_OF_MANY));
-        let mut logged: HashMap<usize, Vec<(&[u8], &[u8])>> = HashMap::new();
+        let mut logged: HashMap<usize, Vec<FunctionAndText<'_>>> = HashMap::new();
         let errors = errors_of(&log);
         for error in errors.iter().flatten().filter(|error| warnings.iter().any(|warning| fits(warning, error))) {
             if let Some(number) = error.entry.and_then(number_of) {

@@ -11,7 +11,7 @@ use crate::lint_warnings::{Cause, Fault, Operand, Value, Warning};
 use crate::log::Log;
 use crate::notes::Spot;
 use crate::shapes::Part;
-use crate::style_check::{MOST_TIME, StyleCheck};
+use crate::style_check::StyleCheck;
 use crate::terminal::{Terminal, plain};
 use std::io::{self, Write};
 
@@ -74,7 +74,7 @@ fn write_verdict(style: &Style<'_, '_>, check: &StyleCheck, out: &mut impl Write
         Some(Verdict::Clean { literals, bodies, types }) => {
             writeln!(
                 out,
-                "{path}: clean: no run with a budget of at most 1,500,000,000 steps logs a fault of its own (at most {bodies} bodies are open; {literals} literals were met)"
+                "{path}: clean: no run with a budget of at most 1,500,000,000 steps logs a fault of the stack or of kinds (at most {bodies} bodies are open; {literals} literals were met)"
             )?;
             let types: Vec<String> = types.iter().map(|name| plain(name)).collect();
             match types.is_empty() {
@@ -86,9 +86,7 @@ fn write_verdict(style: &Style<'_, '_>, check: &StyleCheck, out: &mut impl Write
         }
         Some(Verdict::Warnings(_)) => writeln!(out, "{path}: warnings: {}", verdict(&check.found)),
         Some(Verdict::Incomplete(_)) => write_unended(style, check.steps, out),
-        None => {
-            writeln!(out, "{path}: incomplete: the check took more than {} seconds of a processor", MOST_TIME / 100)
-        }
+        None => writeln!(out, "{path}: incomplete: the style has more than 2,147,483,647 bytes"),
     }
 }
 

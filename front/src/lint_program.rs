@@ -16,8 +16,10 @@ use std::process::ExitCode;
 const HELP: &str = "\
   Says of styles of BibTeX, before any document uses them, what is wrong in
   their text, and whether a run can go wrong by them: a style that is called
-  clean never logs a fault of its own, with a budget of up to 1,500,000,000
-  steps. Styles are found along BSTINPUTS, and where TeX has its own.
+  clean never logs a fault of the stack or of kinds (an empty stack, a wrong
+  operand, a literal left over), with a budget of up to 1,500,000,000 steps.
+  It may log others, such as a format of names that is illegal. Styles are
+  found along BSTINPUTS, and where TeX has its own.
 
 --line           print a line for each style, for other programs
 --json           print all that is found as JSON
@@ -25,7 +27,8 @@ const HELP: &str = "\
                  for up to two seconds a style; each is tried by a run
 --job JOB        explain instead where JOB's style stands at each error, as
                  bibtex-explain does
---steps=N        how many steps a check may take (2000000)
+--steps=N        how many steps a check may take (2000000, or fewer where a
+                 style declares more than 500 names)
 -h, --help       print this and exit
 --version        print the version and exit
 
@@ -33,9 +36,6 @@ Exit status: 0 all are clean; 1 the words are refused, or a style isn't found;
 2 there are messages or warnings; 3 a check didn't come to its end; 5 memory
 was refused; 6 a style couldn't be read, or what is found not be printed.
 ";
-
-/// How many steps a check may take.
-const STEPS: u64 = 2_000_000;
 
 /// How a style's check is printed.
 #[derive(Debug, Clone, Copy, PartialEq, Eq)]
@@ -49,14 +49,14 @@ enum Form {
 #[derive(Debug, Clone, Copy, PartialEq, Eq)]
 struct How {
     form: Form,
-    /// How many steps a check may take.
-    steps: u64,
+    /// How many steps a check may take, where that is given.
+    steps: Option<u64>,
     /// Whether an entry is searched for that shows each warning.
     has_entries: bool,
 }
 
 /// How they are checked where nothing else is said.
-const USUAL: How = How { form: Form::People, steps: STEPS, has_entries: false };
+const USUAL: How = How { form: Form::People, steps: None, has_entries: false };
 
 /// What the words of the command line ask for.
 #[derive(Debug, PartialEq, Eq)]
@@ -91,7 +91,7 @@ fn read_words(words: impl Iterator<Item = Vec<u8>>) -> Asked {
                 None => return Asked::Refused("--job needs a job".into()),
             },
             _ => match steps_of(option) {
-                Some(number) => how.steps = number,
+                Some(number) => how.steps = Some(number),
                 None if option.starts_with(b"steps=") => {
                     return Asked::Refused(format!("--steps takes a number from 0 to {}", u64::MAX));
                 }
@@ -258,10 +258,10 @@ mod tests {
             how: How { form, steps, has_entries },
             styles: vec![style.into()],
         };
-        assert_eq!(asked(&["plain"]), check(Form::People, STEPS, false, "plain"));
-        assert_eq!(asked(&["-json", "--steps=7", "plain"]), check(Form::Json, 7, false, "plain"));
-        assert_eq!(asked(&["--line", "--", "--x"]), check(Form::Line, STEPS, false, "--x"));
-        assert_eq!(asked(&["--entry", "plain"]), check(Form::People, STEPS, true, "plain"));
+        assert_eq!(asked(&["plain"]), check(Form::People, None, false, "plain"));
+        assert_eq!(asked(&["-json", "--steps=7", "plain"]), check(Form::Json, Some(7), false, "plain"));
+        assert_eq!(asked(&["--line", "--", "--x"]), check(Form::Line, None, false, "--x"));
+        assert_eq!(asked(&["--entry", "plain"]), check(Form::People, None, true, "plain"));
         assert_eq!(asked(&["--job", "paper"]), Asked::Job(b"paper".to_vec()));
         assert_eq!(asked(&["--help", "x"]), Asked::Help);
         assert_eq!(asked(&["-h"]), Asked::Help);

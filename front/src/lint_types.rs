@@ -3,12 +3,13 @@
 use crate::btx::{self, MemoryRefused, Verdict};
 use crate::database::Folded;
 use crate::hints::functions_above_read;
+use crate::style_check::usual_steps;
 use crate::style_text::{Command, commands};
 use crate::terminal::plain;
 use std::collections::HashSet;
 
-/// How many steps a check may take of a style without a command that executes something.
-const STEPS: u64 = 100_000;
+/// Which part of the usual steps a check may take of a style without a command that executes something.
+const PART: u64 = 20;
 
 /// The functions of a style that stand above READ, in its order, as the checker takes them.
 #[derive(Debug, Clone, Default, PartialEq, Eq)]
@@ -23,7 +24,7 @@ pub struct Types {
 pub fn types_of(name: &[u8], text: &[u8], verdict: &Option<Verdict>) -> Result<Option<Types>, MemoryRefused> {
     let taken = match verdict {
         Some(Verdict::Clean { types, .. }) => types.clone(),
-        Some(Verdict::Warnings(_)) => match btx::check(name, &without_runs(text), STEPS)? {
+        Some(Verdict::Warnings(_)) => match btx::check(name, &without_runs(text), usual_steps(text) / PART)? {
             Some(Verdict::Clean { types, .. }) => types,
             _ => return Ok(None),
         },

@@ -124,6 +124,11 @@ impl<'a> Log<'a> {
         Log { scenes: Some(scenes), ..self }
     }
 
+    /// Whether the scenes are those of the first errors alone.
+    pub fn has_first_scenes(&self) -> bool {
+        self.scenes.is_some_and(|scenes| scenes.are_first)
+    }
+
     /// Where the style stood when the run ended early, if somebody found that out.
     pub fn scene_of_end(&self) -> Option<&'a End> {
         self.scenes?.end.as_ref()

@@ -1,5 +1,6 @@
 //! Where a style stood at each error of a run's execution, and where the run was stopped or met a limit. The library runs the job once more to find
-//! that out, so it is asked only where there is something to find.
+//! that out, so it is asked only where there is something to find. How much is looked for depends on numbers of steps alone, and on no clock, so the log of a
+//! job is the same on every machine.
 
 use crate::btx::{self, Answer, Options, Ran, Rooms};
 use crate::job::Files;
@@ -8,11 +9,12 @@ use crate::notes::{self, Note, Spot, What};
 use crate::scene::{Call, End, Held, Scene, Scenes};
 use crate::style_text::Tokens;
 use std::collections::HashMap;
-use std::time::Duration;
 
-/// Of how many events that log errors the place is found at most, and of how many in any run.
+/// Of how many events that log errors the place is found at most, where a variable keeps strings as long as this: each costs a run up to its event, and the longer strings are the longer a
+/// step may take. After a signal it is found of one alone, since the program is to end soon.
 const MOST_EVENTS: u64 = 100;
-const LEAST_EVENTS: u64 = 5;
+const USUAL_LENGTH: u64 = 200_000;
+const EVENTS_OF_INTERRUPTED: u64 = 1;
 
 /// How many errors of an execution are kept: those of all events of which the place is found.
 const MOST_LOGGED: usize = 1000;
@@ -20,8 +22,8 @@ const MOST_LOGGED: usize = 1000;
 /// How many steps of a run are looked at.
 const MOST_STEPS: u64 = 50_000_000;
 
-/// How many steps the runs may take together that find the places of events: each costs a run up to its event.
-const STEPS_OF_ALL: u64 = 400_000_000;
+/// How many steps the runs may take together that find the places of events. One event is looked for in any case.
+const STEPS_OF_ALL: u64 = 40_000_000;
 
 /// How many steps of a run are looked at that doesn't end: where it stands then is found step by step, which takes longer.
 const STEPS_OF_ENDLESS: u64 = 1_000_000;
@@ -32,14 +34,9 @@ const PART_OF_ROOM: usize = 128;
 const LEAST_OF_ROOM: usize = 1 << 19;
 const FIRST_STEPS_OF_FLOOD: u64 = 1 << 14;
 
-/// The same as time of the processor, since a step may take very long: of a run that ends, and of one that doesn't, for each time that it is run again; and of all runs
-/// that find the places of events. One event is looked for in any case.
-const TIME: Duration = Duration::from_secs(5);
-const TIME_OF_ENDLESS: Duration = Duration::from_millis(500);
-const TIME_OF_ALL: Duration = Duration::from_secs(1);
-
-/// Which part of the steps of a run that a signal ended is looked at.
-const PART_OF_INTERRUPTED: u64 = 4;
+/// Which part of the steps of a run that a signal ended is looked at, and how many of them at most.
+const PART_OF_INTERRUPTED: u64 = 8;
+const STEPS_OF_INTERRUPTED: u64 = 250_000;
 
 /// How many steps before a limit the loop began at least that is named.
 const STEPS_OF_LOOP: u64 = 500;
@@ -111,12 +108,6 @@ struct Search<'a> {
     text: &'a [u8],
 }
 
-/// How many of `all` steps are done in this time, if all of them took `took`.
-fn steps_within(time: Duration, all: u64, took: Duration) -> u64 {
-    let steps = u128::from(all) * time.as_micros() / took.as_micros().max(1);
-    u64::try_from(steps).unwrap_or(u64::MAX).max(1)
-}
-
 /// Where the style stood at the errors of a run, and at its end where it didn't come to an end of its own.
 pub fn scenes(files: &Files, options: &Options, rooms: &Rooms, ran: &Ran) -> Scenes {
     let Some(style) = files.with_ending(".bst").next() else { return Scenes::default() };
@@ -130,23 +121,45 @@ pub fn scenes(files: &Files, options: &Options, rooms: &Rooms, ran: &Ran) -> Sce
             if report.has_finished() && errors.is_empty() {
                 return Scenes::default();
             }
-            let (most, time) =
-                if report.has_finished() { (MOST_STEPS, TIME) } else { (STEPS_OF_ENDLESS, TIME_OF_ENDLESS) };
-            let longest = most.min(steps_within(time, report.steps, ran.took));
             // A run that was ended by a signal has another budget than the one that was asked for. It is to end soon, so only the first part of it is run again.
             let is_interrupted = report.is_stopped() && report.steps < options.budget;
-            let shown = if is_interrupted { report.steps.div_ceil(PART_OF_INTERRUPTED) } else { report.steps };
-            let steps = shown.min(longest);
+            let (part, longest) = match report.has_finished() {
+                true => (1, MOST_STEPS),
+                false if is_interrupted => (PART_OF_INTERRUPTED, STEPS_OF_INTERRUPTED),
+                false => (1, STEPS_OF_ENDLESS),
+            };
+            let steps = report.steps.div_ceil(part).min(longest);
             let is_cut = report.steps > longest || report.is_stopped();
-            let of_all = steps_within(TIME_OF_ALL, report.steps, ran.took);
-            search.scenes(&errors, if is_cut { steps } else { options.budget }, steps, of_all, !report.has_finished())
+            let looked = Looked {
+                budget: if is_cut { steps } else { options.budget },
+                events: if is_interrupted { EVENTS_OF_INTERRUPTED } else { events_within(steps, options.global_max) },
+                is_whole: steps == report.steps,
+            };
+            search.scenes(&errors, looked, !report.has_finished())
         }
-        Answer::ListFull | Answer::LogFull if ran.took <= TIME => {
+        Answer::ListFull | Answer::LogFull => {
             let (errors, steps) = (Errors::first_of(&ran.log).of_execution, search.steps_of_flood(rooms));
-            search.scenes(&errors, steps, steps, STEPS_OF_ALL, true)
+            let events = events_within(steps, options.global_max);
+            search.scenes(&errors, Looked { budget: steps, events, is_whole: false }, true)
         }
-        Answer::ListFull | Answer::LogFull | Answer::Memory => Scenes::default(),
+        Answer::Memory => Scenes::default(),
     }
+}
+
+/// What of a run is looked at.
+struct Looked {
+    /// How many steps it may take.
+    budget: u64,
+    /// Of how many events that log errors the place is found.
+    events: u64,
+    /// Whether these are all steps of the run.
+    is_whole: bool,
+}
+
+/// Of how many events the place is found in a run of so many steps, where a variable keeps so many bytes of a string.
+fn events_within(steps: u64, length: u32) -> u64 {
+    let most = MOST_EVENTS * USUAL_LENGTH / u64::from(length).max(USUAL_LENGTH);
+    (STEPS_OF_ALL / steps.max(1)).clamp(1, most)
 }
 
 impl Search<'_> {
@@ -176,19 +189,10 @@ impl Search<'_> {
         notes::read(&noted.unwrap_or_default(), self.style)
     }
 
-    /// The scenes of a run that takes `steps` steps with this budget, where there is time for `of_all` steps; `has_end` where the end is to be found too.
-    fn scenes(
-        &self,
-        errors: &HashMap<usize, Logged<'_>>,
-        budget: u64,
-        steps: u64,
-        of_all: u64,
-        has_end: bool,
-    ) -> Scenes {
-        let by_steps = (STEPS_OF_ALL / steps.max(1)).clamp(LEAST_EVENTS, MOST_EVENTS);
-        let by_time = (of_all / steps.max(1)).max(1);
-        let most = if errors.is_empty() { 0 } else { by_steps.min(by_time) };
-        let notes = self.notes(budget, most);
+    /// The scenes of a run; `has_end` where the end is to be found too.
+    fn scenes(&self, errors: &HashMap<usize, Logged<'_>>, looked: Looked, has_end: bool) -> Scenes {
+        let most = if errors.is_empty() { 0 } else { looked.events };
+        let notes = self.notes(looked.budget, most);
         let mut scenes = Scenes::default();
         for note in &notes {
             if matches!(note.what, What::Stop | What::Limit) {
@@ -198,6 +202,8 @@ impl Search<'_> {
             let placed = note.errors.clone().filter_map(|number| Some((number, scene_of(note, errors.get(&number)?)?)));
             scenes.errors.extend(placed);
         }
+        let events = notes.iter().filter(|note| !matches!(note.what, What::Stop | What::Limit)).count() as u64;
+        scenes.are_first = events == most && most > 0 || !looked.is_whole;
         scenes
     }
 
@@ -295,12 +301,9 @@ mod tests {
     }
 
     #[test]
-    fn steps_have_their_time() {
-        let second = Duration::from_secs(1);
-        assert_eq!(steps_within(second, 1000, 4 * second), 250);
-        assert_eq!(steps_within(second, 1000, Duration::ZERO), 1_000_000_000);
-        assert_eq!(steps_within(second, 1, 1000 * second), 1);
-        assert_eq!(steps_within(1000 * second, u64::MAX, Duration::ZERO), u64::MAX);
+    fn the_longer_a_run_is_the_fewer_events_are_looked_for() {
+        assert_eq!([0, 400_000, 5_000_000, 50_000_000].map(|steps| events_within(steps, 20_000)), [100, 100, 8, 1]);
+        assert_eq!([0, 400_000, 5_000_000].map(|steps| events_within(steps, 1_000_000)), [20, 20, 8]);
     }
 
     /// The scenes of a job with this style.

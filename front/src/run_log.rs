@@ -3,6 +3,7 @@
 use crate::btx::{Answer, Ran};
 use crate::explain;
 use crate::job::Files;
+use crate::letters::{TextMode, are_whole};
 use crate::log::Log;
 use crate::scene::{End, Scenes};
 use crate::shapes::{self, Part};
@@ -60,8 +61,28 @@ impl RunLog<'_> {
         shapes::write(&self.log(), self.files, part, self.words.rooms.log, into);
     }
 
-    /// What is to be said of a run that was ended, before its messages, and where its style stood.
+    /// What is to be said before the messages: how a run was ended, and what became of letters of UTF-8.
     fn notes(&self) -> Vec<u8> {
+        [self.end_notes(), self.letter_notes()].concat()
+    }
+
+    /// What is to be said of the list's letters of UTF-8: that it was made by reading letters though nobody asked for that, and that it has half a letter.
+    fn letter_notes(&self) -> Vec<u8> {
+        let mut notes = String::new();
+        if self.ran.utf8 && self.words.text == TextMode::Auto {
+            notes.push_str(
+                "The list is made with -text=utf8: read by bytes, it would have half a letter, which LaTeX refuses.\n",
+            );
+        }
+        if let Some(line) = self.ran.line_of_half_letter().filter(|_| are_whole(self.files)) {
+            let remedy = if self.ran.utf8 { "the style cuts text by bytes" } else { "try -text=utf8" };
+            notes.push_str(&format!("Line {line} of the list has half a letter, which LaTeX refuses: {remedy}.\n"));
+        }
+        notes.into_bytes()
+    }
+
+    /// What is to be said of a run that was ended, and where its style stood.
+    fn end_notes(&self) -> Vec<u8> {
         let megabytes = |room: usize| room as f64 / f64::from(1 << 20);
         let rooms = &self.words.rooms;
         let mut notes = match (self.interrupted, self.ran.answer) {

@@ -77,6 +77,8 @@ impl End {
 pub struct Scenes {
     /// Those of errors.
     pub errors: BTreeMap<usize, Scene>,
+    /// Whether no more errors were looked for than the first ones.
+    pub are_first: bool,
     /// Those of warnings.
     pub warnings: BTreeMap<usize, Scene>,
     /// Where the style stood when the run ended before its last command.

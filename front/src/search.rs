@@ -8,7 +8,7 @@ use crate::databases::{Databases, first_in};
 use crate::job::{Unread, why_missing};
 use crate::kpathsea::{Format, Kpathsea};
 use crate::system::{PathLibrary, position, set_variable};
-use crate::terminal::plain;
+use crate::terminal::steers_terminals;
 use crate::texmf::Texmf;
 use crate::texmf::home::Home;
 use std::cell::{Cell, OnceCell};
@@ -84,7 +84,8 @@ impl Search {
             return None;
         }
         match self {
-            Search::ByLibrary(search) if !is_warned_of_raw(name) => search.find(name, format),
+            // (the library prints names as they are)
+            Search::ByLibrary(search) if !steers_terminals(name) => search.find(name, format),
             Search::BySetUp(search) => search.find(name, format),
             _ => places(name, format).find(|path| stands_as_file(path)),
         }
@@ -160,11 +161,6 @@ fn folders(format: Format) -> Vec<Vec<u8>> {
     let listed = env::var_os(format.variable()).filter(|listed| !listed.is_empty()).unwrap_or_else(|| ".".into());
     let folder = |folder: &[u8]| if folder.is_empty() { b".".to_vec() } else { folder.to_vec() };
     listed.as_bytes().split(|byte| *byte == b':').map(folder).collect()
-}
-
-/// Whether TeX's library may print a warning of a name with bytes that act on a terminal: it does so where a `$` names no variable.
-fn is_warned_of_raw(name: &[u8]) -> bool {
-    name.contains(&b'$') && plain(name).as_bytes() != name
 }
 
 /// Where a file may stand in the folders that BSTINPUTS or BIBINPUTS lists.
@@ -401,8 +397,11 @@ mod tests {
         ALONE.lock().unwrap_or_else(|poisoned| poisoned.into_inner())
     }
 
+    /// The name of a file with what it is.
+    type Named = (Vec<u8>, Format);
+
     /// TeX's own search, and the names of the styles and databases that TeX's file databases list; None where TeX's library isn't installed.
-    fn tex() -> Option<(LibrarySearch, Kpathsea, Vec<(Vec<u8>, Format)>)> {
+    fn tex() -> Option<(LibrarySearch, Kpathsea, Vec<Named>)> {
         let Search::ByLibrary(search) = Search::begin() else {
             eprintln!("TeX isn't installed: not tried");
             return None;

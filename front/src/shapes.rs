@@ -29,9 +29,22 @@ pub fn write(log: &Log<'_>, files: &Files, part: Part, room: usize, out: &mut Ve
     let scene_of_end = log.scene_of_end();
     let (sources, top) = (Sources::new(files), &files.top[..]);
     let is_interrupted = log.is_interrupted;
-    let mut shapes =
-        Shapes { sources, top, part, shown: 0, last_places: None, room, scene_of_end, is_interrupted, out };
+    let mut shapes = Shapes {
+        sources,
+        top,
+        part,
+        shown: 0,
+        unplaced: 0,
+        last_places: None,
+        room,
+        scene_of_end,
+        is_interrupted,
+        out,
+    };
     log.lines().filter(|line| part == Part::Whole || !went_well(line)).for_each(|line| shapes.line(&line));
+    if log.has_first_scenes() && part != Part::Mistakes {
+        shapes.count_unplaced();
+    }
 }
 
 /// Writes pieces of a line, and its end.
@@ -113,6 +126,8 @@ struct Shapes<'a, 'o> {
     top: &'a [u8],
     part: Part,
     shown: usize,
+    /// How many errors of the style's execution had no scene.
+    unplaced: usize,
     last_places: Option<LastPlaces>,
     /// How many bytes the places of the style's commands may still take.
     room: usize,
@@ -180,6 +195,7 @@ impl<'a> Shapes<'a, '_> {
         if let Some(at) = message.scene.and_then(|scene| scene.placed()) {
             return write_place(at, self.out);
         }
+        self.unplaced += usize::from(message.scene.is_none());
         let sources = &mut self.sources;
         let last_places = self.last_places.get_or_insert_with(|| LastPlaces::new(sources));
         let place = last_places.of(function, entry.is_some());
@@ -187,6 +203,18 @@ impl<'a> Shapes<'a, '_> {
             self.room = room;
             self.out.extend_from_slice(place);
         }
+    }
+
+    /// Says of how many errors of the style's execution the place isn't known, if there are any.
+    fn count_unplaced(&mut self) {
+        let errors = match self.unplaced {
+            0 => return,
+            1 => "1 error".into(),
+            more => format!("{more} errors"),
+        };
+        let text =
+            format!("(Where the style stood isn't known of {errors}: it is looked for at the first ones alone.)");
+        self.put(&[text.as_bytes()]);
     }
 
     /// An error in a line of a file.
@@ -316,6 +344,18 @@ mod tests {
             I was expecting a value---line 5 of file d.bib\n :  \n :  ,}\n(Error may have been on previous line)\n\
             I'm skipping whatever remains of this entry\n";
         assert_eq!(shapes(log, &[("d.bib", database)]), wanted);
+    }
+
+    #[test]
+    fn places_that_were_left_out_are_counted() {
+        let log = "Error--E while executing f for entry k\nError--E while executing f for entry l\n";
+        let shown = |scenes: &Scenes| {
+            let files = Files { top: b"job.aux".to_vec(), all: Vec::new() };
+            written(&Log::new(log.as_bytes()).with_scenes(scenes), &files, Part::Whole).lines().last().map(String::from)
+        };
+        let line = "(Where the style stood isn't known of 2 errors: it is looked for at the first ones alone.)";
+        assert_eq!(shown(&Scenes { are_first: true, ..Scenes::default() }).as_deref(), Some(line));
+        assert_ne!(shown(&Scenes::default()).as_deref(), Some(line));
     }
 
     #[test]

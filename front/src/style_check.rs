@@ -10,12 +10,8 @@ use crate::lint_warnings::{Warnings, read};
 use crate::log::{Content, Log, Place};
 use crate::style_text::{Kind, Token, Tokens, commands};
 use crate::system::trying;
-use std::fs;
 use std::io;
-use std::path::Path;
-use std::sync::mpsc::{self, RecvTimeoutError};
 use std::thread;
-use std::time::Duration;
 
 /// How many steps the commands of a style may take that is read for its messages: no entry is there.
 const STEPS_OF_READING: u64 = 100_000;
@@ -23,9 +19,17 @@ const STEPS_OF_READING: u64 = 100_000;
 /// The stack of a check: twice what the call takes at most.
 const STACK: usize = 1 << 21;
 
-/// How many hundredths of a second of the processor a check may take, and how often that is looked at.
-pub const MOST_TIME: u64 = 500;
-const TURN: Duration = Duration::from_millis(50);
+/// How many steps a check may take of a style that declares at most so many names, where nothing else is said, and of any style. No style of TeX Live declares more than 424.
+const STEPS: u64 = 2_000_000;
+const NAMES: u64 = 500;
+const LEAST_STEPS: u64 = 1000;
+
+/// How many steps a check of this style may take, where nothing else is said. With more names a check needs more steps, and a step takes longer, since it looks through what is known of all of them:
+/// so they are fewer by the square.
+pub fn usual_steps(text: &[u8]) -> u64 {
+    let names = (Code::new(text).names() as u64).max(NAMES);
+    (STEPS * NAMES / names * NAMES / names).max(LEAST_STEPS)
+}
 
 /// The room for the log of a style's own messages.
 const ROOM: usize = 1 << 24;
@@ -46,7 +50,7 @@ pub struct StyleCheck {
     pub files: Files,
     /// What is wrong in the style's text.
     pub messages: Messages,
-    /// None where the check took too long, or the style is too long.
+    /// None where the style is too long.
     pub verdict: Option<Verdict>,
     /// How many steps the check could take.
     pub steps: u64,
@@ -58,12 +62,13 @@ pub struct StyleCheck {
 }
 
 impl StyleCheck {
-    /// Checks a style in at most `steps` steps of the check. Where `has_entries`, an entry is searched for that shows each warning. A failure is the machine's: nothing is said of
+    /// Checks a style in at most `steps` steps of the check, or as many as are usual where none are given. Where `has_entries`, an entry is searched for that shows each warning. A failure is the machine's: nothing is said of
     /// the style then.
-    pub fn new(style: File, steps: u64, has_entries: bool) -> Result<StyleCheck, Failure> {
+    pub fn new(style: File, steps: Option<u64>, has_entries: bool) -> Result<StyleCheck, Failure> {
         let style = File { name: name_in_job(&style.name), ..style };
         let bytes = style.bytes.clone().unwrap_or_default();
-        let verdict = check_within(&style, steps)?;
+        let steps = steps.unwrap_or_else(|| usual_steps(&bytes));
+        let verdict = check_apart(&style, steps)?;
         let found = match &verdict {
             Some(Verdict::Warnings(notes) | Verdict::Incomplete(notes)) => read(notes, &style.name),
             _ => Warnings::default(),
@@ -105,32 +110,13 @@ fn unbegun(style: &File, fault: &io::Error) -> Failure {
     Failure::Device(style.path.clone(), "can't be checked, since no thread can be begun", words_of(fault))
 }
 
-/// Checks a style in a thread of its own. A check that takes too many seconds of the processor is given up: its thread goes on until the program ends.
-fn check_within(style: &File, steps: u64) -> Result<Option<Verdict>, Failure> {
-    let (begins, begun) = mpsc::channel();
-    let (sender, receiver) = mpsc::channel();
+/// Checks a style in a thread of its own, whose stack has room for the call. No clock says when it ends, so the verdict is the same on every machine.
+fn check_apart(style: &File, steps: u64) -> Result<Option<Verdict>, Failure> {
     let (name, bytes) = (style.name.clone(), style.bytes.clone().unwrap_or_default());
-    let check = move || {
-        drop(begins.send(fs::read_link("/proc/thread-self").unwrap_or_default()));
-        drop(sender.send(btx::check(&name, &bytes, steps)));
-    };
-    thread::Builder::new().stack_size(STACK).spawn(check).map_err(|fault| unbegun(style, &fault))?;
-    let thread = begun.recv().unwrap_or_default();
-    loop {
-        match receiver.recv_timeout(TURN) {
-            Ok(verdict) => return Ok(verdict?),
-            Err(RecvTimeoutError::Timeout) if processor_time(&thread) < MOST_TIME => {}
-            Err(_) => return Ok(None),
-        }
-    }
-}
-
-/// How many hundredths of a second of the processor a thread has taken, by its folder in `/proc`; 0 where the system doesn't say.
-fn processor_time(thread: &Path) -> u64 {
-    let stat = fs::read_to_string(Path::new("/proc").join(thread).join("stat")).unwrap_or_default();
-    let fields = stat.rsplit(')').next().unwrap_or_default().split_whitespace();
-    // (behind the program's name: those of the thread itself, and those of the system for it)
-    fields.skip(11).take(2).filter_map(|field| field.parse::<u64>().ok()).sum()
+    let check = move || btx::check(&name, &bytes, steps);
+    let thread = thread::Builder::new().stack_size(STACK).spawn(check).map_err(|fault| unbegun(style, &fault))?;
+    // (a thread that panicked has ended the program)
+    Ok(thread.join().unwrap_or(Ok(None))?)
 }
 
 /// A style's name as an `.aux` file can have it: whitespace, braces, commas and control bytes are `-`. The path stays, by which the style is shown.

@@ -6,16 +6,18 @@ use std::alloc::{GlobalAlloc, Layout, System, alloc_zeroed};
 use std::cell::Cell;
 use std::env;
 use std::ffi::{CStr, CString, OsStr, c_char, c_int, c_uint, c_ulong, c_void};
-use std::fs::OpenOptions;
+use std::fs::{File, OpenOptions};
 use std::io;
-use std::os::fd::{AsRawFd, IntoRawFd, OwnedFd, RawFd};
+use std::os::fd::{AsFd, AsRawFd, IntoRawFd, OwnedFd, RawFd};
 use std::os::unix::ffi::OsStrExt;
 use std::os::unix::fs::OpenOptionsExt;
 use std::os::unix::process::CommandExt;
+use std::os::unix::thread::JoinHandleExt;
 use std::path::{Path, PathBuf};
 use std::process::Command;
 use std::ptr::null_mut;
-use std::sync::atomic::{AtomicBool, Ordering};
+use std::sync::atomic::{AtomicBool, AtomicI32, Ordering};
+use std::thread::JoinHandle;
 use std::time::Duration;
 
 /// A set of signals, as the C library keeps it: 1,024 bits.
@@ -50,6 +52,7 @@ unsafe extern "C" {
     fn memmem(text: *const c_void, text_len: usize, what: *const c_void, what_len: usize) -> *mut c_void;
     fn signal(number: c_int, handler: usize) -> usize;
     fn raise(number: c_int) -> c_int;
+    fn pthread_kill(thread: c_ulong, number: c_int) -> c_int;
     fn pthread_sigmask(how: c_int, set: *const SignalSet, old: *mut SignalSet) -> c_int;
     fn sigtimedwait(set: *const SignalSet, info: *mut c_void, timeout: *const Timespec) -> c_int;
     fn setrlimit(resource: c_int, limit: *const Limit) -> c_int;
@@ -58,6 +61,7 @@ unsafe extern "C" {
     fn flock(file: c_int, operation: c_int) -> c_int;
     fn fallocate(file: c_int, mode: c_int, offset: i64, len: i64) -> c_int;
     fn close(file: c_int) -> c_int;
+    fn dup2(file: c_int, place: c_int) -> c_int;
     fn write(file: c_int, bytes: *const c_void, len: usize) -> isize;
     fn atexit(handler: extern "C" fn()) -> c_int;
     fn _exit(status: c_int) -> !;
@@ -65,9 +69,10 @@ unsafe extern "C" {
     fn kill(process: c_int, signal: c_int) -> c_int;
     fn prctl(option: c_int, first: c_ulong, ...) -> c_int;
     fn getppid() -> c_int;
-    fn clock_gettime(clock: c_int, time: *mut Timespec) -> c_int;
     fn waitid(kind: c_int, process: c_uint, found: *mut c_int, how: c_int) -> c_int;
     fn access(path: *const c_char, mode: c_int) -> c_int;
+    fn execve(path: *const c_char, words: *const *const c_char, variables: *const *const c_char) -> c_int;
+    static environ: *const *const c_char;
     #[cfg(target_env = "gnu")]
     fn mallopt(parameter: c_int, value: c_int) -> c_int;
 }
@@ -88,17 +93,6 @@ pub fn set_variable(name: &str, value: Option<&OsStr>) {
             None => std::env::remove_var(name),
         }
     }
-}
-
-// CLOCK_THREAD_CPUTIME_ID.
-const CLOCK_OF_THREAD: c_int = 3;
-
-/// For how long a processor has worked for this thread.
-pub fn processor_time() -> Duration {
-    let mut time = Timespec { seconds: 0, nanoseconds: 0 };
-    // SAFETY: the time is written to a valid place.
-    unsafe { clock_gettime(CLOCK_OF_THREAD, &mut time) };
-    Duration::new(time.seconds as u64, time.nanoseconds as u32)
 }
 
 // ---- memory ----
@@ -124,19 +118,46 @@ pub fn keep_long_texts_apart() {
 /// Whether the library of TeX's path search has the word. It ends the program by itself where memory is refused.
 static IS_SEARCHING: AtomicBool = AtomicBool::new(false);
 
+/// Where standard error is kept while the library has the word.
+static KEPT_ERROR: AtomicI32 = AtomicI32::new(NOT_KEPT);
+const NOT_KEPT: c_int = -1;
+
 /// Ends the program with the status of refused memory, where the library ended it.
 extern "C" fn end_as_memory() {
     if IS_SEARCHING.load(Ordering::Relaxed) {
+        put_back_error(KEPT_ERROR.load(Ordering::Relaxed));
+        say_refused(called_name().unwrap_or(b"bibtex-search"));
         // SAFETY: the call has no preconditions.
         unsafe { _exit(Status::Memory as c_int) }
     }
 }
 
-/// Calls the library of TeX's path search.
+/// Lets nothing come through to standard error, which is a file that can't be written to, and answers where it is kept. None where there is no file left for that.
+fn put_error_aside() -> Option<OwnedFd> {
+    let nowhere = File::open("/dev/null").ok()?;
+    let kept = io::stderr().as_fd().try_clone_to_owned().ok()?;
+    // SAFETY: the file is open, and standard error is kept.
+    (unsafe { dup2(nowhere.as_raw_fd(), STANDARD_ERROR) } >= 0).then_some(kept)
+}
+
+/// Lets standard error be again what it was, where it was kept.
+fn put_back_error(kept: c_int) {
+    if kept != NOT_KEPT {
+        // SAFETY: the file is open.
+        unsafe { dup2(kept, STANDARD_ERROR) };
+    }
+}
+
+/// Calls the library of TeX's path search. What it prints meanwhile goes nowhere: it prints names as they are, also those of a stranger. To be called as long as
+/// the program has one thread.
 fn searching<T>(call: impl FnOnce() -> T) -> T {
+    let kept = put_error_aside();
+    let number = kept.as_ref().map_or(NOT_KEPT, AsRawFd::as_raw_fd);
+    KEPT_ERROR.store(number, Ordering::Relaxed);
     IS_SEARCHING.store(true, Ordering::Relaxed);
     let answer = call();
     IS_SEARCHING.store(false, Ordering::Relaxed);
+    put_back_error(number);
     answer
 }
 
@@ -283,8 +304,8 @@ pub struct Signal {
     pub name: &'static str,
 }
 
-/// The signals that end a program.
-const SIGNALS: [Signal; 3] = [Signal::HANGUP, Signal::INTERRUPT, Signal::TERMINATE];
+/// The signals that end a program, and the one by which a thread that waits for them is woken.
+const SIGNALS: [Signal; 4] = [Signal::HANGUP, Signal::INTERRUPT, Signal::TERMINATE, Signal::URGENT];
 /// All signals that can be held back.
 const HELD: [Signal; 7] = [
     Signal::HANGUP,
@@ -329,10 +350,12 @@ impl Signal {
     pub const TERMINATE: Signal = Signal { number: 15, name: "SIGTERM" };
     /// Something became of a process that this one began.
     pub const CHILD: Signal = Signal { number: 17, name: "SIGCHLD" };
+    /// Nothing is done about it by default. One thread wakes another one by it.
+    const URGENT: Signal = Signal { number: 23, name: "SIGURG" };
     /// The seconds of the processor are spent.
     pub const PROCESSOR_TIME: Signal = Signal { number: 24, name: "SIGXCPU" };
 
-    /// Holds back the signals that end a program. Those that whoever called the program has switched off stay off.
+    /// Holds back the signals that end a program. Those that whoever called the program has switched off stay off. A thread that waits can be woken.
     pub fn hold() -> Held {
         Signal::hold_these(&SIGNALS)
     }
@@ -345,7 +368,7 @@ impl Signal {
     fn hold_these(signals: &[Signal]) -> Held {
         let mut set = SignalSet::EMPTY;
         for held in signals {
-            let is_ours = [Signal::PIPE, Signal::CHILD].contains(held);
+            let is_ours = [Signal::PIPE, Signal::CHILD, Signal::URGENT].contains(held);
             // SAFETY: the default handler and the one that ignores are always valid.
             unsafe {
                 if signal(held.number, DEFAULT_HANDLER) == IGNORING_HANDLER && !is_ours {
@@ -387,13 +410,19 @@ impl Held {
         self.mask(BLOCK);
     }
 
-    /// Waits for one of these signals; None where the time is over before one comes.
+    /// Waits for one of these signals; None where the time is over before one comes, or where another thread wakes this one.
     pub fn wait(&self, time: Duration) -> Option<Signal> {
         let timeout = Timespec { seconds: time.as_secs() as i64, nanoseconds: i64::from(time.subsec_nanos()) };
         // SAFETY: the set and the time are valid, and no information is asked for.
         let number = unsafe { sigtimedwait(&self.0, null_mut(), &timeout) };
         HELD.into_iter().find(|signal| signal.number == number && self.0.has(*signal))
     }
+}
+
+/// Wakes a thread that waits for a signal, or that will do so.
+pub fn wake<T>(thread: &JoinHandle<T>) {
+    // SAFETY: a thread whose handle is there wasn't joined, so its number is its own.
+    unsafe { pthread_kill(thread.as_pthread_t() as c_ulong, Signal::URGENT.number) };
 }
 
 /// Lets a write beyond the limit of a file's length fail, in place of ending the program.
@@ -528,25 +557,24 @@ fn called_name() -> Option<&'static [u8]> {
     name.filter(is_short).filter(|name| name.iter().all(u8::is_ascii_graphic))
 }
 
-impl Memory {
-    /// Says that memory was refused, by one write, from memory that is there.
-    fn say_refused(&self) {
-        let called = if self.has_names { called_name() } else { None };
-        let name = called.unwrap_or(self.name.as_bytes());
-        let mut line = [0; LONGEST_NAME + OUT_OF_MEMORY.len()];
-        let mut len = 0;
-        for (place, byte) in line.iter_mut().zip(name.iter().chain(OUT_OF_MEMORY)) {
-            *place = *byte;
-            len += 1;
-        }
-        // SAFETY: the bytes are those of the line; the call asks for no memory.
-        unsafe { write(STANDARD_ERROR, line.as_ptr().cast(), len) };
+/// Says under a program's name that memory was refused, by one write, from memory that is there.
+fn say_refused(name: &[u8]) {
+    let mut line = [0; LONGEST_NAME + OUT_OF_MEMORY.len()];
+    let mut len = 0;
+    for (place, byte) in line.iter_mut().zip(name.iter().chain(OUT_OF_MEMORY)) {
+        *place = *byte;
+        len += 1;
     }
+    // SAFETY: the bytes are those of the line; the call asks for no memory.
+    unsafe { write(STANDARD_ERROR, line.as_ptr().cast(), len) };
+}
 
+impl Memory {
     /// The place of memory that was asked for; null only where that was tried.
     fn given(&self, place: *mut u8) -> *mut u8 {
         if place.is_null() && !IS_TRYING.get() {
-            self.say_refused();
+            let called = if self.has_names { called_name() } else { None };
+            say_refused(called.unwrap_or(self.name.as_bytes()));
             // SAFETY: the call asks for no memory.
             unsafe { _exit(Status::Memory as c_int) }
         }
@@ -640,6 +668,42 @@ pub fn bind_to_this_process(command: &mut Command, longest: u64) {
     };
     // SAFETY: between fork and exec `bind` makes only calls that a signal handler may make; it allocates nothing and takes no lock.
     unsafe { command.pre_exec(bind) };
+}
+
+/// The words of a command, for C: each ends with a byte 0, and a null pointer ends the list of them.
+struct CommandWords {
+    _texts: Vec<CString>,
+    places: Vec<*const c_char>,
+}
+
+// SAFETY: the places are those of the texts, which nobody changes any more.
+unsafe impl Send for CommandWords {}
+// SAFETY: as above.
+unsafe impl Sync for CommandWords {}
+
+impl CommandWords {
+    fn of(command: &Command) -> io::Result<CommandWords> {
+        let words = std::iter::once(command.get_program()).chain(command.get_args());
+        let texts = words.map(|word| CString::new(word.as_bytes())).collect::<Result<Vec<_>, _>>()?;
+        let places = texts.iter().map(|text| text.as_ptr()).chain([std::ptr::null()]).collect();
+        Ok(CommandWords { _texts: texts, places })
+    }
+
+    /// Becomes the program of these words, and answers why it can't.
+    fn execute(&self) -> io::Error {
+        // SAFETY: the first place is that of the program's path, all end as C asks, and the environment is C's own.
+        unsafe { execve(self.places[0], self.places.as_ptr(), environ) };
+        io::Error::last_os_error()
+    }
+}
+
+/// Lets the process that the command begins become the command's program, named by its path, and nothing else. The standard library would hand a file that
+/// the system can't execute, such as an empty one, to a shell. Its words are those that the command has now, and what was asked of the process before is done first.
+pub fn execute_itself(command: &mut Command) -> io::Result<()> {
+    let words = CommandWords::of(command)?;
+    // SAFETY: between fork and exec it makes one call that a signal handler may make; it allocates nothing and takes no lock.
+    unsafe { command.pre_exec(move || Err(words.execute())) };
+    Ok(())
 }
 
 /// Whether a process that this one began has ended. It isn't taken from the system's table yet, so its number stays its own.

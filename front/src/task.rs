@@ -2,8 +2,9 @@
 
 use crate::btx::{self, Answer, Options, Ran};
 use crate::exit::{Failure, Name, Status};
-use crate::interrupt::{self, Tries};
+use crate::interrupt::{Tries, Watch};
 use crate::job::Files;
+use crate::letters::{TextMode, are_whole};
 use crate::outputs::Outputs;
 use crate::places;
 use crate::run_log::{Interrupted, RunLog};
@@ -55,14 +56,22 @@ impl Task {
         Arc::new(Task { name, words, files, log, held, outputs, ran: OnceLock::new(), is_claimed, is_written })
     }
 
-    /// Runs the job, and writes and prints what it gives.
+    /// Runs the job, and writes and prints what it gives. Once a signal was taken the program ends by it, whatever was written until then.
     pub fn run(self: Arc<Self>) -> Result<Status, Failure> {
         let (long, ended) = (self.clone(), self.clone());
-        let watched =
-            interrupt::watch(self.held, move || long.say_that_it_takes_long(), move |signal| ended.end_by(signal));
-        if watched.is_err() {
+        let watch = Watch::begin(self.held, move || long.say_that_it_takes_long(), move |signal| ended.end_by(signal));
+        if watch.is_err() {
             self.held.release();
         }
+        let done = self.run_and_finish();
+        if let Ok(watch) = watch {
+            watch.end();
+        }
+        done
+    }
+
+    /// Runs the job, and writes and prints what it gives, unless a signal's thread does so.
+    fn run_and_finish(&self) -> Result<Status, Failure> {
         let ran = self.ran.get_or_init(|| self.run_with(self.words.options.budget));
         let run_log = self.run_log(ran, None, self.scenes(ran));
         let log = run_log.whole();
@@ -74,15 +83,25 @@ impl Task {
         })
     }
 
-    /// What the job gives with this budget.
+    /// What the job gives with this budget. Where nothing is said of how text is read, it is read by bytes, as the original does; and once more by letters where that would leave
+    /// half a letter in the list.
     fn run_with(&self, budget: u64) -> Ran {
         let options = Options { budget, ..self.words.options };
-        btx::run(&self.files.top, &self.files.all, &options, &self.words.rooms)
+        let run = |utf8| btx::run(&self.files.top, &self.files.all, &Options { utf8, ..options }, &self.words.rooms);
+        match self.words.text {
+            TextMode::Utf8 => run(true),
+            TextMode::Bytes => run(false),
+            TextMode::Auto => {
+                let ran = run(false);
+                if ran.line_of_half_letter().is_some() && are_whole(&self.files) { run(true) } else { ran }
+            }
+        }
     }
 
     /// Where the style stood at the errors of a run: the job is run again to find it.
     fn scenes(&self, ran: &Ran) -> Scenes {
-        places::scenes(&self.files, &self.words.options, &self.words.rooms, ran)
+        let options = Options { utf8: ran.utf8, ..self.words.options };
+        places::scenes(&self.files, &options, &self.words.rooms, ran)
     }
 
     fn run_log<'a>(&'a self, ran: &'a Ran, interrupted: Option<Interrupted>, scenes: Scenes) -> RunLog<'a> {
@@ -122,7 +141,11 @@ impl Task {
             }
         }
         let until = Instant::now() + LONGEST_WRITE;
-        while !self.is_written.load(Ordering::SeqCst) && Instant::now() < until && self.held.wait(MOMENT).is_none() {}
+        while !self.is_written.load(Ordering::SeqCst) && Instant::now() < until {
+            if self.held.wait(MOMENT).is_some() {
+                break;
+            }
+        }
         signal.end_program()
     }
 

@@ -106,6 +106,11 @@ fn acts_on_a_terminal(character: char) -> bool {
     character.is_control() || turns_text
 }
 
+/// Whether a text has such a character. (Bytes that aren't UTF-8 don't count: names of files have them.)
+pub fn steers_terminals(text: &[u8]) -> bool {
+    text.utf8_chunks().any(|chunk| chunk.valid().chars().any(acts_on_a_terminal))
+}
+
 /// How many columns of a terminal a text takes.
 pub fn columns(text: &str) -> usize {
     text.chars().map(columns_of).sum()

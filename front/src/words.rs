@@ -2,6 +2,7 @@
 //! hyphen or two, and may be shortened to a beginning that no other option has; its value follows a `=` or is the next word.
 
 use crate::btx::{Options, Rooms};
+use crate::letters::TextMode;
 use std::ops::RangeInclusive;
 
 /// Whether messages are explained.
@@ -22,6 +23,8 @@ pub struct Words {
     pub terse: bool,
     pub explain: Explain,
     pub options: Options,
+    /// How text is read; the options of a run follow it.
+    pub text: TextMode,
     /// Whether the limits of variables were given; else TeX's set-up gives them.
     pub has_entry_max: bool,
     pub has_global_max: bool,
@@ -177,6 +180,7 @@ impl Words {
             terse: false,
             explain,
             options,
+            text: TextMode::Auto,
             has_entry_max: false,
             has_global_max: false,
             rooms: Rooms { list: 1 << 30, log: 64 << 20 },
@@ -204,7 +208,7 @@ impl Words {
             }
             Choice::LogRoom => self.rooms.log = size(name, value)?,
             Choice::ListRoom => self.rooms.list = size(name, value)?,
-            Choice::Text => self.options.utf8 = text_mode(value)?,
+            Choice::Text => self.text = text_mode(value)?,
             Choice::Folder => {
                 return Err(
                     b"the files are searched for, so there is no option -dir: name the job with its folder".into()
@@ -217,11 +221,12 @@ impl Words {
     }
 }
 
-fn text_mode(value: &[u8]) -> Result<bool, Vec<u8>> {
+fn text_mode(value: &[u8]) -> Result<TextMode, Vec<u8>> {
     match value {
-        b"utf8" => Ok(true),
-        b"bytes" => Ok(false),
-        _ => Err([b"the value of -text is bytes or utf8, not '", value, b"'"].concat()),
+        b"auto" => Ok(TextMode::Auto),
+        b"bytes" => Ok(TextMode::Bytes),
+        b"utf8" => Ok(TextMode::Utf8),
+        _ => Err([b"the value of -text is auto, bytes or utf8, not '", value, b"'"].concat()),
     }
 }
 

@@ -1,10 +1,15 @@
 # What is installed, and programs that are built of it.
 
 begin files_are_installed
+# (where a link stands, the file that it leads to stays)
+mkdir -p "$room/installed/lib/pkgconfig"
+echo other >"$room/other"
+ln -s "$room/other" "$room/installed/lib/pkgconfig/btx.pc"
 run make --no-print-directory -C "$here" install OUT="$room/out" ARCHIVE="$archive" PREFIX="$room/installed"
 wants_quiet
 found=$(cd "$room/installed" && find . ! -type d | sort | tr '\n' ' ')
 [ "$found" = './include/btx.h ./lib/libbtx.a ./lib/libbtx.so ./lib/libbtx.so.1 ./lib/libbtx.so.1.0.0 ./lib/pkgconfig/btx.pc ./share/man/man3/btx.3 ' ] || complaints+=("installed are $found")
+[ "$(cat "$room/other")" = other ] || complaints+=('a file was overwritten through a link')
 end
 
 # build WORD..: builds a program of the test in C++ with what is installed, and runs it.

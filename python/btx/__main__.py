@@ -3,18 +3,18 @@
 from __future__ import annotations
 
 import argparse
-import os
 import signal
 import sys
 from dataclasses import replace
 from typing import List, Optional
 
 from . import compare
-from .commands import STATUS_REFUSED, Words, broken_pipe, prints_any_text
+from .commands import STATUS_REFUSED, Words, broken_pipe, print_nowhere, prints_any_text
 from .jobs import run
 from .options import Options
+from .outputs import Inputs, write_outputs
 from .refusals import OutputTooLong, Refusal
-from .results import End, Result
+from .results import End
 from .reports import shown
 from .searching import found_search
 
@@ -50,10 +50,12 @@ def parser() -> argparse.ArgumentParser:
 
 def run_job(words: argparse.Namespace) -> int:
     """Runs a job and writes its outputs; the exit status is the program's."""
-    search = found_search()
+    inputs = Inputs(found_search())
     try:
-        options = chosen_options(words, search.options(Options()))
-        result = run(words.job, search.content, options)
+        options = chosen_options(words, inputs.search.options(Options()))
+        result = run(words.job, inputs.content, options)
+        if result.report.end is not End.NO_TOP_FILE:
+            write_outputs(words.job, result, inputs)
     except OutputTooLong as error:
         return complain(str(error), STATUS_LIMIT)
     except MemoryError as error:
@@ -62,23 +64,25 @@ def run_job(words: argparse.Namespace) -> int:
         return complain(str(error), STATUS_DEVICE)
     except Refusal as error:
         return complain(str(error), STATUS_REFUSED)
-    if result.report.end is not End.NO_TOP_FILE:
-        try:
-            write_outputs(words.job, result)
-        except OSError as error:
-            return complain(str(error), STATUS_DEVICE)
-    if not words.terse:
-        sys.stdout.buffer.write(result.log)
-        sys.stdout.flush()
+    try:
+        if not words.terse:
+            print_log(result.log)
+    except BrokenPipeError:
+        raise
+    except OSError as error:
+        print_nowhere()
+        return complain(f"the log can't be printed: {error}", STATUS_DEVICE)
     return result.report.status
 
 
-def write_outputs(job: str, result: Result) -> None:
-    """Writes the list and the log of a job beside its `.aux` file."""
-    base = job[: -len(".aux")] if job.endswith(".aux") else job
-    for ending, content in ((".bbl", result.bbl), (".blg", result.log)):
-        with open(os.fsencode(base + ending), "wb") as file:
-            file.write(content)
+def print_log(log: bytes) -> None:
+    """Prints a log; on a terminal, what acts on it is replaced."""
+    if sys.stdout is None:
+        raise OSError("standard output is closed")
+    if sys.stdout.isatty():
+        log = b"".join(shown(line).encode("utf8") + b"\n" for line in log.decode("utf8", "replace").split("\n")[:-1])
+    sys.stdout.buffer.write(log)
+    sys.stdout.flush()
 
 
 def chosen_options(words: argparse.Namespace, options: Options) -> Options:

@@ -4,18 +4,21 @@ from __future__ import annotations
 
 import enum
 import re
-from typing import Dict, NamedTuple, Optional
+from typing import Dict, List, NamedTuple, Optional
 
-from .messages import Kind
+from .messages import Message, messages_of
 from .results import End, Result
 
 __all__ = ["Cause", "Difference", "cause_of", "first_difference"]
 
 ITEM = re.compile(rb"^(?=\\(?:bib|harvard)item|\\entry\{)", re.MULTILINE)
-KEY = re.compile(rb"\\(?:bib|harvard)item\s*(?:\[(?:[^\]{]|\{(?:[^{}]|\{[^{}]*\})*\})*\])?\s*\{([^}]*)\}|\\entry\{([^}]*)\}")
+KEY = re.compile(rb"\\(?:bib|harvard)item\s*(?:\[(?:[^\]{]|\{(?:[^{}]|\{[^{}]*\})*\})*\]\s*)?\{([^}]*)\}|\\entry\{([^}]*)\}")
 WHITE_SPACE = b" \t\r\n"
 LONGEST_SHOWN = 160
-CUT = re.compile(r"string of [0-9]+ bytes cut to [0-9]+")
+# Lines of the log, which may have millions: so they are looked for in its bytes.
+ERROR = re.compile(rb"^Error--[^\n]*", re.MULTILINE)
+NO_DATABASE = re.compile(rb"^Error--I couldn't open database file", re.MULTILINE)
+CUT = re.compile(rb"^Warning--string of [0-9]+ bytes cut to [0-9]+", re.MULTILINE)
 
 
 class Cause(enum.Enum):
@@ -93,7 +96,7 @@ def cause_of(result: Result, there: bytes) -> Cause:
         return Cause.LINE_ENDS
     if here.translate(None, WHITE_SPACE) == there.translate(None, WHITE_SPACE):
         return Cause.SPACES
-    if any(message.kind is Kind.ERROR and message.text.startswith("I couldn't open database file") for message in result.messages):
+    if NO_DATABASE.search(result.log):
         return Cause.DATABASE
     ours, theirs = items_of(here), items_of(there)
     if ours.keys() != theirs.keys():
@@ -105,22 +108,26 @@ def cause_of(result: Result, there: bytes) -> Cause:
 
 def cause_of_items(result: Result, ours: Dict[bytes, bytes], theirs: Dict[bytes, bytes]) -> Cause:
     """Why items of the same keys differ or stand in another order: what the log says of it, unless their order alone differs."""
-    messages = result.messages
-    if any(message.kind is Kind.WARNING and CUT.match(message.text) for message in messages):
+    if CUT.search(result.log):
         return Cause.CUT
     if ours == theirs:
         return Cause.ORDER
-    if any(message.kind is Kind.ERROR and (message.function or (message.file or "").endswith(".bst")) for message in messages):
+    if any(is_of_style(message) for line in ERROR.finditer(result.log) for message in messages_of(line[0])):
         return Cause.STYLE
     return Cause.ORDER if list(ours) != list(theirs) else Cause.ITEMS
 
 
+def is_of_style(message: Message) -> bool:
+    """Whether an error is one of the style or of its execution."""
+    return bool(message.function) or (message.file or "").endswith(".bst")
+
+
 def items_of(text: bytes) -> Dict[bytes, bytes]:
     """The items of a list by their keys, each with white space squeezed, in their order."""
-    items: Dict[bytes, bytes] = {}
+    items: Dict[bytes, List[bytes]] = {}
     for part in ITEM.split(text)[1:]:
         found = KEY.match(part)
         key = (found[1] or found[2] or b"") if found else part[:40]
         body = part.split(b"\\end{thebibliography}")[0]
-        items[key] = items.get(key, b"") + b" ".join(body.split())
-    return items
+        items.setdefault(key, []).append(b" ".join(body.split()))
+    return {key: b"".join(parts) for key, parts in items.items()}

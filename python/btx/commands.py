@@ -8,7 +8,7 @@ import os
 import sys
 from typing import NoReturn
 
-__all__ = ["STATUS_REFUSED", "Words", "broken_pipe", "prints_any_text"]
+__all__ = ["STATUS_REFUSED", "Words", "broken_pipe", "print_nowhere", "prints_any_text"]
 
 STATUS_REFUSED = 1
 # What a shell says of a program that SIGPIPE ended.
@@ -30,9 +30,15 @@ def prints_any_text() -> None:
             stream.reconfigure(errors="backslashreplace")
 
 
+def print_nowhere() -> None:
+    """Lets what is still to be printed go nowhere."""
+    nowhere = os.open(os.devnull, os.O_WRONLY)
+    if nowhere != 1:
+        os.dup2(nowhere, 1)
+        os.close(nowhere)
+
+
 def broken_pipe() -> int:
     """The status when nobody reads the output any more. What is still to be printed goes nowhere."""
-    nowhere = os.open(os.devnull, os.O_WRONLY)
-    os.dup2(nowhere, 1)
-    os.close(nowhere)
+    print_nowhere()
     return STATUS_PIPE

@@ -11,46 +11,61 @@ import functools
 import math
 import os
 import pathlib
+import re
 import shutil
+import signal
 import subprocess
 import sys
 import tempfile
 import threading
 from dataclasses import replace
 from multiprocessing.util import Finalize
-from typing import Dict, Generator, List, Optional, Sequence, Tuple, Union
+from typing import Dict, Generator, Iterator, List, Optional, Sequence, Tuple, Union
 
 from .causes import cause_of, first_difference
 from .commands import STATUS_REFUSED, Words, broken_pipe
 from .corpus import Job, found_jobs
 from .jobs import run
-from .messages import Kind
+from .messages import messages_of
 from .options import RANGES, Options
 from .refusals import Refusal
 from .reports import Compared, Progress, Resumed, Table, shown
 from .results import End, Result
-from .searching import Search, found_search
+from .searching import Search, content_of, found_search
 from .workers import Ended, Team
 
-__all__ = ["compared_piece", "main"]
+__all__ = ["add_conditions", "compared_piece", "complain", "found_program", "main", "not_run", "status_of"]
 
 BUDGET = 100_000_000
 SECONDS = 60.0
+# How many bytes a list and a log may have: those of papers have a thousandth of that.
+MOST_BYTES = 64 << 20
+# The lines of a log that say that there is no list to compare.
+NO_LIST = re.compile(rb"^Error--(?:I found no \\bib|I couldn't open style file)[^\n]*", re.MULTILINE)
+# What ends programs beside an interrupt.
+ENDING = (signal.SIGTERM, signal.SIGHUP, signal.SIGQUIT)
 STATUS_DIFFERENT = 2
+STATUS_NOT_RUN = 3
 STATUS_INTERRUPTED = 130
 
 
 def parser() -> argparse.ArgumentParser:
     result = Words(prog="python3 -m btx compare", description="Compares the reference lists of old jobs with those that they get now.")
-    result.add_argument("folders", metavar="FOLDER", nargs="+", help="each .aux file with a .bbl beside it below these folders is a job")
-    result.add_argument("--with", dest="program", metavar="PROGRAM", help="compare with what PROGRAM writes in a copy, not with the .bbl that is there")
-    result.add_argument("--budget", type=budget, default=BUDGET, metavar="N", help=f"how many steps a style may take ({BUDGET:,})")
-    result.add_argument("--time-limit", type=time_limit, default=SECONDS, metavar="S", help=f"how many seconds a job may take ({SECONDS:g})")
+    add_conditions(result)
     result.add_argument("--processes", type=processes, default=os.cpu_count() or 1, metavar="N", help="how many jobs are run side by side")
     result.add_argument("--json", action="store_true", help="print the results as JSON")
     result.add_argument("--html", type=pathlib.Path, metavar="REPORT", help="write a page with the results")
     result.add_argument("--resume", type=pathlib.Path, metavar="FILE", help="keep results in FILE, and take from there those of jobs whose .aux and .bbl haven't changed")
     return result
+
+
+def add_conditions(result: argparse.ArgumentParser) -> None:
+    """Adds the words that say what is compared, under which conditions, and which status that comes to."""
+    result.add_argument("folders", metavar="FOLDER", nargs="+", help="each .aux file with a .bbl beside it below these folders is a job")
+    result.add_argument("--with", dest="program", metavar="PROGRAM", help="compare with what PROGRAM writes in a copy, not with the .bbl that is there")
+    result.add_argument("--budget", type=budget, default=BUDGET, metavar="N", help=f"how many steps a style may take ({BUDGET:,})")
+    result.add_argument("--time-limit", type=time_limit, default=SECONDS, metavar="S", help=f"how many seconds a job may take ({SECONDS:g})")
+    result.add_argument("--allow-not-run", action="store_true", help="let the exit status be that of the jobs that were run")
 
 
 def budget(word: str) -> int:
@@ -81,15 +96,44 @@ def time_limit(word: str) -> float:
 
 
 def main(words: List[str]) -> int:
-    """Compares, and answers the exit status: 0 where all lists are equal, 2 where some differ, 130 where it was interrupted, 1 where the command
-    is refused, a folder can't be read or a file can't be written."""
+    """Compares, and answers the exit status: that of `status_of`, 130 where it was interrupted, 1 where the command is refused, a folder can't be
+    read or a file can't be written. Another signal that ends programs ends this one, after all that is shown and cleaned up for an interrupt."""
     given = parser().parse_args(words)
-    program = shutil.which(given.program) if given.program else None
-    if given.program and program is None:
-        return complain(f"there is no program {given.program}")
+    try:
+        program = found_program(given.program)
+    except FileNotFoundError as error:
+        return complain(str(error))
+    with signals_as_interrupts():
+        return compare_and_show(given, program)
+
+
+@contextlib.contextmanager
+def signals_as_interrupts() -> Iterator[None]:
+    """Takes signals that end programs as interrupts, and ends the program by the first one in the end."""
+    taken: List[int] = []
+
+    def take(number: int, _: object) -> None:
+        taken.append(number)
+        raise KeyboardInterrupt
+
+    is_main = threading.current_thread() is threading.main_thread()
+    numbers = [number for number in ENDING if is_main and signal.getsignal(number) is signal.SIG_DFL]
+    for number in numbers:
+        signal.signal(number, take)
+    try:
+        yield
+    finally:
+        for number in numbers:
+            signal.signal(number, signal.SIG_DFL)
+        if taken:
+            os.kill(os.getpid(), taken[0])
+
+
+def compare_and_show(given: argparse.Namespace, program: Optional[str]) -> int:
+    """Compares, shows the results, and answers the exit status."""
     table = Table()
     try:
-        status = compare_all(given, program and os.path.abspath(program), table)
+        status = compare_all(given, program, table)
     except KeyboardInterrupt:
         status = STATUS_INTERRUPTED
     except BrokenPipeError:
@@ -104,7 +148,27 @@ def main(words: List[str]) -> int:
         return broken_pipe()
     except OSError as error:
         return complain(str(error))
-    return STATUS_DIFFERENT if status == 0 and table.differs() else status
+    return status or status_of(table, given.allow_not_run)
+
+
+def found_program(word: Optional[str]) -> Optional[str]:
+    """The path of the program that `--with` names, or None where nothing is named. Raises FileNotFoundError where there is no such program; an empty word,
+    as from a variable that isn't set, names none."""
+    if word is None:
+        return None
+    path = shutil.which(word)
+    if path is None:
+        raise FileNotFoundError(f"there is no program {word!r}")
+    return os.path.abspath(path)
+
+
+def status_of(table: Table, allows_not_run: bool) -> int:
+    """What the results come to: 0 where all lists are equal, 2 where some differ, 3 where a job wasn't run, unless that is allowed, or where no lists were
+    compared at all."""
+    different, was_compared = table.count("different"), table.count("different") + table.count("equal") > 0
+    if not was_compared or (table.count("not run") > 0 and not allows_not_run):
+        return STATUS_NOT_RUN
+    return STATUS_DIFFERENT if different > 0 else 0
 
 
 def complain(text: str) -> int:
@@ -225,7 +289,8 @@ def compared(job: Job, budget: int, program: Optional[str], seconds: float, room
         try:
             os.chdir(job.folder)
             here = search_here()
-            return compared_here(job, here, replace(here.options(Options()), budget=budget), program, seconds, room)
+            options = replace(here.options(Options()), budget=budget, most_list=MOST_BYTES, most_log=MOST_BYTES)
+            return compared_here(job, here, options, program, seconds, room)
         except subprocess.TimeoutExpired:
             return Ended(f"{program} took longer than {counted(seconds)}")
         except (OSError, Refusal, MemoryError, RecursionError, subprocess.SubprocessError) as error:
@@ -251,7 +316,7 @@ def compared_here(job: Job, here: Search, options: Options, program: Optional[st
     if reason is not None:
         return not_run(job, reason)
     if program is None:
-        there = pathlib.Path(os.fsdecode(job.name + b".bbl")).read_bytes()
+        there = content_of(job.name + b".bbl", MOST_BYTES)
     else:
         with tempfile.TemporaryDirectory(dir=room) as copy:
             there = list_of(program, job, found, seconds, pathlib.Path(copy))
@@ -265,10 +330,8 @@ def why_not_run(result: Result) -> Optional[str]:
     """Why a job gives no list that could be compared, if so."""
     if result.report.end is End.NO_TOP_FILE:
         return "the .aux file can't be read"
-    for message in result.messages:
-        if message.kind is Kind.ERROR and message.text.startswith(("I found no \\bib", "I couldn't open style file")):
-            return message.text
-    return None
+    found = NO_LIST.search(result.log)
+    return messages_of(found[0])[0].text if found else None
 
 
 def not_run(job: Job, reason: str) -> Compared:
@@ -293,7 +356,7 @@ def list_of(program: str, job: Job, found: Dict[str, bytes], seconds: float, cop
     path = folder / os.fsdecode(job.name + b".bbl")
     if not path.is_file():
         raise OSError(f"{program} wrote no list (status {done.returncode})")
-    return path.read_bytes()
+    return content_of(os.fsencode(path), MOST_BYTES)
 
 
 def copied(found: Dict[str, bytes], copy: pathlib.Path) -> pathlib.Path:

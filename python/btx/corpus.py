@@ -69,9 +69,21 @@ def aux_files(folders: Iterable[bytes], complain: Callable[[str], None]) -> Set[
         if os.path.isfile(folder) and folder.endswith(b".aux"):
             found.add(os.path.abspath(folder))
             continue
-        for root, _, names in os.walk(os.path.abspath(folder), onerror=lambda error: complain(str(error))):
-            found.update(os.path.join(root, name) for name in names if name.endswith(b".aux"))
+        below = [os.path.abspath(folder)]
+        while below:
+            try:
+                below += taken_from(below.pop(), found)
+            except OSError as error:
+                complain(str(error))
     return found
+
+
+def taken_from(folder: bytes, found: Set[bytes]) -> List[bytes]:
+    """Adds the `.aux` files of a folder, and answers the folders in it. (Python's own walk calls itself for each folder in another one, and ends for very many.)"""
+    with os.scandir(folder) as entries:
+        seen = list(entries)
+    found.update(entry.path for entry in seen if entry.name.endswith(b".aux") and not entry.is_dir())
+    return [entry.path for entry in seen if entry.is_dir(follow_symlinks=False)]
 
 
 def scanned_file(path: bytes) -> Scanned:

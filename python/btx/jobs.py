@@ -82,7 +82,7 @@ def finder_over(files: Union[Mapping[str, Content], Mapping[bytes, Content], Map
 def given_files(files: Union[Mapping[str, Content], Mapping[bytes, Content], Mapping[Name, Content]]) -> Dict[bytes, Content]:
     """The contents of a mapping by the bytes of their names."""
     if not isinstance(files, Mapping):
-        raise FinderRefused(f"files are a mapping or a function, and not {type(files).__name__}")
+        raise FinderRefused(None, type(files).__name__)
     return {name_bytes(name): content for name, content in files.items()}
 
 
@@ -96,15 +96,14 @@ def checked(content: Content, name: bytes) -> Content:
         return content
     if isinstance(content, (bytearray, memoryview)):
         return bytes(content)
-    hint = ": open it in binary mode" if isinstance(content, str) else ""
-    raise FinderRefused(f"the file {name_text(name)} is bytes or None, and not {type(content).__name__}{hint}")
+    raise FinderRefused(name_text(name), type(content).__name__)
 
 
 def job_name(job: Name) -> bytes:
     """The bytes of a job's name; the library tells names by lines, so none has a line end."""
     name = name_bytes(job)
     if b"\n" in name:
-        raise NameRefused(f"the name of a job has no line end, and {job!r} has one")
+        raise NameRefused(job, "has a line end, which no job's name has")
     return name
 
 
@@ -113,11 +112,11 @@ def name_bytes(name: Name) -> bytes:
     if isinstance(name, bytes):
         return name
     if not isinstance(name, str):
-        raise NameRefused(f"a name is text or bytes, and not {type(name).__name__}")
+        raise NameRefused(repr(name), f"is neither text nor bytes, but {type(name).__name__}")
     try:
         return name.encode("utf8", "surrogateescape")
     except UnicodeEncodeError as error:
-        raise NameRefused(f"the name {name!r} has a surrogate that stands for no byte") from error
+        raise NameRefused(name, "has a surrogate that stands for no byte") from error
 
 
 def name_text(name: bytes) -> str:

@@ -58,7 +58,7 @@ def found_library() -> ctypes.CDLL:
         library = ctypes.CDLL(path)
         needs, run = library.btx_needs, library.btx_run
     except (OSError, AttributeError) as error:
-        raise LibraryMissing(f"the library of BibTeX, proved, can't be loaded: {error}") from error
+        raise LibraryMissing(path, str(error)) from error
     needs.restype = run.restype = ctypes.c_uint32
     size = ctypes.c_size_t
     text, files, room = (ctypes.c_char_p, size), (ctypes.POINTER(File), size), (ctypes.c_void_p, size)

@@ -1,6 +1,10 @@
-"""Why a call gives no result: each reason is an exception of its own."""
+"""Why a call gives no result: each reason is an exception of its own.
+
+Each has its facts as attributes. Its arguments are those facts, and its text is made of them, so that pickle can hand it to another process."""
 
 from __future__ import annotations
+
+from typing import Optional, Union
 
 __all__ = ["Refusal", "OptionRefused", "MemoryRefused", "FileUnknown", "OutputTooLong", "NameRefused", "FinderRefused", "LibraryMissing"]
 
@@ -10,26 +14,59 @@ class Refusal(Exception):
 
 
 class LibraryMissing(Refusal, ImportError):
-    """There is no libbtx.so.1, or it isn't the library of this package."""
+    """There is no libbtx.so.1, or it isn't the library of this package. library: the name by which it was looked for. reason: what the system says."""
+
+    def __init__(self, library: str, reason: str) -> None:
+        super().__init__(library, reason)
+        self.library = library
+        self.reason = reason
+
+    def __str__(self) -> str:
+        return f"the library of BibTeX, proved, can't be loaded: {self.reason}"
 
 
 class OptionRefused(Refusal, ValueError):
-    """A number of the options is out of its range."""
+    """A number of the options is out of its range. option: its name. value: the number. least, most: its range."""
 
     def __init__(self, option: str, value: int, least: int, most: int) -> None:
-        super().__init__(f"the option {option} is {value}, and may be {least} to {most}")
+        super().__init__(option, value, least, most)
         self.option = option
         self.value = value
         self.least = least
         self.most = most
 
+    def __str__(self) -> str:
+        return f"the option {self.option} is {self.value}, and may be {self.least} to {self.most}"
+
 
 class NameRefused(Refusal, ValueError):
-    """A name that no file of a job can have, such as one with a line end."""
+    """A name that no file of a job can have, such as one with a line end. name: the name, or what `repr` says of it where it is neither text nor bytes.
+    reason: what is wrong with it."""
+
+    def __init__(self, name: Union[str, bytes], reason: str) -> None:
+        super().__init__(name, reason)
+        self.name = name
+        self.reason = reason
+
+    def __str__(self) -> str:
+        return f"the name {self.name!r} {self.reason}"
 
 
 class FinderRefused(Refusal, TypeError):
-    """What was handed in for a file is neither bytes nor None."""
+    """What was handed in for a file is neither bytes nor None, or what was handed in for all files has no files.
+
+    name: the file's name, or None where all files are meant. given: the type of what was handed in."""
+
+    def __init__(self, name: Optional[str], given: str) -> None:
+        super().__init__(name, given)
+        self.name = name
+        self.given = given
+
+    def __str__(self) -> str:
+        if self.name is None:
+            return f"files are a mapping or a function, and not {self.given}"
+        hint = ": open it in binary mode" if self.given == "str" else ""
+        return f"the file {self.name} is bytes or None, and not {self.given}{hint}"
 
 
 class MemoryRefused(Refusal, MemoryError):
@@ -41,9 +78,12 @@ class FileUnknown(Refusal, LookupError):
 
 
 class OutputTooLong(Refusal):
-    """The reference list or the log is longer than the options allow. `bbl` and `log` are prefixes of what they would have been."""
+    """The reference list or the log is longer than the options allow. bbl, log: prefixes of what they would have been."""
 
     def __init__(self, bbl: bytes, log: bytes) -> None:
-        super().__init__(f"an output is longer than its room: the list has {len(bbl)} bytes so far, the log {len(log)}")
+        super().__init__(bbl, log)
         self.bbl = bbl
         self.log = log
+
+    def __str__(self) -> str:
+        return f"an output is longer than its room: the list has {len(self.bbl)} bytes so far, the log {len(self.log)}"

@@ -170,8 +170,9 @@ class Table:
     def add(self, result: Compared) -> None:
         self.results.append(result)
 
-    def differs(self) -> bool:
-        return any(result.outcome == "different" for result in self.results)
+    def count(self, outcome: str) -> int:
+        """How many jobs had this outcome."""
+        return sum(result.outcome == outcome for result in self.results)
 
     def counts(self) -> List[Tuple[str, int]]:
         """How many jobs had each outcome, those that differ and those that weren't run by their reasons."""

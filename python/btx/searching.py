@@ -5,6 +5,7 @@ from __future__ import annotations
 
 import ctypes
 import ctypes.util
+import errno
 import os
 import re
 import shutil
@@ -13,7 +14,10 @@ from typing import List, Optional
 
 from .options import TEX_LIVE, Options
 
-__all__ = ["Search", "found_search"]
+__all__ = ["Search", "content_of", "found_search"]
+
+# A file that is longer is the limit of a run.
+MOST_BYTES = 2**31 - 1
 
 # What kpathsea/types.h calls kpse_bib_format and kpse_bst_format; the variables that hold the same paths.
 FORMATS = {b".bib": (6, "BIBINPUTS"), b".bst": (7, "BSTINPUTS")}
@@ -47,17 +51,27 @@ class Search:
         """The options with the lengths of variables that TeX's set-up states."""
         return options
 
+    def may_write(self, name: bytes) -> bool:
+        """Whether a file of this name may be written, by TeX's openout_any: without TeX any may."""
+        return True
+
     def looks_below_here(self) -> bool:
         """Whether it looks in folders below the present one and remembers which there are: then it isn't to be used from another folder."""
         return False
 
     def content(self, name: str) -> Optional[bytes]:
-        """The bytes of the file of this name, if there is one. A file that is there and can't be read raises OSError."""
+        """The bytes of the file of this name, if there is one. A file that is there and can't be read raises OSError, and so does one that is longer than any that a
+        run reads."""
         path = self.path_of(name.encode("utf8", "surrogateescape"))
-        if path is None:
-            return None
-        with open(path, "rb") as file:
-            return file.read()
+        return None if path is None else content_of(path, MOST_BYTES)
+
+
+def content_of(path: bytes, most: int) -> bytes:
+    """The bytes of a file, which is to have `most` at most."""
+    with open(path, "rb") as file:
+        if os.fstat(file.fileno()).st_size > most:
+            raise OSError(errno.EFBIG, f"it has more than {most:,} bytes", os.fsdecode(path))
+        return file.read()
 
 
 def folders_of(value: Optional[str]) -> List[bytes]:
@@ -88,6 +102,9 @@ class Kpathsea(Search):
         whole = self.number(b"glob_str_size", TEX_LIVE.global_max)
         return replace(options, entry_max=entry, global_max=whole)
 
+    def may_write(self, name: bytes) -> bool:
+        return b"\0" not in name and bool(self.library.kpathsea_out_name_ok_silent(self.setup, name))
+
     def looks_below_here(self) -> bool:
         paths = [self.library.kpathsea_var_value(self.setup, name.encode()) or b"" for _, name in FORMATS.values()]
         return any(BELOW_HERE.match(folder) for path in paths for folder in SEPARATORS.split(path))
@@ -113,6 +130,8 @@ def found_search() -> Search:
     library.kpathsea_new.argtypes = []
     library.kpathsea_set_program_name.argtypes = [ctypes.c_void_p, ctypes.c_char_p, ctypes.c_char_p]
     library.kpathsea_set_program_name.restype = None
+    library.kpathsea_out_name_ok_silent.restype = ctypes.c_int
+    library.kpathsea_out_name_ok_silent.argtypes = [ctypes.c_void_p, ctypes.c_char_p]
     library.kpathsea_find_file.restype = library.kpathsea_var_value.restype = ctypes.c_char_p
     library.kpathsea_find_file.argtypes = [ctypes.c_void_p, ctypes.c_char_p, ctypes.c_int, ctypes.c_int]
     library.kpathsea_var_value.argtypes = [ctypes.c_void_p, ctypes.c_char_p]

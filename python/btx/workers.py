@@ -22,7 +22,9 @@ Done = TypeVar("Done")
 LOOKS_AFTER = 0.2
 # How long a process may take to start, in seconds.
 STARTS_WITHIN = 60.0
-# The program of a process of Python's: the number of its pipe is its only word, and what comes first through it is where modules are found.
+# How a process of Python's starts: isolated, so that it imports nothing from the present folder, whose files may be a stranger's.
+ISOLATED = ("-I", "-B") if sys.dont_write_bytecode else ("-I",)
+# Its program: the number of its pipe is its only word, and what comes first through it is where modules are found.
 BEGIN = """import sys
 from multiprocessing.connection import Connection
 pipe = Connection(int(sys.argv[1]))
@@ -43,6 +45,13 @@ class Ready:
     """What a process sends when it has started: the time of its first task begins then."""
 
 
+def module_folders() -> List[str]:
+    """Where a process finds modules: the folders of this process that have absolute names, and the one of this package. A relative name, such as the
+    empty one of the present folder, would mean the folder of each job."""
+    package = os.path.dirname(os.path.dirname(os.path.abspath(__file__)))
+    return [folder for folder in [*sys.path, package] if os.path.isabs(folder)]
+
+
 class Worker(Generic[Task, Done]):
     """A process, and the task that it is at.
 
@@ -53,14 +62,14 @@ class Worker(Generic[Task, Done]):
         self.task: Optional[Task] = None
         self.began = 0.0
         self.is_ready = False
-        words = [sys.executable, "-c", BEGIN, str(theirs.fileno())]
+        words = [sys.executable, *ISOLATED, "-c", BEGIN, str(theirs.fileno())]
         blocked = signal.pthread_sigmask(signal.SIG_BLOCK, {signal.SIGINT})
         try:
             self.process = subprocess.Popen(words, stdin=subprocess.DEVNULL, pass_fds=[theirs.fileno()], start_new_session=True)
         finally:
             signal.pthread_sigmask(signal.SIG_SETMASK, blocked)
             theirs.close()
-        self.send(sys.path)
+        self.send(module_folders())
         self.send(work)
 
     def send(self, value: object) -> None:

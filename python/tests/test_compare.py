@@ -9,6 +9,7 @@ import os
 import pathlib
 import pty
 import random
+import resource
 import shutil
 import signal
 import stat
@@ -33,6 +34,12 @@ ENVIRONMENT = {**os.environ, "PYTHONPATH": str(pathlib.Path(btx.__file__).parent
 
 def result_of(bbl, end=End.FINISHED, log=b""):
     return Result(bbl, log, Report(0, end, 0, 0, 0, 0))
+
+
+def default_signals():
+    """Gives a process the defaults of signals, whatever whoever runs these tests ignores."""
+    for number in (signal.SIGINT, signal.SIGTERM, signal.SIGHUP, signal.SIGQUIT):
+        signal.signal(number, signal.SIG_DFL)
 
 
 def command_lines():
@@ -95,6 +102,12 @@ class Causes(unittest.TestCase):
             if wanted is not None:
                 self.assertEqual(tuple(first_difference(here, there)), wanted)
 
+    def test_causes_of_odd_lists_take_little_time(self):
+        began = time.process_time()
+        for there in (b"\\bibitem" + b" " * 200_000 + b"\n", b"\\bibitem{k} a\n" * 400_000):
+            self.assertEqual(cause_of(result_of(b"\\bibitem{a}\n", log=b'Error--x\n""\n' * 200_000), there), Cause.KEYS)
+        self.assertLess(time.process_time() - began, 10)
+
     def test_lists_of_100_megabytes(self):
         here, there = b"k: T\n" * 20_000_000, b"k: T\n" * 20_000_000 + b"x"
         began = time.process_time()
@@ -148,10 +161,31 @@ class Jobs(InFolder):
         found = {(pathlib.Path(os.fsdecode(job.folder)).name, os.fsdecode(job.name)) for job in found_jobs([os.fsencode(self.folder)], self.fail)}
         self.assertEqual(found, {("one", "job"), ("chapters", "job"), ("chapters", "ch/b")})
 
+    def test_two_that_include_each_other(self):
+        folder = self.folder / "pair"
+        folder.mkdir()
+        for name, other in (("a", b"b"), ("b", b"a")):
+            (folder / f"{name}.aux").write_bytes(b"\\citation{k}\n\\@input{" + other + b".aux}\n")
+            (folder / f"{name}.bbl").write_bytes(b"")
+        self.assertEqual([job.name for job in found_jobs([os.fsencode(self.folder)], self.fail)], [b"a", b"b"])
+
     def test_no_folder(self):
         said = []
         self.assertEqual(found_jobs([b"/nonexistent"], said.append), [])
         self.assertEqual(len(said), 1)
+
+    def test_folders_very_deep_in_one_another(self):
+        self.job("one", b"k: T\n")
+        deep = 1500
+        here = os.open(self.folder, os.O_RDONLY)
+        for _ in range(deep):
+            os.mkdir("d", dir_fd=here)
+            inner = os.open("d", os.O_RDONLY, dir_fd=here)
+            os.close(here)
+            here = inner
+        os.close(here)
+        self.addCleanup(subprocess.run, ["rm", "-rf", self.folder], check=True)
+        self.assertEqual(self.compare()[0], 0)
 
     def test_many_includes_without_an_end(self):
         self.job("one", b"k: T\n", **{"job.aux": AUX + b"\\@input{\n" * 300_000})
@@ -161,7 +195,7 @@ class Jobs(InFolder):
 
     def test_no_jobs(self):
         status, printed = self.compare()
-        self.assertEqual(status, 0)
+        self.assertEqual(status, 3)
         self.assertIn("0 jobs", printed)
 
 
@@ -181,6 +215,31 @@ class Comparisons(InFolder):
             "lost style": ("not run", "I couldn't open style file lost.bst"),
             "loops": ("different", Cause.STOPPED.value),
         })
+
+    def test_one_that_floods_is_not_run(self):
+        line = '{"%s" write$ newline$}' % ("x" * 60)
+        for name, body in (("list", line), ("log", line.replace("write$ newline$", "top$"))):
+            self.job(name, b"k: T\n", **{"s.bst": STYLE.replace(b"{cite$", b"{{#1} %s while$ cite$" % body.encode())})
+        self.job("one", b"k: T\n")
+        outcomes = self.outcomes()
+        self.assertEqual({name: outcome for name, (outcome, _) in outcomes.items()}, {"list": "not run", "log": "not run", "one": "equal"})
+        self.assertIn("longer than its room", outcomes["list"][1])
+
+    def test_files_that_are_too_long(self):
+        for name in ("d.bib", "s.bst", "job.bbl"):
+            folder = self.job(name, b"k: T\n")
+            os.truncate(folder / name, 3 << 30)
+        self.assertEqual({(outcome, "bytes" in reason) for outcome, reason in self.outcomes().values()}, {("not run", True)})
+
+    def test_statuses(self):
+        without_style = {"job.aux": b"\\citation{k}\n\\bibdata{d}\n"}
+        rows = [("equal", (0, 0)), ("equal, not run", (3, 0)), ("different", (2, 2)), ("different, not run", (3, 2)), ("not run", (3, 3))]
+        for jobs, statuses in rows:
+            with self.subTest(jobs=jobs):
+                shutil.rmtree(self.folder)
+                for name in jobs.split(", "):
+                    self.job(name, b"k: U\n" if name == "different" else b"k: T\n", **(without_style if name == "not run" else {}))
+                self.assertEqual((self.compare()[0], self.compare("--allow-not-run")[0]), statuses)
 
     def test_a_time_limit_counts_from_the_start(self):
         self.job("loops", b"", **{"s.bst": STYLE.replace(b"{cite$", b"{{#1} {skip$} while$ cite$")})
@@ -271,6 +330,10 @@ class Programs(InFolder):
 
     def test_no_program(self):
         self.assertEqual(self.compare("--with", "no-such-program")[0], 1)
+        self.assertEqual(self.compare("--with", "")[0], 1)
+
+    def test_a_program_that_compares_nothing(self):
+        self.assertEqual(self.compare("--with", "/bin/false")[0], 3)
 
     def test_a_program_of_the_present_folder(self):
         path = os.path.relpath(self.program('echo "k: T" >"$1.bbl"'))
@@ -372,6 +435,17 @@ class Reports(InFolder):
                 kept.write_bytes(text)
                 self.assertEqual(self.outcomes("--resume", kept), wanted)
 
+    def test_resume_from_a_file_that_was_cut_off(self):
+        self.job("one", b"k: T\n")
+        kept = self.folder / "kept"
+        wanted = self.outcomes("--resume", kept)
+        kept.write_bytes(kept.read_bytes()[:-2])
+        self.assertEqual(self.outcomes("--resume", kept), wanted)
+        # (the result got a line of its own, and so isn't got again)
+        found = kept.read_bytes()
+        self.assertEqual(self.outcomes("--resume", kept), wanted)
+        self.assertEqual(kept.read_bytes(), found)
+
     def test_files_that_cannot_be_written(self):
         self.job("one", b"k: T\n")
         status, printed = self.compare("--html", self.folder / "none" / "page.html")
@@ -436,7 +510,7 @@ class Reports(InFolder):
 
     def interruptible(self, words, **given):
         """Starts a command that an interrupt reaches, also where whoever runs these tests ignores interrupts, as a shell's job in the background does."""
-        return subprocess.Popen(words, stdout=subprocess.PIPE, preexec_fn=lambda: signal.signal(signal.SIGINT, signal.SIG_DFL), **given)
+        return subprocess.Popen(words, stdout=subprocess.PIPE, preexec_fn=default_signals, **given)
 
     def test_interrupted_with_a_program(self):
         for number in range(10):
@@ -452,6 +526,21 @@ class Reports(InFolder):
             self.assertIn(b"0 jobs in", printed)
             self.assertNotIn(["sleep", "62.5"], command_lines())
             self.assertEqual(os.listdir(room), [])
+
+    def test_ended_by_other_signals(self):
+        for number in (signal.SIGTERM, signal.SIGHUP, signal.SIGQUIT):
+            with self.subTest(signal=number), tempfile.TemporaryDirectory() as room:
+                shutil.rmtree(self.folder / "one", ignore_errors=True)
+                self.job("one", b"")
+                words = [sys.executable, "-m", "btx", "compare", str(self.folder), "--with", str(self.program("sleep 63.5"))]
+                process = self.interruptible(words, env={**ENVIRONMENT, "TMPDIR": room}, stderr=subprocess.PIPE)
+                while ["sleep", "63.5"] not in command_lines():
+                    time.sleep(0.1)
+                process.send_signal(number)
+                printed, complaints = process.communicate(timeout=30)
+                self.assertEqual((process.returncode, complaints), (-number, b""))
+                self.assertIn(b"0 jobs in", printed)
+                self.assertEqual(os.listdir(room), [])
 
     def test_interrupted(self):
         for number in range(40):
@@ -484,6 +573,62 @@ class Command(InFolder):
         for words, status in rows:
             with self.subTest(words=words):
                 self.assertEqual(self.command(*words).returncode, status)
+
+    def test_outputs_that_are_no_files_of_their_own(self):
+        folder = self.job("one", None)
+        rows = [("job.bbl", "d.bib"), ("job.blg", "s.bst"), ("job.blg", "job.bbl"), ("job.bbl", "job.aux")]
+        for link, target in rows:
+            with self.subTest(link=link, target=target):
+                for ending in (".bbl", ".blg"):
+                    (folder / f"job{ending}").unlink(missing_ok=True)
+                (folder / "job.bbl").write_bytes(b"old")
+                (folder / link).unlink(missing_ok=True)
+                (folder / link).symlink_to(target)
+                before = {path.name: path.read_bytes() for path in folder.iterdir()}
+                self.assertEqual(self.command("job").returncode, 6)
+                self.assertEqual({path.name: path.read_bytes() for path in folder.iterdir()}, before)
+
+    def test_a_log_that_cannot_be_written_leaves_the_list(self):
+        folder = self.job("one", None)
+        (folder / "job.bbl").write_bytes(b"old")
+        (folder / "job.blg").mkdir()
+        self.assertEqual(self.command("job").returncode, 6)
+        self.assertEqual((folder / "job.bbl").read_bytes(), b"old")
+
+    def test_a_limit_of_files_leaves_both(self):
+        folder = self.job("one", None)
+        for ending in (".bbl", ".blg"):
+            (folder / f"job{ending}").write_bytes(b"old")
+        words = [sys.executable, "-m", "btx", "job"]
+        limit = lambda: resource.setrlimit(resource.RLIMIT_FSIZE, (3, resource.RLIM_INFINITY))
+        done = subprocess.run(words, env={**ENVIRONMENT, "PYTHONDONTWRITEBYTECODE": "1"}, cwd=folder, capture_output=True, timeout=60, preexec_fn=limit)
+        self.assertEqual((done.returncode, (folder / "job.bbl").read_bytes(), (folder / "job.blg").read_bytes()), (6, b"old", b"old"))
+
+    @unittest.skipIf(shutil.which("kpsewhich") is None, "there is no TeX")
+    def test_what_tex_forbids_is_not_written(self):
+        folder = self.job("one", None)
+        (folder / "in").mkdir()
+        with mock.patch.dict(ENVIRONMENT, {"openout_any": "p"}):
+            done = subprocess.run([sys.executable, "-m", "btx", "../job"], env=ENVIRONMENT, cwd=folder / "in", capture_output=True, timeout=60)
+        self.assertEqual((done.returncode, b"openout_any" in done.stderr, (folder / "job.bbl").exists()), (1, True, False))
+
+    def test_standard_output_that_takes_nothing(self):
+        folder = self.job("one", None)
+        for words in ("job >/dev/full", "job >&-"):
+            with self.subTest(words=words):
+                done = subprocess.run(f"{sys.executable} -m btx {words}", shell=True, env=ENVIRONMENT, cwd=folder, stderr=subprocess.PIPE, timeout=60)
+                self.assertEqual((done.returncode, done.stderr.count(b"\n"), b"Traceback" in done.stderr), (6, 1, False))
+                self.assertEqual((folder / "job.bbl").read_bytes(), b"k: T\n")
+
+    def test_what_a_terminal_sees(self):
+        folder = self.job("one", None, **{"job.aux": AUX.replace(b"{k}", b"{k,\x1b]0;T\x07\xc2\x9b}")})
+        reader, writer = pty.openpty()
+        subprocess.run([sys.executable, "-m", "btx", "job"], env=ENVIRONMENT, cwd=folder, stdout=writer, stderr=writer, timeout=60)
+        os.close(writer)
+        printed = os.read(reader, 100_000)
+        os.close(reader)
+        self.assertIn(b"?]0;T??", printed)
+        self.assertNotIn(b"\x1b", printed)
 
     def test_a_missing_job_changes_nothing(self):
         folder = self.job("one", None)

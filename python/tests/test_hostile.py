@@ -1,13 +1,63 @@
 """Calls that a caller shouldn't make, and files that nobody should write."""
 
+import concurrent.futures
 import gc
+import multiprocessing
 import os
+import pickle
 import random
 import resource
 import unittest
 
 import btx
 from tests.jobs import FILES, with_style
+
+
+# An exception of each class, by the facts that it is made of.
+REFUSALS = {
+    btx.Refusal: ("odd",),
+    btx.LibraryMissing: ("libbtx.so.1", "no such file"),
+    btx.OptionRefused: ("line", 1, 20, 1000),
+    btx.NameRefused: (b"a\nb", "has a line end"),
+    btx.FinderRefused: (None, "int"),
+    btx.MemoryRefused: ("no memory",),
+    btx.FileUnknown: ("odd",),
+    btx.OutputTooLong: (b"list", b"log"),
+}
+
+
+def ran_with_room(room):
+    """The list of a job with room for so many bytes of it: what a process of a pool does."""
+    return btx.run("job", FILES, btx.Options(most_list=room)).bbl
+
+
+class Refusals(unittest.TestCase):
+    def test_each_has_its_facts(self):
+        facts = [
+            (btx.OptionRefused, {"option": "line", "value": 1, "least": 20, "most": 1000}),
+            (btx.NameRefused, {"name": b"a\nb", "reason": "has a line end"}),
+            (btx.FinderRefused, {"name": None, "given": "int"}),
+            (btx.OutputTooLong, {"bbl": b"list", "log": b"log"}),
+            (btx.LibraryMissing, {"library": "libbtx.so.1", "reason": "no such file"}),
+        ]
+        for kind, wanted in facts:
+            with self.subTest(kind=kind.__name__):
+                self.assertEqual(vars(kind(*REFUSALS[kind])), wanted)
+
+    def test_each_public_one_is_pickled(self):
+        public = {value for value in vars(btx).values() if isinstance(value, type) and issubclass(value, BaseException)}
+        self.assertEqual(public, set(REFUSALS))
+        for kind, facts in REFUSALS.items():
+            with self.subTest(kind=kind.__name__):
+                first = kind(*facts)
+                again = pickle.loads(pickle.dumps(first))
+                self.assertEqual((type(again), str(again), vars(again)), (kind, str(first), vars(first)))
+
+    def test_a_pool_outlives_one(self):
+        with concurrent.futures.ProcessPoolExecutor(1, multiprocessing.get_context("spawn")) as pool:
+            answers = [pool.submit(ran_with_room, room) for room in (100, 2, 100)]
+            self.assertEqual(type(answers[1].exception(60)), btx.OutputTooLong)
+            self.assertEqual([answers[0].result(), answers[1].exception().bbl, answers[2].result()], [b"k: T\n", b"k:", b"k: T\n"])
 
 
 class Calls(unittest.TestCase):

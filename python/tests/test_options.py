@@ -1,9 +1,11 @@
 """Options and their ranges."""
 
 import dataclasses
+import types
 import unittest
 
 import btx
+from btx.searching import Kpathsea
 from tests.jobs import FILES, with_style
 
 
@@ -25,6 +27,13 @@ class Ranges(unittest.TestCase):
         for option, value in rows:
             with self.subTest(option=option, value=value):
                 self.assertIn(btx.run("job", FILES, btx.Options(**{option: value})).report.status, (0, 4))
+
+    def test_numbers_of_the_set_up_of_tex(self):
+        for text, number in ((b"0", 1), (b"1", 1), (b"5000000", 1_000_000), (b"x", 500), (None, 500)):
+            with self.subTest(text=text):
+                library = types.SimpleNamespace(kpathsea_var_value=lambda setup, name, text=text: text if name == b"ent_str_size" else None)
+                found = Kpathsea(library, 0).options(btx.Options())
+                self.assertEqual((found.entry_max, found.global_max), (number, 200_000))
 
     def test_wrong_types(self):
         for option, value in (("line", 79.0), ("line", "79"), ("budget", None), ("line", True), ("utf8", 1)):

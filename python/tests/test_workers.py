@@ -42,6 +42,17 @@ def is_killed(_):
     os.kill(os.getpid(), signal.SIGKILL)
 
 
+def hostile_modules(folder):
+    """Gives `folder` modules with the names of those that a process imports first, and answers the file that one of them makes when it is run."""
+    marker = folder / "was run"
+    text = f"open({str(marker)!r}, 'w').close()\nraise SystemExit(9)\n"
+    for name in ("multiprocessing/__init__", "multiprocessing/connection", "btx/__init__", "socket", "struct", "tempfile", "signal", "contextlib"):
+        path = folder / f"{name}.py"
+        path.parent.mkdir(exist_ok=True)
+        path.write_text(text)
+    return marker
+
+
 def one_piece(folder, answers):
     """What a process does that is to have no children of multiprocessing's, as Dask's workers below a nanny are."""
     answers.put([result.outcome for result in compare.compared_piece(found_jobs([folder], print), 1000, None, 5.0)])
@@ -86,6 +97,15 @@ class Teams(unittest.TestCase):
         with mock.patch("btx.workers.BEGIN", "raise SystemExit(3)"), self.assertRaises(OSError):
             list(team.answers(range(100)))
         self.assertEqual(team.workers, [])
+
+    def test_a_hostile_present_folder(self):
+        with tempfile.TemporaryDirectory() as folder, contextlib.ExitStack() as after:
+            marker = hostile_modules(pathlib.Path(folder))
+            after.callback(os.chdir, os.getcwd())
+            os.chdir(folder)
+            with mock.patch.object(sys, "path", ["", ".", *sys.path]):
+                self.assertNotIn(None, [answer for _, answer in self.team(own_process).answers(range(4))])
+            self.assertFalse(marker.exists())
 
     def test_answers_that_nobody_takes(self):
         team = self.team(own_process)

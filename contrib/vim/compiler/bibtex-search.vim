@@ -9,11 +9,13 @@ if exists(':CompilerSet') != 2
   command -nargs=* CompilerSet setlocal <args>
 endif
 
-CompilerSet makeprg=bibtex-search\ -terse\ %:r
+CompilerSet makeprg=bibtex-search\ -terse\ %:r:S
 
-" What shows a line of a file, what was skipped, and the numbers of messages are no messages.
-CompilerSet errorformat=%-G\ :%.%#,%-GI'm\ skipping%.%#,%-G(There%.%#
+" What shows a line of a file, what was skipped, a literal that a style shows, and what is said of the messages in brackets are no messages.
+CompilerSet errorformat=%-G\ :%.%#,%-GI'm\ skipping%.%#,%-G(There%.%#,%-G(Error\ may%.%#,%-G(Where%.%#,%-G\"%.%#\"
+" The parent of the message before it, which is about a cross-reference.
+CompilerSet errorformat+=%Zrefers%m
 " The place of the message before it.
 CompilerSet errorformat+=%Zwhile\ executing---line\ %l\ of\ file\ %f,%Z---line\ %l\ of\ file\ %f,%Z--line\ %l\ of\ file\ %f
-" A message with its place; a warning and an error whose place may follow.
-CompilerSet errorformat+=%E%m---line\ %l\ of\ file\ %f,%WWarning--%m,%E%m
+" A message with its place; one about a cross-reference; a warning and an error whose place may follow.
+CompilerSet errorformat+=%E%m---line\ %l\ of\ file\ %f,%E%m---while\ reading\ file\ %f,%EA\ bad\ cross\ reference---%m,%WWarning--%m,%E%m

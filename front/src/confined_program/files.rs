@@ -50,7 +50,7 @@ fn check_length(name: &FileName, length: u64, most: u64) -> Result<(), Stop> {
     if length < bytes(most) {
         return Ok(());
     }
-    Err(Stop::refused(format!("{} has more than {most} KB", name.shown())))
+    Err(Stop::refused(format!("{} has {most} KB or more", name.shown())))
 }
 
 /// The bytes of an `.aux` file; none if it may not be read.

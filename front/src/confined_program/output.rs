@@ -9,6 +9,11 @@ use crate::system;
 use std::fs::{File, Metadata};
 use std::io::{Read, Seek, SeekFrom};
 use std::os::unix::fs::MetadataExt;
+use std::thread;
+use std::time::{Duration, SystemTime, UNIX_EPOCH};
+
+/// How long a change of a file may have the same time as the one before: a tick of the system's clock, and more.
+const TICK: Duration = Duration::from_millis(20);
 
 /// An output of the job.
 pub struct Output {
@@ -28,6 +33,7 @@ impl Output {
         let mut options = File::options();
         let file = system::no_links(options.read(false).write(true)).open(name.path()).map_err(refuse)?;
         let known = file.metadata().map_err(refuse)?;
+        wait_for_another_time(&known);
         Ok(Output { name, old: Some((file, known)) })
     }
 
@@ -39,6 +45,14 @@ impl Output {
             // (where that fails, the status says that there is no new list)
             let _ = file.set_len(0);
         }
+    }
+
+    /// Whether it is the log of this run, and of one that came to its end. (A file system that keeps whole seconds alone can't show a change within one.)
+    pub fn is_of_ended_run(&self) -> bool {
+        let is_old = self.old.as_ref().is_some_and(|(file, before)| {
+            before.ctime_nsec() != 0 && file.metadata().is_ok_and(|now| is_unchanged(before, &now))
+        });
+        !is_old && self.last_line().starts_with("Ended: ")
     }
 
     /// The name for people.
@@ -75,6 +89,16 @@ impl Output {
 fn is_unchanged(before: &Metadata, now: &Metadata) -> bool {
     let state = |known: &Metadata| (known.len(), known.ctime(), known.ctime_nsec());
     state(before) == state(now)
+}
+
+/// Waits until a change of a file has another time than its last one, which may have been a moment ago.
+fn wait_for_another_time(known: &Metadata) {
+    let (Ok(seconds), Ok(nanoseconds)) = (u64::try_from(known.ctime()), u32::try_from(known.ctime_nsec())) else {
+        return;
+    };
+    let changed = UNIX_EPOCH + Duration::new(seconds, nanoseconds);
+    let ago = SystemTime::now().duration_since(changed).unwrap_or_default();
+    thread::sleep(TICK.saturating_sub(ago));
 }
 
 /// The outputs of a job.

@@ -17,6 +17,15 @@ pub fn of(ending: &Ending, outputs: &Outputs, limits: &Limits) -> Result<(), Sto
     }
 }
 
+/// The end of a run that says it ran the job, and left no log of it: what was run isn't the program, or another one wrote there.
+pub fn without_a_log(ending: &Ending, outputs: &Outputs) -> Stop {
+    let status = if let Ending::Exited(status) = ending { *status } else { 0 };
+    let log = outputs.log.shown();
+    Stop::device(format!(
+        "the program ended with status {status}, and {log} isn't the log of a run that came to its end"
+    ))
+}
+
 /// What a status of the program means.
 fn of_status(status: i32, outputs: &Outputs, limits: &Limits) -> String {
     match status {

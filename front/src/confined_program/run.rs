@@ -25,7 +25,7 @@ const READER_STACK: usize = 64 << 10;
 /// How long the program's outputs may stay open after its end.
 const PATIENCE_AT_END: Duration = Duration::from_secs(1);
 
-/// The program that is run.
+/// The program that is run. No shell is called, also where its file is damaged.
 pub struct Program(PathBuf);
 
 impl Program {
@@ -61,15 +61,23 @@ pub enum Ending {
     Asked(Signal),
 }
 
+impl Ending {
+    /// Whether the program says by its status that the job was run to an end, so that a log of it stands there.
+    pub fn says_that_it_ran(&self) -> bool {
+        matches!(self, Ending::Exited(0 | 2..=4))
+    }
+}
+
 /// Runs the program over the present folder. The answer is how it ended, and what it said on its outputs. No process of its group is left.
 pub fn run(program: &Program, request: &Request, watch: &Watch) -> Result<(Ending, String), Stop> {
     let mut command = Command::new(&program.0);
     command.args(["--dir", ".", "--terse", "--budget"]).arg(request.limits.steps.to_string());
     command.args(&request.handed).arg("--").arg(request.job.word());
+    let unstarted =
+        |error| Stop::device(format!("the program {} can't be started: {}", program.0.display(), words_of(&error)));
     system::bind_to_this_process(&mut command, bytes(request.limits.output));
-    let (said, mut child) = start(command).map_err(|error| {
-        Stop::device(format!("the program {} can't be started: {}", program.0.display(), words_of(&error)))
-    })?;
+    system::execute_itself(&mut command).map_err(unstarted)?;
+    let (said, mut child) = start(command).map_err(unstarted)?;
     let ending = wait_for(&mut child, watch)
         .map_err(|error| Stop::device(format!("the program can't be waited for: {}", words_of(&error))))?;
     let said = said.recv_timeout(PATIENCE_AT_END).unwrap_or_default();

@@ -8,6 +8,31 @@ use std::env;
 use std::fs;
 use std::os::unix::ffi::OsStringExt;
 
+/// How many variables may stand within one another where a text is written out, and how many references and bytes of values may come to stand in it in all. TeX's own set-up has
+/// a few hundred of them; a hostile one would take all time, or all of the stack.
+const MOST_WITHIN: usize = 1_000;
+const MOST_WRITTEN: usize = 1_000_000;
+
+/// The variables whose values are being written out, and how much room is left for what they stand for.
+struct Within {
+    names: Vec<Vec<u8>>,
+    room: usize,
+}
+
+impl Within {
+    fn new(names: Vec<Vec<u8>>) -> Within {
+        Within { names, room: MOST_WRITTEN }
+    }
+
+    /// Whether this value may stand here too; its room is taken then.
+    fn takes(&mut self, name: &[u8], value: &[u8]) -> bool {
+        let left = self.room.checked_sub(1 + value.len());
+        let may_be = self.names.len() < MOST_WITHIN && !self.names.iter().any(|other| other == name);
+        self.room = left.unwrap_or(0);
+        may_be && left.is_some()
+    }
+}
+
 /// The variables that a search knows.
 pub struct Variables {
     /// Those that are given to the program: the environment, and what is known of TeX's folders.
@@ -40,16 +65,16 @@ impl Variables {
     /// The value of a variable, written out.
     pub fn value(&self, name: &[u8]) -> Option<Vec<u8>> {
         let value = self.given(name).or_else(|| self.setting(name))?;
-        Some(self.expanded(value, &mut vec![name.to_vec()]))
+        Some(self.expanded(value, &mut Within::new(vec![name.to_vec()])))
     }
 
     /// A text with its variables, and a `~` at its beginning, written out.
     pub fn written_out(&self, text: &[u8]) -> Vec<u8> {
-        self.expanded(text, &mut Vec::new())
+        self.expanded(text, &mut Within::new(Vec::new()))
     }
 
-    /// The same; `within` are the variables whose values are written out already. In one of these it stands for nothing.
-    fn expanded(&self, text: &[u8], within: &mut Vec<Vec<u8>>) -> Vec<u8> {
+    /// The same; `within` has the variables whose values are written out already. In one of these it stands for nothing, and so it does where there is no room left.
+    fn expanded(&self, text: &[u8], within: &mut Within) -> Vec<u8> {
         let mut expansion = Vec::new();
         let mut rest = text;
         while let Some(at) = rest.iter().position(|byte| *byte == b'$') {
@@ -63,17 +88,17 @@ impl Variables {
     }
 
     /// What a reference stands for.
-    fn referred(&self, reference: &Reference<'_>, within: &mut Vec<Vec<u8>>) -> Vec<u8> {
+    fn referred(&self, reference: &Reference<'_>, within: &mut Within) -> Vec<u8> {
         let name = reference.name;
         let value = self.given(name).or_else(|| self.setting(name));
         match value.filter(|_| !name.is_empty()) {
-            Some(_) if within.iter().any(|other| other == name) => Vec::new(),
-            Some(value) => {
-                within.push(name.to_vec());
+            Some(value) if within.takes(name, value) => {
+                within.names.push(name.to_vec());
                 let expansion = self.expanded(value, within);
-                within.pop();
+                within.names.pop();
                 expansion
             }
+            Some(_) => Vec::new(),
             None => reference.unset.to_vec(),
         }
     }
@@ -132,6 +157,16 @@ pub mod tests {
         let given = [("HOME", "/h"), ("A", "a$B"), ("E", ""), ("P", "all"), ("P_bibtex", "ours")];
         let known = variables(&given, "A = not this\nB = b\nE = e\nS = $T\nT = $S/x\nH = ~/y\n");
         String::from_utf8(known.written_out(text.as_bytes())).unwrap()
+    }
+
+    #[test]
+    fn a_hostile_set_up_has_an_end() {
+        let doubled: String = (0..40).map(|number| format!("V{number} = $V{0}$V{0}\n", number + 1)).collect();
+        let chained: String = (0..100_000).map(|number| format!("V{number} = a$V{}\n", number + 1)).collect();
+        for (set_up, most) in [(doubled + "V40 = a\n", MOST_WRITTEN), (chained, MOST_WITHIN)] {
+            let written = variables(&[], &set_up).written_out(b"$V0");
+            assert!(written.len() <= most, "{}", written.len());
+        }
     }
 
     #[test]

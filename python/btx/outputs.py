@@ -1,0 +1,107 @@
+"""The list and the log of a job, which are written after its run with the care of `bibtex-search`.
+
+What stood there stays until both can be written: TeX's openout_any is asked, both are opened without being emptied, neither is an input or the other one, and there
+is room on the disk for both. The log is written first, so that no new list stands beside an old log."""
+
+from __future__ import annotations
+
+import contextlib
+import os
+import resource
+import stat
+from typing import Iterator, List, Optional, Set, Tuple
+
+from .refusals import NameRefused
+from .results import Result
+from .searching import MOST_BYTES, Search, content_of
+
+__all__ = ["Inputs", "write_outputs"]
+
+# By which a file is known, whatever its names are: its device and its number there.
+Number = Tuple[int, int]
+
+
+class Inputs:
+    """Finds a job's files, and keeps which these were."""
+
+    def __init__(self, search: Search) -> None:
+        self.search = search
+        self.numbers: Set[Number] = set()
+
+    def content(self, name: str) -> Optional[bytes]:
+        """The bytes of the file of this name, if there is one."""
+        path = self.search.path_of(os.fsencode(name))
+        if path is None:
+            return None
+        self.numbers.add(number_of(os.stat(path)))
+        return content_of(path, MOST_BYTES)
+
+
+def number_of(known: os.stat_result) -> Number:
+    return known.st_dev, known.st_ino
+
+
+def write_outputs(job: str, result: Result, inputs: Inputs) -> None:
+    """Writes the list and the log of a job beside its `.aux` file. Raises NameRefused where TeX's set-up forbids it, and OSError where one of them can't be written: then
+    both stay as they were, unless the disk fails while it writes."""
+    base = os.fsencode(job[: -len(".aux")] if job.endswith(".aux") else job)
+    contents = {base + b".blg": result.log, base + b".bbl": result.bbl}
+    for name in contents:
+        if not inputs.search.may_write(name):
+            raise NameRefused(name, "isn't to be written to (openout_any)")
+    with contextlib.ExitStack() as opened:
+        files = [opened.enter_context(opened_without_change(name)) for name in contents]
+        check_apart(list(contents), files, inputs)
+        for file, content in zip(files, contents.values()):
+            reserve(file, len(content))
+        for file, content in zip(files, contents.values()):
+            write(file, content)
+
+
+@contextlib.contextmanager
+def opened_without_change(name: bytes) -> Iterator[int]:
+    """A file that is open for writing; it is made where it isn't there, and removed again where nothing came to stand in it because of an error."""
+    is_made = not os.path.lexists(name)
+    file = os.open(name, os.O_WRONLY | os.O_CREAT | os.O_CLOEXEC, 0o666)
+    try:
+        yield file
+    except BaseException:
+        if is_made and os.fstat(file).st_size == 0:
+            os.unlink(name)
+        raise
+    finally:
+        os.close(file)
+
+
+def check_apart(names: List[bytes], files: List[int], inputs: Inputs) -> None:
+    """Refuses outputs that are one file, or an input."""
+    numbers = [number_of(os.fstat(file)) for file in files]
+    for name, number in zip(names, numbers):
+        if number in inputs.numbers:
+            raise OSError(f"{os.fsdecode(name)} is a file that the job reads")
+    if numbers[0] == numbers[1] and stat.S_ISREG(os.fstat(files[0]).st_mode):
+        raise OSError("the list and the log are one file")
+
+
+def reserve(file: int, length: int) -> None:
+    """Makes sure that a file can have so many bytes; it keeps its length and its bytes."""
+    known = os.fstat(file)
+    if not stat.S_ISREG(known.st_mode):
+        return
+    most = resource.getrlimit(resource.RLIMIT_FSIZE)[0]
+    if most != resource.RLIM_INFINITY and length > most:
+        raise OSError(f"an output has {length} bytes, and a file may have {most}")
+    if length > known.st_size:
+        try:
+            os.posix_fallocate(file, known.st_size, length - known.st_size)
+        finally:
+            os.ftruncate(file, known.st_size)
+
+
+def write(file: int, content: bytes) -> None:
+    """Replaces what stands in a file."""
+    if stat.S_ISREG(os.fstat(file).st_mode):
+        os.ftruncate(file, 0)
+    rest = memoryview(content)
+    while rest:
+        rest = rest[os.write(file, rest) :]
