@@ -1,0 +1,97 @@
+#!/usr/bin/env node
+// Makes the list of references of a job in the present folder: reads JOB.aux, its style and its databases, and writes JOB.bbl and JOB.blg.
+import { writeFileSync } from 'node:fs';
+import { parseArgs } from 'node:util';
+import { MemoryRefused, OptionRefused, OutputTooLong, run, textOf } from '../index.js';
+import { finderIn } from '../search.js';
+
+const USAGE = `btx [OPTION].. JOB
+
+Reads JOB.aux, and writes the list of references to JOB.bbl and the log to JOB.blg. The style and the databases are looked for in this
+folder, along BSTINPUTS and BIBINPUTS, and by kpsewhich where TeX Live is installed.
+
+  --terse             don't print the log
+  --min-crossrefs N   list a parent that isn't cited if N entries refer to it (2)
+  --text MODE         read text as bytes or as utf8 (bytes)
+  --line N            the greatest length of a line of the list, 20 to 1000 (79)
+  --entry-max N       how many bytes of a string a variable of an entry keeps (500)
+  --global-max N      how many bytes of a string a global variable keeps (200000)
+  --budget N          the greatest number of steps of the style (1000000000)
+  --help, --version
+
+Exit status: 0 no error messages, 1 wrong arguments, 2 error messages, 3 a limit or no top file, 4 stopped by the budget, 5 memory, 6 a file
+can't be read or written.`;
+const VERSION = '1.0.0';
+const STATUS = { refused: 1, memory: 5, device: 6 };
+
+function fail(text, status) {
+  console.error(`btx: ${text}`);
+  process.exit(status);
+}
+
+function words() {
+  const text = { type: 'string' };
+  const flag = { type: 'boolean', default: false };
+  const options = {
+    terse: flag, help: flag, version: flag, 'min-crossrefs': text, text, line: text, 'entry-max': text, 'global-max': text, budget: text,
+  };
+  try {
+    return parseArgs({ options, allowPositionals: true });
+  } catch (error) {
+    return fail(error.message, STATUS.refused);
+  }
+}
+
+const NUMBERS = { 'min-crossrefs': 'minCrossrefs', line: 'line', 'entry-max': 'entryMax', 'global-max': 'globalMax', budget: 'budget' };
+
+// A number is digits alone. The budget may be more than a number of JavaScript can have.
+function numberOf(word, digits) {
+  if (!/^\d+$/.test(digits)) fail(`--${word} needs a whole number, not '${digits}'`, STATUS.refused);
+  return word === 'budget' ? BigInt(digits) : Number(digits);
+}
+
+// The options of the library that the words name.
+function optionsOf(values) {
+  const given = Object.entries(NUMBERS).filter(([word]) => values[word] !== undefined);
+  return { ...Object.fromEntries(given.map(([word, name]) => [name, numberOf(word, values[word])])), text: values.text };
+}
+
+// The words for an option that the library refuses, by the option's name here.
+function refusalOf(error) {
+  const [word] = Object.entries(NUMBERS).find(([, name]) => name === error.option) ?? [error.option];
+  return error.message.replace(error.option, `--${word}`);
+}
+
+function write(file, bytes) {
+  try {
+    writeFileSync(file, bytes);
+  } catch (error) {
+    fail(`I couldn't write ${file}: ${error.message}`, STATUS.device);
+  }
+}
+
+function main() {
+  const { values, positionals } = words();
+  if (values.help) return console.log(USAGE);
+  if (values.version) return console.log(`btx ${VERSION}`);
+  if (positionals.length !== 1) fail('name one job: the document without .tex', STATUS.refused);
+  const job = positionals[0].replace(/\.aux$/, '');
+  if (job === '' || job.includes('\n')) fail("a job's name can't be empty or have a line end", STATUS.refused);
+  let made;
+  try {
+    made = run(job, finderIn('.'), optionsOf(values));
+  } catch (error) {
+    if (error instanceof OptionRefused) fail(refusalOf(error), STATUS.refused);
+    if (error instanceof MemoryRefused || error instanceof OutputTooLong) fail(error.message, STATUS.memory);
+    if (error.code) fail(error.message, STATUS.device);
+    throw error;
+  }
+  if (made.report.end === 'no top file') console.error(`btx: there is no ${JSON.stringify(job).slice(1, -1)}.aux: run LaTeX first, and name the job as that file, without an ending`);
+  else write(`${job}.bbl`, made.list);
+  write(`${job}.blg`, made.log);
+  if (!values.terse) process.stdout.write(textOf(made.log).replace(/[\x00-\x09\x0b-\x1f\x7f-\x9f]/g, '?'));
+  process.exitCode = made.report.status;
+  return undefined;
+}
+
+main();

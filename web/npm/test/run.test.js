@@ -1,0 +1,199 @@
+// The package over the examples of the repository: lists, logs and statuses are those that lie beside them.
+import assert from 'node:assert/strict';
+import { spawnSync } from 'node:child_process';
+import { cpSync, existsSync, mkdtempSync, readFileSync, readdirSync, rmSync, writeFileSync } from 'node:fs';
+import { tmpdir } from 'node:os';
+import path from 'node:path';
+import test from 'node:test';
+import { fileURLToPath } from 'node:url';
+import { DEFAULTS, Library, MemoryRefused, OptionRefused, OutputTooLong, check, library, run, textOf } from '../index.js';
+import { finderIn, foldersOf } from '../search.js';
+
+const HERE = path.dirname(fileURLToPath(import.meta.url));
+const EXAMPLES = path.resolve(HERE, '../../../examples');
+const COMMAND = path.resolve(HERE, '../bin/btx.js');
+const JOBS = [['first', 'job'], ['article', 'article'], ['article', 'edges'], ['cross_reference', 'job'], ['database_error', 'job']];
+const SMALL = {
+  'a.aux': '\\citation{k}\n\\bibdata{d}\n\\bibstyle{s}\n',
+  's.bst': 'ENTRY {title}{}{}\nFUNCTION {misc} {title write$ newline$}\nREAD\nITERATE {call.type$}\n',
+  'd.bib': '@misc{k, title = {Äpfel}}\n',
+};
+
+function inRoom(work) {
+  const room = mkdtempSync(path.join(tmpdir(), 'btx-'));
+  try {
+    return work(room);
+  } finally {
+    rmSync(room, { recursive: true });
+  }
+}
+
+for (const [folder, job] of JOBS) {
+  const at = path.join(EXAMPLES, folder);
+  if (!existsSync(path.join(at, `${job}.bbl`))) continue;
+  test(`${folder}/${job} has the list and the log that lie beside it`, () => {
+    const made = run(job, finderIn(at, {}), DEFAULTS);
+    assert.deepEqual(Buffer.from(made.list), readFileSync(path.join(at, `${job}.bbl`)));
+    assert.deepEqual(Buffer.from(made.log), readFileSync(path.join(at, `${job}.blg`)));
+  });
+}
+
+test('a job of texts', () => {
+  const made = run('a', SMALL);
+  assert.equal(textOf(made.list), 'Äpfel\n');
+  assert.deepEqual(made.report, { status: 0, end: 'finished', steps: 5, deepest: 1, warnings: 0, errors: 0 });
+  assert.deepEqual(made.files, ['a.aux', 's.bst', 'd.bib'].map((name) => ({ name, isThere: true })));
+});
+
+test('a missing file is none, and a job may have none at all', () => {
+  const made = run('a', { ...SMALL, 'd.bib': null });
+  assert.deepEqual(made.messages.filter(({ kind }) => kind === 'error').map(({ text }) => text), ["I couldn't open database file d.bib"]);
+  assert.equal(run('a', {}).report.end, 'no top file');
+  assert.equal(run('constructor', {}).report.end, 'no top file');
+});
+
+test('messages have their places, functions and entries', () => {
+  const made = run('a', { ...SMALL, 's.bst': 'ENTRY {title}{}{}\nFUNCTION {misc} {title #1 + pop$}\nREAD\nITERATE {call.type$}\n', 'd.bib': '@misc{k,\n title x}' });
+  assert.deepEqual(made.messages.filter(({ kind }) => kind === 'error'), [
+    { kind: 'error', text: 'I was expecting an =', line: 2, file: 'd.bib' },
+    { kind: 'error', text: 'missing field is not an integer', function: '+', entry: 'k' },
+  ]);
+});
+
+test('options out of their ranges are refused', () => {
+  for (const options of [{ line: 19 }, { line: 1001 }, { entryMax: 0 }, { globalMax: 1_000_001 }, { budget: -1 }, { budget: 1.5 }, { text: 'utf16' }, { lines: 3 }]) {
+    assert.throws(() => run('a', SMALL, options), OptionRefused);
+  }
+});
+
+test('an undefined option is not given, and a refusal says what is wanted', () => {
+  assert.equal(run('a', SMALL, { budget: undefined, line: undefined, text: undefined }).report.end, 'finished');
+  const refusals = [[{ line: '79' }, "line can't be '79': a whole number from 20 to 1000"], [{ mostList: -1 }, /^mostList can't be -1: .* 4294967295$/],
+    [{ mostLog: NaN }, /^mostLog can't be NaN/], [{ mostList: 1.5 }, /^mostList/], [{ toString: 1 }, /^toString can't be 1: there is no such option/], [{ budget: 2n ** 64n }, /^budget/]];
+  for (const [options, message] of refusals) assert.throws(() => run('a', SMALL, options), { name: 'OptionRefused', message });
+  for (const options of [null, 5, 'utf8']) assert.throws(() => run('a', SMALL, options), TypeError);
+  for (const steps of [-1, 1.5, '5']) assert.throws(() => check(SMALL['s.bst'], 's.bst', steps), OptionRefused);
+  for (const bytes of [-1, NaN, 2 ** 70]) assert.throws(() => library().limitMemory(bytes), OptionRefused);
+});
+
+test('what is neither text nor bytes is refused by its name', () => {
+  const message = (text) => ({ name: 'TypeError', message: text });
+  assert.throws(() => run('a', async (name) => SMALL[name]), message(/^the file a\.aux has to be a string or a Uint8Array, not an object \(Promise\); await it/));
+  for (const content of [5, false, {}, [1], new ArrayBuffer(1), new Uint16Array(1)]) assert.throws(() => run('a', () => content), message(/^the file a\.aux has to be/));
+  for (const job of [undefined, null, 5, ['a']]) assert.throws(() => run(job, SMALL), message(/^the job has to be/));
+  for (const find of [undefined, null, 5]) assert.throws(() => run('a', find), message(/^the files have to be/));
+  assert.throws(() => check(undefined), message(/^the style has to be/));
+  assert.equal(textOf(run('a', new Map(Object.entries(SMALL))).list), 'Äpfel\n');
+});
+
+test("a job's name with a line end is refused at once, and so is an empty one", () => {
+  for (const job of ['a\nb', '', Uint8Array.of(97, 10)]) assert.throws(() => run(job, SMALL), { name: 'RangeError', message: /^the job's name/ });
+});
+
+test('a finder that throws or calls the library spoils no job', () => {
+  const own = new Error('mine');
+  assert.throws(() => run('a', () => { throw own; }), (error) => error === own);
+  for (const call of [() => run('a', SMALL), () => check(SMALL['s.bst'])]) {
+    assert.throws(() => run('a', (name) => { call(); return SMALL[name]; }), /a finder can't call the library/);
+    assert.equal(textOf(run('a', SMALL).list), 'Äpfel\n');
+  }
+});
+
+test('a style without end stops at its budget, and one that writes without end at its room', () => {
+  const endless = (body) => ({ ...SMALL, 's.bst': `ENTRY {}{}{}\nFUNCTION {f} {{#1} {${body}} while$}\nREAD\nEXECUTE {f}\n` });
+  assert.deepEqual(run('a', endless('skip$'), { budget: 1000 }).report.end, 'stopped');
+  assert.throws(() => run('a', endless('"x" write$ newline$'), { mostList: 100_000 }), OutputTooLong);
+});
+
+test('want of memory is answered, and the next job goes on', async () => {
+  const library = await Library.of(readFileSync(path.resolve(HERE, '../btx.wasm')));
+  let refused = 0;
+  for (let place = 0; place < 100; place++) {
+    library.limitMemory(place * 40_000);
+    try {
+      assert.equal(textOf(library.run('a', SMALL).list), 'Äpfel\n');
+    } catch (error) {
+      assert.ok(error instanceof MemoryRefused, String(error));
+      refused += 1;
+    }
+  }
+  assert.ok(refused > 10 && refused < 100, `${refused} refused`);
+  library.limitMemory(2 ** 40);
+  assert.equal(textOf(library.run('a', SMALL).list), 'Äpfel\n');
+});
+
+test('a thousand jobs take no more memory than one', async () => {
+  const { instance } = await WebAssembly.instantiate(readFileSync(path.resolve(HERE, '../btx.wasm')), {});
+  const library = new Library(instance.exports);
+  library.run('a', SMALL);
+  const before = instance.exports.memory.buffer.byteLength;
+  for (let turn = 0; turn < 1000; turn++) library.run('a', SMALL);
+  assert.equal(instance.exports.memory.buffer.byteLength, before);
+});
+
+test('a style is checked', () => {
+  const clean = check(readFileSync(path.join(EXAMPLES, 'article/article.bst')));
+  assert.equal(clean.verdict, 'clean');
+  assert.ok(clean.types.includes('article'));
+  const faulty = check('ENTRY {title}{}{} FUNCTION {misc} {title #1 + pop$} READ ITERATE {call.type$}');
+  assert.equal(faulty.verdict, 'warnings');
+  assert.deepEqual(faulty.warnings[0].at, { line: 1, function: 'misc', isInBraces: false });
+});
+
+test('the command writes list and log, and ends with the status of the run', () => inRoom((room) => {
+  for (const [name, text] of Object.entries(SMALL)) writeFileSync(path.join(room, name), text);
+  const ran = spawnSync(process.execPath, [COMMAND, 'a'], { cwd: room, encoding: 'utf8' });
+  assert.equal(ran.status, 0, ran.stderr);
+  assert.equal(readFileSync(path.join(room, 'a.bbl'), 'utf8'), 'Äpfel\n');
+  assert.equal(readFileSync(path.join(room, 'a.blg'), 'utf8'), ran.stdout);
+  assert.equal(spawnSync(process.execPath, [COMMAND, '--line', '19', 'a'], { cwd: room }).status, 1);
+  assert.equal(spawnSync(process.execPath, [COMMAND, 'missing'], { cwd: room }).status, 3);
+  assert.equal(spawnSync(process.execPath, [COMMAND, '--budget', '1', 'a'], { cwd: room }).status, 4);
+  assert.equal(spawnSync(process.execPath, [COMMAND], { cwd: room }).status, 1);
+  assert.match(spawnSync(process.execPath, [COMMAND, '--help'], { cwd: room, encoding: 'utf8' }).stdout, /^btx \[OPTION\]/);
+}));
+
+test('the command says which words are wrong, and which file is missing', () => inRoom((room) => {
+  for (const [name, text] of Object.entries(SMALL)) writeFileSync(path.join(room, name), text);
+  const said = (...words) => spawnSync(process.execPath, [COMMAND, ...words], { cwd: room, encoding: 'utf8' });
+  const refused = [[['--line', 'x', 'a'], "--line needs a whole number, not 'x'"], [['--min-crossrefs', '9999999999', 'a'], "--min-crossrefs can't be 9999999999"],
+    [['--text', 'UTF8', 'a'], "--text can't be 'UTF8': 'bytes' or 'utf8'"], [['a\nb'], "a job's name can't"], [[''], "a job's name can't"]];
+  for (const [words, error] of refused) {
+    const { status, stderr } = said(...words);
+    assert.deepEqual([status, stderr.includes(error)], [1, true], stderr);
+  }
+  assert.equal(said('--budget', '18446744073709551615', 'a').status, 0);
+  assert.match(said('paper.tex').stderr, /there is no paper\.tex\.aux: run LaTeX first/);
+}));
+
+test('the types name what the modules export', async () => {
+  for (const name of ['index', 'library']) {
+    const types = ['library', name].map((file) => readFileSync(path.resolve(HERE, `../${file}.d.ts`), 'utf8')).join('\n');
+    for (const word of Object.keys(await import(`../${name}.js`))) assert.match(types, new RegExp(`export (const|function|class) ${word}\\b`));
+  }
+});
+
+test('control characters of a name are not printed', () => inRoom((room) => {
+  writeFileSync(path.join(room, 'a.aux'), '\\citation{\u001b[2J}\n\\bibdata{d}\n\\bibstyle{s}\n');
+  for (const name of ['s.bst', 'd.bib']) writeFileSync(path.join(room, name), SMALL[name]);
+  const ran = spawnSync(process.execPath, [COMMAND, 'a'], { cwd: room, encoding: 'utf8' });
+  assert.ok(!ran.stdout.includes('\u001b'));
+  assert.ok(readFileSync(path.join(room, 'a.blg'), 'utf8').includes('\u001b'));
+}));
+
+test('files are found along BIBINPUTS and BSTINPUTS, below a folder too', () => inRoom((room) => {
+  const deep = path.join(room, 'styles', 'deep');
+  cpSync(EXAMPLES, path.join(room, 'styles'), { recursive: true });
+  cpSync(path.join(EXAMPLES, 'first'), deep, { recursive: true });
+  writeFileSync(path.join(deep, 'only.bst'), 'x');
+  const find = finderIn(room, { BSTINPUTS: `styles//`, BIBINPUTS: deep });
+  assert.equal(String(find('only.bst')), 'x');
+  assert.deepEqual(find('d.bib'), readFileSync(path.join(EXAMPLES, 'first/d.bib')));
+  assert.equal(find('only.aux'), undefined);
+  assert.ok(readdirSync(deep).length > 0);
+}));
+
+test('search paths of Windows and of others', () => {
+  assert.deepEqual(foldersOf('a:b//:', path.posix), [{ folder: 'a', isDeep: false }, { folder: 'b', isDeep: true }, null]);
+  assert.deepEqual(foldersOf('C:\\tex;D:\\bib\\\\', path.win32), [{ folder: 'C:\\tex', isDeep: false }, { folder: 'D:\\bib', isDeep: true }]);
+});

@@ -1,0 +1,98 @@
+"""Puts the page together, one HTML file that needs nothing beside it: web/out/btx.html.
+
+    python3 web/page/build.py [MODULE.wasm]
+
+MODULE.wasm is web/out/btx.wasm, which `web/build` makes. The styles are those of examples/ and the two of docs/STYLES.md, and what to do about a message is the front end's table."""
+
+import base64
+import gzip
+import hashlib
+import json
+import pathlib
+import re
+import subprocess
+import sys
+
+HERE = pathlib.Path(__file__).resolve().parent
+ROOT = HERE.parents[1]
+OUT = ROOT / "web/out/btx.html"
+STYLES = ["examples/article/article.bst", "examples/cross_reference/parents.bst", "examples/utf8_names/initials.bst", "examples/stopped/endless.bst"]
+DOCUMENT = "\\documentclass{article}\n\\begin{document}\nSee \\cite{%s}.\n\\bibliographystyle{article}\n\\bibliography{article}\n\\end{document}\n"
+
+
+def text_of(path):
+    return (ROOT / path).read_text(encoding="utf8")
+
+
+def without_exports(script):
+    """A module as part of a script: what it exports is a name of that."""
+    return re.sub(r"(?m)^export ", "", script)
+
+
+def in_script(value):
+    """A value as it may stand in a script of a page."""
+    return json.dumps(value, ensure_ascii=False).replace("<", "\\u003c").replace("\u2028", "\\u2028").replace("\u2029", "\\u2029")
+
+
+def advice():
+    """The rows of the front end's table of advice: a pattern of a message, and what to do."""
+    rows = re.findall(r'\(Section::\w+, ("(?:[^"\\]|\\.)*"), ("(?:[^"\\]|\\.)*")\)', text_of("front/src/advice.rs"))
+    for pattern, words in rows:
+        wild = {"*": "(\\S+)", "~": "(.+)"}
+        parts = re.split(r"([*~])", json.loads(pattern))
+        yield "".join(wild.get(part) or re.escape(part) for part in parts), json.loads(words)
+
+
+def styles_of_tutorial():
+    """The styles that docs/STYLES.md has whole, by the names that it gives them."""
+    found = re.findall(r"`(\w+\.bst)`:\n\n((?:(?:    [^\n]*)?\n)+)", text_of("docs/STYLES.md"))
+    return [{"name": name, "text": re.sub(r"(?m)^    ", "", text).strip("\n") + "\n"} for name, text in found]
+
+
+def first_job():
+    """The job with which the page begins: the article of the examples."""
+    keys = re.findall(r"\\citation\{([^}]*)\}", text_of("examples/article/article.aux"))
+    return {"document": {"name": "paper.tex", "text": DOCUMENT % ",\n  ".join(keys)}, "databases": [{"name": "article.bib", "text": text_of("examples/article/article.bib")}]}
+
+
+def script_of(module):
+    """The page's one script. The worker's is a text in it, and so is the module, packed."""
+    library = without_exports((ROOT / "web/npm/library.js").read_text(encoding="utf8"))
+    worker = library + (HERE / "worker.js").read_text(encoding="utf8")
+    styles = [{"name": pathlib.Path(path).name, "text": text_of(path)} for path in STYLES] + styles_of_tutorial()
+    rows = ", ".join(f"[new RegExp({in_script('^' + pattern)}), {in_script(words)}]" for pattern, words in advice())
+    return "\n".join([
+        "'use strict';",
+        f"const STYLES = {in_script(styles)};",
+        f"const FIRST_JOB = {in_script(first_job())};",
+        f"const ADVICE = [{rows}];",
+        f"const WORKER = URL.createObjectURL(new Blob([{in_script(worker)}], {{ type: 'text/javascript' }}));",
+        f"const PACKED = {in_script(base64.b64encode(gzip.compress(module, 9, mtime=0)).decode('ascii'))};",
+        "const unpacked = new Response(new Blob([Uint8Array.from(atob(PACKED), (letter) => letter.charCodeAt(0))]).stream()",
+        "  .pipeThrough(new DecompressionStream('gzip'))).arrayBuffer();",
+        (HERE / "latex.js").read_text(encoding="utf8").replace("/** ", "// ").replace(" */", ""),
+        (HERE / "page.js").read_text(encoding="utf8").replace("\nbegin();\n", "\nlet MODULE;\nunpacked.then(async (bytes) => { MODULE = await WebAssembly.compile(bytes); begin(); });\n"),
+    ])
+
+
+def hash_of(text):
+    return "'sha256-" + base64.b64encode(hashlib.sha256(text.encode("utf8")).digest()).decode("ascii") + "'"
+
+
+def version():
+    found = subprocess.run(["git", "-C", str(ROOT), "log", "-1", "--format=%h of %cs"], stdout=subprocess.PIPE, text=True)
+    return found.stdout.strip() or "an unknown commit"
+
+
+def main():
+    module = pathlib.Path(sys.argv[1] if len(sys.argv) > 1 else ROOT / "web/out/btx.wasm").read_bytes()
+    script, style = script_of(module), (HERE / "page.css").read_text(encoding="utf8")
+    parts = {"SCRIPT_HASH": hash_of(script), "STYLE_HASH": hash_of(style), "STYLE": style, "VERSION": version(), "SCRIPT": script}
+    page = re.sub(r"@(\w+)@", lambda found: parts[found[1]], (HERE / "page.html").read_text(encoding="utf8"))
+    OUT.parent.mkdir(exist_ok=True)
+    OUT.write_text(page, encoding="utf8")
+    print(f"web/out/btx.html: {OUT.stat().st_size} bytes")
+
+
+if __name__ == "__main__":
+    main()

@@ -1,0 +1,591 @@
+// The page: three texts go in, the list, the log and the messages come out. The work is done by a worker (worker.js); whatever comes from a text is shown as text.
+/* global WORKER, MODULE, STYLES, FIRST_JOB, ADVICE, auxOf, entriesIn, parentsIn, readable */
+
+const ROLES = ['document', 'database', 'style'];
+const ENDINGS = { tex: 'document', aux: 'document', ltx: 'document', bib: 'database', bst: 'style' };
+const PATIENCE = 350;
+const MOST_MESSAGES = 500;
+const MOST_SHOWN = 400_000;
+const MOST_LINK = 12_000;
+const MOST_LINK_TEXT = 4_000_000;
+const MOST_LINK_FILES = 40;
+const MOST_FILE = 20_000_000;
+const MOST_PLACES = 2;
+const STEPS = 10_000_000n;
+const HINT = 'Drop .tex, .aux, .bib and .bst files anywhere on the page.';
+
+// What to do about messages that the page words otherwise than the command: it has no options of a command line and no folders.
+const PAGE_ADVICE = [
+  [/^I couldn't open style file (.*)$/s, 'put the style on this page: open or drop $1, or name one of the styles here in `\\bibliographystyle`'],
+  [/^I couldn't open database file (.*)$/s, 'put the database on this page: open or drop $1, or let the name in `\\bibliography` and the name of the database agree'],
+  [/^I found no \\citation commands$/, 'write a `\\cite` or `\\nocite`. Files that the document includes are not read: for them, drop the `.aux` file that LaTeX wrote'],
+  [/^I was expecting a , or a [)}]$/, 'put a comma after the key and between fields, often at the end of the line above; write a key without whitespace; or close a `{` that the entry above leaves open'],
+  [/^string of .* bytes cut to /, 'the value is longer than a variable keeps: shorten it, or cut it in the style'],
+  [/^Ended: stopped/, 'the style took as many steps as it may: raise "Steps at most". If it is stopped again with ten times as many, it loops'],
+  [/^the (?:list|log) has more than /, 'the style writes without end, or more than this page takes: lower "Steps at most" to see the beginning of it'],
+];
+// Messages of a database whose cause may be a brace that the entry above leaves open.
+const OPEN_BRACE = /^(?:I was expecting|Unbalanced braces|Illegal end of database file)/;
+
+// A text as a line shows it: characters that aren't seen or turn the line round are shown by their numbers.
+const visible = (text) => text.replace(/[\u0000-\u0008\u000b-\u001f\u007f-\u009f\u061c\u200b-\u200f\u202a-\u202e\u2060-\u2069\ufeff]/g,
+  (letter) => `<U+${letter.codePointAt(0).toString(16).toUpperCase().padStart(4, '0')}>`);
+
+const find = (id) => document.getElementById(id);
+const panes = Object.fromEntries(ROLES.map((role) => {
+  const pane = document.querySelector(`[data-role=${role}]`);
+  return [role, { pane, text: find(role), name: find(`${role}-name`), which: find(`${role}-which`), gutter: pane.querySelector('.gutter') }];
+}));
+// The files of each pane, of which one is shown.
+const files = { document: [], database: [], style: [] };
+const shown = { document: 0, database: 0, style: 0 };
+
+// ---- files
+
+const current = (role) => files[role][shown[role]];
+
+function showFile(role, number) {
+  shown[role] = number;
+  const { text, name, which } = panes[role];
+  const file = current(role);
+  text.value = file.text;
+  name.value = file.name;
+  if (which) {
+    which.replaceChildren(...files[role].map((each, place) => new Option(each.name, place, false, place === number)));
+  }
+  drawGutter(role);
+}
+
+function keepFile(role) {
+  const { text, name, which } = panes[role];
+  Object.assign(current(role), { text: text.value, name: name.value });
+  if (which) which.options[shown[role]].text = name.value;
+}
+
+// The pane of a file, by the ending of its name, or else the one that asked for it.
+function roleOf(name, asking = 'document') {
+  const ending = name.split('.').pop().toLowerCase();
+  return Object.hasOwn(ENDINGS, ending) ? ENDINGS[ending] : asking;
+}
+
+function addFile(name, text, role = roleOf(name)) {
+  const same = files[role].findIndex((file) => file.name === name);
+  if (role === 'document') files.document = [{ name, text }];
+  else if (same >= 0) files[role][same].text = text;
+  else files[role].push({ name, text });
+  showFile(role, role === 'document' ? 0 : same >= 0 ? same : files[role].length - 1);
+}
+
+// The text of a file, by its bytes: as UTF-8, or where it isn't that as Latin-1.
+function textOfBytes(bytes) {
+  try {
+    return new TextDecoder('utf-8', { fatal: true }).decode(bytes);
+  } catch {
+    return new TextDecoder('latin1').decode(bytes);
+  }
+}
+
+async function takeFiles(list, asking) {
+  const refused = [];
+  let count = 0;
+  for (const file of list) {
+    try {
+      if (file.size > MOST_FILE) throw new RangeError();
+      const text = textOfBytes(await file.arrayBuffer());
+      addFile(file.name, text, roleOf(file.name, asking));
+      count++;
+    } catch (error) {
+      refused.push(`${visible(file.name)} ${error instanceof RangeError ? `has more than ${MOST_FILE} bytes` : "can't be read"}`);
+    }
+  }
+  find('hint').textContent = refused.length > 0 ? `Not taken: ${refused.join(', ')}.` : HINT;
+  if (count > 0) changed();
+}
+
+// ---- the gutter, with the lines and what was said of them
+
+// The places of the messages of the last run, each with its role, the number of its file, its line and its kind.
+let places = [];
+// What each gutter shows.
+const drawn = new Map();
+
+function drawGutter(role) {
+  const { text, gutter } = panes[role];
+  const count = text.value.split('\n').length;
+  const marks = new Map();
+  const here = places.filter((place) => place.role === role && place.number === shown[role]);
+  for (const { line, kind } of here) if (marks.get(line) !== 'error') marks.set(line, kind);
+  // (to draw 40,000 lines takes a third of a second, and most runs leave them as they are)
+  const state = `${count} ${[...marks].join(' ')}`;
+  gutter.scrollTop = text.scrollTop;
+  if (drawn.get(role) === state) return;
+  drawn.set(role, state);
+  const parts = [];
+  let from = 1;
+  const upTo = (to) => {
+    if (to >= from) parts.push(`${Array.from({ length: to - from + 1 }, (_, place) => from + place).join('\n')}\n`);
+  };
+  for (const line of [...marks.keys()].filter((at) => at >= 1 && at <= count).sort((a, b) => a - b)) {
+    upTo(line - 1);
+    const mark = document.createElement('span');
+    mark.className = marks.get(line);
+    mark.textContent = line;
+    parts.push(mark, '\n');
+    from = line + 1;
+  }
+  upTo(count);
+  gutter.replaceChildren(...parts);
+  gutter.scrollTop = text.scrollTop;
+}
+
+function goTo(role, number, line) {
+  if (shown[role] !== number) showFile(role, number);
+  const { text } = panes[role];
+  const lines = text.value.split('\n');
+  const from = lines.slice(0, line - 1).reduce((sum, each) => sum + each.length + 1, 0);
+  text.focus();
+  text.setSelectionRange(from, from + (lines[line - 1] ?? '').length);
+  text.scrollTop = Math.max(0, (line - 4) * parseFloat(getComputedStyle(text).lineHeight));
+}
+
+// ---- a run
+
+let worker;
+let asked = 0;
+let waiting;
+
+function stop(words) {
+  worker?.terminate();
+  worker = undefined;
+  asked++;
+  find('stop').disabled = true;
+  if (words) showNothing(words);
+}
+
+// Takes back what an earlier run gave, so that nobody takes it for this one's.
+function showNothing(words) {
+  find('status').textContent = words;
+  for (const id of ['panel-list', 'panel-log']) find(id).firstChild.textContent = '';
+  for (const id of ['panel-read', 'panel-verdict', 'messages']) find(id).replaceChildren();
+  places = [];
+  ROLES.forEach(drawGutter);
+}
+
+// The document's lines from which the lines of its .aux file were made, and that file's name.
+let made = { name: '', lines: [], rows: [] };
+
+// The files of the job as the library is handed them, and the job's name.
+function jobOf() {
+  const { name, text } = current('document');
+  const job = name.replace(/\.[^.]*$/, '') || 'paper';
+  const bare = (file) => file.name.replace(/\.[^.]*$/, '');
+  const aux = /\.aux$/i.test(name) ? { text, lines: [] } : auxOf(text, files.database.map(bare), bare(current('style')));
+  const rows = aux.text.split('\n').map((row) => /^\\citation\{(.*)\}$/.exec(row)?.[1]);
+  made = { name: `${job}.aux`, lines: aux.lines.length > 0 ? aux.lines : rows.map((row, place) => place + 1), rows };
+  const all = [[`${job}.aux`, aux.text], ...files.database.map((file) => [file.name, file.text]), ...files.style.map((file) => [file.name, file.text])];
+  return { job, all };
+}
+
+// The number of steps that the page's field names; null where it isn't a number. Nothing is the number of the beginning.
+function budgetOf() {
+  const digits = find('budget').value.replace(/[\s,_]/g, '');
+  const isNumber = /^\d*$/.test(digits);
+  find('budget').setAttribute('aria-invalid', !isNumber);
+  if (!isNumber) return null;
+  return digits === '' ? STEPS : BigInt(digits);
+}
+
+function run() {
+  clearTimeout(waiting);
+  ROLES.forEach(keepFile);
+  stop();
+  const budget = budgetOf();
+  if (budget === null) {
+    showNothing('Not run: "Steps at most" has to be a whole number, in digits.');
+    return;
+  }
+  const { job, all } = jobOf();
+  worker = new Worker(WORKER);
+  worker.onmessage = ({ data }) => data.number === asked && showResult(data);
+  worker.onerror = ({ message }) => showFailure(`It broke off: ${message}`);
+  find('stop').disabled = false;
+  find('status').textContent = 'Running ..';
+  const options = { budget, text: find('utf8').checked ? 'utf8' : 'bytes' };
+  worker.postMessage({ number: asked, module: MODULE, job, files: all, options, style: current('style').text });
+}
+
+function changed() {
+  clearTimeout(waiting);
+  waiting = setTimeout(run, PATIENCE);
+}
+
+// ---- what comes out
+
+// What to do about a message, by the page's own table and that of the front end. `*` of a pattern is a name, and `~` any text.
+function adviceOf(text) {
+  for (const [pattern, advice] of [...PAGE_ADVICE, ...ADVICE]) {
+    const found = pattern.exec(text);
+    if (found) return advice.replace(/\$(\d)/g, (whole, number) => found[number] ?? whole);
+  }
+  return '';
+}
+
+// Where keys stand: entries by their keys, in order, and where they are cited or named as parents. Case doesn't count.
+function indexOfKeys() {
+  const entries = files.database.map(({ text }) => entriesIn(text));
+  const index = { entries, defined: new Map(), named: new Map() };
+  files.database.forEach(({ text }, number) => {
+    for (const [key, line] of parentsIn(text)) index.named.set(key, { role: 'database', number, line });
+    for (const { key, line } of entries[number]) {
+      const name = key.toLowerCase();
+      if (!index.defined.has(name)) index.defined.set(name, { role: 'database', number, line, key });
+    }
+  });
+  made.rows.forEach((key, row) => key && index.named.set(key.toLowerCase(), { role: 'document', number: 0, line: made.lines[row] }));
+  return index;
+}
+
+// The place of a message that names a file and a line. A line of the .aux file that the page made is one of the document.
+function statedPlace({ file, line }) {
+  if (file === made.name && made.lines[line - 1] > 0) return { role: 'document', number: 0, line: made.lines[line - 1] };
+  for (const role of ROLES) {
+    const number = files[role].findIndex((each) => each.name === file);
+    if (number >= 0) return { role, number, line };
+  }
+  return null;
+}
+
+// The last entry that begins above a place of a database.
+function entryAbove({ number, line }, { entries }) {
+  const above = entries[number].filter((entry) => entry.line < line).pop();
+  return above && { role: 'database', number, line: above.line, key: above.key };
+}
+
+// The words of a message that may be keys: the entry of an execution, what stands in quotes, or else the first word and the last, as styles have it.
+function keysOf({ text, entry }) {
+  const quoted = [...text.matchAll(/"([^"]*)"/g)].map(([, word]) => word);
+  const words = text.split(/\s+/);
+  return [entry ?? '', ...(quoted.length > 0 ? quoted : [words[0], words.at(-1)])].map((word) => word.toLowerCase());
+}
+
+// The places of a message: what it states, or where the keys that it names stand.
+function placesOf(message, index) {
+  if (message.line) {
+    const place = statedPlace(message);
+    if (!place) return [];
+    const above = place.role === 'database' && OPEN_BRACE.test(message.text) ? entryAbove(place, index) : null;
+    return above ? [place, above] : [place];
+  }
+  const words = keysOf(message);
+  const found = new Set(words.map((word) => index.defined.get(word)).filter(Boolean));
+  if (found.size === 0) words.map((word) => index.named.get(word)).filter(Boolean).forEach((place) => found.add(place));
+  return [...found].slice(0, MOST_PLACES);
+}
+
+function placeButton({ role, number, line, key }) {
+  const button = document.createElement('button');
+  button.type = 'button';
+  button.className = 'place';
+  const name = visible(files[role][number].name);
+  button.textContent = `${name}:${line}${key ? `, ${visible(key)}` : ''}`;
+  button.title = `Go to line ${line} of ${name}`;
+  button.onclick = () => goTo(role, number, line);
+  return button;
+}
+
+const KINDS = { error: 'Error: ', warning: 'Warning: ' };
+
+function wordsOf(name, text) {
+  const words = document.createElement(name);
+  words.textContent = visible(text);
+  return words;
+}
+
+function messageItem(message, found) {
+  const item = document.createElement('li');
+  item.className = message.kind;
+  if (KINDS[message.kind]) item.append(wordsOf('b', KINDS[message.kind]));
+  const executed = message.function ? ` (in ${message.function}${message.entry ? `, for ${message.entry}` : ''})` : '';
+  const words = wordsOf('bdi', message.text + executed);
+  words.className = 'words';
+  item.append(words, ...found.map(placeButton));
+  if (message.line && found.length === 0) {
+    const place = wordsOf('bdi', `${message.file}:${message.line}`);
+    place.className = 'place';
+    item.append(place);
+  }
+  const advice = adviceOf(message.text);
+  if (advice) item.append(wordsOf('small', advice));
+  return item;
+}
+
+function showMessages(messages) {
+  const told = messages.filter(({ kind }) => kind === 'error' || kind === 'warning' || kind === 'ended');
+  const index = indexOfKeys();
+  const first = told.slice(0, MOST_MESSAGES).filter(({ kind, text }) => kind !== 'ended' || adviceOf(text));
+  const placed = first.map((message) => [message, placesOf(message, index)]);
+  const items = placed.map(([message, found]) => messageItem(message, found));
+  if (told.length > MOST_MESSAGES) {
+    const rest = document.createElement('li');
+    rest.textContent = `and ${told.length - MOST_MESSAGES} more, in the log`;
+    items.push(rest);
+  }
+  if (items.length === 0) {
+    const none = document.createElement('li');
+    none.textContent = 'None.';
+    items.push(none);
+  }
+  find('messages').replaceChildren(...items);
+  places = placed.flatMap(([{ kind }, found]) => found.slice(0, 1).map((place) => ({ ...place, kind })));
+  ROLES.forEach(drawGutter);
+}
+
+const cut = (text) => (text.length > MOST_SHOWN ? `${text.slice(0, MOST_SHOWN)}\n.. (${text.length - MOST_SHOWN} characters more)` : text);
+
+function showVerdict(verdict) {
+  const panel = find('panel-verdict');
+  const line = document.createElement('p');
+  const words = {
+    clean: 'Clean: no run of this style logs a fault of the stack, of kinds or of entries by itself, for entries of the types below or of types that it does not know.',
+    warnings: 'Not called clean: it may go wrong at these places.',
+    incomplete: 'The check did not come to its end.',
+  };
+  line.textContent = words[verdict.verdict];
+  panel.replaceChildren(line);
+  if (verdict.verdict === 'clean') {
+    const types = document.createElement('p');
+    types.textContent = visible(verdict.types.join(', '));
+    panel.append(types);
+  }
+  const list = document.createElement('ol');
+  list.append(...verdict.warnings.slice(0, MOST_MESSAGES).map(warningItem));
+  panel.append(list);
+}
+
+const FAULTS = {
+  stack: 'the literal stack may be empty', kind: 'an operand may be of a wrong kind', equal: '= may get what it can\'t compare', variable: 'this may be no variable',
+  entry: 'there may be no entry', left: 'literals may be left on the stack',
+};
+
+function warningItem(warning) {
+  const item = document.createElement('li');
+  const wants = warning.wants ? `, where ${warning.next ?? 'it'} wants: ${warning.wants}` : '';
+  const types = warning.types.filter(Boolean);
+  const words = [`${FAULTS[warning.fault] ?? warning.fault}${wants}${warning.field ? ` (the field ${warning.field} may be missing)` : ''}`];
+  words.push(warning.at ? `, in ${warning.at.function}` : `, after ${warning.command ?? ''}`);
+  if (types.length > 0) words.push(`; met for ${types.slice(0, 5).join(', ')}${types.length > 5 ? ' ..' : ''}`);
+  item.append(wordsOf('bdi', words.join('')));
+  if (warning.at?.line) {
+    const at = document.createElement('button');
+    at.type = 'button';
+    at.className = 'place';
+    at.textContent = `line ${warning.at.line}`;
+    at.onclick = () => goTo('style', shown.style, warning.at.line);
+    item.append(at);
+  }
+  return item;
+}
+
+// A run that gave no result: why, and what to do.
+function showFailure(text) {
+  stop(`No result: ${visible(text)}.`);
+  find('messages').replaceChildren(messageItem({ kind: 'error', text }, []));
+}
+
+// Says under a database or style that it is not of this job: the document names others.
+function showUnused(asked) {
+  for (const role of ['database', 'style']) {
+    const named = asked.map(({ name }) => name).filter((name) => roleOf(name, '') === role);
+    const isUnused = named.length > 0 && !named.includes(current(role).name);
+    find(`${role}-note`).textContent = isUnused ? `Not used: the document names ${visible(named.join(', '))}.` : '';
+  }
+}
+
+function showResult({ result, verdict, took, failed }) {
+  find('stop').disabled = true;
+  worker?.terminate();
+  worker = undefined;
+  if (failed) {
+    showFailure(failed);
+    return;
+  }
+  const decoder = new TextDecoder();
+  const list = decoder.decode(result.list);
+  const { report, messages } = result;
+  find('panel-list').firstChild.textContent = cut(list);
+  find('panel-log').firstChild.textContent = cut(decoder.decode(result.log));
+  find('panel-read').replaceChildren(list.trim() === '' ? 'The list is empty.' : readable(cut(list)));
+  showMessages(messages);
+  showUnused(result.files);
+  if (verdict) showVerdict(verdict);
+  const stopped = report.end === 'stopped' ? ' It was stopped at its budget: this is the beginning of its list.' : '';
+  find('status').textContent = `Ended: ${report.end}. Errors: ${report.errors}, warnings: ${report.warnings}, steps: ${report.steps}, ${took.toFixed(0)} ms.${stopped}`;
+}
+
+// ---- a link with the job in it
+
+async function throughStream(bytes, stream) {
+  return new Uint8Array(await new Response(new Blob([bytes]).stream().pipeThrough(stream)).arrayBuffer());
+}
+
+async function linkOf() {
+  ROLES.forEach(keepFile);
+  const used = [['document', files.document[0]], ...files.database.map((file) => ['database', file]), ['style', current('style')]];
+  const bytes = new TextEncoder().encode(JSON.stringify(used.map(([role, { name, text }]) => [name, text, role])));
+  if (bytes.length > MOST_LINK_TEXT || used.length > MOST_LINK_FILES) return null;
+  const packed = await throughStream(bytes, new CompressionStream('deflate-raw'));
+  const words = btoa(String.fromCharCode(...packed.slice(0, MOST_LINK))).replace(/\+/g, '-').replace(/\//g, '_').replace(/=+$/, '');
+  return packed.length > MOST_LINK ? null : `#job=${words}`;
+}
+
+// The text that a link has packed. It may unpack to a thousand times its length, so that only so much is taken.
+async function unpackedText(bytes) {
+  const reader = new Blob([bytes]).stream().pipeThrough(new DecompressionStream('deflate-raw')).getReader();
+  const parts = [];
+  let length = 0;
+  for (let { done, value } = await reader.read(); !done; { done, value } = await reader.read()) {
+    length += value.length;
+    if (length > MOST_LINK_TEXT) {
+      await reader.cancel();
+      throw new RangeError('the job of the link is too long');
+    }
+    parts.push(value);
+  }
+  return new Blob(parts).text();
+}
+
+// The files of a link, with their roles: one document and a database at least. Throws for anything else.
+function filesOfLink(text) {
+  const list = JSON.parse(text);
+  const isFile = (file) => Array.isArray(file) && [2, 3].includes(file.length) && file.every((word) => typeof word === 'string');
+  if (!Array.isArray(list) || list.length > MOST_LINK_FILES || !list.every(isFile)) throw new TypeError('the link has no job');
+  const found = list.map(([name, body, role]) => ({ name, body, role: ROLES.includes(role) ? role : roleOf(name) }));
+  const count = (role) => found.filter((file) => file.role === role).length;
+  if (count('document') !== 1 || count('database') < 1) throw new TypeError('the link has no job');
+  return found;
+}
+
+// Takes the job of the page's address, if it has one; answers whether it was taken, or null where there is none.
+async function takeLink() {
+  if (!location.hash.startsWith('#job=')) return null;
+  const found = /^#job=([\w-]{1,20000})$/.exec(location.hash);
+  try {
+    const bytes = Uint8Array.from(atob(found[1].replace(/-/g, '+').replace(/_/g, '/')), (letter) => letter.charCodeAt(0));
+    const taken = filesOfLink(await unpackedText(bytes));
+    files.database = [];
+    for (const { name, body, role } of taken) addFile(name, body, role);
+    find('hint').textContent = HINT;
+    return true;
+  } catch {
+    find('hint').textContent = 'The job of this link can\'t be read, so that it is not shown.';
+    return false;
+  }
+}
+
+// ---- the page itself
+
+function chooseTab(chosen) {
+  for (const tab of document.querySelectorAll('[role=tab]')) {
+    const is = tab === chosen;
+    tab.setAttribute('aria-selected', is);
+    tab.tabIndex = is ? 0 : -1;
+    find(tab.getAttribute('aria-controls')).hidden = !is;
+  }
+}
+
+function listenToTabs() {
+  const tabs = [...document.querySelectorAll('[role=tab]')];
+  tabs.forEach((tab, number) => {
+    tab.onclick = () => chooseTab(tab);
+    tab.onkeydown = ({ key }) => {
+      const to = { ArrowRight: number + 1, ArrowLeft: number - 1, Home: 0, End: tabs.length - 1 }[key];
+      if (to === undefined) return;
+      const next = tabs[(to + tabs.length) % tabs.length];
+      next.focus();
+      chooseTab(next);
+    };
+  });
+}
+
+// The pane whose button asked for files.
+let asking = 'document';
+
+function listenToPane(role) {
+  const { pane, text, name, which, gutter } = panes[role];
+  text.oninput = changed;
+  name.oninput = changed;
+  text.onscroll = () => { gutter.scrollTop = text.scrollTop; };
+  if (which) {
+    which.onchange = () => {
+      const chosen = Number(which.value);
+      keepFile(role);
+      showFile(role, chosen);
+      changed();
+    };
+  }
+  pane.querySelector('.open').onclick = () => {
+    asking = role;
+    find('files').click();
+  };
+  const remove = pane.querySelector('.remove');
+  if (remove) {
+    remove.onclick = () => {
+      files[role].splice(shown[role], 1);
+      if (files[role].length === 0) files[role].push({ name: 'refs.bib', text: '' });
+      showFile(role, 0);
+      changed();
+    };
+  }
+}
+
+function listenToDrops() {
+  const holds = (event) => [...event.dataTransfer.types].includes('Files');
+  document.ondragover = (event) => {
+    if (!holds(event)) return;
+    event.preventDefault();
+    document.body.classList.add('dropping');
+  };
+  document.ondragleave = (event) => event.relatedTarget ?? document.body.classList.remove('dropping');
+  document.ondrop = (event) => {
+    document.body.classList.remove('dropping');
+    if (!holds(event)) return;
+    event.preventDefault();
+    takeFiles(event.dataTransfer.files);
+  };
+  find('files').onchange = ({ target }) => {
+    takeFiles([...target.files], asking);
+    target.value = '';
+  };
+}
+
+function listen() {
+  listenToTabs();
+  ROLES.forEach(listenToPane);
+  listenToDrops();
+  find('run').onclick = run;
+  find('stop').onclick = () => stop('Stopped.');
+  find('budget').oninput = changed;
+  find('utf8').onchange = changed;
+  find('link').onclick = async () => {
+    const link = await linkOf();
+    if (link) history.replaceState(null, '', link);
+    find('status').textContent = link ? 'The address of this page has the job in it now.' : 'The job is too long for a link.';
+  };
+  document.onkeydown = (event) => {
+    if (event.key === 'Enter' && (event.ctrlKey || event.metaKey)) run();
+    if (event.key === 'Escape' && !find('stop').disabled) stop('Stopped.');
+  };
+}
+
+async function begin() {
+  files.style = STYLES.map(({ name, text }) => ({ name, text }));
+  files.document = [{ ...FIRST_JOB.document }];
+  files.database = FIRST_JOB.databases.map((file) => ({ ...file }));
+  ROLES.forEach((role) => showFile(role, 0));
+  listen();
+  onhashchange = async () => { if (await takeLink()) run(); };
+  await takeLink();
+  run();
+}
+
+begin();
