@@ -70,7 +70,7 @@ class Book:
         return (f"This book says which bytes BibTeX writes for a job. Its [core](#ch1) is {counted(heart, ' of ')}, {believed.PAGES_OF_THE_CORE} pages on paper, "
                 f"and needs no other page to be understood. All that has to be believed is {counted(all_of_it, ' of ')}, {believed.PAGES} pages on paper. "
                 "Most questions about the program are answered before these pages, by [the rules in words](#rules). "
-                f"{len(others):,} more definitions, of {reach.lines_in(others):,} lines, say the same as a program would, and are laws and worked examples: nobody has to read them.")
+                f"{len(others):,} more definitions, of {reach.lines_in(others):,} lines, say the same as a program would, and are laws and worked examples: nobody has to read them for what a run writes.")
 
     # ---- checks ----
 
@@ -191,9 +191,21 @@ class Book:
             numbers = [int(number.replace(",", "")) for number in found.groups()] if found else []
             is_right = len(numbers) == 2 and all(abs(number - size) * 20 <= size for number, size in zip(numbers, sizes))
             self.check(is_right, f"{name}: it says {numbers} for the definitions that have to be believed and their lines, and there are {sizes}")
+        self.check_further()
         said = re.search(r"core takes (\d+) pages on paper, and all that has to be believed (\d+)", (chapters.ROOT / "README.md").read_text(encoding="utf-8"))
         pages = (str(believed.PAGES_OF_THE_CORE), str(believed.PAGES))
         self.check(said and said.groups() == pages, f"README.md: it doesn't say that the core takes {pages[0]} pages on paper, and all that has to be believed {pages[1]}")
+
+    def check_further(self):
+        """What docs/PROOFS.md says of each promise that takes further definitions, and README after it, right within a twentieth."""
+        text, short = ((chapters.ROOT / name).read_text(encoding="utf-8") for name in ("docs/PROOFS.md", "README.md"))
+        for place, found in self.reach.further.items():
+            row = re.search(rf"\(#{place}\) \| ([\d,]+) \| ([\d,]+) \|", text)
+            said = [int(number.replace(",", "")) for number in row.groups()] if row else [0, 0]
+            sizes = (len(found), reach.lines_in(found))
+            is_right = all(abs(number - size) * 20 <= size for number, size in zip(said, sizes))
+            self.check(is_right, f"docs/PROOFS.md: it says {said} for the further definitions of {place} and their lines, and there are {sizes}")
+            self.check(not row or re.search(rf"\b{row[1]} (?:definitions )?of {row[2]}\b", short), f"README.md: it doesn't say what docs/PROOFS.md says of {place}")
 
     # ---- what is printed ----
 
@@ -207,6 +219,8 @@ class Book:
         print(f"  the relation: {counted(relation)} (at most {believed.MOST_LINES:,} lines), with their comments {with_comments(relation):,} lines, over {len(types):,} types of the program, "
               f"{reach.lines_in(types):,} lines")
         print(f"  its heart: {counted(believed.heart_of(relation))} (at most {believed.MOST_OF_THE_HEART:,} lines)")
+        for place, found in self.reach.further.items():
+            print(f"  {place} takes {counted(found)} beside these")
         print(f"language: {len(language):,} definitions, {reach.lines_in(language):,} lines, which the other clauses of `run` reach")
         print(f"laws: {len(laws):,} more, {reach.lines_in(laws):,} lines")
         print(f"refinement: {len(others):,} others, {reach.lines_in(others):,} lines, of which {in_public:,} stand in a public contract")

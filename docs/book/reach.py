@@ -1,5 +1,6 @@
 """Which definitions have to be believed, and which have not: what two clauses of `run` reach, which say what it writes (`believed`); what the rest of its contract
-reaches (`language`, which has the first too); what only laws reach (`laws`); and the others (`refinement`)."""
+reaches (`language`, which has the first too); what only laws and the files of `PLACES` reach (`laws`); and the others (`refinement`). And what each promise that README lists reaches beside the
+believed ones (`PROMISES`)."""
 
 import re
 
@@ -8,6 +9,17 @@ import contracts
 
 # What has to be believed: the definitions that these clauses of `run` name. The other clauses say the same with the definitions that the code is proved by.
 CLAUSES = ("written", "broken_off")
+# The promises of README, by their places in docs/PROOFS.md: the contract, and the clauses of it (all, where none are named). What `written` says of the report and
+# `broken_off` of a fault other clauses say again, with the definitions that the code is proved by; that a function is safe has no clause.
+PROMISES = {
+    "clause-written": ("btx_run::run", CLAUSES),
+    "clause-counts": ("btx_run::run", ("counts",)),
+    "clause-bound": ("btx_run::run", ("bound",)),
+    "clause-budget": ("btx_run::budget_law", ()),
+    "clause-check": ("btx_check::check", ()),
+}
+# Files of definitions that a public call beside `run` promises by (`read_placed_style` of `btx_bst`): they are read like laws, with all that they name.
+PLACES = ("btx_bst.Recorded", "btx_bst.StylePlaces")
 # The relation between a job and its product, and that a product is the only one in it.
 RELATION = ("btx_core.Product.IsProduct", "btx_core.Product.IsTheOne")
 # The crate whose specs/language has the relation between a job and its product: there, and in no other crate, it has only what has to be believed.
@@ -23,11 +35,12 @@ class Reach:
         self.resolved = set()
         self.promised = self.named_by_clauses()
         self.walk(self.headline + self.traits, "language", self.language)
-        self.walk(self.law_contracts + [used for it in self.promised for used in it.uses], "laws", self.laws)
+        self.walk(self.law_contracts + [used for it in self.promised for used in it.uses] + of_places(), "laws", self.laws)
         self.collect_others()
         self.believed = self.reached_by(self.promised + self.traits)
         self.relation = self.reached_by([it for it in self.believed if it.id in RELATION])
         self.name_carriers()
+        self.further = {place: self.further_of(*promise) for place, promise in PROMISES.items()}
 
     def walk(self, roots, reach, found):
         """Marks what is reached from these, which are resolved."""
@@ -48,24 +61,19 @@ class Reach:
 
     def named_by_clauses(self):
         """The definitions that the clauses name by which `run` says what it writes."""
-        found = []
-        for contract in self.headline:
-            for clause in CLAUSES:
-                text = re.search(rf"ensures {clause} (.*?)(?=\n *(?:ensures|//|\{{)|\Z)", "\n".join(contract.lines), re.S)
-                words = set(re.findall(definitions.IDENTIFIER, text[1])) if text else set()
-                found += [it for it in contract.uses if it.name in words and it.kind in ("record", "data", "equations") and it not in found]
-        return found
+        return [it for contract in self.headline for it in named_by(contract, CLAUSES) if it.kind in ("record", "data", "equations")]
 
     def reached_by(self, roots):
-        """What these reach, which is resolved."""
-        work, seen = list(roots), {}
-        while work:
-            it = work.pop()
-            if it not in seen:
-                seen[it] = True
-                it.is_believed = True
-                work += it.uses
-        return list(seen)
+        """What these reach, which is resolved, and has to be believed."""
+        found = closure(roots)
+        for it in found:
+            it.is_believed = True
+        return found
+
+    def further_of(self, shown, clauses):
+        """What the clauses of a contract reach that isn't among what has to be believed for the two of `run`."""
+        contract = next(contracts.made_of(it, "contract") for it in contracts.all_contracts() if it.is_public and it.shown == shown)
+        return [it for it in closure(named_by(contract, clauses), resolved=self.resolved) if not it.is_believed]
 
     def collect_others(self):
         """What neither reaches."""
@@ -84,6 +92,36 @@ class Reach:
                         it.carriers.append(contract.shown)
         for it in self.language + self.laws:
             it.carried = it.carriers or nearest_carriers(it)
+
+
+def of_places():
+    """The definitions of the files of `PLACES`."""
+    return [it for module in definitions.all_modules() if module.name in PLACES for it in module.definitions]
+
+
+def named_by(contract, clauses):
+    """The definitions that these clauses of a contract name, or all of its clauses where none are named."""
+    text = "\n".join(line.split("//")[0] for line in contract.lines)
+    found = [it[1] for it in re.finditer(r"ensures (?:\w+ )?(\{.*?)(?=\n *(?:ensures|\{)|\Z)", text, re.S)]
+    if clauses:
+        found = [re.search(rf"ensures {clause} (.*?)(?=\n *(?:ensures|\{{)|\Z)", text, re.S)[1] for clause in clauses]
+    words = {word for clause in found for word in re.findall(definitions.IDENTIFIER, clause)}
+    return [it for it in dict.fromkeys(contract.uses) if it.name in words]
+
+
+def closure(roots, resolved=None):
+    """What these reach. Where `resolved` has those whose names are known, the names of the others are looked up."""
+    work, seen = list(roots), {}
+    while work:
+        it = work.pop()
+        if it in seen:
+            continue
+        seen[it] = True
+        if resolved is not None and it not in resolved and it.kind not in ("contract", "trait", "law"):
+            resolved.add(it)
+            definitions.resolve(it, home_of(it))
+        work += it.uses
+    return list(seen)
 
 
 def named_in(contract):

@@ -49,12 +49,12 @@ def linked(word, definition, is_head):
     if first in KEYWORDS and not rest and (definition.kind, first) != ("rust", "Type"):
         return f"<b>{word}</b>"
     if is_head:
-        return f'<span class="n">{html.escape(word)}</span>'
+        return f'<span class=n>{html.escape(word)}</span>'
     two = ".".join(word.split(".")[:2])
     written = two if two in definition.links else first
     target, behind = definition.links.get(written), html.escape(word[len(written):])
     if isinstance(target, Word):
-        return f'<a class="s" href="#{word_id(target.name)}">{html.escape(written)}</a>{behind}'
+        return f'<a class=s href="#{word_id(target.name)}">{html.escape(written)}</a>{behind}'
     if target is not None and target.place:
         return f'<a href="#{target.id}">{html.escape(written)}</a>{behind}'
     return html.escape(word)
@@ -64,7 +64,7 @@ def signs(between):
     """What stands between the names of a definition's text, with its signs as links into the glossary."""
     out, at = [], 0
     for found in LINKED_SIGN.finditer(between):
-        out += [html.escape(between[at:found.start()], quote=False), f'<a class="s" href="#{word_id(found[0])}">{html.escape(found[0], quote=False)}</a>']
+        out += [html.escape(between[at:found.start()], quote=False), f'<a class=s href="#{word_id(found[0])}">{html.escape(found[0], quote=False)}</a>']
         at = found.end()
     return "".join(out) + html.escape(between[at:], quote=False)
 
