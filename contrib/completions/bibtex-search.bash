@@ -4,7 +4,7 @@
 _bibtex_options() {
     local kept='min-crossrefs= text= line= entry-max= global-max= help version'
     case $1 in
-    bibtex-search) echo "$kept terse explain no-explain explain-only budget= log-room= list-room=" ;;
+    bibtex-search) echo "$kept terse strict explain no-explain explain-only budget= log-room= list-room=" ;;
     bibtex-confined)
         echo "$kept limit-memory= limit-aux= limit-input= limit-output= limit-processor= limit-clock= limit-steps= limit-names="
         ;;

@@ -27,6 +27,7 @@ for command in bibtex-search bibtex-confined bibtex-proved
 end
 
 __bibtex_option bibtex-search o terse 'Print only what went wrong'
+__bibtex_option bibtex-search o strict 'End with status 2 where a cited key has no entry'
 __bibtex_option bibtex-search o explain 'Say where each message stands and what to do'
 __bibtex_option bibtex-search o no-explain 'Print the log as it is'
 __bibtex_option bibtex-search o explain-only 'Explain what a run says, and write nothing'

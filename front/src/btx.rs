@@ -184,6 +184,13 @@ impl Ran {
             _ => None,
         }
     }
+
+    /// Whether a run that found no mistake didn't find an entry that is cited.
+    pub fn misses_an_entry(&self) -> bool {
+        let is_finished = matches!(self.answer, Answer::Done(report) if report.status == 0 && report.warnings > 0);
+        let mut lines = self.log.split(|byte| *byte == b'\n');
+        is_finished && lines.any(|line| line.starts_with(b"Warning--I didn't find a database entry for \""))
+    }
 }
 
 /// Memory was refused.

@@ -63,10 +63,20 @@ pub struct Item<'a> {
     pub fault: Option<&'static str>,
 }
 
+/// Whether an item of this kind is an entry: no comment, no preamble and no string.
+fn is_kind_of_entries(kind: &[u8]) -> bool {
+    !["comment", "preamble", "string"].iter().any(|other| kind.eq_ignore_ascii_case(other.as_bytes()))
+}
+
 impl<'a> Item<'a> {
-    /// Whether it is an entry: no comment, no preamble and no string.
+    /// An item of which nothing is read yet.
+    fn new(start: usize) -> Item<'a> {
+        Item { start, end: start, kind: b"", key: None, parents: Vec::new(), fault: None }
+    }
+
+    /// Whether it is an entry.
     pub fn is_entry(&self) -> bool {
-        !["comment", "preamble", "string"].iter().any(|kind| self.kind.eq_ignore_ascii_case(kind.as_bytes()))
+        is_kind_of_entries(self.kind)
     }
 
     /// The key of an entry; None of any other item.
@@ -105,9 +115,40 @@ impl<'a> Iterator for Items<'a> {
     type Item = Item<'a>;
 
     fn next(&mut self) -> Option<Item<'a>> {
-        let item = Reader { text: self.text, at: self.next? }.item();
+        let item = Reader::new(self.text, self.next?).item();
         self.go_on_at(item.end);
         Some(item)
+    }
+}
+
+/// How far the beginning of an entry is read for its key.
+const LONGEST_BEGINNING: usize = 1_000;
+
+/// The key of the entry that would begin at this place, where an `@` stands in the text of another item.
+pub fn key_at(text: &[u8], place: usize) -> Option<Key<'_>> {
+    let mut reader = Reader::new(&text[..text.len().min(place + LONGEST_BEGINNING)], place + 1);
+    let kind = reader.name().ok()?;
+    reader.expect(b"{(", NO_BRACE).ok()?;
+    let key = reader.key(b'}').ok()?;
+    is_kind_of_entries(kind).then_some(key).filter(|key| !key.name.is_empty())
+}
+
+/// What stands in an item of a database, read once more.
+#[derive(Debug, Clone, Default, PartialEq, Eq)]
+pub struct Inside<'a> {
+    /// The names of its fields.
+    pub fields: Vec<&'a [u8]>,
+    /// Where the last value begins that was begun.
+    pub last_value: Option<usize>,
+}
+
+impl<'a> Inside<'a> {
+    /// What stands in an item of this text.
+    pub fn of(text: &'a [u8], item: &Item<'a>) -> Inside<'a> {
+        let mut reader = Reader { inside: Some(Inside::default()), ..Reader::new(text, item.start + 1) };
+        // (a fault ends what can be read)
+        let _ = reader.read(&mut Item::new(item.start));
+        reader.inside.unwrap_or_default()
     }
 }
 
@@ -117,10 +158,13 @@ type Read<T> = Result<T, &'static str>;
 const END_OF_FILE: &str = "Illegal end of database file";
 const NO_NAME: &str = "I was expecting a name";
 const NO_EQUALS: &str = "I was expecting an =";
+const NO_BRACE: &str = "I was expecting a { or a (";
 
 struct Reader<'a> {
     text: &'a [u8],
     at: usize,
+    /// What was met, if it is kept.
+    inside: Option<Inside<'a>>,
 }
 
 fn is_white(byte: u8) -> bool {
@@ -132,9 +176,13 @@ fn is_of_name(byte: u8) -> bool {
 }
 
 impl<'a> Reader<'a> {
+    fn new(text: &'a [u8], at: usize) -> Reader<'a> {
+        Reader { text, at, inside: None }
+    }
+
     /// The item at this place, where its `@` stands.
     fn item(mut self) -> Item<'a> {
-        let mut item = Item { start: self.at, end: self.at, kind: b"", key: None, parents: Vec::new(), fault: None };
+        let mut item = Item::new(self.at);
         self.at += 1;
         item.fault = self.read(&mut item).err();
         item.end = self.at;
@@ -177,7 +225,7 @@ impl<'a> Reader<'a> {
         if item.kind.eq_ignore_ascii_case(b"comment") {
             return Ok(());
         }
-        let closing = if self.expect(b"{(", "I was expecting a { or a (")? == b'{' { b'}' } else { b')' };
+        let closing = if self.expect(b"{(", NO_BRACE)? == b'{' { b'}' } else { b')' };
         if item.is_entry() {
             return self.read_entry(item, closing);
         }
@@ -190,10 +238,15 @@ impl<'a> Reader<'a> {
         Ok(())
     }
 
-    fn read_entry(&mut self, item: &mut Item<'a>, closing: u8) -> Read<()> {
+    /// Takes the key of an entry that ends with this byte.
+    fn key(&mut self, closing: u8) -> Read<Key<'a>> {
         self.next_byte()?;
         let name = self.take(|byte| byte != b',' && !is_white(byte) && (closing == b')' || byte != b'}'));
-        item.key = Some(Key { name, end: self.at });
+        Ok(Key { name, end: self.at })
+    }
+
+    fn read_entry(&mut self, item: &mut Item<'a>, closing: u8) -> Read<()> {
+        item.key = Some(self.key(closing)?);
         let message = if closing == b'}' { "I was expecting a , or a }" } else { "I was expecting a , or a )" };
         while self.expect(&[b',', closing], message)? != closing {
             if self.next_byte()? == closing {
@@ -201,6 +254,9 @@ impl<'a> Reader<'a> {
                 return Ok(());
             }
             let field = self.name()?;
+            if let Some(inside) = &mut self.inside {
+                inside.fields.push(field);
+            }
             self.expect(b"=", NO_EQUALS)?;
             let value = self.value()?;
             if field.eq_ignore_ascii_case(b"crossref") {
@@ -214,6 +270,9 @@ impl<'a> Reader<'a> {
     fn value(&mut self) -> Read<&'a [u8]> {
         self.next_byte()?;
         let start = self.at;
+        if let Some(inside) = &mut self.inside {
+            inside.last_value = Some(start);
+        }
         loop {
             self.part()?;
             let end = self.at;
@@ -383,6 +442,17 @@ mod tests {
         assert_eq!(faults(b"@misc{k, note = {a"), [(END_OF_FILE, 18)]);
         assert_eq!(faults(b"@misc{k, 1 = 2}"), [(NO_NAME, 9)]);
         assert_eq!(faults(b"@a@b{k x}"), [("I was expecting a , or a }", 7)]);
+    }
+
+    #[test]
+    fn the_inside_of_an_item_is_read_again() {
+        let inside = |text: &'static [u8]| Items::new(text).next().map(|item| Inside::of(text, &item));
+        let whole = Inside { fields: vec![b"a", b"B"], last_value: Some(19) };
+        assert_eq!(inside(b"@misc{k, a = 1, B= {x}}"), Some(whole));
+        let begun = inside(b"@misc{k, a = \"x} @misc{j}");
+        assert_eq!(begun.map(|inside| inside.last_value), Some(Some(13)));
+        assert_eq!(key_at(b"x @misc { j, }", 2).map(|key| key.name), Some(&b"j"[..]));
+        assert_eq!([key_at(b"@string{j = 1}", 0), key_at(b"@misc j", 0), key_at(b"@misc{}", 0)], [None; 3]);
     }
 
     #[test]

@@ -1,9 +1,10 @@
 //! The items of a job's databases: by their lines, and the entries by their keys.
 
-use crate::database::{Folded, Item, Items};
+use crate::database::{Folded, Item, Items, key_at};
 use crate::job::{File, Files};
+use crate::nearest::nearest;
 use crate::text::{Text, find, split_first};
-use std::cell::OnceCell;
+use std::cell::{Cell, OnceCell};
 use std::collections::HashMap;
 
 /// How many items of one line are looked at.
@@ -35,6 +36,18 @@ impl<'a> Database<'a> {
     fn new(file: &'a File) -> Database<'a> {
         let bytes = file.bytes.as_deref().unwrap_or(b"");
         Database { file, text: Text::new(bytes), items: Items::new(bytes).collect() }
+    }
+
+    /// The keys of entries that stand in the text of other items, and where each begins.
+    fn skipped(&self) -> impl Iterator<Item = (Folded<'a>, usize)> {
+        let bytes = self.text.bytes;
+        let mut items = self.items.iter().map(|item| item.start).peekable();
+        let places = bytes.iter().enumerate().filter(|(_, byte)| **byte == b'@').map(|(place, _)| place);
+        let inside = places.filter(move |place| {
+            while items.next_if(|start| start < place).is_some() {}
+            items.peek() != Some(place)
+        });
+        inside.filter_map(|place| Some((Folded(key_at(bytes, place)?.name), place)))
     }
 
     /// The items that have something in this line; of very many the first ones.
@@ -92,12 +105,27 @@ fn between<'a>(text: &'a [u8], before: &[u8], behind: &[u8]) -> Option<&'a [u8]>
     split_first(text.strip_prefix(before)?, behind).map(|(name, _)| name)
 }
 
+/// An entry that a run didn't read: its text stands in another item.
+#[derive(Debug, Clone, Copy)]
+pub struct Skipped<'b, 'a> {
+    /// The item in which it stands.
+    pub around: Stored<'b, 'a>,
+    /// Where its `@` stands.
+    pub start: usize,
+}
+
+/// For how many keys a key that may be meant is looked for.
+const MOST_MEANT: usize = 50;
+
 /// The databases of a job.
 #[derive(Debug)]
 pub struct Entries<'a> {
     databases: Vec<Database<'a>>,
     by_key: OnceCell<HashMap<Folded<'a>, Found>>,
     by_parent: OnceCell<HashMap<Folded<'a>, Found>>,
+    skipped: OnceCell<HashMap<Folded<'a>, Found>>,
+    /// For how many more keys one that may be meant is looked for.
+    left: Cell<usize>,
 }
 
 /// Which database, counted from 0, and which of its items, or which place in it.
@@ -107,7 +135,13 @@ impl<'a> Entries<'a> {
     /// Reads all databases of a job.
     pub fn new(files: &'a Files) -> Entries<'a> {
         let databases = files.with_ending(".bib").map(Database::new).collect();
-        Entries { databases, by_key: OnceCell::new(), by_parent: OnceCell::new() }
+        Entries {
+            databases,
+            by_key: OnceCell::new(),
+            by_parent: OnceCell::new(),
+            skipped: OnceCell::new(),
+            left: Cell::new(MOST_MEANT),
+        }
     }
 
     /// The entries of all databases: which one, its item's number there, and the item.
@@ -118,18 +152,52 @@ impl<'a> Entries<'a> {
         })
     }
 
-    /// The first entry of this key, which is the one that is read.
-    pub fn entry(&self, key: &[u8]) -> Option<Stored<'_, 'a>> {
-        let by_key = self.by_key.get_or_init(|| {
+    /// The first entry of each key.
+    fn by_key(&self) -> &HashMap<Folded<'a>, Found> {
+        self.by_key.get_or_init(|| {
             let mut by_key = HashMap::with_capacity(self.databases.iter().map(|database| database.items.len()).sum());
             for (found, item) in self.all() {
                 item.entry_key().map(|key| *by_key.entry(Folded(key.name)).or_insert(found));
             }
             by_key
-        });
-        let (index, number) = by_key.get(&Folded(key))?;
+        })
+    }
+
+    /// The first entry of this key, which is the one that is read.
+    pub fn entry(&self, key: &[u8]) -> Option<Stored<'_, 'a>> {
+        let (index, number) = self.by_key().get(&Folded(key))?;
         let database = &self.databases[*index];
         Some(Stored { database, item: &database.items[*number] })
+    }
+
+    /// The entry whose key may be meant by this one, which no entry has. It is looked for a few times alone.
+    pub fn meant(&self, key: &[u8]) -> Option<Stored<'_, 'a>> {
+        self.left.set(self.left.get().checked_sub(1)?);
+        let known = nearest(key, self.by_key().keys().map(|known| known.0))?;
+        self.entry(known)
+    }
+
+    /// The first entry of this key that stands in the text of another item.
+    pub fn skipped(&self, key: &[u8]) -> Option<Skipped<'_, 'a>> {
+        let skipped = self.skipped.get_or_init(|| {
+            let mut skipped = HashMap::new();
+            for (index, database) in self.databases.iter().enumerate() {
+                database.skipped().for_each(|(key, start)| {
+                    skipped.entry(key).or_insert((index, start));
+                });
+            }
+            skipped
+        });
+        let (index, start) = *skipped.get(&Folded(key))?;
+        let database = &self.databases[index];
+        let item = database.items[..database.items.partition_point(|item| item.start < start)].last()?;
+        Some(Skipped { around: Stored { database, item }, start })
+    }
+
+    /// The names of all strings that the databases define.
+    pub fn strings(&self) -> impl Iterator<Item = &'a [u8]> {
+        let strings = self.all().filter(|(_, item)| item.kind.eq_ignore_ascii_case(b"string"));
+        strings.filter_map(|(_, item)| item.key.map(|key| key.name))
     }
 
     /// Where a key is named first as a parent: the database, and the end of the value.
@@ -169,6 +237,25 @@ mod tests {
         assert_eq!(entries.entry(b"A").map(|found| found.item.start), Some(0));
         assert!(entries.entry(b"b").is_none());
         assert_eq!(entries.parent(b"p").map(|(database, end)| database.text.line_of(end)), Some(2));
+    }
+
+    #[test]
+    fn skipped_entries_are_found() {
+        let files = files(b"@misc{a, note = 1,\n@misc{b, note = 2}\n@misc{c, note = {@book{d}}} @string{e = 1}");
+        let entries = Entries::new(&files);
+        let skipped = |key| entries.skipped(key).map(|found| (found.start, found.around.item.start));
+        assert_eq!([skipped(b"B"), skipped(b"d")], [Some((19, 0)), Some((55, 38))]);
+        assert_eq!([skipped(b"a"), skipped(b"c"), skipped(b"e")], [None; 3]);
+        assert_eq!(entries.strings().collect::<Vec<_>>(), [b"e"]);
+    }
+
+    #[test]
+    fn a_key_may_be_meant_by_another() {
+        let files = files(b"@misc{smith2010}");
+        let entries = Entries::new(&files);
+        let start = |key| entries.meant(key).map(|found| found.item.start);
+        assert_eq!([start(b"smith210"), start(b"jones")], [Some(0), None]);
+        assert_eq!((2..MOST_MEANT + 9).filter_map(|_| start(b"smith210")).count(), MOST_MEANT - 2);
     }
 
     #[test]

@@ -82,6 +82,9 @@ impl fmt::Display for Name {
     }
 }
 
+/// The endings of top files that can't be meant.
+const OTHER_ENDINGS: [&str; 4] = [".tex.aux", ".bib.aux", ".bbl.aux", ".blg.aux"];
+
 /// Why a job isn't run, or what it gave isn't kept.
 #[derive(Debug)]
 pub enum Failure {
@@ -146,7 +149,11 @@ impl From<MemoryRefused> for Failure {
 impl fmt::Display for Failure {
     fn fmt(&self, out: &mut fmt::Formatter<'_>) -> fmt::Result {
         match self {
-            Failure::NoTop(name, reason) => write!(out, "I couldn't open file name `{}': {reason}", plain(name)),
+            Failure::NoTop(name, reason) => {
+                write!(out, "I couldn't open file name `{}': {reason}", plain(name))?;
+                let stem = OTHER_ENDINGS.iter().find_map(|ending| name.strip_suffix(ending.as_bytes()));
+                stem.map_or(Ok(()), |stem| write!(out, " (JOB is a name without an ending: {})", plain(stem)))
+            }
             Failure::NotRead(note) => note.fmt(out),
             Failure::NotAllowed(name, value) => {
                 write!(out, "Not writing to {} (openout_any = {}).", plain(name), plain(value))
@@ -165,7 +172,10 @@ mod tests {
     fn a_failure_says_what_and_where() {
         let fault = io::Error::from_raw_os_error(13);
         assert_eq!(Failure::unread(b"./a/b.bib", fault).to_string(), "a/b.bib can't be read: Permission denied");
-        assert_eq!(Failure::NoTop(b"a.aux".into(), "it is a folder".into()).status(), Status::Limit);
+        let no_top = |name: &[u8]| Failure::NoTop(name.into(), "it is a folder".into());
+        assert_eq!(no_top(b"a.aux").status(), Status::Limit);
+        assert_eq!(no_top(b"a.aux").to_string(), "I couldn't open file name `a.aux': it is a folder");
+        assert!(no_top(b"b/a.tex.aux").to_string().ends_with(" (JOB is a name without an ending: b/a)"));
         let memory = io::Error::from(io::ErrorKind::OutOfMemory);
         assert_eq!(Failure::unread(b"a", memory).status(), Status::Memory);
     }

@@ -7,6 +7,8 @@ use crate::entries::{Entries, Stored};
 use crate::hints::functions_above_read;
 use crate::job::{File, Files};
 use crate::log::{Content, Ended, Line, Log, Message, Place, Severity};
+use crate::missing_entry::{self, begun_value, lost_fields, meant_field, meant_string, what_is_missing};
+use crate::nearest::nearest;
 use crate::operands::{TEST_LEAVES, advice_at, is_of_test_in};
 use crate::origins::{Frame, MissingField, missing_field};
 use crate::repeats::Repeats;
@@ -91,6 +93,8 @@ struct Explainer<'a, W: Write> {
     /// The kinds of messages of which it was said what to do, and the functions of which it was said what they take.
     advised: HashSet<usize>,
     taught: HashSet<&'a [u8]>,
+    /// What was said of entries that weren't found.
+    said_of_missing: HashSet<String>,
     causes: Vec<Cause<'a>>,
     repeats: Repeats<'a>,
     /// Whether the last error wasn't printed since it repeats: then the literals that the log lists below it aren't either.
@@ -120,6 +124,7 @@ impl<'a, W: Write> Explainer<'a, W> {
             is_interrupted: log.is_interrupted,
             advised: HashSet::new(),
             taught: HashSet::new(),
+            said_of_missing: HashSet::new(),
             causes: Vec::new(),
             repeats: Repeats::default(),
             is_repeated: false,
@@ -258,15 +263,18 @@ impl<'a, W: Write> Explainer<'a, W> {
                 self.advise(&[Section::Aux], message.text)
             }
             Place::Line { file, .. } if file.ends_with(b".bst") => self.in_style(message, file),
-            Place::Line { number, file } => {
-                self.in_database(message, number, file)?;
-                self.advise(&[Section::Database, Section::Entries], message.text)
-            }
+            Place::Line { number, file } => match self.in_database(message, number, file)? {
+                Some(advice) => self.put_advice(&advice),
+                None => self.advise(&[Section::Database, Section::Entries], message.text),
+            },
             Place::Execution { function, entry } => self.executed(message, function, entry),
-            Place::Nowhere => {
-                self.unplaced(message)?;
-                self.advise(&[Section::Aux, Section::Run, Section::Entries], message.text)
-            }
+            Place::Nowhere => match missing_key(message.text) {
+                Some(key) => self.missing_entry(key, message.text),
+                None => {
+                    self.unplaced(message)?;
+                    self.advise(&[Section::Aux, Section::Run, Section::Entries], message.text)
+                }
+            },
         }
     }
 
@@ -470,9 +478,10 @@ impl<'a, W: Write> Explainer<'a, W> {
 
     // ---- databases ----
 
-    fn in_database(&mut self, message: &Message<'a>, number: usize, name: &'a [u8]) -> io::Result<()> {
-        let Some(mut spot) = self.sources.spot(message) else { return Ok(()) };
-        let Some(text) = self.sources.text(name) else { return Ok(()) };
+    /// Shows where a message of a database stands; what to do about it, where that is seen there.
+    fn in_database(&mut self, message: &Message<'a>, number: usize, name: &'a [u8]) -> io::Result<Option<String>> {
+        let Some(mut spot) = self.sources.spot(message) else { return Ok(None) };
+        let Some(text) = self.sources.text(name) else { return Ok(None) };
         let about = if spot.item.is_some() { None } else { self.about(name, number, message.text) };
         let item = spot.item.take().or_else(|| {
             let (item, part) = about?;
@@ -481,12 +490,34 @@ impl<'a, W: Write> Explainer<'a, W> {
             Some(item)
         });
         self.show_line(&spot)?;
-        let Some(item) = item else { return Ok(()) };
+        let Some(item) = item else { return Ok(None) };
         self.put_place(&format!("in {}", begins_item(spot.file, &text, &item)))?;
-        match item.key.filter(|_| message.text == b"Repeated entry") {
-            Some(key) => self.show_entry("the first is", key.name).map(|_| ()),
-            None => Ok(()),
+        if let Some(key) = item.key.filter(|_| message.text == b"Repeated entry") {
+            self.show_entry("the first is", key.name)?;
         }
+        let meant = self.meant_by(message.text, &item);
+        meant.map_or(Ok(()), |name| self.put_place(&format!("is it `{}`?", plain(&name))))?;
+        if message.text == b"Unbalanced braces" || message.text == b"Illegal end of database file" {
+            let begun = begun_value(spot.file, &text, &item);
+            begun.map_or(Ok(()), |begun| self.put_place(&begun))?;
+        }
+        let is_of_form = message.text.starts_with(b"I was expecting ");
+        let place = spot.part.filter(|_| is_of_form).map(|(at, _)| text.span(spot.number).0 + at);
+        Ok(place.and_then(|place| what_is_missing(spot.file, &text, &item, place)))
+    }
+
+    /// The name that may be meant by a type or a string that isn't known.
+    fn meant_by(&mut self, text: &[u8], item: &Item<'a>) -> Option<Vec<u8>> {
+        if text.starts_with(b"entry type for ") {
+            let style = self.sources.style()?.bytes.as_deref()?;
+            return nearest(item.kind, functions_above_read(style)).map(|name| [b"@", name].concat());
+        }
+        let name = between(text, b"string name \"", b"\" is undefined")?;
+        let mut known: Vec<&[u8]> = self.entries().strings().collect();
+        let style = self.sources.style().map_or(&b""[..], |file| &file.name);
+        let commands = self.sources.commands(style);
+        known.extend(commands.iter().filter(|command| command.is("macro")).filter_map(|command| command.name));
+        meant_string(name, &known).map(<[u8]>::to_vec)
     }
 
     /// The item that a message is about, and the part of the text that the message names.
@@ -638,11 +669,6 @@ impl<'a, W: Write> Explainer<'a, W> {
         if let Some(spot) = self.sources.spot(message) {
             return self.show_line(&spot);
         }
-        let missing =
-            text.strip_prefix(b"I didn't find a database entry for \"").and_then(|rest| rest.strip_suffix(b"\""));
-        if let Some(key) = missing {
-            return self.cited(key);
-        }
         let child = between(text, b"A bad cross reference--entry \"", b"\" refers to entry \"");
         let child =
             child.or_else(|| between(text, b"you've nested cross references--entry \"", b"\" refers to entry \""));
@@ -662,11 +688,34 @@ impl<'a, W: Write> Explainer<'a, W> {
         let mut words = text.split(u8::is_ascii_whitespace).filter(|word| !word.is_empty());
         let first = words.next().unwrap_or(b"");
         let last = words.next_back().unwrap_or(first);
-        let found = self.show_entry("for", last)?;
-        if !found && first != last {
-            self.show_entry("for", first)?;
+        if self.show_entry("for", last)? {
+            self.lost_in(last, text)
+        } else if first != last && self.show_entry("for", first)? {
+            self.lost_in(first, text)
+        } else {
+            Ok(())
         }
-        Ok(())
+    }
+
+    /// Says what of an entry is lost, where a style's warning may come from that: a field of another name, or text after its end.
+    fn lost_in(&mut self, key: &[u8], warning: &[u8]) -> io::Result<()> {
+        let style = self.sources.style().and_then(|file| file.bytes.as_deref()).unwrap_or(b"");
+        let Some(stored) = self.entries().entry(key) else { return Ok(()) };
+        let said = [meant_field(style, stored, warning), lost_fields(stored)];
+        said.into_iter().flatten().try_for_each(|text| self.put_place(&text))
+    }
+
+    /// Says of an entry that wasn't found where its key is named, where the entry may be, and what to do.
+    fn missing_entry(&mut self, key: &'a [u8], text: &[u8]) -> io::Result<()> {
+        self.cited(key)?;
+        let files = self.files;
+        let told = missing_entry::told(self.entries(), files, key);
+        told.place.map_or(Ok(()), |place| self.put_place(&place))?;
+        match told.advice {
+            Some(advice) if self.said_of_missing.insert(advice.clone()) => self.put_advice(&advice),
+            Some(_) => Ok(()),
+            None => self.advise(&[Section::Entries], text),
+        }
     }
 
     /// Where a key is cited, or named as a parent.
@@ -707,6 +756,11 @@ fn unknown(error: &[u8]) -> Option<&[u8]> {
     error.strip_suffix(b" is an unknown function")
 }
 
+/// The key of the message on an entry that wasn't found.
+fn missing_key(text: &[u8]) -> Option<&[u8]> {
+    text.strip_prefix(b"I didn't find a database entry for \"").and_then(|rest| rest.strip_suffix(b"\""))
+}
+
 /// What stands between these two in a text that begins with the first.
 fn between<'a>(text: &'a [u8], before: &[u8], behind: &[u8]) -> Option<&'a [u8]> {
     split_first(text.strip_prefix(before)?, behind).map(|(name, _)| name)
@@ -725,7 +779,7 @@ fn named(command: &Command<'_>) -> String {
 }
 
 /// An item of a database, and where it begins.
-fn begins_item(file: &File, text: &Text<'_>, item: &Item<'_>) -> String {
+pub fn begins_item(file: &File, text: &Text<'_>, item: &Item<'_>) -> String {
     let key = item.key.map(|key| format!("{{{}}}", plain(key.name))).unwrap_or_default();
     let (path, line) = (plain(shown_path(file)), text.line_of(item.start));
     format!("@{}{key}, which begins at {path}:{line}", plain(item.kind))

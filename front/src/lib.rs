@@ -22,6 +22,7 @@
 //! | [`sources`] | the files of a job as its messages speak of them |
 //! | [`shapes`] | a log in the original's shapes |
 //! | [`explain`], [`entries`], [`shown_line`], [`advice`] | what follows a message for its reader: where it stands, and what to do |
+//! | [`missing_entry`], [`nearest`] | where an entry may be that wasn't found, and which name may be meant by one that isn't known |
 //! | [`run_log`] | the log of a run as it is written and printed |
 //! | [`terminal`] | what is safe to print on a terminal, and how wide it is |
 //! | [`exit`] | the exit statuses |
@@ -60,6 +61,8 @@ pub mod lint_ties;
 pub mod lint_types;
 pub mod lint_warnings;
 pub mod log;
+pub mod missing_entry;
+pub mod nearest;
 pub mod notes;
 pub mod operands;
 pub mod origins;

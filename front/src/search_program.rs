@@ -26,8 +26,9 @@ const HELP: &str = "  Styles are found along BSTINPUTS, databases along BIBINPUT
 
 -min-crossrefs=N  how often a parent must be named to be listed by itself (2)
 -terse            print only what went wrong, not the names of the files
--explain          print behind each message where it stands and what to do;
-                  so it is on a terminal where nothing else is said
+-strict           end with status 2 where a cited key has no entry
+-explain          print after each message where it stands and what to do;
+                  on a terminal this is the default
 -no-explain       print the log as it is
 -explain-only     explain what a run says, and write nothing; so it is where
                   the program is called as bibtex-explain
@@ -37,13 +38,13 @@ const HELP: &str = "  Styles are found along BSTINPUTS, databases along BIBINPUT
 -line=N           how long a line of the list may be, 20 to 1000 (79)
 -entry-max=N      how many bytes of a string a variable of an entry keeps
 -global-max=N     the same of a global variable; TeX's set-up has both numbers
--log-room=N       how long the log may be: bytes, or with K, M, G behind N (64M)
+-log-room=N       how long the log may be: bytes, or K, M, G after N (64M)
 -list-room=N      how long the list may be (1G)
 -help             print this and exit
 -version          print the version and exit
 
-An option has one hyphen or two, and may be shortened; its value stands behind
-a '=' or in the next word. A word behind '--' is JOB. Options of bibtex8 that
+An option has one hyphen or two, and may be shortened; its value stands after
+a '=' or in the next word. A word after '--' is JOB. Options of bibtex8 that
 say how large its tables are, or which letters it has, are taken and ignored.
 
 Exit status: 0 done; 1 the words, or an output's name by TeX's openout_any, are

@@ -6,6 +6,7 @@
 
 use crate::advice;
 use crate::database::Folded;
+use crate::nearest::{distance, nearest};
 use crate::text::{Text, is_white};
 use std::collections::HashSet;
 
@@ -209,33 +210,6 @@ pub fn nearest_word(word: &[u8]) -> Option<&'static str> {
     differing.min().filter(|(distance, _)| *distance <= 2).map(|(_, command)| command)
 }
 
-/// How many letters of a name, and how many names, are compared.
-const MOST_LETTERS: usize = 64;
-const MOST_NAMES: usize = 20_000;
-
-/// Whether two names may be one but for the spelling, and in how many letters they differ.
-fn differing(left: &[u8], right: &[u8]) -> Option<usize> {
-    let longest = left.len().max(right.len());
-    let most = if longest < 6 { 1 } else { 2 };
-    let may_be = longest <= MOST_LETTERS && longest > 2 && left.len().abs_diff(right.len()) <= most;
-    let (left, right) = (left.to_ascii_lowercase(), right.to_ascii_lowercase());
-    Some(distance(&left, &right)).filter(|differing| may_be && *differing <= most)
-}
-
-/// How many letters are to be put in, taken out or exchanged for others to make one word another.
-fn distance(left: &[u8], right: &[u8]) -> usize {
-    let mut row: Vec<usize> = (0..=right.len()).collect();
-    for (index, letter) in left.iter().take(MOST_LETTERS).enumerate() {
-        let mut diagonal = std::mem::replace(&mut row[0], index + 1);
-        for (at, other) in right.iter().enumerate() {
-            let exchanged = diagonal + usize::from(letter != other);
-            diagonal = row[at + 1];
-            row[at + 1] = exchanged.min(diagonal + 1).min(row[at] + 1);
-        }
-    }
-    row[right.len()] + left.len().saturating_sub(MOST_LETTERS)
-}
-
 /// Whether the body of a function goes on behind this error, which stands in the command `around`.
 pub fn costs_a_token(error: &[u8], around: Option<&Command<'_>>) -> bool {
     let is_of_command =
@@ -323,8 +297,7 @@ impl<'a> Defined<'a> {
     /// The name among them, or of a built-in function, that differs least from this one.
     pub fn nearest(&self, name: &[u8]) -> Option<&'a [u8]> {
         let built_in = advice::built_in().map(|name| -> &'a [u8] { name });
-        let all = self.names.iter().take(MOST_NAMES).map(|known| -> &'a [u8] { known.0 }).chain(built_in);
-        all.filter_map(|known| Some((differing(name, known)?, known))).min().map(|(_, known)| known)
+        nearest(name, built_in.chain(self.names.iter().map(|known| -> &'a [u8] { known.0 })))
     }
 
     /// Whether this name is one of them.
@@ -499,7 +472,6 @@ mod tests {
         assert_eq!(nearest_word(b"INTEGER"), Some("integers"));
         assert_eq!(nearest_word(b"Funktion"), Some("function"));
         assert_eq!(nearest_word(b"nosuch"), None);
-        assert_eq!(distance(b"abc", b"acb"), 2);
     }
 
     #[test]

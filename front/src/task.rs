@@ -164,6 +164,7 @@ impl Task {
     /// The status of a run whose outputs are written.
     fn status(&self, ran: &Ran, printed: io::Result<()>) -> Status {
         let status = match ran.answer {
+            Answer::Done(_) if self.words.is_strict && ran.misses_an_entry() => Status::Errors,
             Answer::Done(report) => Status::of_report(report.status),
             Answer::ListFull | Answer::LogFull => Status::Limit,
             Answer::Memory => Status::Memory,

@@ -21,6 +21,8 @@ pub enum Explain {
 pub struct Words {
     pub job: Vec<u8>,
     pub terse: bool,
+    /// Whether a citation without an entry counts as an error.
+    pub is_strict: bool,
     pub explain: Explain,
     pub options: Options,
     /// How text is read; the options of a run follow it.
@@ -60,6 +62,7 @@ enum Choice {
     GlobalMax,
     LogRoom,
     ListRoom,
+    Strict,
     /// An option of bibtex8 that says how large its tables are, or what its letters are.
     Ignored,
     /// Where the files are; they are searched for.
@@ -78,7 +81,7 @@ const ORIGINAL: [Row; 4] = [
 ];
 
 /// Our own options.
-const OWN: [Row; 11] = [
+const OWN: [Row; 12] = [
     ("explain", Choice::Explain, false),
     ("no-explain", Choice::NoExplain, false),
     ("explain-only", Choice::ExplainOnly, false),
@@ -89,6 +92,7 @@ const OWN: [Row; 11] = [
     ("global-max", Choice::GlobalMax, true),
     ("log-room", Choice::LogRoom, true),
     ("list-room", Choice::ListRoom, true),
+    ("strict", Choice::Strict, false),
     ("dir", Choice::Folder, true),
 ];
 
@@ -111,22 +115,30 @@ fn all_of_eight() -> impl Iterator<Item = Row> {
     EIGHT.into_iter().chain(ignored).chain(with_value)
 }
 
+/// What is wrong with the name of an option.
+enum Misnamed {
+    Unknown,
+    /// Each of these begins so.
+    Ambiguous(Vec<&'static str>),
+}
+
 /// The option that a name means: one that has this name, or else the only one of the original's that begins so, or else the only one of ours,
-/// or of bibtex8's. The error is what is wrong with the name.
-fn option_named(name: &[u8]) -> Result<Row, &'static str> {
+/// or of bibtex8's.
+fn option_named(name: &[u8]) -> Result<Row, Misnamed> {
     let all = [ORIGINAL.to_vec(), OWN.to_vec(), all_of_eight().collect()];
     if let Some(row) = all.iter().flatten().find(|(option, ..)| option.as_bytes() == name) {
         return Ok(*row);
     }
     for rows in &all {
-        let mut beginning = rows.iter().filter(|(option, ..)| option.as_bytes().starts_with(name));
-        match (beginning.next(), beginning.next()) {
-            (Some(row), None) => return Ok(*row),
-            (None, _) => {}
-            _ => return Err("is ambiguous"),
+        let beginning: Vec<Row> =
+            rows.iter().filter(|(option, ..)| option.as_bytes().starts_with(name)).copied().collect();
+        match beginning[..] {
+            [row] => return Ok(row),
+            [] => {}
+            _ => return Err(Misnamed::Ambiguous(beginning.iter().map(|row| row.0).collect())),
         }
     }
-    Err("is unknown")
+    Err(Misnamed::Unknown)
 }
 
 /// A number as the original reads it: of the beginning of a text, without a refusal. It is the C library's `atoi`.
@@ -178,6 +190,7 @@ impl Words {
         Words {
             job: Vec::new(),
             terse: false,
+            is_strict: false,
             explain,
             options,
             text: TextMode::Auto,
@@ -193,6 +206,7 @@ impl Words {
         let name = row.0;
         match row.1 {
             Choice::Terse => self.terse = true,
+            Choice::Strict => self.is_strict = true,
             Choice::Explain => self.explain = Explain::Always,
             Choice::NoExplain => self.explain = Explain::Never,
             Choice::ExplainOnly => self.explain = Explain::Only,
@@ -263,8 +277,12 @@ impl<'a> OptionWord<'a> {
     fn meaning(&self, words: &mut impl Iterator<Item = Vec<u8>>) -> Result<(Row, Vec<u8>), Vec<u8>> {
         let named = |name: &[u8], what: &str| [b"option '", self.hyphens, name, b"' ", what.as_bytes()].concat();
         let row = option_named(self.name).map_err(|wrong| match wrong {
-            "is unknown" => [b"unrecognized option '", self.hyphens, self.name, b"'"].concat(),
-            wrong => named(self.name, wrong),
+            Misnamed::Unknown => [b"unrecognized option '", self.hyphens, self.name, b"'"].concat(),
+            Misnamed::Ambiguous(options) => {
+                let hyphens = String::from_utf8_lossy(self.hyphens);
+                let all: Vec<String> = options.iter().map(|option| format!("'{hyphens}{option}'")).collect();
+                named(self.name, &format!("is ambiguous; possibilities: {}", all.join(" ")))
+            }
         })?;
         match (row.2, self.value) {
             (false, Some(_)) => Err(named(row.0.as_bytes(), "doesn't allow an argument")),
@@ -349,6 +367,7 @@ mod tests {
         assert_eq!(run(&["-min", "3", "a"]).options.min_crossrefs, 3);
         assert_eq!(run(&["-min", "3", "-min", "4", "a"]).options.min_crossrefs, 4);
         assert!(run(&["-t", "a"]).terse && run(&["--ter", "a"]).terse);
+        assert_eq!(["-strict", "--str", "-terse"].map(|word| run(&[word, "a"]).is_strict), [true, true, false]);
         assert_eq!(run(&["--", "-a"]).job, b"-a");
         assert_eq!(run(&["-"]).job, b"-");
         assert_eq!(run(&["a", "-explain"]).explain, Explain::Always);
@@ -374,8 +393,14 @@ mod tests {
     #[test]
     fn what_is_refused_says_why() {
         assert_eq!(refused(&["-foo", "a"]), "unrecognized option '-foo'");
-        assert_eq!(refused(&["--e", "a"]), "option '--e' is ambiguous");
-        assert_eq!(refused(&["-=1", "a"]), "option '-' is ambiguous");
+        assert_eq!(
+            refused(&["--e", "a"]),
+            "option '--e' is ambiguous; possibilities: '--explain' '--explain-only' '--entry-max'"
+        );
+        assert_eq!(
+            refused(&["-=1", "a"]),
+            "option '-' is ambiguous; possibilities: '-terse' '-min-crossrefs' '-help' '-version'"
+        );
         assert_eq!(refused(&["-terse=1", "a"]), "option '-terse' doesn't allow an argument");
         assert_eq!(refused(&["a", "-min"]), "option '-min-crossrefs' requires an argument");
         assert_eq!(refused(&[]), "Need exactly one file argument.");

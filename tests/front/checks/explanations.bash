@@ -38,9 +38,11 @@ Error--A bad cross reference--entry \"two\" refers to entry \"p\", which doesn't
 Warning--I didn't find a database entry for \"nosuch\"
     job.aux:2: \\citation{two,nosuch,bare}
                              ^
-    what to do: the key is cited, or is a parent, and no database has it: look for its spelling
+    it may stand in e.bib, which wasn't found
+    what to do: look for e.bib first
 Warning--I didn't find a database entry for \"p\"
     $2d.bib:5: @misc{two, title = {D}, crossref = {p}}
+    it may stand in e.bib, which wasn't found
 Error--\"A\" is not an integer while executing + for entry k
     in {..} of FUNCTION {misc}, $2s.bst:3; called from misc, $2s.bst:3; ITERATE {call.type\$}, $2s.bst:7
     on the stack: 1, \"A\"
@@ -55,6 +57,36 @@ Ended: finished, warnings 4, errors 8, steps 36
     what to do: mend the style's text first, $2s.bst:4: errors of its execution may follow from that
 "
 }
+
+# Where an entry may be that wasn't found, and which names may be meant by those that aren't known.
+begin explained_missing_names
+printf '%s\n' '\citation{two,smith210,a,,white}' '\bibdata{d}' '\bibstyle{s}' >job.aux
+printf '%s\n' '@misc{p, title = {P}}' '@misc{a, title = {A}, crossref = {p}}' '@misc{smith2010, title = sprnger # sept}' '@string{springer = {S}}' \
+    '@mics{white, tilte = {T}}, note = {N}}' '@misc{one, title = 2000,' '' '@misc{two, title = {Two}}' '@misc{three, title = {x' >d.bib
+printf '%s\n' 'ENTRY {title}{}{}' 'MACRO {sep} {"September"}' 'FUNCTION {misc} {}' 'FUNCTION {default.type} {title empty$ {"empty title in " cite$ * warning$} {} if$}' 'READ' 'ITERATE {call.type$}' >s.bst
+run_search -explain -terse job
+wants_status 2
+wants_words "$folder/stdout" '`two` stands at d.bib:8; it was skipped with @misc{one}, which begins at d.bib:6'
+wants_words "$folder/stdout" 'what to do: mend that item: a `}` or a quote is missing above `two`'
+wants_words "$folder/stdout" 'what to do: close @misc{one}, which begins at d.bib:6: a `}` is missing above this line'
+wants_words "$folder/stdout" 'in the value of `title`, which begins at d.bib:9'
+wants_words "$folder/stdout" 'is it `smith2010`, which begins at d.bib:3?'
+wants_words "$folder/stdout" '`p` stands at d.bib:1, above an entry that names it as its parent (d.bib:2)'
+wants_words "$folder/stdout" 'write a key in the empty `\cite{}`, or take it out'
+wants_words "$folder/stdout" 'is it `@misc`?'
+wants_words "$folder/stdout" 'it has `tilte`: is it `title`?'
+wants_words "$folder/stdout" 'the entry ends at d.bib:5; `note` stands after its end'
+sed -i 's/smith210/smith2010/' job.aux
+run_search -explain -terse job
+wants_words "$folder/stdout" 'is it `springer`?'
+wants_words "$folder/stdout" 'is it `sep`?'
+end
+
+begin explained_entry_without_a_key
+printf '%s\n' '@misc{author = {A}, title = {T}}' '@misc{k}' >d.bib
+run_search -explain -terse job
+wants_words "$folder/stdout" 'write the entry'"'s key first: "'`@misc{KEY, author = ..`'
+end
 
 # What is wrong at the place of an error, as far as the style's text shows it.
 begin explained_kinds

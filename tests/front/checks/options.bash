@@ -51,6 +51,21 @@ wants_text job.bbl $'a\nb\n'
 original_lists $'a\nb\n' job -min 3
 end
 
+# A cited key without an entry is a warning; with -strict it ends as an error does.
+begin option_strict
+printf '%s\n' '\citation{k,nosuch}' '\bibdata{d}' '\bibstyle{s}' >job.aux
+printf '%s\n' '@misc{k}' >d.bib
+use_style 'FUNCTION {f} {cite$ write$ newline$} ITERATE {f}'
+run_search job
+wants_status 0
+run_search -strict job
+wants_status 2
+wants_text job.bbl $'k\n'
+sed -i 's/,nosuch//' job.aux
+run_search --strict job
+wants_status 0
+end
+
 begin option_given_twice
 parents
 run_search -min-crossrefs=1 --min=3 job

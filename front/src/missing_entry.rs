@@ -1,0 +1,246 @@
+//! Where an entry may be that a run didn't find: it stands there and wasn't read, it stands above its child, its database is missing, or its key
+//! is spelled another way. And which fields, types and strings may be meant by names that a style or a database doesn't know.
+
+use crate::database::{Inside, Item};
+use crate::entries::{Entries, Skipped, Stored};
+use crate::explain::{begins_item, shown_path};
+use crate::hints::names_of_fields;
+use crate::job::{File, Files};
+use crate::nearest::nearest;
+use crate::terminal::plain;
+use crate::text::Text;
+
+/// What is said of something that is missing: where it may be, and what to do. What isn't known is None.
+#[derive(Debug, Clone, Default, PartialEq, Eq)]
+pub struct Told {
+    pub place: Option<String>,
+    pub advice: Option<String>,
+}
+
+/// What is said of an entry that wasn't found.
+pub fn told(entries: &Entries<'_>, files: &Files, key: &[u8]) -> Told {
+    if key.is_empty() {
+        let advice = "write a key in the empty `\\cite{}`, or take it out".into();
+        return Told { place: None, advice: Some(advice) };
+    }
+    if let Some(stored) = entries.entry(key) {
+        return told_of_known(entries, key, stored);
+    }
+    if let Some(skipped) = entries.skipped(key) {
+        return told_of_skipped(key, skipped);
+    }
+    if let Some(lost) = lost_database(files) {
+        let place = format!("it may stand in {}, which wasn't found", plain(&lost.name));
+        return Told { place: Some(place), advice: Some(format!("look for {} first", plain(&lost.name))) };
+    }
+    let meant = entries.meant(key).and_then(|stored| Some((stored.item.key?, stored)));
+    let place = meant.map(|(key, stored)| format!("is it `{}`, {}?", plain(key.name), begins(stored)));
+    Told { place, advice: None }
+}
+
+/// A database that wasn't found, if there is one.
+pub fn lost_database(files: &Files) -> Option<&File> {
+    files.all.iter().find(|file| file.name.ends_with(b".bib") && file.bytes.is_none())
+}
+
+/// Where an entry begins.
+fn begins(stored: Stored<'_, '_>) -> String {
+    let (file, text) = (stored.database.file, &stored.database.text);
+    format!("which begins at {}:{}", plain(shown_path(file)), text.line_of(stored.item.start))
+}
+
+/// What is said of an entry that is there: an entry that comes after it names it as its parent.
+fn told_of_known(entries: &Entries<'_>, key: &[u8], stored: Stored<'_, '_>) -> Told {
+    let (key, at) = (plain(key), line_of(stored.database.file, &stored.database.text, stored.item.start));
+    let Some((below, end)) = entries.parent(key.as_bytes()) else {
+        return Told { place: Some(format!("`{key}` stands at {at}")), advice: None };
+    };
+    let child = line_of(below.file, &below.text, end.saturating_sub(1));
+    Told {
+        place: Some(format!("`{key}` stands at {at}, above an entry that names it as its parent ({child})")),
+        advice: Some(format!("move `{key}` below all entries that name it, or cite it")),
+    }
+}
+
+/// What is said of an entry that stands in the text of another item.
+fn told_of_skipped(key: &[u8], skipped: Skipped<'_, '_>) -> Told {
+    let Stored { database, item } = skipped.around;
+    let (key, at) = (plain(key), line_of(database.file, &database.text, skipped.start));
+    let around = begins_item(database.file, &database.text, item);
+    if item.fault.is_some() {
+        return Told {
+            place: Some(format!("`{key}` stands at {at}; it was skipped with {around}")),
+            advice: Some(format!("mend that item: a `}}` or a quote is missing above `{key}`")),
+        };
+    }
+    Told {
+        place: Some(format!("`{key}` stands at {at}, in a value of {around}")),
+        advice: Some("close that value above it: count its braces".into()),
+    }
+}
+
+fn line_of(file: &File, text: &Text<'_>, place: usize) -> String {
+    format!("{}:{}", plain(shown_path(file)), text.line_of(place))
+}
+
+/// What to do about a mistake in an item that shows itself below the place where something is missing.
+pub fn what_is_missing(file: &File, text: &Text<'_>, item: &Item<'_>, place: usize) -> Option<String> {
+    let key = item.key.filter(|_| item.is_entry())?;
+    let between = text.bytes.get(key.end..place)?;
+    if text.bytes.get(place) == Some(&b'=') && between.iter().all(u8::is_ascii_whitespace) {
+        return Some(format!("write the entry's key first: `@{}{{KEY, {} = ..`", plain(item.kind), plain(key.name)));
+    }
+    let (start, _) = text.span(text.line_of(place));
+    let begins_another = text.bytes[start..place].trim_ascii_start().starts_with(b"@")
+        || text.bytes[start..].trim_ascii_start().starts_with(b"@");
+    let is_above = text.line_of(item.start) < text.line_of(place);
+    let item = begins_item(file, text, item);
+    (begins_another && is_above).then(|| format!("close {item}: a `}}` is missing above this line"))
+}
+
+/// Where the value begins that isn't closed.
+pub fn begun_value(file: &File, text: &Text<'_>, item: &Item<'_>) -> Option<String> {
+    let inside = Inside::of(text.bytes, item);
+    let at = line_of(file, text, inside.last_value?);
+    Some(match inside.fields.last().filter(|_| item.is_entry()) {
+        Some(field) => format!("in the value of `{}`, which begins at {at}", plain(field)),
+        None => format!("in the value that begins at {at}"),
+    })
+}
+
+/// A field of an entry that may be meant by one that a style's warning names: the entry doesn't have that one, and the style doesn't know this one.
+pub fn meant_field(style: &[u8], stored: Stored<'_, '_>, warning: &[u8]) -> Option<String> {
+    let declared = names_of_fields(style);
+    let knows = |name: &[u8]| declared.iter().any(|known| known.eq_ignore_ascii_case(name));
+    let fields = Inside::of(stored.database.text.bytes, stored.item).fields;
+    let words = warning.split(|byte| !byte.is_ascii_alphanumeric() && !b"-_.".contains(byte)).filter(|word| knows(word));
+    let missing = words.filter(|word| !fields.iter().any(|field| field.eq_ignore_ascii_case(word)));
+    let unread: Vec<&[u8]> = fields.iter().copied().filter(|field| !knows(field)).collect();
+    let found = missing.filter_map(|word| Some((nearest(word, unread.iter().copied())?, word))).next();
+    found.map(|(field, word)| format!("it has `{}`: is it `{}`?", plain(field), plain(word)))
+}
+
+/// Text after an entry's end that looks like a field of it.
+pub fn lost_fields(stored: Stored<'_, '_>) -> Option<String> {
+    let (bytes, end) = (stored.database.text.bytes, stored.item.end);
+    let rest = bytes.get(end..)?.trim_ascii_start().strip_prefix(b",")?.trim_ascii_start();
+    let length = rest.iter().position(|byte| !byte.is_ascii_alphanumeric() && !b"-_".contains(byte))?;
+    let is_field = length > 0 && rest[length..].trim_ascii_start().starts_with(b"=");
+    let at = line_of(stored.database.file, &stored.database.text, end.saturating_sub(1));
+    is_field.then(|| format!("the entry ends at {at}; `{}` stands after its end", plain(&rest[..length])))
+}
+
+/// The months, of which styles define the first three letters as strings.
+const MONTHS: [&str; 12] = [
+    "january",
+    "february",
+    "march",
+    "april",
+    "may",
+    "june",
+    "july",
+    "august",
+    "september",
+    "october",
+    "november",
+    "december",
+];
+
+/// The name among these that may be meant by this one of a string, also by more letters of a month.
+pub fn meant_string<'a>(name: &[u8], known: &[&'a [u8]]) -> Option<&'a [u8]> {
+    let lowered = name.to_ascii_lowercase();
+    let month = MONTHS.iter().find(|month| lowered.len() > 3 && month.as_bytes().starts_with(&lowered));
+    let is_it = |known: &&&[u8]| month.is_some_and(|month| known.eq_ignore_ascii_case(&month.as_bytes()[..3]));
+    known.iter().find(is_it).copied().or_else(|| nearest(name, known.iter().copied()))
+}
+
+#[cfg(test)]
+mod tests {
+    use super::*;
+
+    fn files(text: &str) -> Files {
+        let file = File { name: b"d.bib".to_vec(), bytes: Some(text.into()), path: b"./d.bib".to_vec() };
+        Files { top: b"job.aux".to_vec(), all: vec![file] }
+    }
+
+    fn told_of(text: &str, key: &str) -> (String, String) {
+        let files = files(text);
+        let told = told(&Entries::new(&files), &files, key.as_bytes());
+        (told.place.unwrap_or_default(), told.advice.unwrap_or_default())
+    }
+
+    #[test]
+    fn an_entry_is_found_where_it_was_skipped() {
+        let (place, advice) = told_of("@misc{one, year = 2000,\n\n@misc{two, note = 1}\n", "two");
+        assert_eq!(place, "`two` stands at d.bib:3; it was skipped with @misc{one}, which begins at d.bib:1");
+        assert_eq!(advice, "mend that item: a `}` or a quote is missing above `two`");
+        let (place, _) = told_of("@misc{one, note = {x\n@misc{two, note = 1}}}\n", "two");
+        assert_eq!(place, "`two` stands at d.bib:2, in a value of @misc{one}, which begins at d.bib:1");
+    }
+
+    #[test]
+    fn a_parent_stands_above_its_child() {
+        let (place, advice) = told_of("@misc{p}\n@misc{a,\n crossref = {p}}\n", "p");
+        assert_eq!(place, "`p` stands at d.bib:1, above an entry that names it as its parent (d.bib:3)");
+        assert_eq!(advice, "move `p` below all entries that name it, or cite it");
+    }
+
+    #[test]
+    fn a_key_is_spelled_another_way() {
+        let (place, advice) = told_of("\n@misc{smith2010}", "smith210");
+        assert_eq!((&place[..], &advice[..]), ("is it `smith2010`, which begins at d.bib:2?", ""));
+        assert_eq!(told_of("@misc{k}", "nothing"), (String::new(), String::new()));
+        assert_eq!(told_of("@misc{k}", "").1, "write a key in the empty `\\cite{}`, or take it out");
+    }
+
+    #[test]
+    fn a_database_that_is_not_there_is_named() {
+        let mut files = files("@misc{k}");
+        files.all.push(File { name: b"gone.bib".to_vec(), bytes: None, path: Vec::new() });
+        let told = told(&Entries::new(&files), &files, b"kk");
+        assert_eq!(told.place.as_deref(), Some("it may stand in gone.bib, which wasn't found"));
+    }
+
+    #[test]
+    fn what_is_missing_stands_above() {
+        let missing = |text: &str| {
+            let files = files(text);
+            let (text, item) = (Text::new(text.as_bytes()), crate::database::Items::new(text.as_bytes()).next()?);
+            what_is_missing(&files.all[0], &text, &item, item.end)
+        };
+        let unclosed = "close @misc{a}, which begins at d.bib:1: a `}` is missing above this line";
+        assert_eq!(missing("@misc{a, x = 1\n@misc{b}").as_deref(), Some(unclosed));
+        assert_eq!(missing("@misc{a, x = 1,\n@misc{b}").as_deref(), Some(unclosed));
+        let keyless = "write the entry's key first: `@misc{KEY, author = ..`";
+        assert_eq!(missing("@misc{author = {A}}").as_deref(), Some(keyless));
+        assert_eq!(missing("@misc{a, x 1}"), None);
+    }
+
+    #[test]
+    fn a_value_that_is_not_closed_has_its_beginning() {
+        let text = "@misc{a,\n author = \"A}, year = 1}\n@misc{b}";
+        let files = files(text);
+        let (text, item) = (Text::new(text.as_bytes()), crate::database::Items::new(text.as_bytes()).next().unwrap());
+        let begun = begun_value(&files.all[0], &text, &item);
+        assert_eq!(begun.as_deref(), Some("in the value of `author`, which begins at d.bib:2"));
+    }
+
+    #[test]
+    fn fields_are_meant_by_others() {
+        let files = files("@misc{white, jounral = {J}, title = {T}}, year = 2000}");
+        let entries = Entries::new(&files);
+        let stored = entries.entry(b"white").unwrap();
+        let meant = meant_field(b"ENTRY {journal title year}{}{}", stored, b"empty journal in white");
+        assert_eq!(meant.as_deref(), Some("it has `jounral`: is it `journal`?"));
+        assert_eq!(meant_field(b"ENTRY {journal title}{}{}", stored, b"empty title in white"), None);
+        assert_eq!(lost_fields(stored).as_deref(), Some("the entry ends at d.bib:1; `year` stands after its end"));
+    }
+
+    #[test]
+    fn strings_are_meant_by_others() {
+        let known: [&[u8]; 3] = [b"jan", b"sep", b"springer"];
+        let meant = |name: &str| meant_string(name.as_bytes(), &known);
+        assert_eq!([meant("January"), meant("sept"), meant("sprnger")], [Some(known[0]), Some(known[1]), Some(known[2])]);
+        assert_eq!([meant("june"), meant("xyz")], [None, None]);
+    }
+}
