@@ -4,10 +4,15 @@
 
 LINT is bibtex-lint, or bibtex-search, which is the same program (front/out/bibtex-search). `styles.txt` has a row for each style: its verdict, a bar, the body of its function `misc`,
 and behind a semicolon the commands, if they are others than `ITERATE {call.type$}`. A verdict is `clean`, `incomplete`, or the first warning: what is executed there, the fault (stack, kind, equal,
-variable, entry, left), and the field that may be missing. `clean or ..` is that of a style that is clean, which a checker may not see. The last line is 'N passed, M failed', of rows."""
+variable, entry, left), and the field that may be missing. `clean or ..` is that of a style that is clean, which a checker may not see.
+
+A style with warnings is checked too with one mistake in its text, of each kind and at each of three places: all warnings must stand in the lines that they have without the mistake.
+The last line is 'N passed, M failed', of rows and of mistakes."""
 
 import argparse
+import json
 import pathlib
+import re
 import subprocess
 import tempfile
 
@@ -24,6 +29,35 @@ FUNCTION {misc}
 {
 """
 COMMANDS = "ITERATE {call.type$}"
+# A style with warnings in named and nameless functions, of a command, and with a cause of them. A mistake stands in the place of one of its comments.
+WARNED = HEAD[:HEAD.index("FUNCTION {misc}")] + """
+% above the functions
+
+FUNCTION {grows} { i { "one" } { "one" "two" } if$ }
+FUNCTION {shows}
+{ title empty$
+    { note write$ }
+    { title write$
+      author write$ }
+  if$
+}
+
+% between functions
+
+FUNCTION {misc} { shows grows #1 write$
+  pop$
+}
+FUNCTION {leaves} { { #1 } #2 }
+READ
+
+% between commands
+
+ITERATE {call.type$}
+EXECUTE {leaves}
+"""
+# After each of them a style is read on from the next empty line.
+MISTAKES = ["}", "nonsense {x}", "FUNCTION {not} { { #1 } skip$ }", "FUNCTION {broken} { { title write$ } \"no end", "FUNCTION {broken} { { nowhere write$ } #one }",
+            "FUNCTION {more} { nowhere { nobody } pop$ }", "MACRO {jan {\"January\"}", "EXECUTE {nowhere}"]
 
 
 def rows():
@@ -50,6 +84,28 @@ def is_right(wanted, found):
     return found in wanted
 
 
+def warned(lint, folder, text):
+    """What is warned of in a style, with the lines, and whether there are messages on its text."""
+    (pathlib.Path(folder) / "warned.bst").write_text(text)
+    said = json.loads(subprocess.run([lint, "--json", "warned"], cwd=folder, capture_output=True, text=True).stdout)[0]
+    return (said["warnings"], said.get("causes")), bool(said["messages"])
+
+
+def lint_has_lines_beside_mistakes(lint, folder):
+    """Whether the warnings have all their lines, for each mistake and each place of it."""
+    wanted, _ = warned(lint, folder, WARNED)
+    lines = re.findall(r'"line": (\d+)', json.dumps(wanted))
+    if len(lines) < 10 or "0" in lines:
+        print("the style without a mistake has the lines", lines)
+        yield False
+    for mistake in MISTAKES:
+        for comment in re.findall("%.*", WARNED):
+            found, has_messages = warned(lint, folder, WARNED.replace(comment, mistake))
+            if found != wanted or not has_messages:
+                print("%s %s: the warnings are %s" % (mistake, comment[2:], json.dumps(found)))
+            yield found == wanted and has_messages
+
+
 def main():
     parser = argparse.ArgumentParser()
     parser.add_argument("--only", default="")
@@ -65,6 +121,7 @@ def main():
             names.append("s%d.bst" % number)
             (pathlib.Path(folder) / names[-1]).write_text(HEAD + body + "\n}\nREAD\n" + commands + "\n")
         ran = subprocess.run([lint, "--line", *names], cwd=folder, capture_output=True, text=True)
+        beside_mistakes = list(lint_has_lines_beside_mistakes(lint, folder))
     lines = ran.stdout.split("\n")[:-1]
     if len(lines) != len(table):
         print(ran.stderr)
@@ -78,7 +135,8 @@ def main():
             failed += 1
             print("%s ; %s\n    is %s, not %s" % (body, commands, " ".join(found), " or ".join(map(" ".join, wanted))))
     print("%d styles that are clean aren't called so" % alarms)
-    print("%d passed, %d failed" % (len(table) - failed, failed))
+    failed += beside_mistakes.count(False)
+    print("%d passed, %d failed" % (len(table) + len(beside_mistakes) - failed, failed))
     return failed
 
 

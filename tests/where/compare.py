@@ -2,8 +2,8 @@
 
     python3 compare.py [--jobs N] [--programs N] [--entries N] [--seed N] [--styles FOLDER] LIBRARY.so
 
-LIBRARY.so is the library for C (library/out/libbtx.so.1). Runs the worked and corner jobs, those of functions between which some end in a fault, random jobs and programs, and a database of errors with each style of the folder (that of TeX Live,
-if it is there), and compares all notes of all errors, line by line. The last line is 'N passed, M failed', of jobs; the lines above it count the jobs
+LIBRARY.so is the library for C (library/out/libbtx.so.1). Runs the worked and corner jobs, the same with a brace too many in the style, those of functions between which some end in a fault, random
+jobs and programs, and a database of errors with each style of the folder (that of TeX Live, if it is there), and compares all notes of all errors, line by line. The last line is 'N passed, M failed', of jobs; the lines above it count the jobs
 with errors, and the events."""
 
 import argparse
@@ -103,6 +103,14 @@ def style_jobs(folder, entries):
         yield {b"job.aux": aux, b"s.bst": path.read_bytes(), b"d.bib": WRONG + made}, {"budget": 2_000_000}
 
 
+def beside_mistakes():
+    """The worked and corner jobs with one brace too many in the style, above its functions. The style is read on from the empty line after it."""
+    for files, options in worked_jobs():
+        above, function, rest = files.get(b"s.bst", b"").partition(b"FUNCTION")
+        if function:
+            yield {**files, b"s.bst": above + b"}\n\n" + function + rest}, options
+
+
 def seed_of_commit():
     """A number from the commit that is checked out, or 1 where there is none."""
     try:
@@ -144,7 +152,7 @@ def main():
     print(f"the seed is {seed}", flush=True)
     library, results, counts = Library(arguments.library), [], collections.Counter()
     again = ((files_of(job), job.options) for job in functions_again())
-    made = itertools.chain(worked_jobs(), again, random_jobs(arguments.jobs, seed), random_programs(arguments.programs, seed))
+    made = itertools.chain(worked_jobs(), beside_mistakes(), again, random_jobs(arguments.jobs, seed), random_programs(arguments.programs, seed))
     if os.path.isdir(arguments.styles):
         made = itertools.chain(made, style_jobs(arguments.styles, arguments.entries))
     for files, given in made:

@@ -5,7 +5,7 @@ ghost use Rattle.btx_check.specs.Verdicts.{IsRight};
 ghost use Rattle.btx_c.specs.Checks.{TextIsClean, type_name, type_names};
 
 use crate::warned::note_findings;
-use btx_bst::{Callee, Style, read_style};
+use btx_bst::{Callee, PlacedStyle, Style, read_placed_style};
 use btx_check::Verdict;
 use btx_lint::{Findings, examine};
 use btx_text::Fault;
@@ -74,11 +74,11 @@ fn said(
     alloc: Global,
     name: &[u8],
     text: &[u8],
-    style: &Style<'_>,
+    placed: &PlacedStyle<'_>,
     findings: &Findings,
 ) -> Result<Checked, AllocError>
-    requires style { style.now ≡ style_of name.now text.now }
-    requires right { IsRight style.now findings.now.verdict }
+    requires style { placed.now.style ≡ style_of name.now text.now }
+    requires right { IsRight placed.now.style findings.now.verdict }
     ensures { IfOk result (λ said. IsTrue said.is_clean → TextIsClean name.now text.now said.bodies said.types.items) }
 {
     match &findings.verdict {
@@ -87,15 +87,15 @@ fn said(
             is_whole: true,
             bodies: clean.deepest,
             literals: clean.literals,
-            types: names_of(alloc, style, clean.allowed.as_slice())?,
+            types: names_of(alloc, &placed.style, clean.allowed.as_slice())?,
             notes: Vec::new(alloc),
         }),
         Verdict::NotKnownClean(_) => {
-            let notes = note_findings(alloc, style, text, findings)?;
+            let notes = note_findings(alloc, placed, findings)?;
             Ok(said_unclean(true, notes, Vec::new(alloc)))
         }
         Verdict::Incomplete => {
-            let notes = note_findings(alloc, style, text, findings)?;
+            let notes = note_findings(alloc, placed, findings)?;
             Ok(said_unclean(false, notes, Vec::new(alloc)))
         }
     }
@@ -105,7 +105,7 @@ fn said(
 pub fn check_style(alloc: Global, name: &[u8], text: &[u8], steps: u64) -> Result<Checked, Fault>
     ensures { IfOk result (λ said. IsTrue said.is_clean → TextIsClean name.now text.now said.bodies said.types.items) }
 {
-    let style = read_style(alloc, name, text)?;
-    let findings = examine(alloc, &style, steps)?;
-    Ok(said(alloc, name, text, &style, &findings)?)
+    let placed = read_placed_style(alloc, name, text)?;
+    let findings = examine(alloc, &placed.style, steps)?;
+    Ok(said(alloc, name, text, &placed, &findings)?)
 }

@@ -1,12 +1,11 @@
 //! What the checker of styles finds, as text: the places where a style may go wrong, and their causes.
-use btx_bst::{Callee, Style};
+use btx_bst::{Callee, PlacedStyle, Style};
 use btx_check::description::{Mask, Upper, Value};
 use btx_code::Code;
 use btx_lint::{Cause, Fault, Finding, Findings, Growth, Operand};
 use btx_step::Wanted;
 use btx_text::log_texts::{push_number, push_two};
 use btx_where::Place;
-use btx_where::lines::StyleLines;
 use btx_where::notes::Known;
 use std::alloc::{AllocError, Global};
 
@@ -221,20 +220,19 @@ fn push_cause(known: &Known<'_>, cause: &Cause, notes: &mut Vec<u8>) -> Result<(
 /// what is known of fields; then the causes. There is none where nothing was found.
 pub fn note_findings(
     alloc: Global,
-    style: &Style<'_>,
-    text: &[u8],
+    placed: &PlacedStyle<'_>,
     findings: &Findings,
 ) -> Result<Vec<u8>, AllocError> {
     let mut notes = Vec::new(alloc);
     if findings.found.is_empty() && findings.causes.is_empty() {
         return Ok(notes);
     }
+    let style = &placed.style;
     let code = Code::of(alloc, style)?;
-    let lines = StyleLines::of(alloc, style, text)?;
     let known = Known {
         style,
         code: &code,
-        lines: &lines,
+        places: &placed.places,
     };
     for finding in findings.found.iter() {
         push_finding(&known, finding, &mut notes)?;

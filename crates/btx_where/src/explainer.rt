@@ -1,19 +1,17 @@
 //! What explains a run: a pass that finds the visits that log errors, one that finds their steps, and one for each of these.
 ghost use Rattle.std.specs.Prelude.{◌≡◌, ◌≤◌, ◌++◌, IfOk, IfSome, OnOk};
 ghost use Rattle.btx_where.specs.Events.{AreNotesOf, Explains, GrowsBy, IsNoteOf, head_note, steps_before};
-ghost use Rattle.btx_where.specs.Lines.{lines_found};
 ghost use Rattle.btx_where.specs.Scenes.{IsScene};
 
 use crate::course::{Course, Event, Moment, Word};
 use crate::items::do_items;
-use crate::lines::StyleLines;
 use crate::machine::beginning;
 use crate::notes::{Known, note_event};
 use crate::scene::Scene;
 use crate::scratch::Scratch;
 use crate::stand::Stand;
 use crate::stops::scene_after;
-use btx_bst::{BuiltIn, Callee, Item, Style};
+use btx_bst::{BuiltIn, Callee, Item, Style, StylePlaces};
 use btx_code::Code;
 use btx_machine::marks::Marks;
 use btx_machine::outputs::Outputs;
@@ -36,18 +34,18 @@ pub struct Explainer<'j, 'a, 'o> {
 }
 
 impl<'j, 'a, 'o> Explainer<'j, 'a, 'o> {
-    /// Notes the places of the first `most` events that log errors, and of the end; answers the report of the run. `text` is the style's. What the runs write goes to
-    /// `list` and `log`, and is forgotten.
+    /// Notes the places of the first `most` events that log errors, and of the end; answers the report of the run. `places` says where the style's tokens and
+    /// items stand. What the runs write goes to `list` and `log`, and is forgotten.
     pub fn explain<W: Scratch, L: Scratch>(
         &self,
-        text: &[u8],
+        places: &StylePlaces,
         most: usize,
         list: &mut W,
         log: &mut L,
         notes: &mut Vec<u8>,
     ) -> Result<Report, Fault>
         ensures bound { IfOk result (λ report. report.steps ≤ self.now.options.now.budget) }
-        ensures notes { OnOk result (Explains self.now.job.now self.now.counts notes.old.items notes.new.items) }
+        ensures notes { OnOk result (Explains self.now.job.now self.now.counts places.now notes.old.items notes.new.items) }
     {
         let style = self.job.style();
         let code = Code::of(self.alloc, style)?;
@@ -65,11 +63,10 @@ impl<'j, 'a, 'o> Explainer<'j, 'a, 'o> {
         if is_quiet(&first, &report) {
             return Ok(report);
         }
-        let lines = StyleLines::of(self.alloc, style, text)?;
         let known = Known {
             style,
             code: &code,
-            lines: &lines,
+            places,
         };
         let events = self.events(program, &first, &report, most, list, log)?;
         self.note_all(&known, events.as_slice(), list, log, notes)?;
@@ -158,7 +155,7 @@ impl<'j, 'a, 'o> Explainer<'j, 'a, 'o> {
         log: &mut L,
         notes: &mut Vec<u8>,
     ) -> Result<(), Fault>
-        ensures { OnOk result (GrowsBy (AreNotesOf known.now.style.now self.now.job.now self.now.counts (lines_found known.now.lines.now) events.now) notes.old.items notes.new.items) }
+        ensures { OnOk result (GrowsBy (AreNotesOf known.now.style.now self.now.job.now self.now.counts known.now.places.now events.now) notes.old.items notes.new.items) }
     {
         for event in events {
             self.note_one(known, event, list, log, notes)?;
@@ -175,7 +172,7 @@ impl<'j, 'a, 'o> Explainer<'j, 'a, 'o> {
         log: &mut L,
         notes: &mut Vec<u8>,
     ) -> Result<(), Fault>
-        ensures { OnOk result (GrowsBy (IsNoteOf known.now.style.now self.now.job.now self.now.counts (lines_found known.now.lines.now) event.now) notes.old.items notes.new.items) }
+        ensures { OnOk result (GrowsBy (IsNoteOf known.now.style.now self.now.job.now self.now.counts known.now.places.now event.now) notes.old.items notes.new.items) }
     {
         let found = self.scene_of(event, list, log)?;
         let since = known.tokens_since(self.alloc, event)?;
@@ -231,7 +228,7 @@ fn in_item(found: Option<Scene<'_>>, item: usize) -> Option<Scene<'_>>
 // Notes what an event is, with its step and its errors, and the command of its item.
 #[tactic(auto, using(btx_text::proofs::JoinLemmas::joins))]
 fn note_head(known: &Known<'_>, event: &Event, notes: &mut Vec<u8>) -> Result<(), Fault>
-    ensures { OnOk result (notes.new.items ≡ notes.old.items ++ head_note known.now.style.now (lines_found known.now.lines.now) event.now) }
+    ensures { OnOk result (notes.new.items ≡ notes.old.items ++ head_note known.now.style.now known.now.places.now event.now) }
 {
     let moment = &event.moment;
     let (before, behind) = (moment.before.errors, moment.after.errors);

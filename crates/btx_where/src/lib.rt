@@ -7,7 +7,6 @@ pub mod course;
 pub mod explainer;
 pub mod items;
 pub mod levels;
-pub mod lines;
 pub mod machine;
 pub mod notes;
 pub mod place;
@@ -17,7 +16,6 @@ pub mod scratch;
 pub mod stand;
 pub mod stops;
 pub mod visits;
-mod words;
 
 pub use place::Place;
 pub use runner::locate;

@@ -3,14 +3,13 @@ ghost use Rattle.std.specs.Prelude.{◌≡◌, ◌++◌, OnOk, IfOk, codes, map,
 ghost use Rattle.std.specs.Str.{bytes_eq};
 ghost use Rattle.btx_bst.specs.refinement.Views.{items_view};
 ghost use Rattle.btx_code.specs.refinement.Codes.{bodies_of};
-ghost use Rattle.btx_where.specs.Lines.{item_line, token_line};
+ghost use Rattle.btx_where.specs.Lines.{line_of_part};
 ghost use Rattle.btx_where.specs.Notes as spec;
 
 use crate::course::{Event, Word};
-use crate::lines::StyleLines;
 use crate::place::{Place, function_name, place_before};
 use crate::scene::{Level, Scene};
-use btx_bst::{Callee, Item, Style, Token};
+use btx_bst::{Callee, Item, Span, Style, StylePlaces, Token};
 use btx_code::Code;
 use btx_stack::Literal;
 use btx_step::lines::line_of;
@@ -24,13 +23,23 @@ const MOST_SHOWN: usize = 200;
 // How many callers are shown.
 const MOST_CALLERS: usize = 64;
 
-/// A style, with its code and its lines.
+/// A style, with its code and its places.
 #[derive(Drop)]
 pub struct Known<'s> {
     pub style: &'s Style<'s>,
     pub code: &'s Code,
-    pub lines: &'s StyleLines,
+    pub places: &'s StylePlaces,
     pub ghost coded: { bodies_of code.now ≡ style.now.bodies },
+}
+
+// The line in which a part of a style's text begins; 0 where there is no such part.
+fn line_of_part(part: Option<Span>) -> usize
+    ensures { result ≡ line_of_part part }
+{
+    match part {
+        Some(part) => part.line,
+        None => 0,
+    }
 }
 
 // Whether a function has no name.
@@ -116,6 +125,20 @@ impl<'s> Known<'s> {
     ghost use Rattle.btx_where.specs.Lines.{item_line, token_line};
     ghost use Rattle.btx_where.specs.Notes as spec;
 
+    // The line of a token.
+    fn token_line(&self, place: Place) -> usize
+        ensures { result ≡ token_line self.now.places.now place }
+    {
+        line_of_part(self.places.token(place.function, place.token))
+    }
+
+    // The line of the item of a number.
+    fn item_line(&self, item: usize) -> usize
+        ensures { result ≡ item_line self.now.places.now item }
+    {
+        line_of_part(self.places.item(item))
+    }
+
     /// Notes a token behind a word: whether it stands in a function with a name or in one in braces, its line, the numbers of its function and of the token, and the
     /// name of the function, or of the one round it.
     #[tactic(auto, using(btx_text::proofs::JoinLemmas::joins), unfolding(crate::specs::Notes::place_note))]
@@ -125,7 +148,7 @@ impl<'s> Known<'s> {
         word: &[u8],
         place: Place,
     ) -> Result<(), AllocError>
-        ensures { OnOk result (notes.new.items ≡ notes.old.items ++ spec.place_note self.now.style.now (token_line self.now.lines.now) word.now place) }
+        ensures { OnOk result (notes.new.items ≡ notes.old.items ++ spec.place_note self.now.style.now (token_line self.now.places.now) word.now place) }
     {
         let owner = owner(self.style, place.function);
         let inside: &[u8] = if owner == place.function {
@@ -134,7 +157,7 @@ impl<'s> Known<'s> {
             b" of "
         };
         push_two(notes, word, inside)?;
-        push_number(notes, b"", self.lines.of_token(place) as u64)?;
+        push_number(notes, b"", self.token_line(place) as u64)?;
         push_number(notes, b" ", place.function as u64)?;
         push_number(notes, b" ", place.token as u64)?;
         push_line(notes, b" ", function_name(self.style, owner))
@@ -154,15 +177,15 @@ impl<'s> Known<'s> {
         item: usize,
         callee: Callee,
     ) -> Result<(), AllocError>
-        ensures { OnOk result (notes.new.items ≡ notes.old.items ++ spec.command_note self.now.style.now (item_line self.now.lines.now item) word.now callee) }
+        ensures { OnOk result (notes.new.items ≡ notes.old.items ++ spec.command_note self.now.style.now (item_line self.now.places.now item) word.now callee) }
     {
-        push_number(notes, word, self.lines.of_item(item) as u64)?;
+        push_number(notes, word, self.item_line(item) as u64)?;
         push_line(notes, b" ", self.style.name(callee))
     }
 
     /// Notes the command of an item, its line and its function.
     pub fn note_item(&self, notes: &mut Vec<u8>, item: usize) -> Result<(), AllocError>
-        ensures { OnOk result (notes.new.items ≡ notes.old.items ++ spec.item_note self.now.style.now (item_line self.now.lines.now item) (slice_get self.now.style.now.items item)) }
+        ensures { OnOk result (notes.new.items ≡ notes.old.items ++ spec.item_note self.now.style.now (item_line self.now.places.now item) (slice_get self.now.style.now.items item)) }
     {
         match self.style.items().get(item) {
             Some(Item::Execute(callee)) => {
@@ -190,7 +213,7 @@ impl<'s> Known<'s> {
 
     // Notes the token where the run stands, if it is known.
     fn note_at(&self, notes: &mut Vec<u8>, at: Option<Place>) -> Result<(), AllocError>
-        ensures { OnOk result (notes.new.items ≡ notes.old.items ++ spec.at_note self.now.style.now (token_line self.now.lines.now) at) }
+        ensures { OnOk result (notes.new.items ≡ notes.old.items ++ spec.at_note self.now.style.now (token_line self.now.places.now) at) }
     {
         match at {
             Some(place) => self.note_place(notes, b"at", place),
@@ -246,7 +269,7 @@ impl<'s> Known<'s> {
 
     // Notes these callers.
     fn note_near(&self, notes: &mut Vec<u8>, callers: &[Place]) -> Result<(), AllocError>
-        ensures { OnOk result (notes.new.items ≡ notes.old.items ++ flat_map (spec.place_note self.now.style.now (token_line self.now.lines.now) (codes "from")) callers.now) }
+        ensures { OnOk result (notes.new.items ≡ notes.old.items ++ flat_map (spec.place_note self.now.style.now (token_line self.now.places.now) (codes "from")) callers.now) }
     {
         for caller in callers {
             self.note_place(notes, b"from", *caller)?;
@@ -257,7 +280,7 @@ impl<'s> Known<'s> {
     // Notes callers far away: how many they are but the outermost, and then the outermost.
     #[tactic(auto, using(btx_text::proofs::JoinLemmas::joins), unfolding(crate::specs::Notes::far_note))]
     fn note_far(&self, notes: &mut Vec<u8>, callers: &[Place]) -> Result<(), AllocError>
-        ensures { OnOk result (notes.new.items ≡ notes.old.items ++ spec.far_note self.now.style.now (token_line self.now.lines.now) callers.now) }
+        ensures { OnOk result (notes.new.items ≡ notes.old.items ++ spec.far_note self.now.style.now (token_line self.now.places.now) callers.now) }
     {
         let Some(outermost) = callers.last() else {
             return notes.extend_from_slice(b"");
@@ -269,7 +292,7 @@ impl<'s> Known<'s> {
     // Notes who called, the innermost first.
     #[tactic(auto, using(btx_text::proofs::JoinLemmas::joins), unfolding(crate::specs::Notes::callers_note))]
     fn note_callers(&self, notes: &mut Vec<u8>, callers: &[Place]) -> Result<(), AllocError>
-        ensures { OnOk result (notes.new.items ≡ notes.old.items ++ spec.callers_note self.now.style.now (token_line self.now.lines.now) callers.now) }
+        ensures { OnOk result (notes.new.items ≡ notes.old.items ++ spec.callers_note self.now.style.now (token_line self.now.places.now) callers.now) }
     {
         let near = MOST_CALLERS.min(callers.len());
         self.note_near(notes, &callers[..near])?;
@@ -286,7 +309,7 @@ impl<'s> Known<'s> {
         scene: Scene<'_>,
         at: Option<Place>,
     ) -> Result<(), AllocError>
-        ensures { OnOk result (notes.new.items ≡ notes.old.items ++ spec.scene_note self.now.style.now job.now (token_line self.now.lines.now) at scene.entry) }
+        ensures { OnOk result (notes.new.items ≡ notes.old.items ++ spec.scene_note self.now.style.now job.now (token_line self.now.places.now) at scene.entry) }
     {
         note_entry(notes, job, scene.entry)?;
         self.note_next(notes, scene.next)?;
@@ -306,7 +329,7 @@ impl<'s> Known<'s> {
         began: Option<Place>,
         found: Option<Scene<'_>>,
     ) -> Result<(), AllocError>
-        ensures { OnOk result (notes.new.items ≡ notes.old.items ++ spec.found_note self.now.style.now job.now (token_line self.now.lines.now) word began found.entry) }
+        ensures { OnOk result (notes.new.items ≡ notes.old.items ++ spec.found_note self.now.style.now job.now (token_line self.now.places.now) word began found.entry) }
     {
         match found {
             Some(scene) => {
@@ -342,7 +365,7 @@ impl<'s> Known<'s> {
 
     // Notes since which token a literal has been there, if that is known.
     fn note_one_since(&self, notes: &mut Vec<u8>, token: Option<Place>) -> Result<(), AllocError>
-        ensures { OnOk result (notes.new.items ≡ notes.old.items ++ spec.since_note self.now.style.now (token_line self.now.lines.now) token) }
+        ensures { OnOk result (notes.new.items ≡ notes.old.items ++ spec.since_note self.now.style.now (token_line self.now.places.now) token) }
     {
         match token {
             Some(place) => self.note_place(notes, b"since", place),
@@ -356,7 +379,7 @@ impl<'s> Known<'s> {
         notes: &mut Vec<u8>,
         tokens: &[Option<Place>],
     ) -> Result<(), AllocError>
-        ensures { OnOk result (notes.new.items ≡ notes.old.items ++ flat_map (spec.since_note self.now.style.now (token_line self.now.lines.now)) tokens.now) }
+        ensures { OnOk result (notes.new.items ≡ notes.old.items ++ flat_map (spec.since_note self.now.style.now (token_line self.now.places.now)) tokens.now) }
     {
         for token in tokens {
             self.note_one_since(notes, *token)?;

@@ -1,6 +1,7 @@
 //! A job, run again to note where its style stands.
 ghost use Rattle.std.specs.Prelude.{◌≤◌, IfOk, IfSome, OnOk, length};
 ghost use Rattle.btx_text.specs.language.Limits.{greatest_file};
+ghost use Rattle.btx_bst.specs.laws.StylePlaces.{places_of};
 ghost use Rattle.btx_run.specs.refinement.Files.Readings.{StyleFits, files_read};
 ghost use Rattle.btx_run.specs.refinement.Product.{work_in};
 ghost use Rattle.btx_where.specs.Events.{Explains, ExplainsFiles, ExplainsJob, ExplainsReading};
@@ -8,7 +9,7 @@ ghost use Rattle.btx_where.specs.Events.{Explains, ExplainsFiles, ExplainsJob, E
 use crate::explainer::Explainer;
 use crate::scratch::Scratch;
 use btx_aux::{AuxJob, Finder};
-use btx_bst::read_style;
+use btx_bst::read_placed_style;
 use btx_machine::report::report_of;
 use btx_machine::{Journal, LogCounts, Report};
 use btx_run::Options;
@@ -32,13 +33,13 @@ fn explain_found<'a, W: Scratch, L: Scratch>(
 ) -> Result<Report, Fault>
     requires { length found.now.style.bytes ≤ greatest_file }
     ensures bound { IfOk result (λ report. report.steps ≤ options.now.budget) }
-    ensures notes { OnOk result (Explains (work_in job.now found.now options.now) counts notes.old.items notes.new.items) }
+    ensures notes { OnOk result (Explains (work_in job.now found.now options.now) counts (places_of found.now.style.name found.now.style.bytes) notes.old.items notes.new.items) }
 {
-    let text = found.style.bytes();
-    let style = read_style(alloc, found.style.name(), text)?;
-    let library = read_library(alloc, &style, job, &found.databases, options.min_crossrefs)?;
+    let placed = read_placed_style(alloc, found.style.name(), found.style.bytes())?;
+    let style = &placed.style;
+    let library = read_library(alloc, style, job, &found.databases, options.min_crossrefs)?;
     let job = Job::new(
-        &style,
+        style,
         &library,
         options.text,
         options.entry_max,
@@ -50,7 +51,7 @@ fn explain_found<'a, W: Scratch, L: Scratch>(
         options,
         counts,
     };
-    explainer.explain(text, most, list, log, notes)
+    explainer.explain(&placed.places, most, list, log, notes)
 }
 
 // Goes on from the files of a job.

@@ -10,7 +10,7 @@ pub returns : goal.returns
 unfolding callers_note
 returns c =
     let style = c.args.self.now.style.now in
-    let line_of = token_line c.args.self.now.lines.now in
+    let line_of = token_line c.args.self.now.places.now in
     on_ok_weaker c.note_far.result (two_parts (flat_map (place_note style line_of (codes "from"))) (far_note style line_of) 64 c.min-near.result
     c.args.callers.now c.args.notes.now.items c.note_near.new.notes.items c.note_far.new.notes.items c.min-near.ensures c.in_ok-note_near.ensures)
     c.note_far.ensures

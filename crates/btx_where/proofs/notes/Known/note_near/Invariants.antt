@@ -7,4 +7,4 @@ use Rattle.btx_where.proofs.notes.Known.note_near.Given as goal
 -- the notes of the callers so far
 abbrev pub invariant-loop-caller : goal.invariant-loop-caller
 invariant-loop-caller l =
-    l.notes.items ≡ l.fn.notes.items ++ flat_map (place_note l.self.style.now (token_line l.self.lines.now) (codes "from")) (take l.caller-index l.callers)
+    l.notes.items ≡ l.fn.notes.items ++ flat_map (place_note l.self.style.now (token_line l.self.places.now) (codes "from")) (take l.caller-index l.callers)

@@ -6,4 +6,4 @@ use Rattle.btx_where.proofs.notes.Known.note_since.Given as goal
 
 -- the notes of the tokens so far
 abbrev pub invariant-loop-token : goal.invariant-loop-token
-invariant-loop-token l = l.notes.items ≡ l.fn.notes.items ++ flat_map (since_note l.self.style.now (token_line l.self.lines.now)) (take l.token-index l.tokens)
+invariant-loop-token l = l.notes.items ≡ l.fn.notes.items ++ flat_map (since_note l.self.style.now (token_line l.self.places.now)) (take l.token-index l.tokens)
