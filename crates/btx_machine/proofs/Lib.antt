@@ -44,3 +44,4 @@ pub mod DirectRuns
 pub mod MeaningRows
 pub mod ReportRows
 pub mod MadeLemmas
+pub mod NotebookLemmas

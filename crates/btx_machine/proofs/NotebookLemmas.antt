@@ -1,0 +1,79 @@
+-- What a log and a notebook have of the same lines, line by line.
+use Rattle.std.proofs.Common.{◌≡◌, Bool, true, false, List, [], ◌∷◌, ◌++◌, ℕ, Option, None, Some, Result, Ok, Err, OnOk, OnErr, is_err, sym, ap, subst, ◌∙◌, append-nil}
+use Rattle.std.proofs.Common.{append_assoc}
+use Rattle.std.proofs.lemmas.Grind.{flat_map-append}
+use Rattle.std.proofs.KnownBytes.{Appends-trans, Appends-nil}
+use Rattle.std.specs.Io.KnownBytes.{Appends}
+use Rattle.btx_text.specs.declared.fault.Fault.{Fault}
+use Rattle.btx_machine.proofs.Common.{Line, AppendsPrefix, ended_line}
+use Rattle.btx_machine.specs.declared.told.Told.{Told}
+use Rattle.btx_machine.specs.declared.told.Told.TheVariants.{Whole, Begun, Lost}
+use Rattle.btx_machine.specs.language.Noting.{AddsLines, Printed, BrokenOff, printed}
+use Rattle.btx_machine.specs.refinement.Joined.{Beginning, Tells}
+use Rattle.btx_machine.specs.refinement.Telling.{told_after}
+
+-- lines, and then further ones
+pub adds_then : (a b c : Option (List Line)) (xs ys : List Line) → AddsLines a b xs → AddsLines b c ys → AddsLines a c (xs ++ ys)
+adds_then None None None xs ys h k = tt
+adds_then None None (Some z) xs ys h k = k
+adds_then None (Some y) c xs ys h k = absurd h
+adds_then (Some x) None None xs ys h k = tt
+adds_then (Some x) None (Some z) xs ys h k = absurd k
+adds_then (Some x) (Some y) None xs ys h k = tt
+adds_then (Some x) (Some y) (Some z) xs ys h k = k ∙ ap (λ l. l ++ ys) h ∙ append_assoc x xs ys
+
+-- no line
+pub adds_nothing : (a : Option (List Line)) → AddsLines a a []
+adds_nothing None = tt
+adds_nothing (Some x) = sym (append-nil x)
+
+printed_more : (lines : List Line) (line : Line) → printed (lines ++ line ∷ []) ≡ printed lines ++ ended_line line.text
+printed_more lines line =
+    flat_map-append (λ (line : Line). ended_line line.text) lines (line ∷ []) ∙ ap (λ l. printed lines ++ l) (append-nil (ended_line line.text))
+
+-- nothing was noted, and nothing was logged
+pub printed_nothing : (noted : Option (List Line)) (log : Option (List ℕ)) → Printed (noted, noted) (log, log)
+printed_nothing noted log = record { lines = []; are_noted = adds_nothing noted; are_logged = Appends-nil log }
+
+module _ (a b c : Option (List Line)) (x y z : Option (List ℕ)) (line : Line) (adds : AddsLines b c (line ∷ [])) where
+  -- a line was noted and logged
+  line_printed : Printed (a, b) (x, y) → Appends y z (ended_line line.text) → Printed (a, c) (x, z)
+  line_printed h more = record {
+    lines = h.lines ++ line ∷ [];
+    are_noted = adds_then a b c h.lines (line ∷ []) h.are_noted adds;
+    are_logged = subst (Appends x z) (sym (printed_more h.lines line)) (Appends-trans x y z (printed h.lines) (ended_line line.text) h.are_logged more);
+  }
+
+  -- a line was noted, and its writing failed
+  line_broken : Printed (a, b) (x, y) → AppendsPrefix y z (ended_line line.text) → BrokenOff (a, c) (x, z)
+  line_broken h part = record {
+    lines = h.lines;
+    last = line;
+    front = part.front;
+    rest = part.rest;
+    are_noted = adds_then a b c h.lines (line ∷ []) h.are_noted adds;
+    last_is = part.whole;
+    are_logged = Appends-trans x y z (printed h.lines) part.front h.are_logged part.received;
+  }
+
+-- after one more line the log has what was noted, as its answer says
+pub tells_after : {T : Type 0} (since : Beginning) (b c : Option (List Line)) (y z : Option (List ℕ)) (told : Told) (line : Line) (answer : Result T Fault)
+    → AddsLines b c (line ∷ []) → OnOk answer (Appends y z (ended_line line.text)) → OnErr answer (AppendsPrefix y z (ended_line line.text))
+    → Tells since b y told → Tells since c z (told_after (is_err answer) told)
+tells_after since b c y z Whole line (Ok v) adds ok err h = line_printed since.noted b c since.received y z line adds h ok
+tells_after since b c y z Whole line (Err f) adds ok err h = line_broken since.noted b c since.received y z line adds h err
+tells_after since b c y z Begun line (Ok v) adds ok err h = tt
+tells_after since b c y z Begun line (Err f) adds ok err h = tt
+tells_after since b c y z Lost line (Ok v) adds ok err h = tt
+tells_after since b c y z Lost line (Err f) adds ok err h = tt
+
+-- the same by what the code reads of the line and of the answer
+pub tells_now : {T : Type 0} (since : Beginning) (b c : Option (List Line)) (y z : Option (List ℕ)) (told now : Told) (line : Line) (text : List ℕ)
+    (answer : Result T Fault) (failed : Bool) → text ≡ line.text → failed ≡ is_err answer → now ≡ told_after failed told
+    → AddsLines b c (line ∷ []) → OnOk answer (Appends y z (ended_line text)) → OnErr answer (AppendsPrefix y z (ended_line text))
+    → Tells since b y told → Tells since c z now
+tells_now since b c y z told now line text answer failed is_text is_failed is_now adds ok err h =
+    subst (Tells since c z) (sym (is_now ∙ ap (λ f. told_after f told) is_failed))
+    (tells_after since b c y z told line answer adds
+    (subst (λ t. OnOk answer (Appends y z (ended_line t))) is_text ok)
+    (subst (λ t. OnErr answer (AppendsPrefix y z (ended_line t))) is_text err) h)
