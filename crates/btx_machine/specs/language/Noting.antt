@@ -1,5 +1,5 @@
 -- What a log and a notebook have of the same lines.
-use Rattle.std.specs.Prelude.{◌≡◌, ℕ, List, [], ◌∷◌, ◌++◌, Option, None, Some, ⊤}
+use Rattle.std.specs.Prelude.{◌≡◌, ℕ, ◌⊎◌, List, [], ◌∷◌, ◌++◌, Option, None, Some, ⊤}
 use Rattle.std.specs.Io.KnownBytes.{Appends}
 use Rattle.std.specs.List.{flat_map}
 use Rattle.btx_text.specs.language.LogLines.{Line}
@@ -39,3 +39,7 @@ pub record BrokenOff (noted : NotedChange) (log : LogChange) : Type 0 where
   pub are_noted : AddsLines noted.0 noted.1 (lines ++ last ∷ [])
   pub last_is : ended_line last.text ≡ front ++ rest
   pub are_logged : Appends log.0 log.1 (printed lines ++ front)
+
+-- one or the other
+abbrev pub PrintedOrBrokenOff : NotedChange → LogChange → Type 0
+PrintedOrBrokenOff noted log = Printed noted log ⊎ BrokenOff noted log

@@ -32,5 +32,5 @@ abbrev pub Telling : {T : Type 0} → Result T Fault → Told → Told → Type 
 Telling (Ok value) old new = StaysTold old new
 Telling (Err Memory) old new = StaysTold old new
 Telling (Err Device) old new = StaysTold old new ⊎ (new ≡ cut_off (is_whole old))
-Telling (Err FileLimit) old new = ⊥
-Telling (Err StringLimit) old new = ⊥
+Telling (Err FileLimit) old new = StaysTold old new
+Telling (Err StringLimit) old new = StaysTold old new
