@@ -1,6 +1,6 @@
 -- What a log and a notebook have of the same lines, line by line.
 use Rattle.std.proofs.Common.{◌≡◌, Bool, true, false, List, [], ◌∷◌, ◌++◌, ℕ, Option, None, Some, Result, Ok, Err, OnOk, OnErr, is_err, sym, ap, subst, ◌∙◌, append-nil, inl, inr, refl}
-use Rattle.std.proofs.Common.{append_assoc}
+use Rattle.std.proofs.Common.{append_assoc, rules}
 use Rattle.std.proofs.lemmas.Grind.{flat_map-append}
 use Rattle.std.proofs.KnownBytes.{Appends-trans, Appends-nil}
 use Rattle.std.specs.Io.KnownBytes.{Appends}
