@@ -43,3 +43,5 @@ pub mod DirectLemmas
 pub mod DirectRuns
 pub mod MeaningRows
 pub mod ReportRows
+pub mod MadeLemmas
+pub mod NotebookLemmas

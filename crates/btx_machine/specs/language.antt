@@ -9,3 +9,4 @@ pub mod Reports
 pub mod Product
 pub mod DirectDepth
 pub mod KeepingStep
+pub mod Noting

@@ -1,3 +1,5 @@
+pub mod Telling
+pub mod Joined
 pub mod States
 pub mod Outputs
 pub mod Faults

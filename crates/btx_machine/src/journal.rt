@@ -6,23 +6,25 @@ ghost use Rattle.btx_text.specs.language.LogLines.{is_error, is_warning};
 ghost use Rattle.btx_aux.specs.refinement.Faults.{CountsOfOne};
 ghost use Rattle.btx_machine.specs.language.Reports.{last_line};
 ghost use Rattle.btx_machine.specs.language.Saying.{counted_if, ended_line};
+ghost use Rattle.btx_machine.specs.refinement.Telling.{Telling};
 
 use crate::last::log_end;
+use crate::log_sink::LogSink;
+use crate::notebook::About;
 use crate::report::{LogCounts, Report};
-use btx_out::{Log, Sink};
 use btx_text::{Fault, LineKind, LogLine};
 use std::alloc::Global;
 use std::marker::Model;
 
 /// Writes each line of a log when it happens, and counts the warnings and the errors. It keeps no line.
 #[derive(Drop)]
-pub struct Journal<'s, L: Sink> {
+pub struct Journal<'s, L: LogSink> {
     sink: &'s mut L,
     warnings: u64,
     errors: u64,
 }
 
-impl<'s, L: Sink> Model for Journal<'s, L> {
+impl<'s, L: LogSink> Model for Journal<'s, L> {
     ghost use Rattle.btx_machine.specs.refinement.Outputs.{Journal as Logged};
 
     ghost Value = { Logged };
@@ -31,10 +33,12 @@ impl<'s, L: Sink> Model for Journal<'s, L> {
       sink = record { name = journal.sink.ghost_name; received = L.received journal.sink.now; failures = L.failures journal.sink.now };
       warnings = journal.warnings;
       errors = journal.errors;
+      joined = L.joined journal.sink.now;
+      told = L.told journal.sink.now;
     } };
 }
 
-impl<'s, L: Sink> Journal<'s, L> {
+impl<'s, L: LogSink> Journal<'s, L> {
     /// Makes a log that goes on in `sink`, after lines of which `counts` were warnings and errors.
     pub fn new(sink: &'s mut L, counts: LogCounts) -> Self
         ensures name { result.sink.name ≡ sink.entry.ghost_name }
@@ -42,6 +46,8 @@ impl<'s, L: Sink> Journal<'s, L> {
         ensures failures { result.sink.failures ≡ L.failures sink.old }
         ensures warnings { result.warnings ≡ counts.warnings }
         ensures errors { result.errors ≡ counts.errors }
+        ensures joined { result.joined ≡ L.joined sink.old }
+        ensures told { result.told ≡ L.told sink.old }
     {
         Journal {
             sink,
@@ -61,23 +67,27 @@ impl<'s, L: Sink> Journal<'s, L> {
         }
     }
 
-    /// Writes a line, and counts it. The only fault is the device's; the log then received a prefix of the line.
-    pub fn log_one(&mut self, line: &LogLine) -> Result<(), Fault>
+    /// Notes a line, writes it, and counts it. The only fault is the device's; the log then received a prefix of the line.
+    pub fn log_one(&mut self, line: &LogLine, about: About<'_>) -> Result<(), Fault>
         ensures ok { OnOk result (Appends self.old.sink.received self.new.sink.received (ended_line line.now.text)) }
         ensures err { OnErr result (AppendsPrefix self.old.sink.received self.new.sink.received (ended_line line.now.text)) }
         ensures fault { IfErr result (λ fault. fault ≡ Fault.Device) }
         ensures warnings { self.new.warnings ≡ counted_if (is_warning line.now.kind) self.old.warnings }
         ensures errors { self.new.errors ≡ counted_if (is_error line.now.kind) self.old.errors }
         ensures sink { self.new.sink.name ≡ self.old.sink.name }
+        ensures joined { self.new.joined ≡ self.old.joined }
+        ensures told { Telling result self.old.told self.new.told }
         ensures counts { CountsOfOne result (self.old.sink.failures, self.new.sink.failures) }
     {
         self.count(line.kind());
-        Log::new().line(line.text(), self.sink)
+        self.sink.log_line(line, about)
     }
 
     // Counts a line as a warning, as an error or not at all.
     fn count(&mut self, kind: LineKind)
         ensures sink { self.new.sink ≡ self.old.sink }
+        ensures joined { self.new.joined ≡ self.old.joined }
+        ensures told { self.new.told ≡ self.old.told }
         ensures warnings { self.new.warnings ≡ counted_if (is_warning kind) self.old.warnings }
         ensures errors { self.new.errors ≡ counted_if (is_error kind) self.old.errors }
     {
@@ -94,6 +104,8 @@ impl<'s, L: Sink> Journal<'s, L> {
         ensures ok { OnOk result (Appends self.old.sink.received self.new.sink.received (ended_line (last_line report))) }
         ensures err { OnErr result (AppendsPrefix self.old.sink.received self.new.sink.received (ended_line (last_line report))) }
         ensures sink { self.new.sink.name ≡ self.old.sink.name }
+        ensures joined { self.new.joined ≡ self.old.joined }
+        ensures told { Telling result self.old.told self.new.told }
         ensures counts { CountsOfOne result (self.old.sink.failures, self.new.sink.failures) }
     {
         log_end(alloc, report, self.sink)
@@ -104,6 +116,8 @@ impl<'s, L: Sink> Journal<'s, L> {
         ensures name { result.ghost_name ≡ self.entry.sink.name }
         ensures received { L.received result.now ≡ self.entry.sink.received }
         ensures failures { L.failures result.now ≡ self.entry.sink.failures }
+        ensures joined { L.joined result.now ≡ self.entry.joined }
+        ensures told { L.told result.now ≡ self.entry.told }
     {
         self.sink
     }

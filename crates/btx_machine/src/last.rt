@@ -8,13 +8,16 @@ ghost use Rattle.btx_machine.specs.language.Reports.{end_as, last_line, report_o
 ghost use Rattle.btx_machine.specs.refinement.Faults.{CountsOfBoth, Writes};
 ghost use Rattle.btx_machine.specs.language.Saying.{ended_line};
 ghost use Rattle.btx_machine.specs.laws.Reports.{log_counts};
+ghost use Rattle.btx_machine.specs.refinement.Telling.{Telling};
 
 use crate::ending::Ending;
+use crate::log_sink::LogSink;
+use crate::notebook::About;
 use crate::outputs::Outputs;
 use crate::report::{End, Report, report_of};
 use crate::work::Work;
-use btx_out::{Log, Sink};
-use btx_text::Fault;
+use btx_out::Sink;
+use btx_text::{Fault, LineKind, LogLine};
 use itoa::Buffer;
 use std::alloc::{AllocError, Global};
 
@@ -36,19 +39,21 @@ fn last_line(alloc: Global, report: &Report) -> Result<Vec<u8>, AllocError>
 }
 
 /// Writes the last line of the log, and answers the report that it gives: the whole end of a run whose style isn't executed.
-pub fn log_end<L: Sink>(alloc: Global, report: Report, log: &mut L) -> Result<Report, Fault>
+pub fn log_end<L: LogSink>(alloc: Global, report: Report, log: &mut L) -> Result<Report, Fault>
     ensures report { IfOk result (λ answer. answer ≡ report) }
     ensures ok { OnOk result (Appends (L.received log.old) (L.received log.new) (ended_line (last_line report))) }
     ensures err { OnErr result (AppendsPrefix (L.received log.old) (L.received log.new) (ended_line (last_line report))) }
     ensures counts { CountsOfOne result (L.failures log.old, L.failures log.new) }
+    ensures joined { L.joined log.new ≡ L.joined log.old }
+    ensures told { Telling result (L.told log.old) (L.told log.new) }
 {
-    let line = last_line(alloc, &report)?;
-    Log::new().line(line.as_slice(), log)?;
+    let text = last_line(alloc, &report)?;
+    log.log_line(&LogLine::new(text, LineKind::Plain), About::End)?;
     Ok(report)
 }
 
 // Ends the pending line of a run that finished.
-fn finish<W: Sink, L: Sink>(outputs: &mut Outputs<'_, W, L>, end: Ending) -> Result<(), Fault>
+fn finish<W: Sink, L: LogSink>(outputs: &mut Outputs<'_, W, L>, end: Ending) -> Result<(), Fault>
     requires { Writes outputs.old }
     ensures ok { OnOk result (FinishedAt outputs.old end outputs.new) }
     ensures err { OnErr result (FinishedPart outputs.old end outputs.new) }
@@ -63,7 +68,7 @@ fn finish<W: Sink, L: Sink>(outputs: &mut Outputs<'_, W, L>, end: Ending) -> Res
 
 /// Ends a run that ended as `end` says, after `steps` steps: writes the pending line of the list, if the run finished, and the last line of the log.
 /// Answers the report.
-pub fn conclude<W: Sink, L: Sink>(
+pub fn conclude<W: Sink, L: LogSink>(
     work: &mut Work<'_, '_, W, L>,
     end: Ending,
     steps: u64,

@@ -9,13 +9,18 @@ mod journal;
 mod last;
 mod law;
 pub mod lists;
+mod log_sink;
 pub mod machine;
 pub mod marks;
+pub mod notebook;
+mod noted_log;
 pub mod outputs;
 pub mod program;
 mod quick;
 pub mod report;
 mod run;
+mod since;
+mod told;
 pub mod visits;
 pub mod work;
 
@@ -27,5 +32,9 @@ pub use law::{
     budget_law, counts_go_up_and_stay, depth_law, direct_law, limits_law, meaning_exists,
     meaning_is_unique, steps_law, worked_bodies_come_to_this, worked_reports_are_written_so,
 };
+pub use log_sink::LogSink;
+pub use notebook::{About, Executed, Notebook, Unnoted};
+pub use noted_log::NotedLog;
 pub use report::{End, LogCounts, Report};
 pub use run::execute_style;
+pub use told::Told;

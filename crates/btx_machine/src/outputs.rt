@@ -9,6 +9,8 @@ ghost use Rattle.btx_machine.specs.language.Saying.{ended_line, lines_logged, sa
 ghost use Rattle.btx_machine.specs.refinement.Saying.{current_key, wrote, pending_ended, line_logged, note_lines};
 
 use crate::journal::Journal;
+use crate::log_sink::LogSink;
+use crate::notebook::{About, Executed};
 use crate::report::{LogCounts, Report};
 use btx_bib::Message;
 use btx_out::{Breaker, LineLength, Sink};
@@ -20,13 +22,13 @@ use std::marker::Model;
 
 /// Both outputs of a run: the list of references, with the breaker of its long lines, and the log.
 #[derive(Drop)]
-pub struct Outputs<'s, W: Sink, L: Sink> {
+pub struct Outputs<'s, W: Sink, L: LogSink> {
     bbl: &'s mut W,
     breaker: Breaker,
     log: Journal<'s, L>,
 }
 
-impl<'s, W: Sink, L: Sink> Model for Outputs<'s, W, L> {
+impl<'s, W: Sink, L: LogSink> Model for Outputs<'s, W, L> {
     ghost use Rattle.btx_machine.specs.refinement.Outputs.{Outputs as Both};
 
     ghost Value = { Both };
@@ -38,7 +40,7 @@ impl<'s, W: Sink, L: Sink> Model for Outputs<'s, W, L> {
     } };
 }
 
-impl<'s, W: Sink, L: Sink> Outputs<'s, W, L> {
+impl<'s, W: Sink, L: LogSink> Outputs<'s, W, L> {
     ghost use Rattle.btx_out.specs.laws.Breaking.{Collecting};
     ghost use Rattle.btx_out.specs.refinement.Breakers.{holding};
     ghost use Rattle.btx_out.specs.laws.Lengths.{IsLineLength};
@@ -71,6 +73,8 @@ impl<'s, W: Sink, L: Sink> Outputs<'s, W, L> {
         ensures log_name { result.1.ghost_name ≡ self.entry.log.sink.name }
         ensures log_received { L.received result.1.now ≡ self.entry.log.sink.received }
         ensures log_failures { L.failures result.1.now ≡ self.entry.log.sink.failures }
+        ensures log_joined { L.joined result.1.now ≡ self.entry.log.joined }
+        ensures log_told { L.told result.1.now ≡ self.entry.log.told }
     {
         (self.bbl, self.log.into_sink())
     }
@@ -143,9 +147,14 @@ impl<'s, W: Sink, L: Sink> Outputs<'s, W, L> {
         ensures counts { CountsOfBoth result self.old self.new }
     {
         let key = key_at(job, current);
+        let about = About::Execution(Executed {
+            name: executed,
+            entry: current,
+            key,
+        });
         for note in notes {
             let line = line_of(alloc, job.style(), executed, key, note)?;
-            self.log_one(&line)?;
+            self.log_one(&line, about)?;
         }
         Ok(())
     }
@@ -159,19 +168,19 @@ impl<'s, W: Sink, L: Sink> Outputs<'s, W, L> {
     {
         for message in messages {
             let line = message.log_line(alloc)?;
-            self.log_one(&line)?;
+            self.log_one(&line, About::Databases)?;
         }
         Ok(())
     }
 
     /// Logs a line of the log.
-    pub fn log_one(&mut self, line: &LogLine) -> Result<(), Fault>
+    pub fn log_one(&mut self, line: &LogLine, about: About<'_>) -> Result<(), Fault>
         ensures ok { OnOk result (Becomes self.old self.new (λ out. line_logged line.now out)) }
         ensures err { OnErr result (Stops self.old self.new (λ out. line_logged line.now out)) }
         ensures breaker { self.new.breaker ≡ self.old.breaker }
         ensures counts { CountsOfBoth result self.old self.new }
     {
-        self.log.log_one(line)
+        self.log.log_one(line, about)
     }
 
     /// Ends the pending line of a run that finished, if there is anything in it.

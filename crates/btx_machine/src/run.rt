@@ -9,10 +9,12 @@ ghost use Rattle.btx_machine.specs.language.KeepingStep.{AtFault, Completes};
 ghost use Rattle.btx_machine.specs.language.Product.{style_product};
 ghost use Rattle.btx_machine.specs.refinement.Written.{received};
 ghost use Rattle.btx_machine.specs.laws.Reports.{log_counts};
+ghost use Rattle.btx_machine.specs.refinement.Telling.{Telling};
 
 use crate::items::do_items;
 use crate::journal::Journal;
 use crate::last::conclude;
+use crate::log_sink::LogSink;
 use crate::outputs::Outputs;
 use crate::report::{LogCounts, Report};
 use crate::work::Work;
@@ -23,7 +25,7 @@ use std::alloc::Global;
 
 /// Executes the style of a job: writes the list of references, in lines of at most this number of bytes where whitespace allows a break, and the
 /// rest of the log, which goes on from what was logged before. At most `budget` steps are taken.
-pub fn execute_style<'a, W: Sink, L: Sink>(
+pub fn execute_style<'a, W: Sink, L: LogSink>(
     alloc: Global,
     job: &Job<'a>,
     counts: LogCounts,
@@ -38,6 +40,8 @@ pub fn execute_style<'a, W: Sink, L: Sink>(
     ensures err { OnErr result (AtFault (W.received bbl.old, L.received log.old) (W.received bbl.new, L.received log.new)
         (style_product job.now counts line) budget) }
     ensures counts { CountsOfTwo result (W.failures bbl.old, W.failures bbl.new) (L.failures log.old, L.failures log.new) }
+    ensures joined { L.joined log.new ≡ L.joined log.old }
+    ensures told { Telling result (L.told log.old) (L.told log.new) }
 {
     let store = Store::new(alloc, job)?;
     let outputs = Outputs::new(bbl, line, Journal::new(log, counts));
@@ -54,7 +58,7 @@ pub fn execute_style<'a, W: Sink, L: Sink>(
 }
 
 // Does all items of a style, from the state in which nothing is done, and writes what a run writes last.
-fn do_all<'a, W: Sink, L: Sink>(
+fn do_all<'a, W: Sink, L: LogSink>(
     work: &mut Work<'a, '_, W, L>,
     job: &Job<'a>,
     budget: u64,

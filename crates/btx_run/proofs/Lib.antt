@@ -10,4 +10,3 @@ pub mod StepsLemmas
 pub mod KindLemmas
 pub mod DirectLemmas
 pub mod WrittenLemmas
-pub mod MadeLemmas

@@ -5,7 +5,9 @@ ghost use Rattle.btx_text.specs.language.Limits.{greatest_file};
 ghost use Rattle.btx_aux.specs.refinement.Answers.{ByAnswers};
 ghost use Rattle.btx_machine.specs.language.DirectDepth.{StaysWithin};
 ghost use Rattle.btx_machine.specs.refinement.Faults.{CountsOfTwo};
+ghost use Rattle.btx_machine.specs.refinement.Telling.{Telling};
 ghost use Rattle.btx_machine.specs.language.KeepingStep.{AtFault, Completes};
+ghost use Rattle.btx_machine.specs.language.Noting.{Printed, PrintedOrBrokenOff};
 ghost use Rattle.btx_machine.specs.language.Product.{log_of, style_product as executed};
 ghost use Rattle.btx_machine.specs.declared.report.End.TheVariants.{NoTopFile};
 ghost use Rattle.btx_run.specs.language.Answered.{CompletesAsAnswered, FailsAsAnswered};
@@ -27,14 +29,16 @@ use btx_bib::Library;
 use btx_bst::{Style, read_style};
 use btx_core::Options;
 use btx_machine::report::report_of;
-use btx_machine::{Journal, LogCounts, Report, execute_style, log_end};
+use btx_machine::{
+    Journal, LogCounts, LogSink, Notebook, NotedLog, Report, Unnoted, execute_style, log_end,
+};
 use btx_out::Sink;
 use btx_step::Job;
 use btx_text::Fault;
 use std::alloc::Global;
 
 // Executes a style, after these lines of the log.
-fn execute<'a, W: Sink, L: Sink>(
+fn execute<'a, W: Sink, L: LogSink>(
     alloc: Global,
     style: &'a Style<'a>,
     library: &'a Library<'a>,
@@ -49,6 +53,8 @@ fn execute<'a, W: Sink, L: Sink>(
     ensures err { OnErr result (AtFault (W.received bbl.old, L.received log.old) (W.received bbl.new, L.received log.new)
         (executed (work_of style.now library.now options.now) counts options.now.line) options.now.budget) }
     ensures counts { CountsOfTwo result (W.failures bbl.old, W.failures bbl.new) (L.failures log.old, L.failures log.new) }
+    ensures joined { L.joined log.new ≡ L.joined log.old }
+    ensures told { Telling result (L.told log.old) (L.told log.new) }
 {
     let job = Job::new(
         style,
@@ -61,7 +67,7 @@ fn execute<'a, W: Sink, L: Sink>(
 }
 
 // Executes a style that was found, after these lines of the log: its text and the databases are read first.
-fn execute_found<'a, W: Sink, L: Sink>(
+fn execute_found<'a, W: Sink, L: LogSink>(
     alloc: Global,
     job: &'a AuxJob,
     found: &'a JobFiles<'a>,
@@ -77,6 +83,8 @@ fn execute_found<'a, W: Sink, L: Sink>(
     ensures err { OnErr result (AtFault (W.received bbl.old, L.received log.old) (W.received bbl.new, L.received log.new)
         (executed (work_in job.now found.now options.now) counts options.now.line) options.now.budget) }
     ensures counts { CountsOfTwo result (W.failures bbl.old, W.failures bbl.new) (L.failures log.old, L.failures log.new) }
+    ensures joined { L.joined log.new ≡ L.joined log.old }
+    ensures told { Telling result (L.told log.old) (L.told log.new) }
 {
     let style = read_style(alloc, found.style.name(), found.style.bytes())?;
     let library = read_library(alloc, &style, job, &found.databases, options.min_crossrefs)?;
@@ -84,7 +92,7 @@ fn execute_found<'a, W: Sink, L: Sink>(
 }
 
 // Goes on from the files of a job, after these lines of the log: the run ends at once, or the style is executed.
-fn after_files<'a, W: Sink, L: Sink>(
+fn after_files<'a, W: Sink, L: LogSink>(
     alloc: Global,
     job: &'a AuxJob,
     read: FilesRead<'a>,
@@ -102,6 +110,8 @@ fn after_files<'a, W: Sink, L: Sink>(
         (product_of_files job.now read.entry options.now counts) options.now.budget) }
     ensures untouched { IfOk result (λ report. report.end ≡ NoTopFile → bbl.new ≡ bbl.old) }
     ensures counts { CountsOfTwo result (W.failures bbl.old, W.failures bbl.new) (L.failures log.old, L.failures log.new) }
+    ensures joined { L.joined log.new ≡ L.joined log.old }
+    ensures told { Telling result (L.told log.old) (L.told log.new) }
 {
     match read {
         FilesRead::Ends(end) => log_end(alloc, report_of(end, 0, 0, counts), log),
@@ -110,7 +120,7 @@ fn after_files<'a, W: Sink, L: Sink>(
 }
 
 // Runs a job whose `.aux` files are read.
-fn run_job<F: Finder, W: Sink, L: Sink>(
+fn run_job<F: Finder, W: Sink, L: LogSink>(
     alloc: Global,
     finder: &mut F,
     job: &AuxJob,
@@ -131,6 +141,8 @@ fn run_job<F: Finder, W: Sink, L: Sink>(
     ensures untouched { IfOk result (λ report. report.end ≡ NoTopFile → bbl.new ≡ bbl.old) }
     ensures counts { CountsOfThree result (F.failures finder.old, F.failures finder.new) (W.failures bbl.old, W.failures bbl.new)
         (L.failures log.old, L.failures log.new) }
+    ensures joined { L.joined log.new ≡ L.joined log.old }
+    ensures told { Telling result (L.told log.old) (L.told log.new) }
     ensures stays { F.content finder.new ≡ F.content finder.old }
 {
     let mut journal = Journal::new(log, LogCounts::NONE);
@@ -141,7 +153,7 @@ fn run_job<F: Finder, W: Sink, L: Sink>(
 }
 
 // Runs the job of this name.
-fn run_named<F: Finder, W: Sink, L: Sink>(
+fn run_named<F: Finder, W: Sink, L: LogSink>(
     alloc: Global,
     finder: &mut F,
     name: &[u8],
@@ -163,10 +175,48 @@ fn run_named<F: Finder, W: Sink, L: Sink>(
     ensures untouched { IfOk result (λ report. report.end ≡ NoTopFile → bbl.new ≡ bbl.old) }
     ensures counts { CountsOfThree result (F.failures finder.old, F.failures finder.new) (W.failures bbl.old, W.failures bbl.new)
         (L.failures log.old, L.failures log.new) }
+    ensures joined { L.joined log.new ≡ L.joined log.old }
+    ensures told { Telling result (L.told log.old) (L.told log.new) }
     ensures stays { F.content finder.new ≡ F.content finder.old }
 {
     let job = read_job(alloc, finder, name)?;
     run_job(alloc, finder, &job, options, bbl, log)
+}
+
+// Runs the job of this name, and notes each line of its log.
+fn run_noting<F: Finder, W: Sink, L: Sink, N: Notebook>(
+    alloc: Global,
+    finder: &mut F,
+    name: &[u8],
+    options: &Options,
+    bbl: &mut W,
+    log: &mut L,
+    notebook: &mut N,
+) -> Result<Report, Fault>
+    ensures ok { IfOk result (λ report. IfSome (F.content finder.old) (λ files.
+        Completes report (W.received bbl.old, L.received log.old) (W.received bbl.new, L.received log.new) (product files name.now options.now))) }
+    ensures bound { IfOk result (λ report. report.steps ≤ options.now.budget) }
+    ensures deep { IfOk result (λ report. report.deepest ≤ 4096) }
+    ensures err { OnErr result (IfSome (F.content finder.old) (λ files.
+        AtFault (W.received bbl.old, L.received log.old) (W.received bbl.new, L.received log.new)
+        (product_with files name.now options.now) options.now.budget)) }
+    ensures answered { IfOk result (CompletesAsAnswered name.now options.now (F.answers finder.old, F.answers finder.new)
+        (W.received bbl.old, L.received log.old) (W.received bbl.new, L.received log.new)) }
+    ensures begun { OnErr result (FailsAsAnswered name.now options.now (F.answers finder.old, F.answers finder.new) (W.received bbl.old, L.received log.old)
+        (W.received bbl.new, L.received log.new)) }
+    ensures untouched { IfOk result (λ report. report.end ≡ NoTopFile → bbl.new ≡ bbl.old) }
+    ensures counts { CountsOfThree result (F.failures finder.old, F.failures finder.new) (W.failures bbl.old, W.failures bbl.new)
+        (L.failures log.old, L.failures log.new) }
+    ensures noted { OnOk result (Printed (N.noted notebook.old, N.noted notebook.new) (L.received log.old, L.received log.new)) }
+    ensures noted_at_fault { OnErr result (PrintedOrBrokenOff (N.noted notebook.old, N.noted notebook.new) (L.received log.old, L.received log.new)) }
+    ensures stays { F.content finder.new ≡ F.content finder.old }
+{
+    let mut noted = NotedLog::new(log, notebook);
+    let result = run_named(alloc, finder, name, options, bbl, &mut noted);
+    let (log, notebook) = noted.into_parts();
+    let _ = log;
+    let _ = notebook;
+    result
 }
 
 // Says that a line has room for a break, which its length gives. It does nothing.
@@ -228,8 +278,69 @@ pub fn run<F: Finder, W: Sink, L: Sink>(
     // Where there is no top file, the list's sink isn't touched.
     ensures untouched { IfOk result (λ report. report.end ≡ NoTopFile → bbl.new ≡ bbl.old) }
 {
+    run_noted(alloc, finder, name, options, bbl, log, &mut Unnoted {})
+}
+
+/// Runs a job as `run` does, and hands each line of its log to `notebook`, as a value, right before the line is written.
+pub fn run_noted<F: Finder, W: Sink, L: Sink, N: Notebook>(
+    alloc: Global,
+    finder: &mut F,
+    name: &[u8],
+    options: &Options,
+    bbl: &mut W,
+    log: &mut L,
+    notebook: &mut N,
+) -> Result<Report, RunFault>
+    // For a notebook that shows what it was handed: the log received each line that was noted, in order, and nothing else. After a fault it is so too, but
+    // that of the last line it may have a prefix.
+    ensures noted { OnOk result (Printed (N.noted notebook.old, N.noted notebook.new) (L.received log.old, L.received log.new)) }
+    ensures noted_at_fault { OnErr result (PrintedOrBrokenOff (N.noted notebook.old, N.noted notebook.new) (L.received log.old, L.received log.new)) }
+
+    // All that `run` promises.
+    // What was written is the one thing that stands in the relation between the job and its product, for a finder that shows its content. After a fault both
+    // outputs are prefixes of it, and keep step.
+    ensures written { IfOk result (λ report. IfSome (F.content finder.old) (λ files.
+        WroteTheProduct files name.now options.now (W.received bbl.old, L.received log.old) (W.received bbl.new, L.received log.new) report)) }
+    ensures broken_off { OnErr result (IfSome (F.content finder.old) (λ files.
+        BeganTheProduct files name.now options.now (W.received bbl.old, L.received log.old) (W.received bbl.new, L.received log.new))) }
+
+    // The same by the definition that computes the product: at Ok the report is the product's, and both outputs received its bytes.
+    ensures report { IfOk result (λ report. IfSome (F.content finder.old) (λ files. report ≡ (product files name.now options.now).report)) }
+    ensures bbl { OnOk result (IfSome (F.content finder.old) (λ files.
+        Appends (W.received bbl.old) (W.received bbl.new) (product files name.now options.now).bbl)) }
+    ensures log { OnOk result (IfSome (F.content finder.old) (λ files.
+        Appends (L.received log.old) (L.received log.new) (log_of (product files name.now options.now)))) }
+
+    // With a direct style no more bodies were open at once than it has functions, and with at most 4,096 functions no limit of calls was met.
+    ensures direct { IfOk result (λ report. IfSome (F.content finder.old) (λ files.
+        WhereDirect (reading_of files name.now).gives (λ functions. StaysWithin functions report))) }
+
+    // After a fault both outputs are prefixes of the product's, and keep step; the log's last line is begun only behind the whole list.
+    // The device's fault is answered exactly where one of the three counts of failures rose, by one, and the call that failed is then the last of its device.
+    ensures fault { OnErr result (IfSome (F.content finder.old) (λ files.
+        AtFault (W.received bbl.old, L.received log.old) (W.received bbl.new, L.received log.new)
+        (product_with files name.now options.now) options.now.budget)) }
+    ensures counts { CountsOfRun result (F.failures finder.old, F.failures finder.new) (W.failures bbl.old, W.failures bbl.new)
+        (L.failures log.old, L.failures log.new) }
+
+    // Of every finder, whether it shows its content or not, as one over the files of a disk: it was asked for no name twice, and for all files that
+    // agree with each answer that it gave in this run the report is that of their product for this name, and both outputs received its bytes. After a
+    // fault both outputs are prefixes of their product's, and keep step.
+    ensures answered { IfOk result (CompletesAsAnswered name.now options.now (F.answers finder.old, F.answers finder.new)
+        (W.received bbl.old, L.received log.old) (W.received bbl.new, L.received log.new)) }
+    ensures begun { OnErr result (FailsAsAnswered name.now options.now (F.answers finder.old, F.answers finder.new) (W.received bbl.old, L.received log.old)
+        (W.received bbl.new, L.received log.new)) }
+
+    // Whatever the finder and the sinks are.
+    ensures bound { IfOk result (λ report. report.steps ≤ options.now.budget) }
+    ensures deep { IfOk result (λ report. report.deepest ≤ 4096) }
+    ensures stays { F.content finder.new ≡ F.content finder.old }
+
+    // Where there is no top file, the list's sink isn't touched.
+    ensures untouched { IfOk result (λ report. report.end ≡ NoTopFile → bbl.new ≡ bbl.old) }
+{
     has_room(options);
-    match run_named(alloc, finder, name, options, bbl, log) {
+    match run_noting(alloc, finder, name, options, bbl, log, notebook) {
         Ok(report) => Ok(report),
         Err(Fault::Memory) => Err(RunFault::Memory),
         Err(Fault::Device) => Err(RunFault::Device),

@@ -8,6 +8,8 @@ mod jobs;
 #[cfg(test)]
 mod long_jobs;
 #[cfg(test)]
+mod noted_runs;
+#[cfg(test)]
 mod rows;
 #[cfg(test)]
 mod runs;

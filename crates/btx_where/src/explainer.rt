@@ -18,7 +18,7 @@ use btx_machine::outputs::Outputs;
 use btx_machine::program::Program;
 use btx_machine::report::report_of;
 use btx_machine::work::Work;
-use btx_machine::{End, Journal, LogCounts, Report};
+use btx_machine::{End, Journal, LogCounts, NotedLog, Report, Unnoted};
 use btx_run::Options;
 use btx_step::{Job, Store};
 use btx_text::Fault;
@@ -86,7 +86,13 @@ impl<'j, 'a, 'o> Explainer<'j, 'a, 'o> {
         list.forget();
         log.forget();
         let store = Store::new(self.alloc, program.job)?;
-        let outputs = Outputs::new(list, self.options.line, Journal::new(log, self.counts));
+        let mut unnoted = Unnoted {};
+        let mut noted = NotedLog::new(log, &mut unnoted);
+        let outputs = Outputs::new(
+            list,
+            self.options.line,
+            Journal::new(&mut noted, self.counts),
+        );
         let mut work = Work {
             alloc: self.alloc,
             store,

@@ -14,7 +14,7 @@ use crate::course::Course;
 use crate::stand::Stand;
 use crate::visits::{visit, visit_all};
 use btx_bst::Item;
-use btx_machine::Command;
+use btx_machine::{About, Command, LogSink};
 use btx_machine::lists::{all_entries, read_limit, reversed};
 use btx_machine::machine::Position;
 use btx_machine::marks::Marks;
@@ -28,7 +28,7 @@ use btx_text::Fault;
 const SORT_VARIABLE: u32 = 0;
 
 /// Does items, one after another. If it is stopped here, `at` and `marks` are where the machine stands then, in the item whose number `course` has.
-pub fn do_items<'a, W: Sink, L: Sink>(
+pub fn do_items<'a, W: Sink, L: LogSink>(
     work: &mut Work<'a, '_, W, L>,
     program: Program<'_, 'a>,
     items: &[Item<'_>],
@@ -62,7 +62,7 @@ pub fn do_items<'a, W: Sink, L: Sink>(
 
 // Does an item, and leaves the entries in the order that it leaves.
 #[tactic(auto, unfolding(btx_machine::specs::language::Items::do_item))]
-fn do_item<'a, W: Sink, L: Sink>(
+fn do_item<'a, W: Sink, L: LogSink>(
     work: &mut Work<'a, '_, W, L>,
     program: Program<'_, 'a>,
     list: &mut Vec<usize>,
@@ -86,7 +86,7 @@ fn do_item<'a, W: Sink, L: Sink>(
     match item {
         Item::Message(message) => {
             let line = message.log_line(work.alloc, program.job.style().file_name())?;
-            work.log_one(&line)?;
+            work.log_one(&line, About::Style)?;
             Ok(Stand::Finished)
         }
         Item::Read => {

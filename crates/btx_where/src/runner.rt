@@ -11,7 +11,7 @@ use crate::scratch::Scratch;
 use btx_aux::{AuxJob, Finder};
 use btx_bst::read_placed_style;
 use btx_machine::report::report_of;
-use btx_machine::{Journal, LogCounts, Report};
+use btx_machine::{Journal, LogCounts, NotedLog, Report, Unnoted};
 use btx_run::Options;
 use btx_run::contents::read_library;
 use btx_run::files::{FilesRead, JobFiles, read_files, read_job};
@@ -93,10 +93,12 @@ fn explain_job<F: Finder, W: Scratch, L: Scratch>(
     ensures notes { OnOk result (IfSome (F.content finder.old) (λ files. ExplainsReading job.now (files_read files job.now) options.now notes.old.items notes.new.items)) }
 {
     log.forget();
-    let mut journal = Journal::new(log, LogCounts::NONE);
+    let mut unnoted = Unnoted {};
+    let mut noted = NotedLog::new(log, &mut unnoted);
+    let mut journal = Journal::new(&mut noted, LogCounts::NONE);
     let read = read_files(alloc, finder, job, &mut journal);
     let counts = journal.counts();
-    let log = journal.into_sink();
+    let (log, _) = noted.into_parts();
     after_files(alloc, job, read?, options, counts, most, list, log, notes)
 }
 

@@ -25,7 +25,7 @@ use btx_machine::marks::Marks;
 use btx_machine::outputs::Outputs;
 use btx_machine::program::Program;
 use btx_machine::work::Work;
-use btx_machine::{Journal, LogCounts};
+use btx_machine::{Journal, LogCounts, LogSink, NotedLog, Unnoted};
 use btx_out::{LineLength, Sink};
 use btx_stack::Literal;
 use btx_step::{Job, Store};
@@ -90,7 +90,7 @@ fn scene_of<'a>(
 }
 
 // Does the items of a style until it is stopped, and shows where it stands.
-fn stop<'a, W: Sink, L: Sink>(
+fn stop<'a, W: Sink, L: LogSink>(
     work: &mut Work<'a, '_, W, L>,
     job: &Job<'a>,
     budget: u64,
@@ -149,7 +149,9 @@ pub fn scene_after<'a, W: Sink, L: Sink>(
     ensures { IfOk result (λ found. IfSome found (λ scene. IsScene job.now counts budget scene)) }
 {
     let store = Store::new(alloc, job)?;
-    let outputs = Outputs::new(list, line, Journal::new(log, counts));
+    let mut unnoted = Unnoted {};
+    let mut noted = NotedLog::new(log, &mut unnoted);
+    let outputs = Outputs::new(list, line, Journal::new(&mut noted, counts));
     let mut work = Work {
         alloc,
         store,

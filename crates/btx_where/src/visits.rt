@@ -18,12 +18,12 @@ use btx_machine::machine::Position;
 use btx_machine::marks::Marks;
 use btx_machine::program::Program;
 use btx_machine::work::Work;
-use btx_machine::{Command, Ending};
+use btx_machine::{Command, Ending, LogSink};
 use btx_out::Sink;
 use btx_text::Fault;
 
 // Executes the function of a command step by step, and then empties the stack.
-fn follow<'a, W: Sink, L: Sink>(
+fn follow<'a, W: Sink, L: LogSink>(
     work: &mut Work<'a, '_, W, L>,
     program: Program<'_, 'a>,
     marks: &mut Marks,
@@ -64,7 +64,7 @@ fn follow<'a, W: Sink, L: Sink>(
 }
 
 // Executes the function of a command as a run does, and then empties the stack.
-fn pass<'a, W: Sink, L: Sink>(
+fn pass<'a, W: Sink, L: LogSink>(
     work: &mut Work<'a, '_, W, L>,
     program: Program<'_, 'a>,
     marks: &mut Marks,
@@ -97,7 +97,7 @@ fn pass<'a, W: Sink, L: Sink>(
 
 /// Executes the function of a command, for the entry `entry` or for none, and then empties the stack. `left` is how many steps may be taken, and at Ok how
 /// many remain. If it is stopped here, `at` and `marks` are where the machine stands then.
-pub fn visit<'a, W: Sink, L: Sink>(
+pub fn visit<'a, W: Sink, L: LogSink>(
     work: &mut Work<'a, '_, W, L>,
     program: Program<'_, 'a>,
     marks: &mut Marks,
@@ -129,7 +129,7 @@ pub fn visit<'a, W: Sink, L: Sink>(
 }
 
 /// Executes the function of a command for each entry of `list`, in order.
-pub fn visit_all<'a, W: Sink, L: Sink>(
+pub fn visit_all<'a, W: Sink, L: LogSink>(
     work: &mut Work<'a, '_, W, L>,
     program: Program<'_, 'a>,
     marks: &mut Marks,

@@ -11,8 +11,7 @@ use crate::files::fetching::fetch_file;
 use crate::files::lines::{database_line, no_database_line};
 use btx_aux::Finder;
 use btx_core::{FoundFile, FoundFiles, next_number};
-use btx_machine::Journal;
-use btx_out::Sink;
+use btx_machine::{About, Journal, LogSink};
 use btx_text::{Fault, LogLine};
 use std::alloc::{AllocError, Global};
 
@@ -32,7 +31,7 @@ fn line_of(
 }
 
 // Looks for a database, which is logged as the one of this number.
-fn find_database<'a, F: Finder, L: Sink>(
+fn find_database<'a, F: Finder, L: LogSink>(
     alloc: Global,
     finder: &mut F,
     number: u64,
@@ -47,12 +46,12 @@ fn find_database<'a, F: Finder, L: Sink>(
 {
     let found = fetch_file(alloc, finder, name)?;
     let line = line_of(alloc, number, name, &found)?;
-    journal.log_one(&line)?;
+    journal.log_one(&line, About::Files)?;
     Ok(found)
 }
 
 // Looks for a database, and keeps it with those that were found before it.
-fn add_database<'a, F: Finder, L: Sink>(
+fn add_database<'a, F: Finder, L: LogSink>(
     alloc: Global,
     finder: &mut F,
     name: &'a [u8],
@@ -73,7 +72,7 @@ fn add_database<'a, F: Finder, L: Sink>(
 }
 
 /// Fetches the databases of `names`, each in turn, and logs for each whether it was found. Answers those that were found.
-pub fn find_databases<'a, F: Finder, L: Sink>(
+pub fn find_databases<'a, F: Finder, L: LogSink>(
     alloc: Global,
     finder: &mut F,
     names: &'a [Vec<u8>],

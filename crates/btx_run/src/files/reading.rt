@@ -19,8 +19,7 @@ use crate::files::logging::log_all;
 use crate::files::names::{is_too_long, top_name};
 use btx_aux::{AuxJob, End as AuxEnd, Finder, read_aux};
 use btx_core::{FilesRead, FoundFile, JobFiles};
-use btx_machine::{End, Journal};
-use btx_out::Sink;
+use btx_machine::{About, End, Journal, LogSink};
 use btx_text::{Fault, Limit};
 use std::alloc::Global;
 
@@ -38,7 +37,7 @@ pub fn read_job<F: Finder>(alloc: Global, finder: &mut F, name: &[u8]) -> Result
 }
 
 // Goes on from a style that was found and logged: the databases are looked for.
-fn with_style<'a, F: Finder, L: Sink>(
+fn with_style<'a, F: Finder, L: LogSink>(
     alloc: Global,
     finder: &mut F,
     job: &'a AuxJob,
@@ -60,7 +59,7 @@ fn with_style<'a, F: Finder, L: Sink>(
 }
 
 // Goes on from a style that was found.
-fn log_style<'a, F: Finder, L: Sink>(
+fn log_style<'a, F: Finder, L: LogSink>(
     alloc: Global,
     finder: &mut F,
     job: &'a AuxJob,
@@ -75,12 +74,12 @@ fn log_style<'a, F: Finder, L: Sink>(
     ensures counts { CountsOfReading result (F.failures finder.old, F.failures finder.new) journal.old journal.new }
 {
     let line = style_line(alloc, style.name())?;
-    journal.log_one(&line)?;
+    journal.log_one(&line, About::Files)?;
     with_style(alloc, finder, job, style, journal)
 }
 
 // Logs that the style of this name wasn't found, which ends the run.
-fn without_style<'a, L: Sink>(
+fn without_style<'a, L: LogSink>(
     alloc: Global,
     name: &[u8],
     journal: &mut Journal<'_, L>,
@@ -92,12 +91,12 @@ fn without_style<'a, L: Sink>(
     ensures counts { CountsOfLogging result journal.old journal.new }
 {
     let line = no_style_line(alloc, name)?;
-    journal.log_one(&line)?;
+    journal.log_one(&line, About::Files)?;
     Ok(FilesRead::Ends(End::Finished))
 }
 
 // Looks for the style of this name, and goes on from it.
-fn find_style<'a, F: Finder, L: Sink>(
+fn find_style<'a, F: Finder, L: LogSink>(
     alloc: Global,
     finder: &mut F,
     job: &'a AuxJob,
@@ -119,7 +118,7 @@ fn find_style<'a, F: Finder, L: Sink>(
 }
 
 // Goes on from the `.aux` files, by how their reading ended: with the style that they name, if they name one.
-fn after_job<'a, F: Finder, L: Sink>(
+fn after_job<'a, F: Finder, L: LogSink>(
     alloc: Global,
     finder: &mut F,
     job: &'a AuxJob,
@@ -145,7 +144,7 @@ fn after_job<'a, F: Finder, L: Sink>(
 
 /// Reads the files that a job names: logs the notes of its `.aux` files, and looks for its style and its databases. The faults are want of
 /// memory and the device's alone; the log then received a prefix of what would have been logged.
-pub fn read_files<'a, F: Finder, L: Sink>(
+pub fn read_files<'a, F: Finder, L: LogSink>(
     alloc: Global,
     finder: &mut F,
     job: &'a AuxJob,

@@ -42,7 +42,7 @@ loop-item-preserved g c = record {
   midway = one_done c.args.job.now (items_view c.args.items.now) c.loop-item.list.items c.loop-item.invariant.midway
       (ap items_view (drop_step c.args.items.now c.loop-item.item-index _ (omega arith))) (c.in_ok-end.ensures.list c.in-Finished.is)
       (c.in_ok-end.ensures.cleared c.in-Finished.is) c.do_item.ensures.fewer c.in_ok-end.ensures.writes (rw c.in-Finished.is at c.in_ok-end.ensures.outcome);
-  counts = ((search rules, search rules), search rules, search rules);
+  counts = ((search rules, search rules, search rules), search rules, search rules, search rules);
 }
 
 pub returns-clause-outcome : goal.returns-clause-outcome

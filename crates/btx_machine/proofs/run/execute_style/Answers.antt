@@ -10,7 +10,7 @@ use Rattle.btx_machine.proofs.run.execute_style.Goals as goal
 
 pub returns-in_err-store-clause-err : goal.returns-in_err-store-clause-err
 returns-in_err-store-clause-err g c =
-    on_err c.from_residual.result (nothing_written (g.W.Sink.received c.args.bbl.now, g.L.Sink.received c.args.log.now)
+    on_err c.from_residual.result (nothing_written (g.W.Sink.received c.args.bbl.now, g.L.LogSink.received c.args.log.now)
     (style_product c.args.job.now c.args.counts c.args.line) c.args.budget)
 
 pub returns-clause-ok : goal.returns-clause-ok
@@ -20,7 +20,7 @@ returns-clause-ok g c =
     (pair_is _ _ _ _ c.new-outputs.ensures.received (ap (λ (log : Journal). log.sink.received) c.new-outputs.ensures.log ∙ c.new-2.ensures.received))
     (pair_is _ _ _ _ (ends_as g.W.Sink.received _ c.into_sinks-list.result.0 _ c.do_all-result.new.work.outputs.bbl.received (c.into_sinks-list.ensures.bbl_name
     ∙ c.do_all-result.ensures.counts.0.0 ∙ c.new-outputs.ensures.name) c.into_sinks-list.ensures.bbl_received (search rules))
-    (ends_as g.L.Sink.received _ c.into_sinks-list.result.1 _ c.do_all-result.new.work.outputs.log.sink.received (c.into_sinks-list.ensures.log_name
+    (ends_as g.L.LogSink.received _ c.into_sinks-list.result.1 _ c.do_all-result.new.work.outputs.log.sink.received (c.into_sinks-list.ensures.log_name
     ∙ c.do_all-result.ensures.counts.0.1 ∙ ap (λ (log : Journal). log.sink.name) c.new-outputs.ensures.log ∙ c.new-2.ensures.name)
     c.into_sinks-list.ensures.log_received (search rules)))
     (ap (λ (log : Journal). log_counts log.warnings log.errors) c.new-outputs.ensures.log
@@ -34,7 +34,7 @@ returns-clause-err g c =
     (pair_is _ _ _ _ c.new-outputs.ensures.received (ap (λ (log : Journal). log.sink.received) c.new-outputs.ensures.log ∙ c.new-2.ensures.received))
     (pair_is _ _ _ _ (ends_as g.W.Sink.received _ c.into_sinks-list.result.0 _ c.do_all-result.new.work.outputs.bbl.received (c.into_sinks-list.ensures.bbl_name
     ∙ c.do_all-result.ensures.counts.0.0 ∙ c.new-outputs.ensures.name) c.into_sinks-list.ensures.bbl_received (search rules))
-    (ends_as g.L.Sink.received _ c.into_sinks-list.result.1 _ c.do_all-result.new.work.outputs.log.sink.received (c.into_sinks-list.ensures.log_name
+    (ends_as g.L.LogSink.received _ c.into_sinks-list.result.1 _ c.do_all-result.new.work.outputs.log.sink.received (c.into_sinks-list.ensures.log_name
     ∙ c.do_all-result.ensures.counts.0.1 ∙ ap (λ (log : Journal). log.sink.name) c.new-outputs.ensures.log ∙ c.new-2.ensures.name)
     c.into_sinks-list.ensures.log_received (search rules)))
     (ap (λ (log : Journal). log_counts log.warnings log.errors) c.new-outputs.ensures.log
@@ -48,6 +48,6 @@ returns-clause-counts g c =
     (ends_as g.W.Sink.failures _ c.into_sinks-list.result.0 _ c.do_all-result.new.work.outputs.bbl.failures (c.into_sinks-list.ensures.bbl_name
     ∙ c.do_all-result.ensures.counts.0.0 ∙ c.new-outputs.ensures.name) c.into_sinks-list.ensures.bbl_failures (search rules))
     (ap (λ (log : Journal). log.sink.failures) c.new-outputs.ensures.log ∙ c.new-2.ensures.failures)
-    (ends_as g.L.Sink.failures _ c.into_sinks-list.result.1 _ c.do_all-result.new.work.outputs.log.sink.failures (c.into_sinks-list.ensures.log_name
+    (ends_as g.L.LogSink.failures _ c.into_sinks-list.result.1 _ c.do_all-result.new.work.outputs.log.sink.failures (c.into_sinks-list.ensures.log_name
     ∙ c.do_all-result.ensures.counts.0.1 ∙ ap (λ (log : Journal). log.sink.name) c.new-outputs.ensures.log ∙ c.new-2.ensures.name)
     c.into_sinks-list.ensures.log_failures (search rules)) c.do_all-result.ensures.counts.1

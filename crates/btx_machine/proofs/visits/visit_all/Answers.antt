@@ -26,7 +26,7 @@ loop-entry-preserved g c = record {
   midway = by.one_visited c.args.program.job.now c.args.command c.args.function c.args.list.now c.loop-entry.invariant.midway
       (drop_step c.args.list.now c.loop-entry.entry-index _ (omega arith)) (c.in_ok-end.ensures.cleared c.in-Finished.is) c.visit.ensures.fewer
       c.in_ok-end.ensures.writes (rw c.in-Finished.is at c.in_ok-end.ensures.outcome);
-  counts = ((search rules, search rules), search rules, search rules);
+  counts = ((search rules, search rules, search rules), search rules, search rules, search rules);
 }
 
 pub returns-clause-outcome : goal.returns-clause-outcome

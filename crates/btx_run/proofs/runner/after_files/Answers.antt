@@ -6,13 +6,13 @@ use Rattle.btx_run.specs.refinement.Product.{work_in}
 
 pub returns-in-Ends-clause-ok : goal.returns-in-Ends-clause-ok
 returns-in-Ends-clause-ok g c =
-    rw c.in-Ends.is (completes_early (g.W.Sink.received c.args.bbl.now) (g.L.Sink.received c.args.log.now) (g.L.Sink.received c.log_end.new.log)
+    rw c.in-Ends.is (completes_early (g.W.Sink.received c.args.bbl.now) (g.L.LogSink.received c.args.log.now) (g.L.LogSink.received c.log_end.new.log)
     c.report_of.result _
     c.report_of.ensures c.log_end.result c.log_end.ensures.report c.log_end.ensures.ok)
 
 pub returns-in-Ends-clause-err : goal.returns-in-Ends-clause-err
 returns-in-Ends-clause-err g c =
-    rw c.in-Ends.is (err_map (fails_early (g.W.Sink.received c.args.bbl.now) (g.L.Sink.received c.args.log.now) (g.L.Sink.received c.log_end.new.log)
+    rw c.in-Ends.is (err_map (fails_early (g.W.Sink.received c.args.bbl.now) (g.L.LogSink.received c.args.log.now) (g.L.LogSink.received c.log_end.new.log)
     c.report_of.result _ c.args.options.now.budget
     c.report_of.ensures) c.log_end.result c.log_end.ensures.err)
 

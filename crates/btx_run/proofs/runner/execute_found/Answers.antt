@@ -8,7 +8,7 @@ use Rattle.btx_run.specs.refinement.Product.{work_in}
 
 pub returns-in_err-style-clause-err : goal.returns-in_err-style-clause-err
 returns-in_err-style-clause-err g c =
-    on_err c.from_residual.result (nothing_written (g.W.Sink.received c.args.bbl.now, g.L.Sink.received c.args.log.now)
+    on_err c.from_residual.result (nothing_written (g.W.Sink.received c.args.bbl.now, g.L.LogSink.received c.args.log.now)
     (style_product (work_in c.args.job.now c.args.found.now c.args.options.now) c.args.counts c.args.options.now.line) c.args.options.now.budget)
 
 pub returns-in_err-style-clause-counts : goal.returns-in_err-style-clause-counts
@@ -18,7 +18,7 @@ returns-in_err-style-clause-counts g c =
 
 pub returns-in_err-library-clause-err : goal.returns-in_err-library-clause-err
 returns-in_err-library-clause-err g c =
-    on_err c.from_residual-in_err-library.result (nothing_written (g.W.Sink.received c.args.bbl.now, g.L.Sink.received c.args.log.now)
+    on_err c.from_residual-in_err-library.result (nothing_written (g.W.Sink.received c.args.bbl.now, g.L.LogSink.received c.args.log.now)
     (style_product (work_in c.args.job.now c.args.found.now c.args.options.now) c.args.counts c.args.options.now.line) c.args.options.now.budget)
 
 pub returns-clause-ok : goal.returns-clause-ok

@@ -13,7 +13,7 @@ use Rattle.btx_run.specs.refinement.Product.{product_of_reading}
 
 pub returns-in_err-read-clause-err : goal.returns-in_err-read-clause-err
 returns-in_err-read-clause-err g c =
-    let log = g.L.Sink in
+    let log = g.L.LogSink in
     let bbl = g.W.Sink in
     let at_end = ends_as log.received _ c.into_sink-log.result _ c.read_files-read.new.journal.sink.received
     (c.into_sink-log.ensures.name ∙ c.read_files-read.ensures.counts.0 ∙ c.new-journal.ensures.name) c.into_sink-log.ensures.received (search rules) in
@@ -28,7 +28,7 @@ returns-in_err-read-clause-err g c =
 
 pub returns-clause-ok : goal.returns-clause-ok
 returns-clause-ok g c =
-    let log = g.L.Sink in
+    let log = g.L.LogSink in
     let bbl = g.W.Sink in
     let is_given = counts_are c.counts-counts.result _ _ c.counts-counts.ensures.warnings c.counts-counts.ensures.errors in
     let new = counts_of_none c.new-journal.result c.new-journal.ensures.warnings c.new-journal.ensures.errors in
@@ -48,7 +48,7 @@ returns-clause-ok g c =
 
 pub returns-clause-err : goal.returns-clause-err
 returns-clause-err g c =
-    let log = g.L.Sink in
+    let log = g.L.LogSink in
     let bbl = g.W.Sink in
     let is_given = counts_are c.counts-counts.result _ _ c.counts-counts.ensures.warnings c.counts-counts.ensures.errors in
     let new = counts_of_none c.new-journal.result c.new-journal.ensures.warnings c.new-journal.ensures.errors in

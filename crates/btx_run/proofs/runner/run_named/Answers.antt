@@ -12,7 +12,7 @@ use Rattle.btx_run.proofs.runner.run_named.Goals as goal
 pub returns-in_err-job-clause-err : goal.returns-in_err-job-clause-err
 returns-in_err-job-clause-err g c =
     on_err c.from_residual.result (of_any (g.F.Finder.content c.args.finder.now) _
-    (λ files. nothing_written (g.W.Sink.received c.args.bbl.now, g.L.Sink.received c.args.log.now) (product_with files c.args.name.now c.args.options.now)
+    (λ files. nothing_written (g.W.Sink.received c.args.bbl.now, g.L.LogSink.received c.args.log.now) (product_with files c.args.name.now c.args.options.now)
     c.args.options.now.budget))
 
 pub returns-clause-ok : goal.returns-clause-ok
@@ -34,7 +34,7 @@ returns-in_err-job-clause-begun g c =
       answers = asked.answers;
       are_given = asked.given;
       once = begun_once (top_name c.args.name.now) (names_asked asked.answers) asked.asks;
-      fails = λ files agree. nothing_written (g.W.Sink.received c.args.bbl.now, g.L.Sink.received c.args.log.now)
+      fails = λ files agree. nothing_written (g.W.Sink.received c.args.bbl.now, g.L.LogSink.received c.args.log.now)
           (product_with files c.args.name.now c.args.options.now) c.args.options.now.budget;
     })
 

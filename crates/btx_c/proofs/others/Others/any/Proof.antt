@@ -1,7 +1,7 @@
 -- `any` makes any files. Assumes `Logic`.
 use Rattle.std.proofs.Common.{◌≡◌, refl}
 use Rattle.btx_c.specs.Handed.{OtherFiles}
-use Rattle.btx_run.proofs.MadeLemmas.{met}
+use Rattle.btx_machine.proofs.MadeLemmas.{met}
 use Rattle.btx_c.specs.contracts.others.Others.{the_row}
 use Rattle.btx_c.specs.contracts.others.Others.any.Key.{name as key}
 use Rattle.btx_c.proofs.others.Others.any.Statement as stated

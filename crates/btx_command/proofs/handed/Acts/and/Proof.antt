@@ -3,7 +3,7 @@ use Rattle.std.proofs.Common.{◌≡◌, ◌++◌, List, [], ◌∷◌, refl}
 use mir.Syntax.{a_type}
 use denote.Param.{layouts}
 use Rattle.btx_command.specs.Acts.{Act, TakenFile}
-use Rattle.btx_run.proofs.MadeLemmas.{met_behind}
+use Rattle.btx_machine.proofs.MadeLemmas.{met_behind}
 use Rattle.btx_command.specs.contracts.handed.Acts.{the_row}
 use Rattle.btx_command.specs.contracts.handed.Acts.and as of
 use Rattle.btx_command.specs.contracts.handed.Acts.and.Key.{name as key}

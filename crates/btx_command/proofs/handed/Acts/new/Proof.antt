@@ -1,6 +1,6 @@
 -- `new` makes no act. Assumes `Logic`.
 use Rattle.std.proofs.Common.{◌≡◌, [], refl}
-use Rattle.btx_run.proofs.MadeLemmas.{met}
+use Rattle.btx_machine.proofs.MadeLemmas.{met}
 use Rattle.btx_command.specs.contracts.handed.Acts.{the_row}
 use Rattle.btx_command.specs.contracts.handed.Acts.new.Key.{name as key}
 use Rattle.btx_command.proofs.handed.Acts.new.Statement as stated

@@ -3,7 +3,7 @@ use Rattle.std.proofs.Common.{◌≡◌, Bool, [], ◌∷◌, refl}
 use mir.Syntax.{a_type}
 use denote.Param.{layouts}
 use Rattle.btx_text.specs.language.Counts.{failures_after}
-use Rattle.btx_run.proofs.MadeLemmas.{met_behind}
+use Rattle.btx_machine.proofs.MadeLemmas.{met_behind}
 use Rattle.btx_command.specs.contracts.handed.Calls.{the_row}
 use Rattle.btx_command.specs.contracts.handed.Calls.and as of
 use Rattle.btx_command.specs.contracts.handed.Calls.and.Key.{name as key}

@@ -1,6 +1,6 @@
 -- `new` makes no failures. Assumes `Logic`.
 use Rattle.std.proofs.Common.{◌≡◌, refl}
-use Rattle.btx_run.proofs.MadeLemmas.{met}
+use Rattle.btx_machine.proofs.MadeLemmas.{met}
 use Rattle.btx_command.specs.contracts.handed.Calls.{the_row}
 use Rattle.btx_command.specs.contracts.handed.Calls.new.Key.{name as key}
 use Rattle.btx_command.proofs.handed.Calls.new.Statement as stated

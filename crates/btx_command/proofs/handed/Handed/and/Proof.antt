@@ -2,7 +2,7 @@
 use Rattle.std.proofs.Common.{◌≡◌, ◌++◌, List, ℕ, [], ◌∷◌, refl}
 use mir.Syntax.{a_type}
 use denote.Param.{layouts}
-use Rattle.btx_run.proofs.MadeLemmas.{met_behind}
+use Rattle.btx_machine.proofs.MadeLemmas.{met_behind}
 use Rattle.btx_command.specs.contracts.handed.Handed.{the_row}
 use Rattle.btx_command.specs.contracts.handed.Handed.and as of
 use Rattle.btx_command.specs.contracts.handed.Handed.and.Key.{name as key}

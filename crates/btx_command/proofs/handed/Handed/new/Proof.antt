@@ -1,6 +1,6 @@
 -- `new` makes no byte. Assumes `Logic`.
 use Rattle.std.proofs.Common.{◌≡◌, [], refl}
-use Rattle.btx_run.proofs.MadeLemmas.{met}
+use Rattle.btx_machine.proofs.MadeLemmas.{met}
 use Rattle.btx_command.specs.contracts.handed.Handed.{the_row}
 use Rattle.btx_command.specs.contracts.handed.Handed.new.Key.{name as key}
 use Rattle.btx_command.proofs.handed.Handed.new.Statement as stated

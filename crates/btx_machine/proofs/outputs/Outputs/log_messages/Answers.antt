@@ -9,7 +9,7 @@ use Rattle.btx_machine.proofs.outputs.Outputs.log_messages.Goals as goal
 pub loop-message-init : goal.loop-message-init
 loop-message-init g c = record {
   breaker = refl;
-  counts = ((refl, refl), refl, refl);
+  counts = ((refl, refl, refl), refl, refl, refl);
   same =
       by.logs_first c.args.self.now (map message_line (drop 0 c.args.messages.now)) (map message_line c.args.messages.now) refl;
 }
@@ -22,7 +22,7 @@ returns-in_err-line-clause-err g c =
 pub loop-message-preserved : goal.loop-message-preserved
 loop-message-preserved g c = record {
   breaker = search rules;
-  counts = ((search rules, search rules), search rules, search rules);
+  counts = ((search rules, search rules, search rules), search rules, search rules, search rules);
   same = by.logs_more c.args.self.now c.loop-message.self c.log_one.new.self c.in_ok-line.line
       (map message_line (drop c.loop-message.message-index c.args.messages.now))
       (map message_line (drop (c.loop-message.message-index + 1) c.args.messages.now)) (map message_line c.args.messages.now)

@@ -9,7 +9,7 @@ use Rattle.btx_machine.proofs.outputs.Outputs.note_all.Goals as goal
 pub loop-note-init : goal.loop-note-init
 loop-note-init g c = record {
   breaker = refl;
-  counts = ((refl, refl), refl, refl);
+  counts = ((refl, refl, refl), refl, refl, refl);
   same =
       by.logs_first c.args.self.now (note_lines c.args.job.now c.args.executed.now c.args.current (drop 0 c.args.notes.now))
       (note_lines c.args.job.now c.args.executed.now c.args.current c.args.notes.now) refl;
@@ -24,7 +24,7 @@ returns-in_err-line-clause-err g c =
 pub loop-note-preserved : goal.loop-note-preserved
 loop-note-preserved g c = record {
   breaker = search rules;
-  counts = ((search rules, search rules), search rules, search rules);
+  counts = ((search rules, search rules, search rules), search rules, search rules, search rules);
   same = by.logs_more c.args.self.now c.loop-note.self c.log_one.new.self c.in_ok-line.line
       (note_lines c.args.job.now c.args.executed.now c.args.current (drop c.loop-note.note-index c.args.notes.now))
       (note_lines c.args.job.now c.args.executed.now c.args.current (drop (c.loop-note.note-index + 1) c.args.notes.now))

@@ -34,6 +34,8 @@ loop-name-init g c = record {
   fetches = refl;
   sink = refl;
   writes = refl;
+  joined = refl;
+  told = refl;
 }
 
 pub loop-name-preserved : goal.loop-name-preserved
@@ -48,4 +50,6 @@ loop-name-preserved g c = record {
   fetches = search rules;
   sink = c.add_database.ensures.counts.0 ∙ c.loop-name.invariant.sink;
   writes = search rules;
+  joined = c.add_database.ensures.counts.2 ∙ c.loop-name.invariant.joined;
+  told = search rules;
 }

@@ -16,4 +16,6 @@ loop-line-preserved g c = record {
       (logs_line c.line-item.result c.loop-line.journal c.log_one.new.self c.in_ok-log_one.ensures.ok c.log_one.ensures.warnings c.log_one.ensures.errors);
   sink = c.log_one.ensures.sink ∙ c.loop-line.invariant.sink;
   failures = search rules;
+  joined = c.log_one.ensures.joined ∙ c.loop-line.invariant.joined;
+  told = c.in_ok-log_one.ensures.told ∙ c.loop-line.invariant.told;
 }

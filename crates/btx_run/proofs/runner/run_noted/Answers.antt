@@ -1,7 +1,7 @@
 use Rattle.btx_run.proofs.DirectLemmas.{report_stays}
 use Rattle.btx_run.proofs.ReadingLemmas.{of_logged}
 use Rattle.btx_run.proofs.WrittenLemmas.{began, wrote}
-use Rattle.btx_run.proofs.runner.run.Goals as goal
+use Rattle.btx_run.proofs.runner.run_noted.Goals as goal
 
 pub returns-in-Ok-clause-report : goal.returns-in-Ok-clause-report
 returns-in-Ok-clause-report g c = of_logged (g.F.Finder.content c.args.finder.now) _ _ c.in-Ok.ensures.ok (λ files completes. completes.report_is)
@@ -20,17 +20,17 @@ returns-in-Ok-clause-direct g c =
 pub returns-in-Ok-clause-written : goal.returns-in-Ok-clause-written
 returns-in-Ok-clause-written g c =
     of_logged (g.F.Finder.content c.args.finder.now) _ _ c.in-Ok.ensures.ok (λ files completes. wrote files c.args.name.now c.args.options.now
-    (g.W.Sink.received c.args.bbl.now, g.L.Sink.received c.args.log.now) (g.W.Sink.received c.run_named.new.bbl, g.L.Sink.received c.run_named.new.log)
+    (g.W.Sink.received c.args.bbl.now, g.L.Sink.received c.args.log.now) (g.W.Sink.received c.run_noting.new.bbl, g.L.Sink.received c.run_noting.new.log)
     c.in-Ok.report c.has_room.ensures completes)
 
 pub returns-in-Err-Memory-clause-broken_off : goal.returns-in-Err-Memory-clause-broken_off
 returns-in-Err-Memory-clause-broken_off g c =
     of_logged (g.F.Finder.content c.args.finder.now) _ _ c.in-Err-Memory.ensures.err (λ files fails. began files c.args.name.now c.args.options.now
-    (g.W.Sink.received c.args.bbl.now, g.L.Sink.received c.args.log.now) (g.W.Sink.received c.run_named.new.bbl, g.L.Sink.received c.run_named.new.log)
+    (g.W.Sink.received c.args.bbl.now, g.L.Sink.received c.args.log.now) (g.W.Sink.received c.run_noting.new.bbl, g.L.Sink.received c.run_noting.new.log)
     c.has_room.ensures fails)
 
 pub returns-in-Err-Device-clause-broken_off : goal.returns-in-Err-Device-clause-broken_off
 returns-in-Err-Device-clause-broken_off g c =
     of_logged (g.F.Finder.content c.args.finder.now) _ _ c.in-Err-Device.ensures.err (λ files fails. began files c.args.name.now c.args.options.now
-    (g.W.Sink.received c.args.bbl.now, g.L.Sink.received c.args.log.now) (g.W.Sink.received c.run_named.new.bbl, g.L.Sink.received c.run_named.new.log)
+    (g.W.Sink.received c.args.bbl.now, g.L.Sink.received c.args.log.now) (g.W.Sink.received c.run_noting.new.bbl, g.L.Sink.received c.run_noting.new.log)
     c.has_room.ensures fails)

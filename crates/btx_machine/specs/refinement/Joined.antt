@@ -1,0 +1,36 @@
+-- A log that is joined with a notebook.
+use Rattle.std.specs.Prelude.{ℕ, List, Option, None, ⊤}
+use Rattle.btx_text.specs.declared.failures.Failures.{Failures}
+use Rattle.btx_text.specs.language.LogLines.{Line}
+use Rattle.btx_machine.specs.declared.told.Told.{Told}
+use Rattle.btx_machine.specs.declared.told.Told.TheVariants as told
+use Rattle.btx_machine.specs.language.Noting.{Printed, BrokenOff}
+
+-- what a log had received and a notebook had noted when they were joined
+pub record Beginning : Type 0 where
+  pub received : Option (List ℕ)
+  pub noted : Option (List Line)
+
+-- of a log and a notebook that show nothing
+abbrev pub no_beginning : Beginning
+no_beginning = record { received = None; noted = None }
+
+-- which sink and which notebook are joined, and what they had then
+pub record Joined : Type 0 where
+  pub sink : ℕ
+  pub notebook : ℕ
+  pub since : Beginning
+
+-- a log whose lines are noted
+pub record NotedLog : Type 0 where
+  pub received : Option (List ℕ)
+  pub failures : Failures
+  pub noted : Option (List Line)
+  pub joined : Joined
+  pub told : Told
+
+-- what the log has received since then of what was noted since then
+abbrev pub Tells : Beginning → Option (List Line) → Option (List ℕ) → Told → Type 0
+Tells since noted received told.Whole = Printed (since.noted, noted) (since.received, received)
+Tells since noted received told.Begun = BrokenOff (since.noted, noted) (since.received, received)
+Tells since noted received told.Lost = ⊤

@@ -1,0 +1,53 @@
+//! Notebooks: what is handed each message of a log, as a value.
+ghost use Rattle.std.specs.Prelude.{◌∷◌, [], List, Option, None};
+ghost use Rattle.btx_text.specs.language.LogLines.{Line};
+ghost use Rattle.btx_machine.specs.language.Noting.{AddsLines};
+
+use btx_text::LogLine;
+
+/// What is executed where a message is met.
+#[derive(Clone, Copy, Debug)]
+pub struct Executed<'e> {
+    /// The name of the function that is executed, or the word of the command whose function has ended.
+    pub name: &'e [u8],
+    /// The number of the current entry, if there is one.
+    pub entry: Option<usize>,
+    /// The key of the current entry, if there is one.
+    pub key: Option<&'e [u8]>,
+}
+
+/// Where a message of a log is met.
+#[derive(Clone, Copy, Debug)]
+pub enum About<'e> {
+    /// In the `.aux` files, or where the style and the databases are looked for.
+    Files,
+    /// In the text of the style.
+    Style,
+    /// In the databases.
+    Databases,
+    /// While the style is executed.
+    Execution(Executed<'e>),
+    /// At the end of the run, whose report the line gives.
+    End,
+}
+
+/// What is handed each message of a log.
+pub trait Notebook {
+    /// The lines that it was handed, in order, as long as it shows them. One that lost a line shows none any more.
+    ghost noted: { Self → Option (List Line) };
+
+    /// Takes a line of the log, which is written next, and where it was met.
+    fn note(&mut self, line: &LogLine, about: About<'_>)
+        ensures { AddsLines (noted self.old) (noted self.new) (line.now ∷ []) };
+}
+
+/// A notebook that keeps nothing.
+#[derive(Drop)]
+pub struct Unnoted {}
+
+impl Notebook for Unnoted {
+    ghost noted = { λ _. None };
+
+    #[inline(always)]
+    fn note(&mut self, _line: &LogLine, _about: About<'_>) {}
+}
