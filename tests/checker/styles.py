@@ -29,9 +29,10 @@ FUNCTION {misc}
 {
 """
 COMMANDS = "ITERATE {call.type$}"
-# A style with warnings in named and nameless functions, of a command, and with a cause of them. A mistake stands in the place of one of its comments.
+# A style with warnings in named and nameless functions, of a command, and with a cause of them. A mistake stands in the place of a comment of two lines.
 WARNED = HEAD[:HEAD.index("FUNCTION {misc}")] + """
 % above the functions
+%
 
 FUNCTION {grows} { i { "one" } { "one" "two" } if$ }
 FUNCTION {shows}
@@ -43,6 +44,7 @@ FUNCTION {shows}
 }
 
 % between functions
+%
 
 FUNCTION {misc} { shows grows #1 write$
   pop$
@@ -51,13 +53,14 @@ FUNCTION {leaves} { { #1 } #2 }
 READ
 
 % between commands
+%
 
 ITERATE {call.type$}
 EXECUTE {leaves}
 """
 # After each of them a style is read on from the next empty line.
 MISTAKES = ["}", "nonsense {x}", "FUNCTION {not} { { #1 } skip$ }", "FUNCTION {broken} { { title write$ } \"no end", "FUNCTION {broken} { { nowhere write$ } #one }",
-            "FUNCTION {more} { nowhere { nobody } pop$ }", "MACRO {jan {\"January\"}", "EXECUTE {nowhere}"]
+            "FUNCTION {more} { nowhere { nobody } pop$ }", "MACRO {jan {\"January\"}", "MACRO {jan} {\"January\"\n#", "EXECUTE {nowhere}", "EXECUTE {out\n#"]
 
 
 def rows():
@@ -99,10 +102,10 @@ def lint_has_lines_beside_mistakes(lint, folder):
         print("the style without a mistake has the lines", lines)
         yield False
     for mistake in MISTAKES:
-        for comment in re.findall("%.*", WARNED):
-            found, has_messages = warned(lint, folder, WARNED.replace(comment, mistake))
+        for comment in re.findall("% .*\n%", WARNED):
+            found, has_messages = warned(lint, folder, WARNED.replace(comment, mistake if "\n" in mistake else mistake + "\n%"))
             if found != wanted or not has_messages:
-                print("%s %s: the warnings are %s" % (mistake, comment[2:], json.dumps(found)))
+                print("%r %s: the warnings are %s" % (mistake, comment[2:-2], json.dumps(found)))
             yield found == wanted and has_messages
 
 

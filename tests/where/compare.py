@@ -104,9 +104,9 @@ def style_jobs(folder, entries):
 
 
 def beside_mistakes():
-    """The worked and corner jobs with one brace too many in the style, above its functions. The style is read on from the empty line after it."""
+    """The worked and corner jobs with one brace too many in the style, above its last function. The style is read on from the empty line after it."""
     for files, options in worked_jobs():
-        above, function, rest = files.get(b"s.bst", b"").partition(b"FUNCTION")
+        above, function, rest = files.get(b"s.bst", b"").rpartition(b"FUNCTION")
         if function:
             yield {**files, b"s.bst": above + b"}\n\n" + function + rest}, options
 
