@@ -116,10 +116,12 @@ fn noted(alloc: Global, files: &[File<'_>], how: Failing, at: u64) -> Result<Not
 // Whether a run's log is what was noted, line by line, and the lines were met at these places.
 fn is_noted(alloc: Global, files: &[File<'_>], places: &[u8]) -> Result<bool, Fault> {
     let ran = noted(alloc, files, Failing::Never, 0)?;
-    Ok(ran.is_ok
-        && !ran.kept.is_full
-        && ran.log.writer.bytes.as_slice() == ran.kept.lines.as_slice()
-        && ran.kept.places.as_slice() == places)
+    Ok(
+        ran.is_ok
+            && !ran.kept.is_full
+            && ran.log.writer.bytes.as_slice() == ran.kept.lines.as_slice()
+            && ran.kept.places.as_slice() == places,
+    )
 }
 
 // A job with an error in its `.aux` file.
@@ -141,11 +143,13 @@ fn notes_each_line(rt: HostRuntime) -> Result<(), Fail> {
     assert!(rt; is_noted(alloc, &job_of(BAD_AUX, STYLE, DATABASE), b" F!F F F E")?);
     assert!(rt; is_noted(alloc, &job_of(AUX, BAD_STYLE, DATABASE), b" F F F!S E")?);
     assert!(rt; is_noted(alloc, &job_of(AUX, STYLE, BAD_DATABASE), b" F F F!D?D E")?);
-    assert!(rt; is_noted(
-        alloc,
-        &job_of(AUX, BAD_BODY, DATABASE),
-        b" F F F?warning$@k!pop$@k!ITERATE@k ITERATE@k E"
-    )?);
+    assert!(rt;
+        is_noted(
+            alloc,
+            &job_of(AUX, BAD_BODY, DATABASE),
+            b" F F F?warning$@k!pop$@k!ITERATE@k ITERATE@k E"
+        )?
+    );
     Ok(())
 }
 
