@@ -6,11 +6,11 @@ use Rattle.std.proofs.KnownBytes.{Appends-trans}
 use Rattle.std.specs.Io.KnownBytes.{Appends}
 use Rattle.btx_text.specs.declared.fault.Fault.{Fault}
 use Rattle.btx_machine.proofs.Common.{Line, AppendsPrefix, ended_line}
-use Rattle.btx_machine.specs.declared.told.Told.{Told}
-use Rattle.btx_machine.specs.declared.told.Told.TheVariants.{Whole, Begun, Lost}
+use Rattle.btx_machine.specs.declared.wholeness.Wholeness.{Wholeness}
+use Rattle.btx_machine.specs.declared.wholeness.Wholeness.TheVariants.{Whole, CutOff, Lost}
 use Rattle.btx_machine.specs.language.Noting.{AddsLines, Printed, BrokenOff, printed}
-use Rattle.btx_machine.specs.refinement.Joined.{Beginning, Tells}
-use Rattle.btx_machine.specs.refinement.Telling.{told_after}
+use Rattle.btx_machine.specs.refinement.Joined.{Beginning, HasNoted}
+use Rattle.btx_machine.specs.refinement.Wholeness.{wholeness_after}
 
 -- lines, and then further ones
 adds_then : (a b c : Option (List Line)) (xs ys : List Line) → AddsLines a b xs → AddsLines b c ys → AddsLines a c (xs ++ ys)
@@ -48,23 +48,23 @@ module _ (a b c : Option (List Line)) (x y z : Option (List ℕ)) (line : Line) 
   }
 
 -- after one more line the log has what was noted, as its answer says
-tells_after : {T : Type 0} (since : Beginning) (b c : Option (List Line)) (y z : Option (List ℕ)) (told : Told) (line : Line) (answer : Result T Fault)
+has_noted_after : {T : Type 0} (since : Beginning) (b c : Option (List Line)) (y z : Option (List ℕ)) (wholeness : Wholeness) (line : Line) (answer : Result T Fault)
     → AddsLines b c (line ∷ []) → OnOk answer (Appends y z (ended_line line.text)) → OnErr answer (AppendsPrefix y z (ended_line line.text))
-    → Tells since b y told → Tells since c z (told_after (is_err answer) told)
-tells_after since b c y z Whole line (Ok v) adds ok err h = line_printed since.noted b c since.received y z line adds h ok
-tells_after since b c y z Whole line (Err f) adds ok err h = line_broken since.noted b c since.received y z line adds h err
-tells_after since b c y z Begun line (Ok v) adds ok err h = tt
-tells_after since b c y z Begun line (Err f) adds ok err h = tt
-tells_after since b c y z Lost line (Ok v) adds ok err h = tt
-tells_after since b c y z Lost line (Err f) adds ok err h = tt
+    → HasNoted since b y wholeness → HasNoted since c z (wholeness_after (is_err answer) wholeness)
+has_noted_after since b c y z Whole line (Ok v) adds ok err h = line_printed since.noted b c since.received y z line adds h ok
+has_noted_after since b c y z Whole line (Err f) adds ok err h = line_broken since.noted b c since.received y z line adds h err
+has_noted_after since b c y z CutOff line (Ok v) adds ok err h = tt
+has_noted_after since b c y z CutOff line (Err f) adds ok err h = tt
+has_noted_after since b c y z Lost line (Ok v) adds ok err h = tt
+has_noted_after since b c y z Lost line (Err f) adds ok err h = tt
 
 -- the same by what the code reads of the line and of the answer
-pub tells_now : {T : Type 0} (since : Beginning) (b c : Option (List Line)) (y z : Option (List ℕ)) (told now : Told) (line : Line) (text : List ℕ)
-    (answer : Result T Fault) (failed : Bool) → text ≡ line.text → failed ≡ is_err answer → now ≡ told_after failed told
+pub has_noted_now : {T : Type 0} (since : Beginning) (b c : Option (List Line)) (y z : Option (List ℕ)) (wholeness now : Wholeness) (line : Line) (text : List ℕ)
+    (answer : Result T Fault) (failed : Bool) → text ≡ line.text → failed ≡ is_err answer → now ≡ wholeness_after failed wholeness
     → AddsLines b c (line ∷ []) → OnOk answer (Appends y z (ended_line text)) → OnErr answer (AppendsPrefix y z (ended_line text))
-    → Tells since b y told → Tells since c z now
-tells_now since b c y z told now line text answer failed is_text is_failed is_now adds ok err h =
-    subst (Tells since c z) (sym (is_now ∙ ap (λ f. told_after f told) is_failed))
-    (tells_after since b c y z told line answer adds
+    → HasNoted since b y wholeness → HasNoted since c z now
+has_noted_now since b c y z wholeness now line text answer failed is_text is_failed is_now adds ok err h =
+    subst (HasNoted since c z) (sym (is_now ∙ ap (λ f. wholeness_after f wholeness) is_failed))
+    (has_noted_after since b c y z wholeness line answer adds
     (subst (λ t. OnOk answer (Appends y z (ended_line t))) is_text ok)
     (subst (λ t. OnErr answer (AppendsPrefix y z (ended_line t))) is_text err) h)

@@ -1,4 +1,4 @@
-pub mod Telling
+pub mod Wholeness
 pub mod Joined
 pub mod States
 pub mod Outputs

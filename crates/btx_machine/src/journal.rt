@@ -6,7 +6,7 @@ ghost use Rattle.btx_text.specs.language.LogLines.{is_error, is_warning};
 ghost use Rattle.btx_aux.specs.refinement.Faults.{CountsOfOne};
 ghost use Rattle.btx_machine.specs.language.Reports.{last_line};
 ghost use Rattle.btx_machine.specs.language.Saying.{counted_if, ended_line};
-ghost use Rattle.btx_machine.specs.refinement.Telling.{Telling};
+ghost use Rattle.btx_machine.specs.refinement.Wholeness.{WholeUnlessCutOff};
 
 use crate::last::log_end;
 use crate::log_sink::LogSink;
@@ -34,7 +34,7 @@ impl<'s, L: LogSink> Model for Journal<'s, L> {
       warnings = journal.warnings;
       errors = journal.errors;
       joined = L.joined journal.sink.now;
-      told = L.told journal.sink.now;
+      wholeness = L.wholeness journal.sink.now;
     } };
 }
 
@@ -47,7 +47,7 @@ impl<'s, L: LogSink> Journal<'s, L> {
         ensures warnings { result.warnings ≡ counts.warnings }
         ensures errors { result.errors ≡ counts.errors }
         ensures joined { result.joined ≡ L.joined sink.old }
-        ensures told { result.told ≡ L.told sink.old }
+        ensures whole { result.wholeness ≡ L.wholeness sink.old }
     {
         Journal {
             sink,
@@ -76,7 +76,7 @@ impl<'s, L: LogSink> Journal<'s, L> {
         ensures errors { self.new.errors ≡ counted_if (is_error line.now.kind) self.old.errors }
         ensures sink { self.new.sink.name ≡ self.old.sink.name }
         ensures joined { self.new.joined ≡ self.old.joined }
-        ensures told { Telling result self.old.told self.new.told }
+        ensures whole { WholeUnlessCutOff result self.old.wholeness self.new.wholeness }
         ensures counts { CountsOfOne result (self.old.sink.failures, self.new.sink.failures) }
     {
         self.count(line.kind());
@@ -87,7 +87,7 @@ impl<'s, L: LogSink> Journal<'s, L> {
     fn count(&mut self, kind: LineKind)
         ensures sink { self.new.sink ≡ self.old.sink }
         ensures joined { self.new.joined ≡ self.old.joined }
-        ensures told { self.new.told ≡ self.old.told }
+        ensures whole { self.new.wholeness ≡ self.old.wholeness }
         ensures warnings { self.new.warnings ≡ counted_if (is_warning kind) self.old.warnings }
         ensures errors { self.new.errors ≡ counted_if (is_error kind) self.old.errors }
     {
@@ -105,7 +105,7 @@ impl<'s, L: LogSink> Journal<'s, L> {
         ensures err { OnErr result (AppendsPrefix self.old.sink.received self.new.sink.received (ended_line (last_line report))) }
         ensures sink { self.new.sink.name ≡ self.old.sink.name }
         ensures joined { self.new.joined ≡ self.old.joined }
-        ensures told { Telling result self.old.told self.new.told }
+        ensures whole { WholeUnlessCutOff result self.old.wholeness self.new.wholeness }
         ensures counts { CountsOfOne result (self.old.sink.failures, self.new.sink.failures) }
     {
         log_end(alloc, report, self.sink)
@@ -117,7 +117,7 @@ impl<'s, L: LogSink> Journal<'s, L> {
         ensures received { L.received result.now ≡ self.entry.sink.received }
         ensures failures { L.failures result.now ≡ self.entry.sink.failures }
         ensures joined { L.joined result.now ≡ self.entry.joined }
-        ensures told { L.told result.now ≡ self.entry.told }
+        ensures whole { L.wholeness result.now ≡ self.entry.wholeness }
     {
         self.sink
     }

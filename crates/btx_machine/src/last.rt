@@ -8,7 +8,7 @@ ghost use Rattle.btx_machine.specs.language.Reports.{end_as, last_line, report_o
 ghost use Rattle.btx_machine.specs.refinement.Faults.{CountsOfBoth, Writes};
 ghost use Rattle.btx_machine.specs.language.Saying.{ended_line};
 ghost use Rattle.btx_machine.specs.laws.Reports.{log_counts};
-ghost use Rattle.btx_machine.specs.refinement.Telling.{Telling};
+ghost use Rattle.btx_machine.specs.refinement.Wholeness.{WholeUnlessCutOff};
 
 use crate::ending::Ending;
 use crate::log_sink::LogSink;
@@ -45,7 +45,7 @@ pub fn log_end<L: LogSink>(alloc: Global, report: Report, log: &mut L) -> Result
     ensures err { OnErr result (AppendsPrefix (L.received log.old) (L.received log.new) (ended_line (last_line report))) }
     ensures counts { CountsOfOne result (L.failures log.old, L.failures log.new) }
     ensures joined { L.joined log.new ≡ L.joined log.old }
-    ensures told { Telling result (L.told log.old) (L.told log.new) }
+    ensures whole { WholeUnlessCutOff result (L.wholeness log.old) (L.wholeness log.new) }
 {
     let text = last_line(alloc, &report)?;
     log.log_line(&LogLine::new(text, LineKind::Plain), About::End)?;

@@ -20,8 +20,8 @@ mod quick;
 pub mod report;
 mod run;
 mod since;
-mod told;
 pub mod visits;
+mod wholeness;
 pub mod work;
 
 pub use command::Command;
@@ -37,4 +37,4 @@ pub use notebook::{About, Executed, Notebook, Unnoted};
 pub use noted_log::NotedLog;
 pub use report::{End, LogCounts, Report};
 pub use run::execute_style;
-pub use told::Told;
+pub use wholeness::Wholeness;

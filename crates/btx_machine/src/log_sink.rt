@@ -6,8 +6,8 @@ ghost use Rattle.btx_out.specs.language.Pieces.{AppendsPrefix};
 ghost use Rattle.btx_aux.specs.refinement.Faults.{CountsOfOne};
 ghost use Rattle.btx_machine.specs.language.Saying.{ended_line};
 ghost use Rattle.btx_machine.specs.refinement.Joined.{Joined};
-ghost use Rattle.btx_machine.specs.refinement.Telling.{Telling};
-ghost use Rattle.btx_machine.specs.declared.told.Told.{Told};
+ghost use Rattle.btx_machine.specs.refinement.Wholeness.{WholeUnlessCutOff};
+ghost use Rattle.btx_machine.specs.declared.wholeness.Wholeness.{Wholeness};
 
 use crate::notebook::About;
 use btx_text::{Fault, LogLine};
@@ -24,7 +24,7 @@ pub trait LogSink {
     ghost joined: { Self → Joined };
 
     /// Whether the log has all that was noted since then.
-    ghost told: { Self → Told };
+    ghost wholeness: { Self → Wholeness };
 
     /// Notes a line, and writes it. The only fault is the device's; the log then received a prefix of the line.
     fn log_line(&mut self, line: &LogLine, about: About<'_>) -> Result<(), Fault>
@@ -33,5 +33,5 @@ pub trait LogSink {
         ensures fault { IfErr result (λ fault. fault ≡ Fault.Device) }
         ensures counts { CountsOfOne result (failures self.old, failures self.new) }
         ensures joined { joined self.new ≡ joined self.old }
-        ensures told { Telling result (told self.old) (told self.new) };
+        ensures whole { WholeUnlessCutOff result (wholeness self.old) (wholeness self.new) };
 }

@@ -1,12 +1,12 @@
 //! A log whose lines are noted.
 ghost use Rattle.std.specs.Prelude.{◌≡◌};
-ghost use Rattle.btx_machine.specs.declared.told.Told.TheVariants.{Whole};
-ghost use Rattle.btx_machine.specs.refinement.Joined.{Tells};
+ghost use Rattle.btx_machine.specs.declared.wholeness.Wholeness.TheVariants.{Whole};
+ghost use Rattle.btx_machine.specs.refinement.Joined.{HasNoted};
 
 use crate::log_sink::LogSink;
 use crate::notebook::{About, Notebook};
 use crate::since::Since;
-use crate::told::Told;
+use crate::wholeness::Wholeness;
 use btx_out::{Log, Sink};
 use btx_text::{Fault, LogLine};
 use std::marker::Model;
@@ -16,12 +16,12 @@ use std::marker::Model;
 pub struct NotedLog<'l, L: Sink, N: Notebook> {
     sink: &'l mut L,
     notebook: &'l mut N,
-    told: Told,
+    wholeness: Wholeness,
     since: Since,
 }
 
 impl<'l, L: Sink, N: Notebook> Model for NotedLog<'l, L, N> {
-    ghost use Rattle.btx_machine.specs.refinement.Joined.{NotedLog as Noted, Tells};
+    ghost use Rattle.btx_machine.specs.refinement.Joined.{NotedLog as Noted, HasNoted};
 
     ghost Value = { Noted };
 
@@ -30,10 +30,10 @@ impl<'l, L: Sink, N: Notebook> Model for NotedLog<'l, L, N> {
       failures = L.failures log.sink.now;
       noted = N.noted log.notebook.now;
       joined = record { sink = log.sink.ghost_name; notebook = log.notebook.ghost_name; since = log.since.at };
-      told = log.told;
+      wholeness = log.wholeness;
     } };
 
-    ghost invariant = { λ log. Tells log.since.at (N.noted log.notebook.now) (L.received log.sink.now) log.told };
+    ghost invariant = { λ log. HasNoted log.since.at (N.noted log.notebook.now) (L.received log.sink.now) log.wholeness };
 }
 
 impl<'l, L: Sink, N: Notebook> NotedLog<'l, L, N> {
@@ -45,13 +45,13 @@ impl<'l, L: Sink, N: Notebook> NotedLog<'l, L, N> {
         ensures since_noted { result.joined.since.noted ≡ N.noted notebook.old }
         ensures received { result.received ≡ L.received sink.old }
         ensures failures { result.failures ≡ L.failures sink.old }
-        ensures told { result.told ≡ Whole }
+        ensures whole { result.wholeness ≡ Whole }
     {
         let since = since(&*sink, &*notebook);
         NotedLog {
             sink,
             notebook,
-            told: Told::Whole,
+            wholeness: Wholeness::Whole,
             since,
         }
     }
@@ -63,7 +63,7 @@ impl<'l, L: Sink, N: Notebook> NotedLog<'l, L, N> {
         ensures received { L.received result.0.now ≡ self.entry.received }
         ensures failures { L.failures result.0.now ≡ self.entry.failures }
         ensures noted { N.noted result.1.now ≡ self.entry.noted }
-        ensures tells { Tells self.entry.joined.since self.entry.noted self.entry.received self.entry.told }
+        ensures lines { HasNoted self.entry.joined.since self.entry.noted self.entry.received self.entry.wholeness }
     {
         (self.sink, self.notebook)
     }
@@ -84,12 +84,12 @@ impl<'l, L: Sink, N: Notebook> LogSink for NotedLog<'l, L, N> {
 
     ghost joined = { λ log. log.joined };
 
-    ghost told = { λ log. log.told };
+    ghost wholeness = { λ log. log.wholeness };
 
     fn log_line(&mut self, line: &LogLine, about: About<'_>) -> Result<(), Fault> {
         self.notebook.note(line, about);
         let answer = Log::new().line(line.text(), self.sink);
-        self.told = self.told.after(answer.is_err());
+        self.wholeness = self.wholeness.after(answer.is_err());
         answer
     }
 }

@@ -74,7 +74,7 @@ impl<'s, W: Sink, L: LogSink> Outputs<'s, W, L> {
         ensures log_received { L.received result.1.now ≡ self.entry.log.sink.received }
         ensures log_failures { L.failures result.1.now ≡ self.entry.log.sink.failures }
         ensures log_joined { L.joined result.1.now ≡ self.entry.log.joined }
-        ensures log_told { L.told result.1.now ≡ self.entry.log.told }
+        ensures log_whole { L.wholeness result.1.now ≡ self.entry.log.wholeness }
     {
         (self.bbl, self.log.into_sink())
     }

@@ -9,7 +9,7 @@ ghost use Rattle.btx_machine.specs.language.KeepingStep.{AtFault, Completes};
 ghost use Rattle.btx_machine.specs.language.Product.{style_product};
 ghost use Rattle.btx_machine.specs.refinement.Written.{received};
 ghost use Rattle.btx_machine.specs.laws.Reports.{log_counts};
-ghost use Rattle.btx_machine.specs.refinement.Telling.{Telling};
+ghost use Rattle.btx_machine.specs.refinement.Wholeness.{WholeUnlessCutOff};
 
 use crate::items::do_items;
 use crate::journal::Journal;
@@ -41,7 +41,7 @@ pub fn execute_style<'a, W: Sink, L: LogSink>(
         (style_product job.now counts line) budget) }
     ensures counts { CountsOfTwo result (W.failures bbl.old, W.failures bbl.new) (L.failures log.old, L.failures log.new) }
     ensures joined { L.joined log.new ≡ L.joined log.old }
-    ensures told { Telling result (L.told log.old) (L.told log.new) }
+    ensures whole { WholeUnlessCutOff result (L.wholeness log.old) (L.wholeness log.new) }
 {
     let store = Store::new(alloc, job)?;
     let outputs = Outputs::new(bbl, line, Journal::new(log, counts));

@@ -5,7 +5,7 @@ ghost use Rattle.btx_text.specs.language.Limits.{greatest_file};
 ghost use Rattle.btx_aux.specs.refinement.Answers.{ByAnswers};
 ghost use Rattle.btx_machine.specs.language.DirectDepth.{StaysWithin};
 ghost use Rattle.btx_machine.specs.refinement.Faults.{CountsOfTwo};
-ghost use Rattle.btx_machine.specs.refinement.Telling.{Telling};
+ghost use Rattle.btx_machine.specs.refinement.Wholeness.{WholeUnlessCutOff};
 ghost use Rattle.btx_machine.specs.language.KeepingStep.{AtFault, Completes};
 ghost use Rattle.btx_machine.specs.language.Noting.{Printed, PrintedOrBrokenOff};
 ghost use Rattle.btx_machine.specs.language.Product.{log_of, style_product as executed};
@@ -54,7 +54,7 @@ fn execute<'a, W: Sink, L: LogSink>(
         (executed (work_of style.now library.now options.now) counts options.now.line) options.now.budget) }
     ensures counts { CountsOfTwo result (W.failures bbl.old, W.failures bbl.new) (L.failures log.old, L.failures log.new) }
     ensures joined { L.joined log.new ≡ L.joined log.old }
-    ensures told { Telling result (L.told log.old) (L.told log.new) }
+    ensures whole { WholeUnlessCutOff result (L.wholeness log.old) (L.wholeness log.new) }
 {
     let job = Job::new(
         style,
@@ -84,7 +84,7 @@ fn execute_found<'a, W: Sink, L: LogSink>(
         (executed (work_in job.now found.now options.now) counts options.now.line) options.now.budget) }
     ensures counts { CountsOfTwo result (W.failures bbl.old, W.failures bbl.new) (L.failures log.old, L.failures log.new) }
     ensures joined { L.joined log.new ≡ L.joined log.old }
-    ensures told { Telling result (L.told log.old) (L.told log.new) }
+    ensures whole { WholeUnlessCutOff result (L.wholeness log.old) (L.wholeness log.new) }
 {
     let style = read_style(alloc, found.style.name(), found.style.bytes())?;
     let library = read_library(alloc, &style, job, &found.databases, options.min_crossrefs)?;
@@ -111,7 +111,7 @@ fn after_files<'a, W: Sink, L: LogSink>(
     ensures untouched { IfOk result (λ report. report.end ≡ NoTopFile → bbl.new ≡ bbl.old) }
     ensures counts { CountsOfTwo result (W.failures bbl.old, W.failures bbl.new) (L.failures log.old, L.failures log.new) }
     ensures joined { L.joined log.new ≡ L.joined log.old }
-    ensures told { Telling result (L.told log.old) (L.told log.new) }
+    ensures whole { WholeUnlessCutOff result (L.wholeness log.old) (L.wholeness log.new) }
 {
     match read {
         FilesRead::Ends(end) => log_end(alloc, report_of(end, 0, 0, counts), log),
@@ -142,7 +142,7 @@ fn run_job<F: Finder, W: Sink, L: LogSink>(
     ensures counts { CountsOfThree result (F.failures finder.old, F.failures finder.new) (W.failures bbl.old, W.failures bbl.new)
         (L.failures log.old, L.failures log.new) }
     ensures joined { L.joined log.new ≡ L.joined log.old }
-    ensures told { Telling result (L.told log.old) (L.told log.new) }
+    ensures whole { WholeUnlessCutOff result (L.wholeness log.old) (L.wholeness log.new) }
     ensures stays { F.content finder.new ≡ F.content finder.old }
 {
     let mut journal = Journal::new(log, LogCounts::NONE);
@@ -176,7 +176,7 @@ fn run_named<F: Finder, W: Sink, L: LogSink>(
     ensures counts { CountsOfThree result (F.failures finder.old, F.failures finder.new) (W.failures bbl.old, W.failures bbl.new)
         (L.failures log.old, L.failures log.new) }
     ensures joined { L.joined log.new ≡ L.joined log.old }
-    ensures told { Telling result (L.told log.old) (L.told log.new) }
+    ensures whole { WholeUnlessCutOff result (L.wholeness log.old) (L.wholeness log.new) }
     ensures stays { F.content finder.new ≡ F.content finder.old }
 {
     let job = read_job(alloc, finder, name)?;

@@ -6,7 +6,7 @@ use Rattle.btx_text.specs.refinement.Counts.{OneOfTwoRises}
 use Rattle.btx_text.specs.declared.fault.Fault.{Fault}
 use Rattle.btx_text.specs.declared.fault.Fault.TheVariants.{Memory, Device, FileLimit, StringLimit}
 use Rattle.btx_machine.specs.refinement.Outputs.{Outputs, SameSinks}
-use Rattle.btx_machine.specs.refinement.Telling.{StaysTold, Telling}
+use Rattle.btx_machine.specs.refinement.Wholeness.{StaysWhole, WholeUnlessCutOff}
 
 -- a call over two devices: its answer is a value, want of memory or the device's fault, and exactly at the device's fault one call of one of them failed,
 -- and none followed it there
@@ -20,12 +20,12 @@ CountsOfTwo (Err StringLimit) a b = ⊥
 -- a call over both outputs: they go where they went, what its answer says of their counts is so, and the log has all that was noted or breaks off in it
 abbrev pub CountsOfBoth : {T : Type 0} → Result T Fault → Outputs → Outputs → Type 0
 CountsOfBoth result old new = SameSinks old new × CountsOfTwo result (old.bbl.failures, new.bbl.failures) (old.log.sink.failures, new.log.sink.failures)
-    × Telling result old.log.told new.log.told
+    × WholeUnlessCutOff result old.log.wholeness new.log.wholeness
 
 -- since the first of two moments no write to either output has failed, they go where they went, and the log has all that was noted if it had it
 abbrev pub NoneFailed : Outputs → Outputs → Type 0
 NoneFailed old new = SameSinks old new × Stays (old.bbl.failures, new.bbl.failures) × Stays (old.log.sink.failures, new.log.sink.failures)
-    × StaysTold old.log.told new.log.told
+    × StaysWhole old.log.wholeness new.log.wholeness
 
 -- no write to the list of references has failed
 abbrev pub Writes : Outputs → Type 0

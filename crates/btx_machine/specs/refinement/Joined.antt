@@ -2,8 +2,8 @@
 use Rattle.std.specs.Prelude.{ℕ, List, Option, None, ⊤}
 use Rattle.btx_text.specs.declared.failures.Failures.{Failures}
 use Rattle.btx_text.specs.language.LogLines.{Line}
-use Rattle.btx_machine.specs.declared.told.Told.{Told}
-use Rattle.btx_machine.specs.declared.told.Told.TheVariants as told
+use Rattle.btx_machine.specs.declared.wholeness.Wholeness.{Wholeness}
+use Rattle.btx_machine.specs.declared.wholeness.Wholeness.TheVariants.{Whole, CutOff, Lost}
 use Rattle.btx_machine.specs.language.Noting.{Printed, BrokenOff}
 
 -- what a log had received and a notebook had noted when they were joined
@@ -27,10 +27,10 @@ pub record NotedLog : Type 0 where
   pub failures : Failures
   pub noted : Option (List Line)
   pub joined : Joined
-  pub told : Told
+  pub wholeness : Wholeness
 
 -- what the log has received since then of what was noted since then
-abbrev pub Tells : Beginning → Option (List Line) → Option (List ℕ) → Told → Type 0
-Tells since noted received told.Whole = Printed (since.noted, noted) (since.received, received)
-Tells since noted received told.Begun = BrokenOff (since.noted, noted) (since.received, received)
-Tells since noted received told.Lost = ⊤
+abbrev pub HasNoted : Beginning → Option (List Line) → Option (List ℕ) → Wholeness → Type 0
+HasNoted since noted received Whole = Printed (since.noted, noted) (since.received, received)
+HasNoted since noted received CutOff = BrokenOff (since.noted, noted) (since.received, received)
+HasNoted since noted received Lost = ⊤

@@ -35,7 +35,7 @@ loop-name-init g c = record {
   sink = refl;
   writes = refl;
   joined = refl;
-  told = refl;
+  wholeness = refl;
 }
 
 pub loop-name-preserved : goal.loop-name-preserved
@@ -51,5 +51,5 @@ loop-name-preserved g c = record {
   sink = c.add_database.ensures.counts.0 ∙ c.loop-name.invariant.sink;
   writes = search rules;
   joined = c.add_database.ensures.counts.2 ∙ c.loop-name.invariant.joined;
-  told = search rules;
+  wholeness = search rules;
 }

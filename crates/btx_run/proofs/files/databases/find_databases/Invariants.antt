@@ -3,7 +3,7 @@ use Rattle.btx_aux.specs.refinement.Answers.{ByAnswers}
 use Rattle.btx_aux.specs.refinement.Entries.{texts_of}
 use Rattle.btx_run.specs.refinement.Files.Counts.{counts_at}
 use Rattle.btx_run.specs.refinement.Files.Asked.{AreAmong}
-use Rattle.btx_machine.specs.refinement.Telling.{StaysTold}
+use Rattle.btx_machine.specs.refinement.Wholeness.{StaysWhole}
 use Rattle.btx_run.specs.refinement.Files.Readings.{IsRead, databases_read}
 use Rattle.btx_run.proofs.files.databases.find_databases.Given as goal
 
@@ -21,5 +21,5 @@ invariant-loop-name g l =
       sink : l.journal.sink.name ≡ l.initial.journal.sink.name;
       writes : l.journal.sink.failures.count ≡ l.initial.journal.sink.failures.count;
       joined : l.journal.joined ≡ l.initial.journal.joined;
-      told : StaysTold l.initial.journal.told l.journal.told;
+      wholeness : StaysWhole l.initial.journal.wholeness l.journal.wholeness;
     }

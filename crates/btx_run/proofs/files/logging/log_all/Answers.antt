@@ -17,5 +17,5 @@ loop-line-preserved g c = record {
   sink = c.log_one.ensures.sink ∙ c.loop-line.invariant.sink;
   failures = search rules;
   joined = c.log_one.ensures.joined ∙ c.loop-line.invariant.joined;
-  told = c.in_ok-log_one.ensures.told ∙ c.loop-line.invariant.told;
+  wholeness = c.in_ok-log_one.ensures.whole ∙ c.loop-line.invariant.wholeness;
 }

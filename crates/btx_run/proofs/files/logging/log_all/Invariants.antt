@@ -1,7 +1,7 @@
 use Rattle.std.proofs.Common.{◌≡◌, take}
 use Rattle.btx_run.specs.refinement.Files.Counts.{counts_at}
 use Rattle.btx_run.specs.refinement.Files.Logging.{Logs}
-use Rattle.btx_machine.specs.refinement.Telling.{StaysTold}
+use Rattle.btx_machine.specs.refinement.Wholeness.{StaysWhole}
 use Rattle.btx_run.proofs.files.logging.log_all.Given as goal
 
 -- the lines so far were logged, where the log goes, and no write has failed
@@ -11,5 +11,5 @@ invariant-loop-line g l = record {
   sink : l.journal.sink.name ≡ l.initial.journal.sink.name;
   failures : l.journal.sink.failures.count ≡ l.initial.journal.sink.failures.count;
   joined : l.journal.joined ≡ l.initial.journal.joined;
-  told : StaysTold l.initial.journal.told l.journal.told;
+  wholeness : StaysWhole l.initial.journal.wholeness l.journal.wholeness;
 }
