@@ -8,7 +8,7 @@ use Rattle.btx_text.specs.declared.fault.Fault.{Fault}
 use Rattle.btx_machine.proofs.Common.{Line, AppendsPrefix, ended_line}
 use Rattle.btx_machine.specs.declared.wholeness.Wholeness.{Wholeness}
 use Rattle.btx_machine.specs.declared.wholeness.Wholeness.TheVariants.{Whole, CutOff, Lost}
-use Rattle.btx_machine.specs.language.Noting.{AddsLines, Printed, BrokenOff, printed}
+use Rattle.btx_machine.specs.laws.Noting.{AddsLines, Printed, BrokenOff, printed}
 use Rattle.btx_machine.specs.refinement.Joined.{Beginning, HasNoted}
 use Rattle.btx_machine.specs.refinement.Wholeness.{wholeness_after}
 

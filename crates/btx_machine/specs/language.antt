@@ -9,4 +9,3 @@ pub mod Reports
 pub mod Product
 pub mod DirectDepth
 pub mod KeepingStep
-pub mod Noting

@@ -10,3 +10,4 @@ pub mod ProductLaws
 pub mod StepsNeeded
 pub mod DirectDepth
 pub mod Reports
+pub mod Noting

@@ -1,7 +1,7 @@
 //! Notebooks: what is handed each message of a log, as a value.
 ghost use Rattle.std.specs.Prelude.{◌∷◌, [], List, Option, None};
 ghost use Rattle.btx_text.specs.language.LogLines.{Line};
-ghost use Rattle.btx_machine.specs.language.Noting.{AddsLines};
+ghost use Rattle.btx_machine.specs.laws.Noting.{AddsLines};
 
 use btx_text::LogLine;
 

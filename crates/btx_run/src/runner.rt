@@ -7,7 +7,7 @@ ghost use Rattle.btx_machine.specs.language.DirectDepth.{StaysWithin};
 ghost use Rattle.btx_machine.specs.refinement.Faults.{CountsOfTwo};
 ghost use Rattle.btx_machine.specs.refinement.Wholeness.{WholeUnlessCutOff};
 ghost use Rattle.btx_machine.specs.language.KeepingStep.{AtFault, Completes};
-ghost use Rattle.btx_machine.specs.language.Noting.{Printed, PrintedOrBrokenOff};
+ghost use Rattle.btx_machine.specs.laws.Noting.{Printed, PrintedOrBrokenOff};
 ghost use Rattle.btx_machine.specs.language.Product.{log_of, style_product as executed};
 ghost use Rattle.btx_machine.specs.declared.report.End.TheVariants.{NoTopFile};
 ghost use Rattle.btx_run.specs.language.Answered.{CompletesAsAnswered, FailsAsAnswered};

@@ -4,7 +4,7 @@ use Rattle.btx_text.specs.declared.failures.Failures.{Failures}
 use Rattle.btx_text.specs.language.LogLines.{Line}
 use Rattle.btx_machine.specs.declared.wholeness.Wholeness.{Wholeness}
 use Rattle.btx_machine.specs.declared.wholeness.Wholeness.TheVariants.{Whole, CutOff, Lost}
-use Rattle.btx_machine.specs.language.Noting.{Printed, BrokenOff}
+use Rattle.btx_machine.specs.laws.Noting.{Printed, BrokenOff}
 
 -- what a log had received and a notebook had noted when they were joined
 pub record Beginning : Type 0 where

@@ -1,5 +1,5 @@
 -- What a log and a notebook have of the same lines.
-use Rattle.std.specs.Prelude.{◌≡◌, ℕ, ◌⊎◌, List, [], ◌∷◌, ◌++◌, Option, None, Some, ⊤}
+use Rattle.std.specs.Prelude.{◌≡◌, ℕ, ◌⊎◌, List, [], ◌∷◌, ◌++◌, Option, None, Some}
 use Rattle.std.specs.Io.KnownBytes.{Appends}
 use Rattle.std.specs.List.{flat_map}
 use Rattle.btx_text.specs.language.LogLines.{Line}
@@ -7,9 +7,9 @@ use Rattle.btx_machine.specs.language.Saying.{ended_line}
 
 -- a notebook was handed these lines, one after another. One that shows what it was handed may stop to show it, and then shows nothing any more
 abbrev pub AddsLines : Option (List Line) → Option (List Line) → List Line → Type 0
-AddsLines None None lines = ⊤
+AddsLines None None lines = Unit {0}
 AddsLines None (Some ys) lines = ⊥
-AddsLines (Some xs) None lines = ⊤
+AddsLines (Some xs) None lines = Unit {0}
 AddsLines (Some xs) (Some ys) lines = ys ≡ xs ++ lines
 
 -- lines as a log has them, each with its line feed
