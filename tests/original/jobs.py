@@ -76,6 +76,7 @@ JOBS = (
     Job("Byte 127 in a string", "x\x7fy\n", "x\n", STYLE + "FUNCTION {f} {\"x\" #127 int.to.chr$ * \"y\" * 't := t write$ newline$}\nITERATE {f}\n"),
     Job("A digit or sign after a backslash", "\n", "1\n", written('"{\\1}" purify$')),
     Job("A backslash directly before a brace", "relax\n", "\n", written('"{\\\\relax}" purify$')),
+    Job("`text.length$` of what is no string", "0\n", "1\n", written('#1 text.length$ "" = int.to.str$')),
     Job("A colon at the end of a string", " a\n", " A\n", executed('"x:" "t" change.case$ pop$ " A" "t" change.case$ write$')),
     Job("Braces that match none", "A}~B\n", "A~B\n", written('"A} B" #1 "{ff~}{ll}" format.name$')),
     Job("A name that begins with a comma", "A\n", "A,\n", written('", A" #1 "{ff}{, ll}" format.name$')),
