@@ -46,8 +46,9 @@ def by_program(job):
 
 def check_job(job, outcome, has_program):
     outcome.check(job.here != job.original, f"{job.row}: both lists are the same")
-    for who, expected, found in (("here", job.here, by_rules(job, OURS)), ("by the original's rules", job.original, by_rules(job, original.RULES)),
-                                 ("by the original", job.original, by_program(job) if has_program else job.original)):
+    lists = [("here", job.here, by_rules(job, OURS)), ("by the original's rules", job.original, by_rules(job, original.RULES))]
+    lists += [("by the original", job.original, by_program(job))] if has_program else []
+    for who, expected, found in lists:
         outcome.check(found == expected, f"{job.row}: {who} {found[:200]!r}, and it is to be {expected[:200]!r}")
 
 
