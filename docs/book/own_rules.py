@@ -4,10 +4,13 @@ import ast
 import functools
 import html
 import pathlib
+import re
 import sys
 from typing import NamedTuple
 
+import definitions
 import differences
+import glossary
 import rules
 
 HERE = pathlib.Path(__file__).resolve().parent
@@ -63,6 +66,25 @@ def rows_of_lists():
     return {job.row for job in jobs.JOBS}
 
 
+def names_of(text):
+    """The names in a text, with all that they are the path of."""
+    return {part for found in definitions.TOKEN.findall(text) if not found.startswith('"') for part in found.strip(".").split(".")}
+
+
+def names_of_the_book(by_id):
+    """The names of the book's definitions, and the fields and cases of its types."""
+    types = [it for it in by_id.values() if it.kind in ("record", "data", "rust")]
+    return {part for name in by_id for part in name.split(".")} | names_of("\n".join(line for it in types for line in it.lines))
+
+
+def unexplained(rule, by_id):
+    """The names in a rule's lines that neither the rule nor its definition has, the book, the library or the notation."""
+    words = names_of(" ".join(re.findall(r"`([^`]+)`", rule.words)))
+    bound = set().union(*(names_of(found) for line in rule.lines for found in re.findall(r"^(\S.*?) [=:](?: |$)|λ ([^.]*)\.|let (\w+) =", line) for found in found))
+    own = names_of("\n".join(by_id[rule.definition].lines))
+    return names_of("\n".join(rule.lines)) - words - bound - own - names_of_the_book(by_id) - set(glossary.meanings()) - definitions.KEYWORDS - definitions.EVERYWHERE - definitions.PATTERNS
+
+
 def wrong_in(by_id):
     """What is wrong with the rules, as messages."""
     found, shown = by_definition(), rows_of_lists()
@@ -70,6 +92,7 @@ def wrong_in(by_id):
         yield from [f"own_rules.txt: the book has no definition `{rule.definition}`"] * (rule.definition not in by_id)
         yield from [f"own_rules.txt: `{rule.definition}` has no sign in differs.txt"] * (rule.definition not in differences.signs())
         yield from (f"own_rules.txt: tests/reference has no `{name}`" for name in rule.functions if name.partition(".")[2] not in names_in(name.partition(".")[0]))
+    yield from (f"own_rules.txt: `{rule.definition}`: nothing explains `{name}`" for rule in found.values() if rule.definition in by_id for name in unexplained(rule, by_id))
     with_rule = [row for definition in found for row in differences.signs().get(definition, [])]
     yield from (f"own_rules.txt: no definition with the row `{beginning}` has a rule" for beginning in shown if not any(row.startswith(beginning) for row in with_rule))
 
