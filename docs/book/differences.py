@@ -9,6 +9,10 @@ import rules
 FILE = pathlib.Path(__file__).resolve().parents[2] / "docs/DIFFERENCES.md"
 SIGNS = pathlib.Path(__file__).with_name("differs.txt")
 TITLE = "Differences from BibTeX"
+# How many words of a row its anchor has.
+WORDS = 5
+# A line of differs.txt for rows that meet no definition: these words, and the reason.
+NONE = "none: "
 # The words in bold at a row's front.
 LEAD = re.compile(r"(?m)^- \*\*(.+?)\*\*", re.S)
 
@@ -23,7 +27,8 @@ def plain(lead):
 
 
 def anchor(lead):
-    return "differs-" + re.sub(r"\W+", "-", plain(lead).lower()).strip("-")
+    """The words at a row's front as an anchor; as many as tell the rows apart, since each sign has it."""
+    return "differs-" + "-".join(re.findall(r"\w+", plain(lead).lower())[:WORDS])
 
 
 def leads():
@@ -44,11 +49,14 @@ def signs():
 
 def wrong_in(by_id):
     """What is wrong with the table of signs, as messages."""
-    places, known = set(by_id) | set(rules.headings().values()), leads()
-    yield from (f"differs.txt: the book has no `{place}`" for place in signs() if place not in places)
-    signed = [lead for found in signs().values() for lead in found]
-    yield from (f"differs.txt: docs/DIFFERENCES.md has no row `{lead}`" for lead in signed if lead not in known)
-    yield from (f"differs.txt: it has no line for the row `{lead}` of docs/DIFFERENCES.md" for lead in known if lead not in signed)
+    anchors, known = set(rules.headings().values()), leads()
+    yield from (f"differs.txt: the book has no `{place}`" for place in signs() if place not in anchors and place not in by_id and not place.startswith(NONE))
+    of_rules = {lead for place, found in signs().items() if place in anchors for lead in found}
+    others = {lead for place, found in signs().items() if place not in anchors for lead in found}
+    yield from (f"differs.txt: docs/DIFFERENCES.md has no row `{lead}`" for lead in of_rules | others if lead not in known)
+    yield from (f"differs.txt: no rule has the row `{lead}` of docs/DIFFERENCES.md" for lead in known if lead not in of_rules)
+    yield from (f"differs.txt: no definition has the row `{lead}` of docs/DIFFERENCES.md, and no line `{NONE}REASON`" for lead in known if lead not in others)
+    yield from (f"docs/DIFFERENCES.md: two rows begin with the words of `{lead}`" for lead in known if [anchor(other) for other in known].count(anchor(lead)) > 1)
 
 
 def sign_html(place):

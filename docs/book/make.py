@@ -27,6 +27,7 @@ import functions
 import glossary
 import layout
 import links
+import own_rules
 import reach
 import rules
 import weave_html
@@ -110,8 +111,8 @@ class Book:
         """The tables of docs/RULES.md from which the index and the table of functions are made."""
         lacking = bibtex_names.lacking() + functions.lacking(self.by_id)
         self.check(not lacking, "; ".join(lacking))
-        wrong = list(differences.wrong_in(self.by_id))
-        self.passed += len(differences.leads())
+        wrong = list(differences.wrong_in(self.by_id)) + list(own_rules.wrong_in(self.by_id))
+        self.passed += len(differences.leads()) + len(own_rules.by_definition())
         self.wrong += wrong
 
     def check_folders(self):

@@ -12,6 +12,7 @@ import glossary
 import layout
 import links
 import manuals
+import own_rules
 import rules
 from blocks import Blocks, Sections
 from definitions import KEYWORDS, TOKEN, Word
@@ -103,13 +104,13 @@ def references(found, most=6):
 
 
 def definition_html(it):
-    """A definition: its number and comment, its text, its margin, and the links to what it uses and what uses it."""
-    margin = f"{it.crate} · {layout.what_it_is(it)}"
+    """A definition: its number and comment, its text, its margin where nobody has to believe it, and the links to what it uses and what uses it."""
+    margin = "" if it.is_believed else f"<aside>{it.crate} · {layout.what_it_is(it)}</aside>"
     comment = text(layout.prose(it.comment)) or "<em>(no comment)</em>"
     foot = layout.foot_of(it, references, text)
     heading = f"<h4>{text(it.heading[0].upper() + it.heading[1:])}</h4>" if it.heading else ""
-    return (f'{heading}<section id="{it.id}" class="{layout.reach_of(it)}"><p><a class="number" href="#{it.id}">{it.number}</a> {comment}</p>{differences.sign_html(it.id)}{code(it)}'
-            f'<footer>{" · ".join(foot)}</footer><aside>{margin}</aside></section>')
+    return (f'{heading}<section id="{it.id}" class="{layout.reach_of(it)}"><p><a class="number" href="#{it.id}">{it.number}</a> {comment}</p>{differences.sign_html(it.id)}{code(it)}{own_rules.box_html(it.id)}'
+            f'<footer>{" · ".join(foot)}</footer>{margin}</section>')
 
 
 def example_html(example, said, known):

@@ -10,6 +10,7 @@ import glossary
 import layout
 import links
 import manuals
+import own_rules
 import rules
 from blocks import Blocks, Sections
 
@@ -65,7 +66,7 @@ def code(definition):
 def definition_markdown(it):
     foot = [f"{it.crate}, {layout.what_it_is(it)}", *layout.foot_of(it, references)]
     heading = f"#### {it.heading[0].upper() + it.heading[1:]}\n\n" if it.heading else ""
-    return f"{heading}[]{{#{anchor(it)}}}**{it.number}** {layout.prose(it.comment) or '*(no comment)*'}\n\n{differences.sign_markdown(it.id)}{code(it)}\n\n*{'; '.join(foot)}*\n"
+    return f"{heading}[]{{#{anchor(it)}}}**{it.number}** {layout.prose(it.comment) or '*(no comment)*'}\n\n{differences.sign_markdown(it.id)}{code(it)}\n\n{own_rules.box_markdown(it.id)}*{'; '.join(foot)}*\n"
 
 
 def functions_markdown(by_id):

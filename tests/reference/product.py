@@ -1,6 +1,6 @@
 """A whole run: from the files of a job and its options to the list, the log and the report."""
 
-from typing import NamedTuple
+from typing import Callable, NamedTuple
 
 from aux_files import LONGEST_FILE, read_aux
 from breaking import sure, wrapped
@@ -34,13 +34,35 @@ class Product(NamedTuple):
     report: Report
 
 
+class Rules(NamedTuple):
+    """What a run goes by: the three readers, the machine, and what is written of its lines. `OURS` are this program's; `original.RULES` are the original's."""
+    read_aux: Callable
+    read_style: Callable
+    read_databases: Callable
+    machine: Callable
+    written: Callable
+
+
+def written(machine, end, most):
+    """The list of a machine at the end of a run."""
+    done = b"".join(wrapped(text, most) for text in machine.finished)
+    if end != "finished":
+        done += sure(machine.pending, most)
+    elif machine.pending:
+        done += wrapped(machine.pending, most)
+    return done
+
+
+OURS = Rules(read_aux, read_style, read_databases, Machine, written)
+
+
 class Ends(Exception):
     """The run ends with this word."""
 
 
 class Run:
-    def __init__(self, files, job, options):
-        self.files, self.job, self.options = files, job, options
+    def __init__(self, files, job, options, rules):
+        self.files, self.job, self.options, self.rules = files, job, options, rules
         self.log, self.counts = [], {"warning": 0, "error": 0}
         self.machine = None
 
@@ -63,7 +85,7 @@ class Run:
         return self.product(end)
 
     def go(self):
-        job = read_aux(self.files, self.job)
+        job = self.rules.read_aux(self.files, self.job)
         for kind, text in job.log:
             self.say(kind, text)
         if job.end != "whole":
@@ -76,9 +98,9 @@ class Run:
         self.say("", b"The style file: " + job.style)
         if len(self.files[job.style]) > LONGEST_FILE:
             raise Ends("limit file")
-        style = read_style(job.style, self.files[job.style])
+        style = self.rules.read_style(job.style, self.files[job.style])
         sources = list(self.fetch_databases(job.databases))
-        self.machine = Machine(style, self.options, self.say)
+        self.machine = self.rules.machine(style, self.options, self.say)
         for item in style.items:
             self.take_item(style, job, sources, item)
 
@@ -96,7 +118,7 @@ class Run:
         if isinstance(item, Message):
             self.say("error", item.text)
         elif item.word == b"READ":
-            library = read_databases(style, job, sources, self.options.min_crossrefs)
+            library = self.rules.read_databases(style, job, sources, self.options.min_crossrefs)
             for kind, text in library.messages:
                 self.say(kind, text)
             if library.end != "whole":
@@ -106,14 +128,8 @@ class Run:
             self.machine.command(item.word, item.meaning)
 
     def product(self, end):
-        machine, most = self.machine, self.options.line
-        done = b""
-        if machine:
-            done = b"".join(wrapped(text, most) for text in machine.finished)
-            if end != "finished":
-                done += sure(machine.pending, most)
-            elif machine.pending:
-                done += wrapped(machine.pending, most)
+        machine = self.machine
+        done = self.rules.written(machine, end, self.options.line) if machine else b""
         warnings, errors = self.counts["warning"], self.counts["error"]
         status = (4 if end == "stopped" else 3 if end != "finished" else 2 if errors else 0)
         report = Report(status, end, machine.steps if machine else 0, machine.deepest if machine else 0,
@@ -123,6 +139,6 @@ class Run:
         return Product(done, b"".join(text + b"\n" for text in self.log), report)
 
 
-def run(files, job, options=Options()):
+def run(files, job, options=Options(), rules=OURS):
     """`files` maps names to bytes; `job` is the job's name."""
-    return Run(files, job, options).whole()
+    return Run(files, job, options, rules).whole()

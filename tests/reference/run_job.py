@@ -1,13 +1,15 @@
 """Runs a job of a folder and prints its list, its log and its report.
 
-    python3 run_job.py [--min-crossrefs N] [--budget N] [--utf8] [--line N] [--entry-max N] [--global-max N] FOLDER JOB
-"""
+    python3 run_job.py [--original] [--min-crossrefs N] [--budget N] [--utf8] [--line N] [--entry-max N] [--global-max N] FOLDER JOB
+
+With --original the list is that of the original program, BibTeX 0.99d, and its sizes are TeX Live's where none is given. The log and the report then say nothing of the original's."""
 
 import argparse
 import pathlib
 import sys
 
-from product import Options, run
+import original
+from product import OURS, Options, run
 
 
 def arguments(words):
@@ -15,10 +17,16 @@ def arguments(words):
     parser.add_argument("folder", type=pathlib.Path)
     parser.add_argument("job")
     parser.add_argument("--utf8", action="store_true")
+    parser.add_argument("--original", action="store_true")
     for name in ("min-crossrefs", "budget", "line", "entry-max", "global-max"):
-        field = name.replace("-", "_")
-        parser.add_argument("--" + name, type=int, default=Options._field_defaults[field])
+        parser.add_argument("--" + name, type=int, default=None)
     return parser.parse_args(words)
+
+
+def options_of(given):
+    """The options that are given, and for the others their defaults, or the original's."""
+    sizes = original.SIZES if given["original"] else {}
+    return Options(**{**sizes, **{field: given[field] for field in Options._fields if given[field] is not None}})
 
 
 def files_of(folder):
@@ -27,8 +35,8 @@ def files_of(folder):
 
 def main(words):
     given = vars(arguments(words))
-    options = Options(**{field: given[field] for field in Options._fields})
-    product = run(files_of(given["folder"]), given["job"].encode(), options)
+    rules = original.RULES if given["original"] else OURS
+    product = run(files_of(given["folder"]), given["job"].encode(), options_of(given), rules)
     for title, text in (("list", product.list), ("log", product.log)):
         sys.stdout.buffer.write(b"-- %s\n%s" % (title.encode(), text))
     sys.stdout.flush()
