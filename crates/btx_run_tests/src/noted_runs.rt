@@ -81,14 +81,19 @@ impl Notebook for Kept {
 
 // What a notebook kept of a run, and what the log's device took.
 #[derive(Drop)]
-struct Noted {
+struct NotedRun {
     kept: Kept,
     log: Over<FakeWriter>,
     is_ok: bool,
 }
 
 // Runs a job whose log's device fails at one write, if at all.
-fn noted(alloc: Global, files: &[File<'_>], how: Failing, at: u64) -> Result<Noted, Fault> {
+fn run_and_note(
+    alloc: Global,
+    files: &[File<'_>],
+    how: Failing,
+    at: u64,
+) -> Result<NotedRun, Fault> {
     let mut finder = MemoryFinder::new(alloc, files)?;
     let mut bbl = Over::new(Vec::new(alloc));
     let mut log = Over {
@@ -106,7 +111,7 @@ fn noted(alloc: Global, files: &[File<'_>], how: Failing, at: u64) -> Result<Not
         &mut log,
         &mut kept,
     );
-    Ok(Noted {
+    Ok(NotedRun {
         kept,
         log,
         is_ok: answer.is_ok(),
@@ -115,7 +120,7 @@ fn noted(alloc: Global, files: &[File<'_>], how: Failing, at: u64) -> Result<Not
 
 // Whether a run's log is what was noted, line by line, and the lines were met at these places.
 fn is_noted(alloc: Global, files: &[File<'_>], places: &[u8]) -> Result<bool, Fault> {
-    let ran = noted(alloc, files, Failing::Never, 0)?;
+    let ran = run_and_note(alloc, files, Failing::Never, 0)?;
     Ok(
         ran.is_ok
             && !ran.kept.is_full
@@ -156,7 +161,7 @@ fn notes_each_line(rt: HostRuntime) -> Result<(), Fail> {
 // Whether a run is past the write at which its log fails. If not, the log is what was noted without its last line, and a prefix of that line.
 fn passes(rt: &(impl Abort + AllocGlobal), at: u64) -> Result<bool, Fault> {
     let files = job_of(AUX, BAD_BODY, DATABASE);
-    let ran = noted(rt.alloc(), &files, Failing::Error, at)?;
+    let ran = run_and_note(rt.alloc(), &files, Failing::Error, at)?;
     let log = ran.log.writer.bytes.as_slice();
     let lines = ran.kept.lines.as_slice();
     assert!(rt; lines.starts_with(log) && ran.kept.before <= log.len());
