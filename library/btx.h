@@ -106,6 +106,49 @@ uint32_t btx_run(const unsigned char *job, size_t job_len, const btx_file *files
 uint32_t btx_where(const unsigned char *job, size_t job_len, const btx_file *files, size_t files_len, const btx_options *options,
                    uint32_t most, unsigned char *notes, size_t notes_room, size_t *notes_len);
 
+/* A string that is known before a database, as a style's macro: its name, and its text. */
+typedef struct {
+    btx_text name;
+    btx_text text;
+} btx_string;
+
+/* What a record of a database is. */
+enum {
+    BTX_COMMENT = 0,  /* an @comment */
+    BTX_PREAMBLE = 1, /* a @preamble: its text */
+    BTX_STRING = 2,   /* a @string: its name, and its text */
+    BTX_ENTRY = 3,    /* the beginning of an entry: its type as the name, its key as the text */
+    BTX_FIELD = 4,    /* a field of the entry: its name, and its text */
+    BTX_END = 5,      /* the end of a @preamble, a @string or an entry */
+    BTX_WRONG = 6     /* what is wrong: the line that a run logs of it as the text */
+};
+
+/* A record of a database. Its name and its text lie in `texts`, with no byte after them. */
+typedef struct {
+    uint32_t kind;   /* BTX_COMMENT .. BTX_WRONG */
+    bool is_whole;   /* false if its text has more than 1,000,000 bytes: then it is left out */
+    size_t start;    /* the bytes of the database before its first byte: the `@`, the name of a field, the delimiter that ends an item */
+    size_t end;      /* the bytes before the byte after its last; where something is wrong, start and end are its place */
+    size_t line;     /* the line of its first byte, from 1 up */
+    size_t name_at;  /* the bytes of `texts` before its name */
+    size_t name_len;
+    size_t text_at;  /* the bytes of `texts` before its text */
+    size_t text_len;
+} btx_record;
+
+/* How many records a database has, and how many bytes their names and texts have. */
+typedef struct {
+    size_t records;
+    size_t texts;
+} btx_sizes;
+
+/* Reads the database `text`, whose file's name `file` is for the lines about what is wrong, whatever a document cites: each item in its order, with entries of a
+   repeated key. These strings are known before it; the last of a name counts. A text is the value as a run stores it, after strings and `#`. Writes the
+   records and their texts, as many as there is room for, and in `*sizes` how many there are in all; if that is more than there is room for, it answers
+   BTX_FULL. A database of more than 2,147,483,647 bytes is refused: BTX_REFUSED. After that and after BTX_MEMORY nothing was written. */
+uint32_t btx_read(const unsigned char *file, size_t file_len, const unsigned char *text, size_t text_len, const btx_string *strings, size_t strings_len,
+                  btx_record *records, size_t records_room, unsigned char *texts, size_t texts_room, btx_sizes *sizes);
+
 /* What is said of a style. */
 enum {
     BTX_CLEAN = 0,     /* no run of it logs a fault of the stack or of kinds */

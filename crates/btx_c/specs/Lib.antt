@@ -5,3 +5,4 @@ pub mod Needs
 pub mod Options
 pub mod Outcomes
 pub mod Reports
+pub mod Read

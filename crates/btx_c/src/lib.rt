@@ -14,6 +14,7 @@ pub mod needs;
 pub mod options;
 pub mod others;
 pub mod places;
+pub mod read;
 pub mod report;
 pub mod run;
 pub mod supposed;

@@ -1,0 +1,3 @@
+pub mod language
+pub mod laws
+pub mod refinement

@@ -1,0 +1,5 @@
+//! Tests of the records of databases.
+#![tactic(auto)]
+
+#[cfg(test)]
+mod tests;

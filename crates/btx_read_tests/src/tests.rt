@@ -1,0 +1,2 @@
+//! Worked rows: short databases, and their records.
+mod rows;
