@@ -2,7 +2,7 @@
 
     python3 web/page/build.py [MODULE.wasm]
 
-MODULE.wasm is web/out/btx.wasm, which `web/build` makes. The styles are those of examples/ and the two of docs/STYLES.md, and what to do about a message is the front end's table."""
+MODULE.wasm is web/out/btx.wasm, which `web/build` makes; of a module without a proof the page says that nothing of it is proved. The styles are those of examples/ and the two of docs/STYLES.md, and what to do about a message is the front end's table."""
 
 import base64
 import gzip
@@ -15,8 +15,16 @@ import sys
 
 HERE = pathlib.Path(__file__).resolve().parent
 ROOT = HERE.parents[1]
+sys.path.insert(0, str(ROOT / "web"))
+import verdict  # noqa: E402
+
 OUT = ROOT / "web/out/btx.html"
 STYLES = ["examples/article/article.bst", "examples/cross_reference/parents.bst", "examples/utf8_names/initials.bst", "examples/stopped/endless.bst"]
+# What the page says of itself at its head and at its foot, where its module is of the proved library and where it isn't.
+CLAIMS = {
+    True: ("The list is the proved library's.", "BibTeX, proved: @VERSION@. The library's contract is proved; that this page shows it, and its compilation for WebAssembly, are tested."),
+    False: ("NOTHING OF THIS PAGE IS PROVED: it was made for trying.", "BibTeX, unproved: @VERSION@, a page made for trying, of whose library nothing is proved."),
+}
 DOCUMENT = "\\documentclass{article}\n\\begin{document}\nSee \\cite{%s}.\n\\bibliographystyle{article}\n\\bibliography{article}\n\\end{document}\n"
 
 
@@ -87,7 +95,8 @@ def version():
 def main():
     module = pathlib.Path(sys.argv[1] if len(sys.argv) > 1 else ROOT / "web/out/btx.wasm").read_bytes()
     script, style = script_of(module), (HERE / "page.css").read_text(encoding="utf8")
-    parts = {"SCRIPT_HASH": hash_of(script), "STYLE_HASH": hash_of(style), "STYLE": style, "VERSION": version(), "SCRIPT": script}
+    claim, foot = CLAIMS[verdict.is_proved(module)]
+    parts = {"CLAIM": claim, "FOOT": foot.replace("@VERSION@", version()), "SCRIPT_HASH": hash_of(script), "STYLE_HASH": hash_of(style), "STYLE": style, "SCRIPT": script}
     page = re.sub(r"@(\w+)@", lambda found: parts[found[1]], (HERE / "page.html").read_text(encoding="utf8"))
     OUT.parent.mkdir(exist_ok=True)
     OUT.write_text(page, encoding="utf8")

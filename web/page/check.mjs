@@ -8,6 +8,7 @@ import { mkdirSync, readFileSync, writeFileSync } from 'node:fs';
 import path from 'node:path';
 import { fileURLToPath, pathToFileURL } from 'node:url';
 import { deflateRawSync } from 'node:zlib';
+import { proofOf } from '../npm/library.js';
 import { Browser, program } from './browser.mjs';
 
 const HERE = path.dirname(fileURLToPath(import.meta.url));
@@ -54,6 +55,9 @@ async function firstSight(page) {
   check('it has no message', (await messages(page))[0][1] === 'None.');
   check('the styles of the examples are there', (await page.ask("[...document.getElementById('style-which').options].map((it) => it.text).join()")).includes('small.bst'));
   check('each field has a label', await page.ask("[...document.querySelectorAll('textarea, input, select')].every((it) => it.hidden || it.labels.length > 0 || it.ariaLabel)"));
+  const verdict = proofOf(new WebAssembly.Module(readFileSync(path.resolve(HERE, '../out/btx.wasm'))));
+  const said = await page.ask("document.querySelector('header').textContent + document.querySelector('footer').textContent");
+  check('the page says whether its library is proved', verdict.startsWith('logic=proved ') !== said.includes('NOTHING OF THIS PAGE IS PROVED') && verdict.startsWith('logic=proved ') !== said.includes('nothing is proved'));
   check('the page asks for nothing from outside', await page.ask("performance.getEntriesByType('resource').every((it) => it.name.startsWith('blob:') || it.name.startsWith('data:'))"));
 }
 

@@ -2,7 +2,7 @@
 // Makes the list of references of a job in the present folder: reads JOB.aux, its style and its databases, and writes JOB.bbl and JOB.blg.
 import { writeFileSync } from 'node:fs';
 import { parseArgs } from 'node:util';
-import { MemoryRefused, OptionRefused, OutputTooLong, run, textOf } from '../index.js';
+import { MemoryRefused, OptionRefused, OutputTooLong, proof, run, textOf } from '../index.js';
 import { finderIn } from '../search.js';
 
 const USAGE = `btx [OPTION].. JOB
@@ -73,7 +73,7 @@ function write(file, bytes) {
 function main() {
   const { values, positionals } = words();
   if (values.help) return console.log(USAGE);
-  if (values.version) return console.log(`btx ${VERSION}`);
+  if (values.version) return console.log(`btx ${VERSION}, of a library of which the prover said:\n${proof()}`);
   if (positionals.length !== 1) fail('name one job: the document without .tex', STATUS.refused);
   const job = positionals[0].replace(/\.aux$/, '');
   if (job === '' || job.includes('\n')) fail("a job's name can't be empty or have a line end", STATUS.refused);
