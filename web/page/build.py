@@ -63,10 +63,20 @@ def first_job():
     return {"document": {"name": "paper.tex", "text": DOCUMENT % ",\n  ".join(keys)}, "databases": [{"name": "article.bib", "text": text_of("examples/article/article.bib")}]}
 
 
-def script_of(module):
-    """The page's one script. The worker's is a text in it, and so is the module, packed."""
+def machine(module):
+    """The lines of a script that have what runs jobs: WORKER, the address of the worker's script, and `unpacked`, a promise of the module's bytes. Both are texts in it."""
     library = without_exports((ROOT / "web/npm/library.js").read_text(encoding="utf8"))
     worker = library + (HERE / "worker.js").read_text(encoding="utf8")
+    return [
+        f"const WORKER = URL.createObjectURL(new Blob([{in_script(worker)}], {{ type: 'text/javascript' }}));",
+        f"const PACKED = {in_script(base64.b64encode(gzip.compress(module, 9, mtime=0)).decode('ascii'))};",
+        "const unpacked = new Response(new Blob([Uint8Array.from(atob(PACKED), (letter) => letter.charCodeAt(0))]).stream()",
+        "  .pipeThrough(new DecompressionStream('gzip'))).arrayBuffer();",
+    ]
+
+
+def script_of(module):
+    """The page's one script."""
     styles = [{"name": pathlib.Path(path).name, "text": text_of(path)} for path in STYLES] + styles_of_tutorial()
     rows = ", ".join(f"[new RegExp({in_script('^' + pattern)}), {in_script(words)}]" for pattern, words in advice())
     return "\n".join([
@@ -74,10 +84,7 @@ def script_of(module):
         f"const STYLES = {in_script(styles)};",
         f"const FIRST_JOB = {in_script(first_job())};",
         f"const ADVICE = [{rows}];",
-        f"const WORKER = URL.createObjectURL(new Blob([{in_script(worker)}], {{ type: 'text/javascript' }}));",
-        f"const PACKED = {in_script(base64.b64encode(gzip.compress(module, 9, mtime=0)).decode('ascii'))};",
-        "const unpacked = new Response(new Blob([Uint8Array.from(atob(PACKED), (letter) => letter.charCodeAt(0))]).stream()",
-        "  .pipeThrough(new DecompressionStream('gzip'))).arrayBuffer();",
+        *machine(module),
         (HERE / "latex.js").read_text(encoding="utf8").replace("/** ", "// ").replace(" */", ""),
         (HERE / "page.js").read_text(encoding="utf8").replace("\nbegin();\n", "\nlet MODULE;\nunpacked.then(async (bytes) => { MODULE = await WebAssembly.compile(bytes); begin(); });\n"),
     ])
