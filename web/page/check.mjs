@@ -29,9 +29,9 @@ function check(name, is) {
 const SHOW = 'ENTRY {title}{}{}\nFUNCTION {misc} {newline$ "\\bibitem{" cite$ * "}" * write$ newline$ title write$ newline$}\nREAD\nITERATE {call.type$}\n';
 const AUX = '\\citation{*}\n\\bibdata{d}\n\\bibstyle{s}\n';
 
-// The text of an element, and whether a run has ended since the last change.
+// The text of an element, and whether a run and the check of its style have ended since the last change.
 const text = (id) => `document.getElementById(${JSON.stringify(id)}).textContent`;
-const ENDED = `${text('status')}.match(/^(Ended|Stopped|No result|Not run)/) !== null`;
+const ENDED = `${text('status')}.match(/^(Ended|Stopped|No result|Not run)/) !== null && !${text('panel-verdict')}.startsWith('Checking')`;
 
 // Puts a job into the page: its document, database and style, and runs it.
 async function put(page, { document = AUX, database = '', style = SHOW, name = 'a.aux', data = 'd.bib', file = 's.bst' }) {
@@ -135,6 +135,8 @@ async function verdicts(page) {
   check('which can be gone to', await page.ask("document.activeElement.id === 'style'"));
   await put(page, { style: SHOW.replace('title write$', 'title empty$ {} {title write$} if$') });
   check('and the mended one is clean', (await page.ask(text('panel-verdict'))).startsWith('Clean:'));
+  await page.ask("document.getElementById('database').value = '@misc{b}'; document.getElementById('run').click()");
+  check('another database leaves the verdict as it is', await page.until(ENDED) && (await page.ask(text('panel-verdict'))).startsWith('Clean:'));
 }
 
 async function budgets(page) {
@@ -324,7 +326,7 @@ async function looks(page) {
 
 async function main() {
   if (!program()) {
-    console.log('there is no chromium: the page is not looked at');
+    console.log('left out: the page in a browser (there is no chromium)');
     console.log('1 passed, 0 failed');
     return;
   }

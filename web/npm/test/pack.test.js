@@ -1,7 +1,7 @@
 // The package as npm makes it, without a network: installed in a folder of its own, and run there.
 import assert from 'node:assert/strict';
 import { spawnSync } from 'node:child_process';
-import { existsSync, readFileSync, readdirSync } from 'node:fs';
+import { cpSync, readFileSync, readdirSync, writeFileSync } from 'node:fs';
 import path from 'node:path';
 import test from 'node:test';
 import { proof } from '../index.js';
@@ -24,7 +24,7 @@ test('npm packs it, installs it and runs it without a network', { skip: !isThere
   assert.equal(packed.status, 0, packed.stderr);
   const [{ filename, files, size }] = JSON.parse(packed.stdout);
   const names = files.map(({ path: name }) => name).sort();
-  assert.deepEqual(names, ['bin/btx.js', 'btx.wasm', 'index.d.ts', 'index.js', 'library.d.ts', 'library.js', 'messages.d.ts', 'messages.js', 'package.json', 'search.js']);
+  assert.deepEqual(names, ['README.md', 'bin/btx.js', 'btx.wasm', 'index.d.ts', 'index.js', 'library.d.ts', 'library.js', 'messages.d.ts', 'messages.js', 'package.json', 'search.js']);
   assert.ok(size < 400_000, `${size} bytes`);
   const installed = npm(room, {}, 'install', `./${filename}`);
   assert.equal(installed.status, 0, installed.stderr);
@@ -37,8 +37,12 @@ test('npm packs it, installs it and runs it without a network', { skip: !isThere
   assert.equal(asked.stdout, `function function function 79 ${proof().split(/[ :]/)[0]}\n`, asked.stderr);
 }));
 
-test('a module without a proof is not packed', { skip: (!isThere && 'there is no npm') || (proof().startsWith('logic=proved') && 'the module is proved') }, () => inRoom({}, (room) => {
-  assert.notEqual(npm(room, { BTX_UNPROVED: '' }, 'pack', PACKAGE).status, 0);
+test('a module without a proof is not packed', { skip: !isThere && 'there is no npm' }, () => inRoom({}, (room) => {
+  cpSync(PACKAGE, path.join(room, 'copy'), { recursive: true });
+  // (the least module that there is says nothing of a proof)
+  writeFileSync(path.join(room, 'copy/btx.wasm'), Uint8Array.of(0, 97, 115, 109, 1, 0, 0, 0));
+  const packed = npm(room, { BTX_UNPROVED: '' }, 'pack', './copy');
+  assert.notEqual(packed.status, 0);
+  assert.match(packed.stderr, /nothing is proved of this btx\.wasm/);
   assert.ok(!readdirSync(room).some((name) => name.endsWith('.tgz')));
-  assert.ok(existsSync(path.join(PACKAGE, 'btx.wasm')));
 }));
