@@ -9,7 +9,7 @@
 # make uninstall  takes them away again
 # make check      the whole gate: every proof, test and end-to-end check from nothing
 # make try        builds the program, the library and the front end of the tree as it stands, without any proof, in out/try; it installs nothing
-# make book       weaves the book of definitions, docs/book/out/book.html and book.md, and checks it; it needs no kit
+# make book       weaves the book of definitions, docs/book/out/book.html and book.md, and checks it; it needs no kit. After make web its examples can be run in it
 
 PREFIX = /usr/local
 DESTDIR =

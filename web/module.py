@@ -1,12 +1,18 @@
 """Takes the LLVM module of the library for C from the kit's own build of it, which proves the crate first.
 
-    python3 web/module.py OUT.bc
+    python3 web/module.py OUT.bc VERDICT                 and writes what the kit said of the proof into VERDICT
+    python3 web/module.py --unproved OUT.bc VERDICT      the module of the tree as it stands, of which nothing is proved: for trying
 
 The kit hands the module to the clang of its toolchain. So this build is given a toolchain folder with a clang that keeps the module and goes no further. The module is
-taken only if the build said `logic=proved` before. It begins with what `make library` kept, and takes a minute then."""
+taken only if the build said `logic=proved` before. It begins with what `make library` kept, and takes a minute then.
 
+The kit is asked for its verdict for 64-bit WebAssembly too. It proves the library for that machine, says so, and refuses to compile it."""
+
+import importlib.machinery
+import importlib.util
 import os
 import pathlib
+import re
 import shutil
 import subprocess
 import sys
@@ -18,6 +24,7 @@ from plant import load_kit  # noqa: E402
 
 # Modules of the build that are no larger are of the kit's start-up code, and are compiled.
 LEAST = 100_000
+WASM = "wasm64-unknown-unknown"
 CLANG = """#!/bin/sh
 for file in *.bc; do
     if [ -f "$file" ] && [ "$(stat -c %s "$file")" -gt {least} ]; then cp "$file" '{into}'; exit 1; fi
@@ -43,22 +50,66 @@ def toolchain(kit, room, into):
     return str(made)
 
 
-def main(into):
-    kit = load_kit()
-    kit.rtlib.Crate = kit.Crate
-    folder = ROOT / "crates/btx_c"
-    crate = kit.Crate(str(folder), str(ROOT), {})
+def verdict_in(printed, target=None):
+    """The line by which the kit says that the library is proved, for this target; None where it doesn't."""
+    lines = [line for line in printed.splitlines() if re.match(r"logic=proved .*\bfunctions=[1-9]", line)]
+    return next((line for line in reversed(lines) if not target or f" target={target} " in f"{line} "), None)
+
+
+class Build:
+    """The kit's build of the library: its words, and where its proofs are kept."""
+
+    def __init__(self, room, folder=ROOT / "crates/btx_c", root=ROOT):
+        self.kit, self.room, self.folder = load_kit(), room, folder
+        self.kit.rtlib.Crate = self.kit.Crate
+        self.words = self.kit.Crate(str(folder), str(root), {}).words(["--jobs", "2"])
+        self.module = os.path.join(room, "module.bc")
+
+    def printed(self, *words):
+        words = [*self.words, "--incremental", "out/incremental", *words]
+        words += ["--toolchain", toolchain(self.kit, tempfile.mkdtemp(dir=self.room), self.module), "--backend", "llvm", "-o", os.path.join(self.room, "library.a")]
+        return subprocess.run([self.kit.rtlib.RATTLE, "build", *words], cwd=self.folder, stdin=subprocess.DEVNULL, stdout=subprocess.PIPE,
+                              stderr=subprocess.STDOUT, text=True, errors="replace").stdout
+
+
+def proved(room, into):
+    """Takes the module of the proved library; answers the kit's verdicts on it, for this machine and for WebAssembly."""
+    build = Build(room)
+    printed = build.printed()
+    verdict = verdict_in(printed)
+    if not verdict or not os.path.exists(build.module):
+        sys.exit(f"{printed[-3000:]}web: the library isn't proved, so there is no module of it")
+    shutil.copyfile(build.module, into)
+    printed = build.printed("--target", WASM)
+    for_wasm = verdict_in(printed, WASM)
+    if not for_wasm:
+        print(f"{printed[-1000:]}left out: the verdict for {WASM} (this kit gives none)", file=sys.stderr)
+    return [verdict, *([for_wasm] if for_wasm else [])]
+
+
+def unproved(room, into):
+    """Makes the module of the tree as `make try` does."""
+    loader = importlib.machinery.SourceFileLoader("trial", str(ROOT / "contrib/try"))
+    trial = importlib.util.module_from_spec(importlib.util.spec_from_loader("trial", loader))
+    sys.dont_write_bytecode = True
+    loader.exec_module(trial)
+    room, kit = pathlib.Path(room), trial.kit_folder()
+    module = trial.make_module(kit, room)
+    if module is None:
+        sys.exit("web: the tree doesn't compile")
+    subprocess.run([kit / "toolchain/bin/clang", "-S", "-emit-llvm", "-Xclang", "-disable-llvm-passes", "-x", "ir", module, "-o", room / "module.ll"], check=True)
+    with open(room / "module.ll", encoding="utf8", errors="replace") as lines, open(into, "w", encoding="utf8") as out:
+        out.writelines(trial.without_checks(lines))
+    return ["unproved: made for trying"]
+
+
+def main(into, verdict, make=proved):
     with tempfile.TemporaryDirectory() as room:
-        module = os.path.join(room, "module.bc")
-        words = crate.words(["--jobs", "2"]) + ["--toolchain", toolchain(kit, room, module), "--backend", "llvm"]
-        words += ["--incremental", "out/incremental", "-o", os.path.join(room, "library.a")]
-        ran = subprocess.run([kit.rtlib.RATTLE, "build", *words], cwd=folder, stdin=subprocess.DEVNULL, stdout=subprocess.PIPE, stderr=subprocess.STDOUT, text=True)
-        proved = [line for line in ran.stdout.splitlines() if line.startswith("logic=proved")]
-        if not proved or not os.path.exists(module):
-            sys.exit(f"{ran.stdout[-3000:]}web: the library isn't proved, so there is no module of it")
-        print(proved[-1])
-        shutil.copyfile(module, into)
+        lines = make(room, into)
+    pathlib.Path(verdict).write_text("".join(f"{line}\n" for line in lines), encoding="utf8")
+    print("\n".join(lines))
 
 
 if __name__ == "__main__":
-    main(os.path.abspath(sys.argv[1]))
+    given = [word for word in sys.argv[1:] if word != "--unproved"]
+    main(*map(os.path.abspath, given), unproved if "--unproved" in sys.argv else proved)

@@ -1,6 +1,6 @@
 """Weaves the book of definitions, and checks it.
 
-    python3 docs/book/make.py             writes book.html and book.md into docs/book/out
+    python3 docs/book/make.py             writes book.html, worked.html and book.md into docs/book/out, and where the module of `make web` is there, book-runs.js
     python3 docs/book/make.py --check     only checks
 
 The book has every definition that the contract of `run` reaches (the language) and every one that only laws reach, in the order of chapters.txt. A line is
@@ -30,6 +30,7 @@ import links
 import own_rules
 import reach
 import rules
+import runs
 import weave_html
 import weave_markdown
 
@@ -232,6 +233,19 @@ class Book:
         for name, made in (pages | {"book.md": weave_markdown.book_markdown(self)}).items():
             (OUT / name).write_text(made, encoding="utf-8")
             print(f"{(OUT / name).relative_to(chapters.ROOT)}: {len(made) / 1e6:.1f} MB")
+        self.write_runs()
+
+    def write_runs(self):
+        """What runs the examples of the pages, beside them; it needs the module of `make web`."""
+        (OUT / weave_html.RUNS).unlink(missing_ok=True)
+        if not runs.MODULE.is_file():
+            print(f"no {weave_html.RUNS}, by which the examples can be run: it needs {runs.MODULE.relative_to(chapters.ROOT)} (make web)")
+            return
+        made = runs.script(self)
+        (OUT / weave_html.RUNS).write_text(made, encoding="utf-8")
+        jobs, others = runs.of_sections(self)
+        print(f"{(OUT / weave_html.RUNS).relative_to(chapters.ROOT)}: {len(made) / 1e6:.1f} MB; {len(runs.of_rules())} examples of the rules and {len(jobs)} worked examples can be run, "
+              f"and {len(others)} worked examples are values that no run shows")
 
 
 def is_believed(it):

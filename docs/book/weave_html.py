@@ -22,6 +22,8 @@ SCRIPT = pathlib.Path(__file__).with_name("book.js")
 # The pages, and the chapter that is a page of its own.
 BOOK, WORKED_EXAMPLES = "book.html", "worked.html"
 WORKED = "Worked examples"
+# What runs the examples of both pages, if it is there.
+RUNS = "book-runs.js"
 # A text in quotes of so many characters at most stays on one line.
 WHOLE = 12
 # The signs of the library that a stranger looks up.
@@ -259,9 +261,9 @@ def notation_html(front, book, level=2):
 
 
 def page_html(title, body, script=""):
-    """A page that needs nothing else but the other page."""
+    """A page that needs nothing else but the other page. Where runs.py has put its file beside it, its examples can be run."""
     style = STYLE.read_text(encoding="utf-8")
-    script = f"\n<script>{script}</script>" if script else ""
+    script = (f"\n<script>{script}</script>" if script else "") + f'\n<script src="{RUNS}" defer></script>'
     return ('<!doctype html>\n<html lang="en"><head><meta charset="utf-8"><meta name="viewport" content="width=device-width,initial-scale=1">'
             f"<title>{title}</title><style>{style}</style></head><body>\n{body}{script}\n</body></html>\n")
 

@@ -3,5 +3,7 @@ import type { Content, Files, Library, Options, Result, Verdict } from './librar
 
 /** The library of this process, which `run` and `check` use. */
 export function library(): Library;
+/** What the prover said of the library of which the module was made, a line for each machine; it begins with `logic=proved` or `unproved`. */
+export function proof(): string;
 export function run(job: Content, find: Files, options?: Options): Result;
 export function check(style: Content, name?: string, steps?: number | bigint): Verdict;

@@ -121,3 +121,5 @@ export function bytesOf(text: Content, what?: string): Uint8Array;
 export function optionsOf(given?: Options): Required<Options>;
 export function textOf(bytes: Uint8Array): string;
 export function messagesOf(log: Uint8Array): Message[];
+/** What the prover said of the library of which a compiled module was made. */
+export function proofOf(module: WebAssembly.Module): string;

@@ -77,6 +77,12 @@ export function bytesOf(text, what = 'this') {
 /** A text of bytes, read as UTF-8; a byte that is no part of a letter is shown as U+FFFD. */
 export const textOf = (bytes) => decoder.decode(bytes);
 
+/** What the prover said of the library of which a compiled module was made, a line for each machine; of a module without a proof it begins with `unproved`. */
+export function proofOf(module) {
+  const [found] = WebAssembly.Module.customSections(module, 'btx.verdict');
+  return found ? textOf(new Uint8Array(found)) : 'unproved';
+}
+
 function refuseOutside(name, value, [least, most]) {
   if (!Number.isInteger(value) || value < least || value > most) throw new OptionRefused(name, value, `a whole number from ${least} to ${most}`);
 }

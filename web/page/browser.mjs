@@ -62,12 +62,24 @@ export class Browser {
     return page;
   }
 
+  // Removes the browser's folder, into which its last processes may still write.
+  async #clear() {
+    for (let turn = 0; turn < 30; turn++) {
+      try {
+        rmSync(this.#room, { recursive: true, force: true });
+        return;
+      } catch {
+        await new Promise((done) => { setTimeout(done, 100); });
+      }
+    }
+  }
+
   async close() {
     const ended = new Promise((done) => { this.#process.on('exit', done); });
     await Promise.race([this.send('Browser.close').catch(() => {}), new Promise((done) => { setTimeout(done, 2000); })]);
     this.#process.kill('SIGKILL');
     await ended;
-    rmSync(this.#room, { recursive: true, force: true, maxRetries: 10, retryDelay: 200 });
+    await this.#clear();
   }
 }
 
@@ -95,7 +107,10 @@ export class Page {
   }
 
   async press(key, modifiers = 0) {
-    for (const type of ['keyDown', 'keyUp']) await this.send('Input.dispatchKeyEvent', { type, key, code: key, windowsVirtualKeyCode: { Tab: 9, Enter: 13, Escape: 27, ArrowRight: 39, ArrowLeft: 37, End: 35, Home: 36 }[key], modifiers });
+    const windowsVirtualKeyCode = { Tab: 9, Enter: 13, Escape: 27, ArrowRight: 39, ArrowLeft: 37, End: 35, Home: 36 }[key];
+    // (a button is pressed by the text of the key)
+    const text = key === 'Enter' ? '\r' : undefined;
+    for (const type of ['keyDown', 'keyUp']) await this.send('Input.dispatchKeyEvent', { type, key, code: key, windowsVirtualKeyCode, modifiers, text });
   }
 
   async width(width, height = 900) {

@@ -2,7 +2,7 @@
 
     python3 web/page/build.py [MODULE.wasm]
 
-MODULE.wasm is web/out/btx.wasm, which `web/build` makes. The styles are those of examples/ and the two of docs/STYLES.md, and what to do about a message is the front end's table."""
+MODULE.wasm is web/out/btx.wasm, which `web/build` makes; of a module without a proof the page says that nothing of it is proved. The styles are those of examples/ and the two of docs/STYLES.md, and what to do about a message is the front end's table."""
 
 import base64
 import gzip
@@ -15,8 +15,16 @@ import sys
 
 HERE = pathlib.Path(__file__).resolve().parent
 ROOT = HERE.parents[1]
+sys.path.insert(0, str(ROOT / "web"))
+import verdict  # noqa: E402
+
 OUT = ROOT / "web/out/btx.html"
 STYLES = ["examples/article/article.bst", "examples/cross_reference/parents.bst", "examples/utf8_names/initials.bst", "examples/stopped/endless.bst"]
+# What the page says of itself at its head and at its foot, where its module is of the proved library and where it isn't.
+CLAIMS = {
+    True: ("The list is the proved library's.", "BibTeX, proved: @VERSION@. The library's contract is proved; that this page shows it, and its compilation for WebAssembly, are tested."),
+    False: ("NOTHING OF THIS PAGE IS PROVED: it was made for trying.", "BibTeX, unproved: @VERSION@, a page made for trying, of whose library nothing is proved."),
+}
 DOCUMENT = "\\documentclass{article}\n\\begin{document}\nSee \\cite{%s}.\n\\bibliographystyle{article}\n\\bibliography{article}\n\\end{document}\n"
 
 
@@ -55,10 +63,20 @@ def first_job():
     return {"document": {"name": "paper.tex", "text": DOCUMENT % ",\n  ".join(keys)}, "databases": [{"name": "article.bib", "text": text_of("examples/article/article.bib")}]}
 
 
-def script_of(module):
-    """The page's one script. The worker's is a text in it, and so is the module, packed."""
+def machine(module):
+    """The lines of a script that have what runs jobs: WORKER, the address of the worker's script, and `unpacked`, a promise of the module's bytes. Both are texts in it."""
     library = without_exports((ROOT / "web/npm/library.js").read_text(encoding="utf8"))
     worker = library + (HERE / "worker.js").read_text(encoding="utf8")
+    return [
+        f"const WORKER = URL.createObjectURL(new Blob([{in_script(worker)}], {{ type: 'text/javascript' }}));",
+        f"const PACKED = {in_script(base64.b64encode(gzip.compress(module, 9, mtime=0)).decode('ascii'))};",
+        "const unpacked = new Response(new Blob([Uint8Array.from(atob(PACKED), (letter) => letter.charCodeAt(0))]).stream()",
+        "  .pipeThrough(new DecompressionStream('gzip'))).arrayBuffer();",
+    ]
+
+
+def script_of(module):
+    """The page's one script."""
     styles = [{"name": pathlib.Path(path).name, "text": text_of(path)} for path in STYLES] + styles_of_tutorial()
     rows = ", ".join(f"[new RegExp({in_script('^' + pattern)}), {in_script(words)}]" for pattern, words in advice())
     return "\n".join([
@@ -66,10 +84,7 @@ def script_of(module):
         f"const STYLES = {in_script(styles)};",
         f"const FIRST_JOB = {in_script(first_job())};",
         f"const ADVICE = [{rows}];",
-        f"const WORKER = URL.createObjectURL(new Blob([{in_script(worker)}], {{ type: 'text/javascript' }}));",
-        f"const PACKED = {in_script(base64.b64encode(gzip.compress(module, 9, mtime=0)).decode('ascii'))};",
-        "const unpacked = new Response(new Blob([Uint8Array.from(atob(PACKED), (letter) => letter.charCodeAt(0))]).stream()",
-        "  .pipeThrough(new DecompressionStream('gzip'))).arrayBuffer();",
+        *machine(module),
         (HERE / "latex.js").read_text(encoding="utf8").replace("/** ", "// ").replace(" */", ""),
         (HERE / "page.js").read_text(encoding="utf8").replace("\nbegin();\n", "\nlet MODULE;\nunpacked.then(async (bytes) => { MODULE = await WebAssembly.compile(bytes); begin(); });\n"),
     ])
@@ -87,7 +102,8 @@ def version():
 def main():
     module = pathlib.Path(sys.argv[1] if len(sys.argv) > 1 else ROOT / "web/out/btx.wasm").read_bytes()
     script, style = script_of(module), (HERE / "page.css").read_text(encoding="utf8")
-    parts = {"SCRIPT_HASH": hash_of(script), "STYLE_HASH": hash_of(style), "STYLE": style, "VERSION": version(), "SCRIPT": script}
+    claim, foot = CLAIMS[verdict.is_proved(module)]
+    parts = {"CLAIM": claim, "FOOT": foot.replace("@VERSION@", version()), "SCRIPT_HASH": hash_of(script), "STYLE_HASH": hash_of(style), "STYLE": style, "SCRIPT": script}
     page = re.sub(r"@(\w+)@", lambda found: parts[found[1]], (HERE / "page.html").read_text(encoding="utf8"))
     OUT.parent.mkdir(exist_ok=True)
     OUT.write_text(page, encoding="utf8")

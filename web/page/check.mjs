@@ -8,6 +8,7 @@ import { mkdirSync, readFileSync, writeFileSync } from 'node:fs';
 import path from 'node:path';
 import { fileURLToPath, pathToFileURL } from 'node:url';
 import { deflateRawSync } from 'node:zlib';
+import { proofOf } from '../npm/library.js';
 import { Browser, program } from './browser.mjs';
 
 const HERE = path.dirname(fileURLToPath(import.meta.url));
@@ -28,9 +29,9 @@ function check(name, is) {
 const SHOW = 'ENTRY {title}{}{}\nFUNCTION {misc} {newline$ "\\bibitem{" cite$ * "}" * write$ newline$ title write$ newline$}\nREAD\nITERATE {call.type$}\n';
 const AUX = '\\citation{*}\n\\bibdata{d}\n\\bibstyle{s}\n';
 
-// The text of an element, and whether a run has ended since the last change.
+// The text of an element, and whether a run and the check of its style have ended since the last change.
 const text = (id) => `document.getElementById(${JSON.stringify(id)}).textContent`;
-const ENDED = `${text('status')}.match(/^(Ended|Stopped|No result|Not run)/) !== null`;
+const ENDED = `${text('status')}.match(/^(Ended|Stopped|No result|Not run)/) !== null && !${text('panel-verdict')}.startsWith('Checking')`;
 
 // Puts a job into the page: its document, database and style, and runs it.
 async function put(page, { document = AUX, database = '', style = SHOW, name = 'a.aux', data = 'd.bib', file = 's.bst' }) {
@@ -54,6 +55,9 @@ async function firstSight(page) {
   check('it has no message', (await messages(page))[0][1] === 'None.');
   check('the styles of the examples are there', (await page.ask("[...document.getElementById('style-which').options].map((it) => it.text).join()")).includes('small.bst'));
   check('each field has a label', await page.ask("[...document.querySelectorAll('textarea, input, select')].every((it) => it.hidden || it.labels.length > 0 || it.ariaLabel)"));
+  const verdict = proofOf(new WebAssembly.Module(readFileSync(path.resolve(HERE, '../out/btx.wasm'))));
+  const said = await page.ask("document.querySelector('header').textContent + document.querySelector('footer').textContent");
+  check('the page says whether its library is proved', verdict.startsWith('logic=proved ') !== said.includes('NOTHING OF THIS PAGE IS PROVED') && verdict.startsWith('logic=proved ') !== said.includes('nothing is proved'));
   check('the page asks for nothing from outside', await page.ask("performance.getEntriesByType('resource').every((it) => it.name.startsWith('blob:') || it.name.startsWith('data:'))"));
 }
 
@@ -131,6 +135,8 @@ async function verdicts(page) {
   check('which can be gone to', await page.ask("document.activeElement.id === 'style'"));
   await put(page, { style: SHOW.replace('title write$', 'title empty$ {} {title write$} if$') });
   check('and the mended one is clean', (await page.ask(text('panel-verdict'))).startsWith('Clean:'));
+  await page.ask("document.getElementById('database').value = '@misc{b}'; document.getElementById('run').click()");
+  check('another database leaves the verdict as it is', await page.until(ENDED) && (await page.ask(text('panel-verdict'))).startsWith('Clean:'));
 }
 
 async function budgets(page) {
@@ -320,7 +326,7 @@ async function looks(page) {
 
 async function main() {
   if (!program()) {
-    console.log('there is no chromium: the page is not looked at');
+    console.log('left out: the page in a browser (there is no chromium)');
     console.log('1 passed, 0 failed');
     return;
   }

@@ -206,12 +206,13 @@ function run() {
   }
   const { job, all } = jobOf();
   worker = new Worker(WORKER);
-  worker.onmessage = ({ data }) => data.number === asked && showResult(data);
+  worker.onmessage = ({ data }) => data.number === asked && (data.verdict || data.unchecked ? showChecked(data) : showResult(data));
   worker.onerror = ({ message }) => showFailure(`It broke off: ${message}`);
   find('stop').disabled = false;
   find('status').textContent = 'Running ..';
   const options = { budget, text: find('utf8').checked ? 'utf8' : 'bytes' };
-  worker.postMessage({ number: asked, module: MODULE, job, files: all, options, style: current('style').text });
+  running = current('style').text;
+  worker.postMessage({ number: asked, module: MODULE, job, files: all, options, style: checked.style === running ? undefined : running });
 }
 
 function changed() {
@@ -401,11 +402,31 @@ function showUnused(asked) {
   }
 }
 
-function showResult({ result, verdict, took, failed }) {
+// The style of the job that runs; and the one that was checked last, with what was said of it: most changes are of other files.
+let running = '';
+let checked = { style: null, verdict: null };
+
+function endWorker() {
   find('stop').disabled = true;
   worker?.terminate();
   worker = undefined;
+}
+
+// What the worker says of the style, after the result of its job.
+function showChecked({ verdict, unchecked }) {
+  endWorker();
+  if (unchecked) {
+    find('panel-verdict').textContent = `No check: ${visible(unchecked)}.`;
+    return;
+  }
+  checked = { style: running, verdict };
+  showVerdict(verdict);
+}
+
+function showResult({ result, took, failed }) {
+  find('stop').disabled = true;
   if (failed) {
+    endWorker();
     showFailure(failed);
     return;
   }
@@ -417,7 +438,8 @@ function showResult({ result, verdict, took, failed }) {
   find('panel-read').replaceChildren(list.trim() === '' ? 'The list is empty.' : readable(cut(list)));
   showMessages(messages);
   showUnused(result.files);
-  if (verdict) showVerdict(verdict);
+  if (checked.style === running) showChecked(checked);
+  else find('panel-verdict').textContent = 'Checking ..';
   const stopped = report.end === 'stopped' ? ' It was stopped at its budget: this is the beginning of its list.' : '';
   find('status').textContent = `Ended: ${report.end}. Errors: ${report.errors}, warnings: ${report.warnings}, steps: ${report.steps}, ${took.toFixed(0)} ms.${stopped}`;
 }

@@ -2,7 +2,8 @@
 // Makes the list of references of a job in the present folder: reads JOB.aux, its style and its databases, and writes JOB.bbl and JOB.blg.
 import { writeFileSync } from 'node:fs';
 import { parseArgs } from 'node:util';
-import { MemoryRefused, OptionRefused, OutputTooLong, run, textOf } from '../index.js';
+import { MemoryRefused, OptionRefused, OutputTooLong, proof, run, textOf } from '../index.js';
+import { dataOf, isStrictlyWrong, lineOf } from '../messages.js';
 import { finderIn } from '../search.js';
 
 const USAGE = `btx [OPTION].. JOB
@@ -11,6 +12,8 @@ Reads JOB.aux, and writes the list of references to JOB.bbl and the log to JOB.b
 folder, along BSTINPUTS and BIBINPUTS, and by kpsewhich where TeX Live is installed.
 
   --terse             don't print the log
+  --json              print each warning and error as a line of JSON, and the report, and not the log
+  --strict            end with status 2 where a cited entry is missing, too; a missing file and a repeated entry are errors in any case
   --min-crossrefs N   list a parent that isn't cited if N entries refer to it (2)
   --text MODE         read text as bytes or as utf8 (bytes)
   --line N            the greatest length of a line of the list, 20 to 1000 (79)
@@ -20,9 +23,9 @@ folder, along BSTINPUTS and BIBINPUTS, and by kpsewhich where TeX Live is instal
   --help, --version
 
 Exit status: 0 no error messages, 1 wrong arguments, 2 error messages, 3 a limit or no top file, 4 stopped by the budget, 5 memory, 6 a file
-can't be read or written.`;
+can't be read or written. An option may have one hyphen or two.`;
 const VERSION = '1.0.0';
-const STATUS = { refused: 1, memory: 5, device: 6 };
+const STATUS = { refused: 1, wrong: 2, memory: 5, device: 6 };
 
 function fail(text, status) {
   console.error(`btx: ${text}`);
@@ -33,10 +36,13 @@ function words() {
   const text = { type: 'string' };
   const flag = { type: 'boolean', default: false };
   const options = {
-    terse: flag, help: flag, version: flag, 'min-crossrefs': text, text, line: text, 'entry-max': text, 'global-max': text, budget: text,
+    terse: flag, json: flag, strict: flag, help: flag, version: flag, 'min-crossrefs': text, text, line: text, 'entry-max': text, 'global-max': text, budget: text,
   };
   try {
-    return parseArgs({ options, allowPositionals: true });
+    const given = process.argv.slice(2);
+    const end = given.includes('--') ? given.indexOf('--') : given.length;
+    const args = given.map((word, place) => (place < end && /^-[a-z]/.test(word) ? `-${word}` : word));
+    return parseArgs({ args, options, allowPositionals: true });
   } catch (error) {
     return fail(error.message, STATUS.refused);
   }
@@ -70,27 +76,39 @@ function write(file, bytes) {
   }
 }
 
-function main() {
-  const { values, positionals } = words();
-  if (values.help) return console.log(USAGE);
-  if (values.version) return console.log(`btx ${VERSION}`);
-  if (positionals.length !== 1) fail('name one job: the document without .tex', STATUS.refused);
-  const job = positionals[0].replace(/\.aux$/, '');
-  if (job === '' || job.includes('\n')) fail("a job's name can't be empty or have a line end", STATUS.refused);
-  let made;
+// Prints what a run said: its log, or its messages and report as JSON.
+function print({ log, report }, data, { json, terse }) {
+  if (json) process.stdout.write([...data, { kind: 'report', ...report }].map(lineOf).join(''));
+  else if (!terse) process.stdout.write(textOf(log).replace(/[\x00-\x09\x0b-\x1f\x7f-\x9f]/g, '?'));
+}
+
+// The result of the job; ends the command where there is none.
+function resultOf(job, values) {
   try {
-    made = run(job, finderIn('.'), optionsOf(values));
+    return run(job, finderIn('.'), optionsOf(values));
   } catch (error) {
     if (error instanceof OptionRefused) fail(refusalOf(error), STATUS.refused);
     if (error instanceof MemoryRefused || error instanceof OutputTooLong) fail(error.message, STATUS.memory);
     if (error.code) fail(error.message, STATUS.device);
     throw error;
   }
+}
+
+function main() {
+  const { values, positionals } = words();
+  if (values.help) return console.log(USAGE);
+  if (values.version) return console.log(`btx ${VERSION}, of a library of which the prover said:\n${proof()}`);
+  if (positionals.length !== 1) fail('name one job: the document without .tex', STATUS.refused);
+  const job = positionals[0].replace(/\.aux$/, '');
+  if (job === '' || job.includes('\n')) fail("a job's name can't be empty or have a line end", STATUS.refused);
+  const made = resultOf(job, values);
   if (made.report.end === 'no top file') console.error(`btx: there is no ${JSON.stringify(job).slice(1, -1)}.aux: run LaTeX first, and name the job as that file, without an ending`);
   else write(`${job}.bbl`, made.list);
   write(`${job}.blg`, made.log);
-  if (!values.terse) process.stdout.write(textOf(made.log).replace(/[\x00-\x09\x0b-\x1f\x7f-\x9f]/g, '?'));
-  process.exitCode = made.report.status;
+  const data = dataOf(made.messages);
+  const status = values.strict && made.report.status === 0 && isStrictlyWrong(data) ? STATUS.wrong : made.report.status;
+  print({ ...made, report: { ...made.report, status } }, data, values);
+  process.exitCode = status;
   return undefined;
 }
 

@@ -1,32 +1,22 @@
 // The package over the examples of the repository: lists, logs and statuses are those that lie beside them.
 import assert from 'node:assert/strict';
 import { spawnSync } from 'node:child_process';
-import { cpSync, existsSync, mkdtempSync, readFileSync, readdirSync, rmSync, writeFileSync } from 'node:fs';
-import { tmpdir } from 'node:os';
+import { cpSync, existsSync, readFileSync, readdirSync, writeFileSync } from 'node:fs';
 import path from 'node:path';
 import test from 'node:test';
 import { fileURLToPath } from 'node:url';
-import { DEFAULTS, Library, MemoryRefused, OptionRefused, OutputTooLong, check, library, run, textOf } from '../index.js';
-import { finderIn, foldersOf } from '../search.js';
+import { DEFAULTS, Library, MemoryRefused, OptionRefused, OutputTooLong, check, library, proof, run, textOf } from '../index.js';
+import { finderIn } from '../search.js';
+import { COMMAND, inRoom } from '../testing.js';
 
 const HERE = path.dirname(fileURLToPath(import.meta.url));
 const EXAMPLES = path.resolve(HERE, '../../../examples');
-const COMMAND = path.resolve(HERE, '../bin/btx.js');
 const JOBS = [['first', 'job'], ['article', 'article'], ['article', 'edges'], ['cross_reference', 'job'], ['database_error', 'job']];
 const SMALL = {
   'a.aux': '\\citation{k}\n\\bibdata{d}\n\\bibstyle{s}\n',
   's.bst': 'ENTRY {title}{}{}\nFUNCTION {misc} {title write$ newline$}\nREAD\nITERATE {call.type$}\n',
   'd.bib': '@misc{k, title = {Äpfel}}\n',
 };
-
-function inRoom(work) {
-  const room = mkdtempSync(path.join(tmpdir(), 'btx-'));
-  try {
-    return work(room);
-  } finally {
-    rmSync(room, { recursive: true });
-  }
-}
 
 for (const [folder, job] of JOBS) {
   const at = path.join(EXAMPLES, folder);
@@ -140,7 +130,7 @@ test('a style is checked', () => {
   assert.deepEqual(faulty.warnings[0].at, { line: 1, function: 'misc', isInBraces: false });
 });
 
-test('the command writes list and log, and ends with the status of the run', () => inRoom((room) => {
+test('the command writes list and log, and ends with the status of the run', () => inRoom({}, (room) => {
   for (const [name, text] of Object.entries(SMALL)) writeFileSync(path.join(room, name), text);
   const ran = spawnSync(process.execPath, [COMMAND, 'a'], { cwd: room, encoding: 'utf8' });
   assert.equal(ran.status, 0, ran.stderr);
@@ -153,7 +143,7 @@ test('the command writes list and log, and ends with the status of the run', () 
   assert.match(spawnSync(process.execPath, [COMMAND, '--help'], { cwd: room, encoding: 'utf8' }).stdout, /^btx \[OPTION\]/);
 }));
 
-test('the command says which words are wrong, and which file is missing', () => inRoom((room) => {
+test('the command says which words are wrong, and which file is missing', () => inRoom({}, (room) => {
   for (const [name, text] of Object.entries(SMALL)) writeFileSync(path.join(room, name), text);
   const said = (...words) => spawnSync(process.execPath, [COMMAND, ...words], { cwd: room, encoding: 'utf8' });
   const refused = [[['--line', 'x', 'a'], "--line needs a whole number, not 'x'"], [['--min-crossrefs', '9999999999', 'a'], "--min-crossrefs can't be 9999999999"],
@@ -166,14 +156,16 @@ test('the command says which words are wrong, and which file is missing', () => 
   assert.match(said('paper.tex').stderr, /there is no paper\.tex\.aux: run LaTeX first/);
 }));
 
+test('the package says what was proved of its module', () => assert.match(proof(), /^(?:logic=proved .*functions=[1-9]|unproved)/));
+
 test('the types name what the modules export', async () => {
-  for (const name of ['index', 'library']) {
+  for (const name of ['index', 'library', 'messages']) {
     const types = ['library', name].map((file) => readFileSync(path.resolve(HERE, `../${file}.d.ts`), 'utf8')).join('\n');
     for (const word of Object.keys(await import(`../${name}.js`))) assert.match(types, new RegExp(`export (const|function|class) ${word}\\b`));
   }
 });
 
-test('control characters of a name are not printed', () => inRoom((room) => {
+test('control characters of a name are not printed', () => inRoom({}, (room) => {
   writeFileSync(path.join(room, 'a.aux'), '\\citation{\u001b[2J}\n\\bibdata{d}\n\\bibstyle{s}\n');
   for (const name of ['s.bst', 'd.bib']) writeFileSync(path.join(room, name), SMALL[name]);
   const ran = spawnSync(process.execPath, [COMMAND, 'a'], { cwd: room, encoding: 'utf8' });
@@ -181,7 +173,7 @@ test('control characters of a name are not printed', () => inRoom((room) => {
   assert.ok(readFileSync(path.join(room, 'a.blg'), 'utf8').includes('\u001b'));
 }));
 
-test('files are found along BIBINPUTS and BSTINPUTS, below a folder too', () => inRoom((room) => {
+test('files are found along BIBINPUTS and BSTINPUTS, below a folder too', () => inRoom({}, (room) => {
   const deep = path.join(room, 'styles', 'deep');
   cpSync(EXAMPLES, path.join(room, 'styles'), { recursive: true });
   cpSync(path.join(EXAMPLES, 'first'), deep, { recursive: true });
@@ -192,8 +184,3 @@ test('files are found along BIBINPUTS and BSTINPUTS, below a folder too', () => 
   assert.equal(find('only.aux'), undefined);
   assert.ok(readdirSync(deep).length > 0);
 }));
-
-test('search paths of Windows and of others', () => {
-  assert.deepEqual(foldersOf('a:b//:', path.posix), [{ folder: 'a', isDeep: false }, { folder: 'b', isDeep: true }, null]);
-  assert.deepEqual(foldersOf('C:\\tex;D:\\bib\\\\', path.win32), [{ folder: 'C:\\tex', isDeep: false }, { folder: 'D:\\bib', isDeep: true }]);
-});
