@@ -147,7 +147,7 @@ fn notes_each_line(rt: HostRuntime) -> Result<(), Fail> {
     assert!(rt; is_noted(alloc, &job_of(AUX, STYLE, DATABASE), b" F F F E")?);
     assert!(rt; is_noted(alloc, &job_of(BAD_AUX, STYLE, DATABASE), b" F!F F F E")?);
     assert!(rt; is_noted(alloc, &job_of(AUX, BAD_STYLE, DATABASE), b" F F F!S E")?);
-    assert!(rt; is_noted(alloc, &job_of(AUX, STYLE, BAD_DATABASE), b" F F F!D?D E")?);
+    assert!(rt; is_noted(alloc, &job_of(AUX, STYLE, BAD_DATABASE), b" F F F!D E")?);
     assert!(rt;
         is_noted(
             alloc,
