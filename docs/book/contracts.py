@@ -9,7 +9,7 @@ from definitions import CRATES, Definition, Module
 FUNCTION = re.compile(r"^(\s*)((?:pub(?:\([\w ]+\))? )?)(?:const |unsafe )*fn (\w+)")
 HEADLINE = ("btx_run", "run")
 # A crate beside the program, with laws of its own.
-BESIDE = "btx_check::"
+BESIDE = ("btx_check::", "btx_read::")
 # The traits of the headline's finder and sinks.
 TRAITS = (("btx_aux", "Finder"), ("btx_out", "Sink"))
 

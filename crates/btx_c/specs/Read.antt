@@ -4,8 +4,8 @@ use Rattle.std.specs.List.{flat_map}
 use Rattle.btx_bib.specs.language.Grammar.ValueTexts.{squeezed}
 use Rattle.btx_read.specs.declared.record.Record.{Record}
 use Rattle.btx_read.specs.declared.row.Row.{Row}
-use Rattle.btx_read.specs.language.Records.{records_of, with_string}
-use Rattle.btx_read.specs.language.Rows.{rows_along, texts_of}
+use Rattle.btx_read.specs.Records.{records_of, with_string}
+use Rattle.btx_read.specs.Rows.{rows_along, texts_of}
 use Rattle.btx_c.specs.Outcomes.{filled}
 use Rattle.btx_c.specs.declared.read.BtxString.{BtxString}
 use Rattle.btx_c.specs.declared.read.BtxSizes.{BtxSizes}

@@ -2,7 +2,7 @@
 ghost use Rattle.std.specs.Prelude.{◌≡◌, ◌≤◌, ◌⊎◌, IfOk, fold, length, true, []};
 ghost use Rattle.std.specs.List.{flat_map};
 ghost use Rattle.btx_text.specs.language.Limits.{is_too_long};
-ghost use Rattle.btx_read.specs.language.Rows.{rows_along, texts_of};
+ghost use Rattle.btx_read.specs.Rows.{rows_along, texts_of};
 ghost use Rattle.btx_c.specs.Outcomes.{filled};
 ghost use Rattle.btx_c.specs.Read.{AreRead, Fits, IsFull, filled_rows, handed_strings, records_read, with_handed};
 

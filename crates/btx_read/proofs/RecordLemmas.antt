@@ -9,8 +9,8 @@ use Rattle.btx_bib.specs.refinement.Grammar.Squeezing.{is_squeezed}
 use Rattle.btx_bib.proofs.GrammarLemmas.LengthLemmas.{events-none, events-some}
 use Rattle.btx_bib.proofs.GrammarLemmas.SqueezeLemmas.{squeezed-squeezed}
 use Rattle.btx_read.specs.declared.content.Content.{Content}
-use Rattle.btx_read.specs.language.Records.{content_of, fitting, left_at, no_key, nothing_kept, records_along, record_at, record_of, records_of, strings_after}
-use Rattle.btx_read.specs.refinement.Readings.{records_left}
+use Rattle.btx_read.specs.Records.{content_of, fitting, left_at, no_key, nothing_kept, records_along, record_at, record_of, records_of, strings_after}
+use Rattle.btx_read.specs.Readings.{records_left}
 
 -- ---- a text that fits
 

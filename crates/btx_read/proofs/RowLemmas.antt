@@ -4,8 +4,8 @@ use Rattle.std.proofs.Math.Seq.{take-append_seam, drop-append_seam}
 use Rattle.std.specs.List.{flat_map}
 use Rattle.btx_read.specs.declared.record.Record.{Record}
 use Rattle.btx_read.specs.declared.row.Row.{Row}
-use Rattle.btx_read.specs.laws.Rows.{RowsShowRecords}
-use Rattle.btx_read.specs.language.Rows.{Shown, bytes_at, name_of, row_of, row_shows, rows_along, shown, text_of, texts_of}
+use Rattle.btx_read.specs.RowLaws.{RowsShowRecords}
+use Rattle.btx_read.specs.Rows.{Shown, bytes_at, name_of, row_of, row_shows, rows_along, shown, text_of, texts_of}
 
 -- ---- what rows show
 

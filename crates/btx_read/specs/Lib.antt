@@ -1,3 +1,4 @@
-pub mod language
-pub mod laws
-pub mod refinement
+pub mod Records
+pub mod Rows
+pub mod RowLaws
+pub mod Readings

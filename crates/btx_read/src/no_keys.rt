@@ -7,7 +7,7 @@ use std::alloc::{AllocError, Global};
 pub struct NoKeys;
 
 impl StoredKeys for NoKeys {
-    ghost use Rattle.btx_read.specs.language.Records.{no_key};
+    ghost use Rattle.btx_read.specs.Records.{no_key};
 
     ghost is_stored = { λ _ key. no_key key };
 

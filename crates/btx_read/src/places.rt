@@ -3,7 +3,7 @@ ghost use Rattle.std.specs.Prelude.{◌≡◌, ◌+◌, ◌-◌, ◌≤◌, ◌�
 ghost use Rattle.btx_bib.specs.declared.grammar.byte_sets.ByteSet.TheVariants.{Gap};
 ghost use Rattle.btx_bib.specs.language.Grammar.ByteSets.{is_gap, longest_run_len};
 ghost use Rattle.btx_bib.specs.refinement.Grammar.EventViews.{event_view};
-ghost use Rattle.btx_read.specs.language.Records.{left_at, left_at_field, left_at_item};
+ghost use Rattle.btx_read.specs.Records.{left_at, left_at_field, left_at_item};
 
 use btx_bib::grammar::events::Event;
 use btx_text::classify::is_white;

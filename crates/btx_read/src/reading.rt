@@ -1,8 +1,8 @@
 //! The reading of a database, record by record.
 ghost use Rattle.std.specs.Prelude.{◌≡◌, ◌-◌, IfOk, length};
 ghost use Rattle.btx_bib.specs.declared.grammar.commands.Wanted.TheVariants.{Item};
-ghost use Rattle.btx_read.specs.language.Records.{records_of};
-ghost use Rattle.btx_read.specs.refinement.Readings.{IsNext};
+ghost use Rattle.btx_read.specs.Records.{records_of};
+ghost use Rattle.btx_read.specs.Readings.{IsNext};
 
 use crate::content::Content;
 use crate::no_keys::NoKeys;
@@ -30,7 +30,7 @@ pub struct RecordReader<'a> {
 
 impl<'a> Model for RecordReader<'a> {
     ghost use Rattle.std.specs.Prelude.{◌≡◌};
-    ghost use Rattle.btx_read.specs.refinement.Readings.{Reading};
+    ghost use Rattle.btx_read.specs.Readings.{Reading};
 
     ghost Value = { Reading };
 
@@ -75,7 +75,7 @@ impl<'a> RecordReader<'a> {
 
 ghost use Rattle.std.specs.Prelude.{◌≤◌};
 ghost use Rattle.btx_bib.specs.refinement.Grammar.EventViews.{event_view};
-ghost use Rattle.btx_read.specs.language.Records.{left_at, record_at};
+ghost use Rattle.btx_read.specs.Records.{left_at, record_at};
 
 // How many bytes of a text are before the first byte of an event, which is read between these places.
 fn start_of(text: &[u8], event: &Event<'_>, before: &[u8], rest: &[u8]) -> usize

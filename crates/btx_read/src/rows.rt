@@ -1,8 +1,8 @@
 //! The records of a database as rows.
 ghost use Rattle.std.specs.Prelude.{◌≡◌, ◌++◌, ◌∷◌, [], IfOk, OnOk, length};
 ghost use Rattle.std.specs.List.{flat_map};
-ghost use Rattle.btx_read.specs.language.Records.{records_of};
-ghost use Rattle.btx_read.specs.language.Rows as spec;
+ghost use Rattle.btx_read.specs.Records.{records_of};
+ghost use Rattle.btx_read.specs.Rows as spec;
 
 use crate::content::Content;
 use crate::reading::RecordReader;

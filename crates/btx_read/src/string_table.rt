@@ -3,7 +3,7 @@ ghost use Rattle.std.specs.Prelude.{◌≡◌, [], true, false, OnOk};
 ghost use Rattle.btx_bib.specs.refinement.Grammar.Squeezing.{is_squeezed};
 ghost use Rattle.btx_bib.specs.language.Grammar.ValueTexts.{squeezed};
 ghost use Rattle.btx_bib.specs.language.Strings.{defined};
-ghost use Rattle.btx_read.specs.language.Records.{with_string};
+ghost use Rattle.btx_read.specs.Records.{with_string};
 
 use btx_bib::grammar::value_texts::{Strings, squeezed_text};
 use btx_text::{Fault, Lowered, Text, same_key};

@@ -3,7 +3,7 @@ ghost use Rattle.std.specs.Prelude.{◌≡◌, IfOk, OnOk};
 ghost use Rattle.btx_bib.specs.language.Grammar.Items as spec;
 ghost use Rattle.btx_bib.specs.language.Grammar.ValueTexts.{value_text};
 ghost use Rattle.btx_bib.specs.refinement.Grammar.EventViews.{event_view};
-ghost use Rattle.btx_read.specs.language.Records.{content_of, fitting, strings_after};
+ghost use Rattle.btx_read.specs.Records.{content_of, fitting, strings_after};
 
 use crate::content::Content;
 use crate::string_table::{Others, StringTable};

@@ -1,5 +1,5 @@
 use Rattle.std.proofs.Common.{◌++◌, ◌∙◌, ap}
-use Rattle.btx_read.specs.refinement.Readings.{records_left}
+use Rattle.btx_read.specs.Readings.{records_left}
 use Rattle.btx_read.proofs.RecordLemmas.{whole-left}
 use Rattle.btx_read.proofs.reading.read_records.Goals as goal
 

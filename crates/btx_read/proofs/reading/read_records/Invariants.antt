@@ -1,6 +1,6 @@
 use Rattle.std.proofs.Common.{◌≡◌, ◌++◌, length}
-use Rattle.btx_read.specs.language.Records.{records_of}
-use Rattle.btx_read.specs.refinement.Readings.{records_left}
+use Rattle.btx_read.specs.Records.{records_of}
+use Rattle.btx_read.specs.Readings.{records_left}
 use Rattle.btx_read.proofs.reading.read_records.Given as goal
 
 -- the records so far and those that are left are all of them

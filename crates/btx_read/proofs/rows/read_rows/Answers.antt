@@ -2,8 +2,8 @@ use Rattle.std.proofs.Common.{◌++◌, ◌∙◌, ℕ, List, ap, length}
 use Rattle.std.specs.List.{flat_map}
 use Rattle.btx_read.specs.declared.record.Record.{Record}
 use Rattle.btx_read.specs.declared.row.Row.{Row}
-use Rattle.btx_read.specs.language.Rows.{rows_along, texts_of}
-use Rattle.btx_read.specs.refinement.Readings.{records_left}
+use Rattle.btx_read.specs.Rows.{rows_along, texts_of}
+use Rattle.btx_read.specs.Readings.{records_left}
 use Rattle.btx_read.proofs.RecordLemmas.{whole-left}
 use Rattle.btx_read.proofs.RowLemmas.{rows-next, texts-next}
 use Rattle.btx_read.proofs.rows.read_rows.Goals as goal

@@ -1,8 +1,8 @@
 use Rattle.std.proofs.Common.{◌≡◌, ◌++◌, length}
 use Rattle.std.specs.List.{flat_map}
-use Rattle.btx_read.specs.language.Records.{records_of}
-use Rattle.btx_read.specs.language.Rows.{rows_along, texts_of}
-use Rattle.btx_read.specs.refinement.Readings.{records_left}
+use Rattle.btx_read.specs.Records.{records_of}
+use Rattle.btx_read.specs.Rows.{rows_along, texts_of}
+use Rattle.btx_read.specs.Readings.{records_left}
 use Rattle.btx_read.proofs.rows.read_rows.Given as goal
 
 -- the rows and texts so far, and those of the records that are left, are all of them

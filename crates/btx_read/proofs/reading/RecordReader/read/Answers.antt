@@ -1,8 +1,8 @@
 use Rattle.std.proofs.Common.{◌≡◌, ◌∙◌, ◌∷◌, ap, sym, length}
 use Rattle.btx_bib.specs.language.Grammar.Items.{Step}
 use Rattle.btx_bib.specs.refinement.Grammar.EventViews.{event_view}
-use Rattle.btx_read.specs.language.Records.{left_at, record_at}
-use Rattle.btx_read.specs.refinement.Readings.{records_left}
+use Rattle.btx_read.specs.Records.{left_at, record_at}
+use Rattle.btx_read.specs.Readings.{records_left}
 use Rattle.btx_read.proofs.RecordLemmas.{none-left, one-read}
 use Rattle.btx_read.proofs.reading.RecordReader.read.Goals as goal
 

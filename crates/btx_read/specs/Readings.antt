@@ -3,7 +3,7 @@ use Rattle.std.specs.Prelude.{◌≡◌, ℕ, List, [], ◌∷◌, Option, None,
 use Rattle.btx_bib.specs.declared.grammar.commands.Wanted.{Wanted}
 use Rattle.btx_bib.specs.language.Grammar.Items.{events_from}
 use Rattle.btx_read.specs.declared.record.Record.{Record}
-use Rattle.btx_read.specs.language.Records.{nothing_kept, records_along}
+use Rattle.btx_read.specs.Records.{nothing_kept, records_along}
 
 -- a text that is being read: the strings that are known, what is wanted next, and the text that is left
 pub record Reading : Type 0 where
