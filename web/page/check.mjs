@@ -287,7 +287,7 @@ async function links(browser, page) {
   const many = Array.from({ length: 100_000 }, () => ['', '']);
   for (const [what, list] of Object.entries({ nothing: [], 'an empty file': [[]], 'a document alone': [['a.tex', '\\cite{x}']], 'many files': many, 'a long file': [['a.tex', ''], ['a.bib', 'x'.repeat(4_000_000)]] })) {
     const spoilt = await browser.open(pathToFileURL(PAGE).href + packed(list));
-    check(`a link with ${what} shows the first job`, await spoilt.until(ENDED, 5000) && (await spoilt.ask("document.getElementById('database-name').value")) === 'article.bib');
+    check(`a link with ${what} shows the first job`, await spoilt.until(ENDED) && (await spoilt.ask("document.getElementById('database-name').value")) === 'article.bib');
     check(`and says so, with ${what}`, (await spoilt.ask(text('hint'))).includes("can't be read"));
     await spoilt.close();
   }
