@@ -15,7 +15,7 @@ import differences  # noqa: E402
 import original  # noqa: E402
 from compare_rules_with_original import by_original, is_there, options_for  # noqa: E402
 from jobs import JOBS  # noqa: E402
-from product import OURS, Options, run  # noqa: E402
+from product import Options, ours, run  # noqa: E402
 
 NONE = HERE / "none.txt"
 
@@ -46,7 +46,7 @@ def by_program(job):
 
 def check_job(job, outcome, has_program):
     outcome.check(job.here != job.original, f"{job.row}: both lists are the same")
-    lists = [("here", job.here, by_rules(job, OURS)), ("by the original's rules", job.original, by_rules(job, original.RULES))]
+    lists = [("here", job.here, by_rules(job, ours())), ("by the original's rules", job.original, by_rules(job, original.RULES))]
     lists += [("by the original", job.original, by_program(job))] if has_program else []
     for who, expected, found in lists:
         outcome.check(found == expected, f"{job.row}: {who} {found[:200]!r}, and it is to be {expected[:200]!r}")

@@ -35,7 +35,7 @@ class Product(NamedTuple):
 
 
 class Rules(NamedTuple):
-    """What a run goes by: the three readers, the machine, and what is written of its lines. `OURS` are this program's; `original.RULES` are the original's."""
+    """What a run goes by: the three readers, the machine, and what is written of its lines. `ours()` are this program's; `original.RULES` are the original's."""
     read_aux: Callable
     read_style: Callable
     read_databases: Callable
@@ -53,7 +53,9 @@ def written(machine, end, most):
     return done
 
 
-OURS = Rules(read_aux, read_style, read_databases, Machine, written)
+def ours():
+    """This program's rules, by the names of this module, in whose place a test may have put others."""
+    return Rules(read_aux, read_style, read_databases, Machine, written)
 
 
 class Ends(Exception):
@@ -61,7 +63,7 @@ class Ends(Exception):
 
 
 class Run:
-    def __init__(self, files, job, options, rules):
+    def __init__(self, files, job, options, rules=None):
         self.files, self.job, self.options, self.rules = files, job, options, rules
         self.log, self.counts = [], {"warning": 0, "error": 0}
         self.machine = None
@@ -85,6 +87,7 @@ class Run:
         return self.product(end)
 
     def go(self):
+        self.rules = self.rules or ours()
         job = self.rules.read_aux(self.files, self.job)
         for kind, text in job.log:
             self.say(kind, text)
@@ -139,6 +142,6 @@ class Run:
         return Product(done, b"".join(text + b"\n" for text in self.log), report)
 
 
-def run(files, job, options=Options(), rules=OURS):
-    """`files` maps names to bytes; `job` is the job's name."""
+def run(files, job, options=Options(), rules=None):
+    """`files` maps names to bytes; `job` is the job's name. Without rules the run goes by this program's."""
     return Run(files, job, options, rules).whole()

@@ -9,7 +9,7 @@ import pathlib
 import sys
 
 import original
-from product import OURS, Options, run
+from product import Options, run
 
 
 def arguments(words):
@@ -35,7 +35,7 @@ def files_of(folder):
 
 def main(words):
     given = vars(arguments(words))
-    rules = original.RULES if given["original"] else OURS
+    rules = original.RULES if given["original"] else None
     product = run(files_of(given["folder"]), given["job"].encode(), options_of(given), rules)
     for title, text in (("list", product.list), ("log", product.log)):
         sys.stdout.buffer.write(b"-- %s\n%s" % (title.encode(), text))
