@@ -89,18 +89,18 @@ fn push_text(
     alloc: Global,
     texts: &mut Vec<u8>,
     file: &[u8],
-    record: &Record<'_>,
+    one: &Record<'_>,
 ) -> Result<(), AllocError>
-    ensures { OnOk result (texts.new.items ≡ texts.old.items ++ spec.text_of file.now record.now) }
+    ensures { OnOk result (texts.new.items ≡ texts.old.items ++ spec.text_of file.now one.now) }
 {
-    match &record.content {
+    match &one.content {
         Content::Comment | Content::End => Ok(()),
         Content::Entry(_, key) => texts.extend_from_slice(key.as_bytes()),
         Content::Preamble(text) | Content::Definition(_, text) | Content::Field(_, text) => {
             push_given(texts, text)
         }
         Content::Wrong(slip) => {
-            let spot = Spot::of(&Word::new(file), record.line, record.start);
+            let spot = Spot::of(&Word::new(file), one.line, one.start);
             push_wrong(alloc, texts, *slip, spot)
         }
     }
@@ -108,21 +108,21 @@ fn push_text(
 
 impl Rows {
     // Appends a record of a file.
-    fn push(&mut self, alloc: Global, file: &[u8], record: &Record<'_>) -> Result<(), AllocError>
-        ensures rows { OnOk result (self.new.rows.items ≡ self.old.rows.items ++ spec.row_of file.now (length self.old.texts.items) record.now ∷ []) }
-        ensures texts { OnOk result (self.new.texts.items ≡ self.old.texts.items ++ spec.texts_of file.now record.now) }
+    fn push(&mut self, alloc: Global, file: &[u8], one: &Record<'_>) -> Result<(), AllocError>
+        ensures rows { OnOk result (self.new.rows.items ≡ self.old.rows.items ++ spec.row_of file.now (length self.old.texts.items) one.now ∷ []) }
+        ensures texts { OnOk result (self.new.texts.items ≡ self.old.texts.items ++ spec.texts_of file.now one.now) }
     {
         let name_at = self.texts.len();
-        let name = name_of(&record.content);
+        let name = name_of(&one.content);
         self.texts.extend_from_slice(name)?;
         let text_at = self.texts.len();
-        push_text(alloc, &mut self.texts, file, record)?;
+        push_text(alloc, &mut self.texts, file, one)?;
         self.rows.push(Row {
-            kind: kind_of(&record.content),
-            is_whole: is_whole(&record.content),
-            start: record.start,
-            end: record.end,
-            line: record.line,
+            kind: kind_of(&one.content),
+            is_whole: is_whole(&one.content),
+            start: one.start,
+            end: one.end,
+            line: one.line,
             name_at,
             name_len: name.len(),
             text_at,
