@@ -138,7 +138,7 @@ const BAD_STYLE: &[u8] = b"ENTRY {title}{}{} FUNCTION {misc}{} READ STRUNG {f}\n
 const BAD_BODY: &[u8] =
     b"ENTRY {title}{}{} FUNCTION {misc}{\"w\" warning$ pop$ #7} READ ITERATE {call.type$}\n";
 
-// A database with an error, and without its entry.
+// A database with an error.
 const BAD_DATABASE: &[u8] = b"@misc{k title}\n";
 
 #[test]
