@@ -36,7 +36,7 @@ head_note style places event =
 
 -- A text is what is noted of an event of a job's run: its first lines; for each literal that a command left, since which token it has been there; and the scene
 -- before the event's step, in the command of this item, if one was found. `began` is the token that is said to have begun the loop, if the event is a loop's
--- test. The lines are those of `places`, where the style's tokens and items stand
+-- test
 pub record IsNoteOf (style : Style) (job : Job) (counts : LogCounts) (places : StylePlaces) (event : Event) (text : List ℕ) : Type 0 where
   pub since : List (Option Place)
   pub as_many : length since ≡ length event.since.items
@@ -66,8 +66,8 @@ pub record Explains (job : Job) (counts : LogCounts) (places : StylePlaces) (old
 
 -- ---- a job, by its files
 
--- of files that were read so, behind a log with these counts: if a style was found, the notes grew by those of some events of its run, with the lines of its
--- text; else nothing is noted
+-- of files that were read so, behind a log with these counts: if a style was found, the notes grew by those of some events of its run, with the
+-- lines that its text has; else nothing is noted
 abbrev pub ExplainsFiles : AuxJob → FilesRead → Options → LogCounts → List ℕ → List ℕ → Type 0
 ExplainsFiles job (Ends end) options counts old new = new ≡ old
 ExplainsFiles job (Found found) options counts old new = Explains (work_in job found options) counts (places_of found.style.name found.style.bytes) old new

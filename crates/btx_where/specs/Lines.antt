@@ -1,5 +1,4 @@
--- The lines of a style's tokens and commands. Where these stand is the definition's of `btx_bst` (`places_of`), which follows the turns in which the style is read,
--- past mistakes too; here a line is read off the place, and no text is read.
+-- The lines of a style's tokens and commands, by the places of its text.
 use Rattle.std.specs.Prelude.{ℕ, Option, None, Some, slice_get}
 use Rattle.btx_bst.specs.declared.span.Span.{Span}
 use Rattle.btx_bst.specs.laws.StylePlaces.{StylePlaces, token_span}
