@@ -1,9 +1,15 @@
 -- The events of the lines of a log.
 use Rattle.std.proofs.Common.{arith, ◌≡◌, ℕ, ◌+◌, ◌≤◌, List, [], ◌∷◌, ◌++◌, Option, None, Some, length, min, map, take, drop, refl, sym, ap, subst, ◌∙◌, append-nil}
-use Rattle.std.specs.Prelude.{IfSome}
+use Rattle.std.specs.Prelude.{IfSome, Result, Ok, Err, OnOk}
 use Rattle.std.proofs.lemmas.List.{length-append, length-map, map_push, length_push, take_all, take-append-le}
 use Rattle.btx_text.specs.language.LogLines.{Line}
+<<<<<<< HEAD
 use Rattle.btx_machine.specs.laws.Noting.{Printed, printed}
+=======
+use Rattle.btx_machine.specs.declared.report.Report.{Report}
+use Rattle.btx_machine.specs.language.Noting.{Printed, printed}
+use Rattle.btx_c.specs.declared.cause.Cause.{Cause}
+>>>>>>> f5938a0f7173c8de006f2bd67b2d61f9d6b3f85d
 use Rattle.btx_c.specs.declared.event.BtxEvent.{BtxEvent}
 use Rattle.btx_c.specs.declared.noted.Events.{Events}
 use Rattle.btx_c.specs.Events.{Divided, Mark, kind_number, mark, marks, marks_from}
@@ -73,12 +79,17 @@ module _ (lines : List Line) (line : Line) (before after : Events) (are : AreOf 
       }
 
 -- what a run that ended has noted
-pub printed_of : (notes_before notes : List Line) (log_before log : List ℕ) → Printed (Some notes_before, Some notes) (Some log_before, Some log)
+printed_of : (notes_before notes : List Line) (log_before log : List ℕ) → Printed (Some notes_before, Some notes) (Some log_before, Some log)
     → notes_before ≡ [] → log_before ≡ [] → log ≡ printed notes
 printed_of notes_before notes log_before log is no_notes no_log =
     let lines : notes ≡ is.lines = rw no_notes at is.are_noted in
     let bytes : log ≡ printed is.lines = rw no_log at is.are_logged in
     bytes ∙ ap printed (sym lines)
+
+pub logged_of : (ended : Result Report Cause) (notes_before notes : List Line) (log_before log : List ℕ)
+    → OnOk ended (Printed (Some notes_before, Some notes) (Some log_before, Some log)) → notes_before ≡ [] → log_before ≡ [] → OnOk ended (log ≡ printed notes)
+logged_of (Ok report) notes_before notes log_before log is no_notes no_log = printed_of notes_before notes log_before log is no_notes no_log
+logged_of (Err cause) notes_before notes log_before log is no_notes no_log = tt
 
 -- events of a log's lines, put into a room
 pub divided_of : (log : List ℕ) (len : ℕ) (events : Events) (room into : List BtxEvent) → AreInLog log (length room) events → len ≡ events.count

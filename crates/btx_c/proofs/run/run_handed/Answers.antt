@@ -1,5 +1,5 @@
 use Rattle.std.proofs.Common.{sym, subst, Some, []}
-use Rattle.std.specs.Prelude.{Result, IfOk, OnErr}
+use Rattle.std.specs.Prelude.{Result, IfOk, OnErr, OnOk}
 use Rattle.btx_machine.specs.declared.report.Report.{Report}
 use Rattle.btx_machine.specs.language.KeepingStep.{AtFault, Completes, Received}
 use Rattle.btx_core.specs.refinement.ComputedProduct.{product, product_with}
@@ -7,7 +7,7 @@ use Rattle.btx_c.specs.declared.cause.Cause.{Cause}
 use Rattle.btx_c.specs.Noted.{HasEvents}
 use Rattle.btx_c.specs.Outcomes.{all_files}
 use Rattle.btx_c.proofs.FullLemmas.{whole_at_fault}
-use Rattle.btx_c.proofs.EventLemmas.{printed_of}
+use Rattle.btx_c.proofs.EventLemmas.{logged_of}
 use Rattle.btx_c.proofs.OutcomeLemmas.{err_of, events_of, ok_of}
 use Rattle.btx_c.proofs.run.run_handed.Goals as goal
 
@@ -33,3 +33,11 @@ returns-clause-err g c =
     (rw (c.new-list.ensures, c.new-log.ensures) at c.run_into-ended.ensures.ok)
     (rw (c.new-list.ensures, c.new-log.ensures) at c.run_into-ended.ensures.err)
     (λ report whole. whole_at_fault files c.args.name.now c.args.options.now line report (Some [], Some []) after whole))
+
+pub returns-clause-events : goal.returns-clause-events
+returns-clause-events g c =
+    let log = c.run_into-ended.new.log.bytes.items in
+    subst (λ (outcome : Result Report Cause). OnOk outcome (HasEvents log c.args.most_events c.into_events-events.result)) (sym c.outcome_of-outcome.ensures)
+    (events_of c.run_into-ended.result _ _ _ c.into_events-events.result log c.run_into-ended.new.notes c.args.most_events c.is_none.ensures.value
+    (logged_of c.run_into-ended.result _ c.run_into-ended.new.notes _ log c.run_into-ended.ensures.noted c.new-notes.ensures c.new-log.ensures)
+    c.into_events-events.ensures)
