@@ -67,7 +67,8 @@ def take_piece(job, files, level, command, text):
 
 
 def opened(files, name, ending):
-    """The file that a name opens: with its ending, or else as it is, if it ends so."""
+    """The file that a name opens: with its ending, or else as it is, if it ends so. A byte 0 ends the name, since the system takes it so."""
+    name = name.partition(b"\0")[0]
     if name + ending in files:
         return name + ending
     return name if name.endswith(ending) and name in files else None
