@@ -197,15 +197,19 @@ async function hostile(page) {
 async function sizes(page) {
   const entries = Array.from({ length: 9000 }, (_, number) => `@misc{k${number},\n  title = {A title of some length, number ${number}, for a database of one megabyte and more}}\n`);
   await page.ask(`window.big = ${JSON.stringify(entries.join(''))}`);
-  const took = await page.ask(`(async () => {
+  const timeOf = (text) => page.ask(`(async () => {
     const began = performance.now();
-    document.getElementById('database').value = window.big;
+    document.getElementById('database').value = ${text};
     document.getElementById('database').dispatchEvent(new Event('input'));
     document.getElementById('run').click();
     while (!/^Ended/.test(document.getElementById('status').textContent)) await new Promise((done) => setTimeout(done, 20));
     return performance.now() - began;
   })()`);
-  check(`a database of ${Math.round(entries.join('').length / 1e5) / 10} MB runs within five seconds (${Math.round(took)} ms)`, took < 5000);
+  // (a job of one entry says how busy the machine is)
+  const small = await timeOf("'@misc{k}'");
+  const took = await timeOf('window.big');
+  const most = Math.max(5000, 40 * small);
+  check(`a database of ${Math.round(entries.join('').length / 1e5) / 10} MB runs within ${Math.round(most)} ms (${Math.round(took)} ms; one of an entry ${Math.round(small)} ms)`, took < most);
   check('all its entries are there', (await page.ask(text('status'))).includes('Errors: 0'));
 }
 
