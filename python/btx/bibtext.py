@@ -20,7 +20,8 @@ NO_NAME = "I was expecting a name"
 NO_EQUALS = "I was expecting an ="
 NO_VALUE = "I was expecting a value"
 REPEATED = "Repeated entry"
-LONGEST_STRING = 1_000_000
+# How many bytes of a joined value are kept: those of a string that is joined from itself again and again would have no end.
+MOST_KEPT = 10_000
 
 WHITE = rb"[ \t\r\n]*"
 FIRST_OF_NAME = rb"[^\x00- \"#%'(),={}0-9]"
@@ -127,7 +128,7 @@ class Database:
         return self.text[start:end]
 
     def value(self, field: Field, strings: Dict[bytes, bytes]) -> bytes:
-        """A value whose parts are joined and squeezed, where these strings have a value. It is cut to what a string may have: there a run ends at its limit."""
+        """A value whose parts are joined and squeezed, where these strings have a value. Of one with names of strings the first 10,000 bytes are kept."""
         if field.parts is None:
             return squeezed(self.raw(field))
         texts: List[bytes] = []
@@ -136,9 +137,9 @@ class Database:
             text = self.text[part.start : part.end]
             texts.append(strings.get(text.lower(), b"") if part.is_name else text)
             length += len(texts[-1])
-            if length > LONGEST_STRING:
+            if length > MOST_KEPT:
                 break
-        return squeezed(b"".join(texts)[:LONGEST_STRING])
+        return squeezed(b"".join(texts)[:MOST_KEPT])
 
 
 def squeezed(text: bytes) -> bytes:
