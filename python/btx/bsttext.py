@@ -22,13 +22,15 @@ OF_ENTRY = ("field", "integer of entries", "string of entries")
 
 
 class Word(NamedTuple):
-    """A name in a style. name: in lower case. kind: of a definition what it defines, else the empty text. is_quoted: whether a `'` is before it."""
+    """A name in a style. name: in lower case. kind: of a definition what it defines, else the empty text. is_quoted: whether a `'` is before it.
+    token: in a body, how many tokens are before it in its braces."""
 
     name: str
     start: int
     end: int
     kind: str = ""
     is_quoted: bool = False
+    token: int = -1
 
 
 class Command(NamedTuple):
@@ -109,7 +111,7 @@ class StyleReader:
             self.names(KINDS[word])
         elif word in (b"EXECUTE", b"ITERATE", b"REVERSE"):
             self.names("")
-        if word in (b"FUNCTION", b"MACRO"):
+        if word in (b"FUNCTION", b"MACRO") and self.found.definitions:
             self.body(word == b"MACRO")
 
     def opens(self) -> Optional[int]:
@@ -139,16 +141,26 @@ class StyleReader:
 
     def body(self, is_text: bool) -> None:
         """Reads the body of a function, or the text of a macro."""
-        limit, depth = self.opens(), 1
-        while limit is not None and depth:
+        limit, counts = self.opens(), [0]
+        while limit is not None and counts:
             self.skip_space()
             found = TOKEN.match(self.text, self.at)
             if found is None or self.at >= limit:
                 return
             self.at, token = found.end(), found[0]
-            depth += {b"{": 1, b"}": -1}.get(token, 0)
-            if is_text and token[:1] == b'"':
+            if token == b"}":
+                counts.pop()
+                continue
+            counts[-1] += 1
+            if token == b"{":
+                counts.append(0)
+            elif is_text and token[:1] == b'"':
                 self.found.values[self.found.definitions[-1].name] = found.span()
-            if token[:1] not in (b"{", b"}", b'"', b"#"):
-                is_quoted = token[:1] == b"'"
-                self.found.uses.append(Word(name_of(token[is_quoted:]), found.start() + is_quoted, found.end(), "", is_quoted))
+            elif token[:1] not in (b'"', b"#"):
+                self.use(found, counts[-1] - 1)
+
+    def use(self, found: "re.Match[bytes]", token: int) -> None:
+        """Keeps a name of a body."""
+        is_quoted = found[0][:1] == b"'"
+        start = found.start() + is_quoted
+        self.found.uses.append(Word(name_of(self.text[start : found.end()]), start, found.end(), "", is_quoted, token))
