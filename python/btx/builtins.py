@@ -66,5 +66,5 @@ def described(name: str) -> str:
     if it.errors:
         lines.append(f"Errors: {it.errors}.")
     if it.default:
-        lines.append(f"After an error it pushes: {it.default}.")
+        lines.append("After an error it pushes nothing." if it.default == "none" else f"After an error it pushes {it.default}.")
     return "\n\n".join([*lines, f"Example: {it.example}."])

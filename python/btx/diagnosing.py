@@ -9,7 +9,7 @@ import re
 from functools import partial
 from typing import Callable, Dict, Iterable, Iterator, List, NamedTuple, Optional, Tuple
 
-from .bibtext import REPEATED
+from .bibtext import NO_EQUALS, REPEATED
 from .bsttext import COMMANDS, StyleText
 from .builtins import BUILT_IN
 from .checking import Fault, StyleWarning, check
@@ -168,6 +168,8 @@ def mending_of(document: Document, workspace: Workspace, finding: Finding, style
     if finding.text.startswith("I was expecting a , or a"):
         place = len(document.text[: finding.start].rstrip(b" \t\r\n"))
         return Mending("Add the comma", place, place, ",")
+    if finding.text == NO_EQUALS:
+        return Mending("Add the =", finding.start, finding.start, "= ")
     return closing(document, finding.text, len(document.text[: finding.start].rstrip(b" \t\r\n")))
 
 
