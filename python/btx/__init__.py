@@ -5,20 +5,24 @@
     result.bbl, result.log, result.report.errors
 
 `run_in` takes the files of a folder. `python3 -m btx JOB` runs a job as the program does, and `python3 -m btx compare FOLDER` compares the
-reference lists that old jobs have with those that they get now.
+reference lists that old jobs have with those that they get now. `check` says of a style, before any run, whether it is clean.
 
 What is proved is the library below, libbtx.so.1: that list, log and report are those of the definition of BibTeX's language for the files
-that were handed in. This package is ordinary Python around two of its calls."""
+that were handed in. This package is ordinary Python around three of its calls."""
 
+from .checking import Answer, Branches, Fault, Operand, Spot, StyleWarning, Verdict, check
 from .jobs import Content, Files, Finder, Name, in_folder, needs, run, run_in
 from .messages import Kind, Message, messages_of
 from .options import TEX_LIVE, Options
-from .refusals import FileUnknown, FinderRefused, LibraryMissing, MemoryRefused, NameRefused, OptionRefused, OutputTooLong, Refusal
+from .refusals import FileUnknown, FinderRefused, LibraryMissing, MemoryRefused, NameRefused, OptionRefused, OutputTooLong, Refusal, StyleTooLong
 from .results import End, Report, Result
 
 __all__ = [
+    "Answer",
+    "Branches",
     "Content",
     "End",
+    "Fault",
     "FileUnknown",
     "Files",
     "Finder",
@@ -29,16 +33,23 @@ __all__ = [
     "Message",
     "Name",
     "NameRefused",
+    "Operand",
     "OptionRefused",
     "Options",
     "OutputTooLong",
     "Refusal",
     "Report",
     "Result",
+    "Spot",
+    "StyleTooLong",
+    "StyleWarning",
     "TEX_LIVE",
+    "Verdict",
+    "check",
     "in_folder",
     "messages_of",
     "needs",
+    "paper",
     "run",
     "run_in",
 ]

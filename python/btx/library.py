@@ -15,7 +15,7 @@ from .options import Options
 from .refusals import FileUnknown, LibraryMissing, MemoryRefused, OutputTooLong, Refusal
 from .results import End, Report, Result
 
-__all__ = ["needed_names", "run_over"]
+__all__ = ["Checked", "checked_style", "needed_names", "run_over"]
 
 # What is said of each file: its bytes, or None where there is no such file.
 Known = Mapping[bytes, Optional[bytes]]
@@ -24,6 +24,8 @@ DONE, REFUSED, MEMORY, ASKS, FULL, ENDS = range(6)
 # How many bytes of names are asked for at first, of outputs at least.
 FIRST_NAMES = 4096
 LEAST_ROOM = 1 << 16
+# How many bytes the names of a style's types and the notes of a check are given room for at first.
+FIRST_TYPES, FIRST_NOTES = 1 << 16, 1 << 20
 
 
 class Text(ctypes.Structure):
@@ -50,20 +52,29 @@ class Answered(ctypes.Structure):
     ]
 
 
+class Checked(ctypes.Structure):
+    _fields_ = [
+        ("verdict", ctypes.c_uint32),
+        *((name, ctypes.c_uint64) for name in ("literals", "bodies")),
+        *((name, ctypes.c_size_t) for name in ("types_len", "notes_len")),
+    ]
+
+
 def found_library() -> ctypes.CDLL:
     """The library: the file that BTX_LIBRARY names, the one that lies in this package, or the system's."""
     beside = pathlib.Path(__file__).parent / "libbtx.so.1"
     path = os.environ.get("BTX_LIBRARY") or (str(beside) if beside.exists() else "libbtx.so.1")
     try:
         library = ctypes.CDLL(path)
-        needs, run = library.btx_needs, library.btx_run
+        needs, run, check = library.btx_needs, library.btx_run, library.btx_check
     except (OSError, AttributeError) as error:
         raise LibraryMissing(path, str(error)) from error
-    needs.restype = run.restype = ctypes.c_uint32
+    needs.restype = run.restype = check.restype = ctypes.c_uint32
     size = ctypes.c_size_t
     text, files, room = (ctypes.c_char_p, size), (ctypes.POINTER(File), size), (ctypes.c_void_p, size)
     needs.argtypes = (*text, *files, *room, ctypes.POINTER(size))
     run.argtypes = (*text, *files, ctypes.POINTER(Asked), *room, *room, ctypes.POINTER(Answered))
+    check.argtypes = (*text, *text, ctypes.c_uint64, *room, *room, ctypes.POINTER(Checked))
     return library
 
 
@@ -161,3 +172,20 @@ def call(job: bytes, known: Known, options: Options, bbl: Room, log: Room) -> Tu
         ctypes.byref(answered),
     )
     return answer, answered
+
+
+def checked_style(name: bytes, style: bytes, steps: int) -> Optional[Tuple[Checked, bytes, bytes]]:
+    """What the check of a style answers, the names of its types and its notes. None where the style is longer than a file may be."""
+    types_room, notes_room = FIRST_TYPES, FIRST_NOTES
+    while True:
+        types, notes, checked = ctypes.create_string_buffer(types_room), ctypes.create_string_buffer(notes_room), Checked()
+        answer = LIBRARY.btx_check(
+            name, len(name), style, len(style), steps, types, types_room, notes, notes_room, ctypes.byref(checked)
+        )
+        if answer == REFUSED:
+            return None
+        if answer not in (DONE, FULL):
+            raise refusal_of(answer)
+        if answer == DONE:
+            return checked, types.raw[: checked.types_len], notes.raw[: checked.notes_len]
+        types_room, notes_room = max(types_room, checked.types_len), max(notes_room, checked.notes_len)

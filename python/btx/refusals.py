@@ -6,7 +6,7 @@ from __future__ import annotations
 
 from typing import Optional, Union
 
-__all__ = ["Refusal", "OptionRefused", "MemoryRefused", "FileUnknown", "OutputTooLong", "NameRefused", "FinderRefused", "LibraryMissing"]
+__all__ = ["Refusal", "OptionRefused", "MemoryRefused", "FileUnknown", "OutputTooLong", "NameRefused", "FinderRefused", "LibraryMissing", "StyleTooLong"]
 
 
 class Refusal(Exception):
@@ -75,6 +75,17 @@ class MemoryRefused(Refusal, MemoryError):
 
 class FileUnknown(Refusal, LookupError):
     """The job needs a file of which nothing was said. `run` looks for all files that a job needs, so it never raises this."""
+
+
+class StyleTooLong(Refusal, ValueError):
+    """A style that is to be checked has more bytes than a file may have. length: how many it has."""
+
+    def __init__(self, length: int) -> None:
+        super().__init__(length)
+        self.length = length
+
+    def __str__(self) -> str:
+        return f"the style has {self.length:,} bytes, and a file may have 2,147,483,647"
 
 
 class OutputTooLong(Refusal):

@@ -1,0 +1,166 @@
+"""The text of a style: what it defines and uses, with places. docs/RULES.md has its rules, under Styles.
+
+This is no second reader of styles: the mistakes are those that the library logs. It looks for what a person would look for, so that one mistake doesn't
+hide what follows: a command's word at the beginning of a line begins a command, whatever the braces above say."""
+
+from __future__ import annotations
+
+import re
+from typing import Dict, List, NamedTuple, Optional, Tuple
+
+__all__ = ["COMMANDS", "Command", "StyleText", "Word", "read_style"]
+
+COMMANDS = ("ENTRY", "EXECUTE", "FUNCTION", "INTEGERS", "ITERATE", "MACRO", "READ", "REVERSE", "SORT", "STRINGS")
+# What lies between tokens; a command's word, and where one begins a line; a token of a body; a word of a list.
+SPACE = re.compile(rb"(?:[ \t\r\n]+|%[^\n]*)*")
+LETTERS = re.compile(rb"[A-Za-z]+")
+BEGINS_LINE = re.compile(rb"(?im)^(?:ENTRY|EXECUTE|FUNCTION|INTEGERS|ITERATE|MACRO|REVERSE|STRINGS)[ \t\r\n]*\{|^(?-i:READ|SORT)[ \t\r]*$")
+TOKEN = re.compile(rb"[{}]|\"[^\"\n]*\"?|#-?[0-9]+|'?[^ \t\r\n}%\"][^ \t\r\n}%]*|'|\"")
+LIST_WORD = re.compile(rb"[^\x00- \"#%'(),={}]+")
+KINDS = {b"FUNCTION": "function", b"MACRO": "string", b"INTEGERS": "integer", b"STRINGS": "string variable"}
+OF_ENTRY = ("field", "integer of entries", "string of entries")
+
+
+class Word(NamedTuple):
+    """A name in a style. name: in lower case. kind: of a definition what it defines, else the empty text. is_quoted: whether a `'` is before it.
+    token: in a body, how many tokens are before it in its braces."""
+
+    name: str
+    start: int
+    end: int
+    kind: str = ""
+    is_quoted: bool = False
+    token: int = -1
+
+
+class Command(NamedTuple):
+    """A command, from its word to its end. name: that of its first argument, of a FUNCTION, a MACRO and those that execute."""
+
+    word: str
+    start: int
+    end: int
+    name: Optional[Word]
+
+
+class StyleText:
+    """What is found in a style."""
+
+    def __init__(self) -> None:
+        self.commands: List[Command] = []
+        self.definitions: List[Word] = []
+        self.uses: List[Word] = []
+        self.values: Dict[str, Tuple[int, int]] = {}
+
+    def named(self, kind: str) -> List[str]:
+        """The names that are defined as this."""
+        return [word.name for word in self.definitions if word.kind == kind]
+
+
+def name_of(text: bytes) -> str:
+    return text.lower().decode("utf8", "surrogateescape")
+
+
+def read_style(text: bytes) -> StyleText:
+    """Reads a style as far as a person would."""
+    reader = StyleReader(text)
+    while reader.at < len(text):
+        reader.command()
+    return reader.found
+
+
+class StyleReader:
+    """Reads a style, forward only."""
+
+    def __init__(self, text: bytes) -> None:
+        self.text = text
+        self.at = 0
+        self.found = StyleText()
+        self.lines = [found.start() for found in BEGINS_LINE.finditer(text)]
+        self.lines.append(len(text))
+        self.next_line = 0
+
+    def skip_space(self) -> None:
+        self.at = SPACE.match(self.text, self.at).end()  # type: ignore[union-attr]
+
+    def limit(self) -> int:
+        """Where the next command begins at the latest."""
+        while self.lines[self.next_line] < self.at:
+            self.next_line += 1
+        return self.lines[self.next_line]
+
+    def command(self) -> None:
+        """Reads a command, or passes over what is none."""
+        self.skip_space()
+        start = self.at
+        found = LETTERS.match(self.text, start)
+        if found is None or found[0].upper().decode() not in COMMANDS:
+            self.at = min(start + max(len(found[0]) if found else 1, 1), len(self.text))
+            return
+        word, self.at = found[0].upper(), found.end()
+        first = len(self.found.definitions), len(self.found.uses)
+        self.arguments(word)
+        words = self.found.definitions[first[0] :] if word in (b"FUNCTION", b"MACRO") else self.found.uses[first[1] :]
+        is_named = word in (b"FUNCTION", b"MACRO", b"EXECUTE", b"ITERATE", b"REVERSE") and words
+        self.found.commands.append(Command(word.decode(), start, self.at, words[0] if is_named else None))
+
+    def arguments(self, word: bytes) -> None:
+        if word == b"ENTRY":
+            for kind in OF_ENTRY:
+                self.names(kind)
+        elif word in KINDS:
+            self.names(KINDS[word])
+        elif word in (b"EXECUTE", b"ITERATE", b"REVERSE"):
+            self.names("")
+        if word in (b"FUNCTION", b"MACRO") and self.found.definitions:
+            self.body(word == b"MACRO")
+
+    def opens(self) -> Optional[int]:
+        """Where the next command begins, if an argument is opened before it: its brace is passed."""
+        self.skip_space()
+        limit = self.limit() if self.text[self.at : self.at + 1] == b"{" else 0
+        if limit <= self.at:
+            return None
+        self.at += 1
+        return limit
+
+    def names(self, kind: str) -> None:
+        """Reads an argument of names: definitions of a kind, or uses."""
+        limit = self.opens()
+        while limit is not None and self.at < limit:
+            self.skip_space()
+            found = LIST_WORD.match(self.text, self.at)
+            if found is None:
+                is_closed = self.text[self.at : self.at + 1] == b"}"
+                self.at = min(self.at + 1, len(self.text))
+                if is_closed:
+                    return
+                continue
+            word = Word(name_of(found[0]), found.start(), found.end(), kind)
+            (self.found.definitions if kind else self.found.uses).append(word)
+            self.at = found.end()
+
+    def body(self, is_text: bool) -> None:
+        """Reads the body of a function, or the text of a macro."""
+        limit, counts = self.opens(), [0]
+        while limit is not None and counts:
+            self.skip_space()
+            found = TOKEN.match(self.text, self.at)
+            if found is None or self.at >= limit:
+                return
+            self.at, token = found.end(), found[0]
+            if token == b"}":
+                counts.pop()
+                continue
+            counts[-1] += 1
+            if token == b"{":
+                counts.append(0)
+            elif is_text and token[:1] == b'"':
+                self.found.values[self.found.definitions[-1].name] = found.span()
+            elif token[:1] not in (b'"', b"#"):
+                self.use(found, counts[-1] - 1)
+
+    def use(self, found: "re.Match[bytes]", token: int) -> None:
+        """Keeps a name of a body."""
+        is_quoted = found[0][:1] == b"'"
+        start = found.start() + is_quoted
+        self.found.uses.append(Word(name_of(self.text[start : found.end()]), start, found.end(), "", is_quoted, token))

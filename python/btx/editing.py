@@ -1,0 +1,253 @@
+"""What a language server answers about a place of a text: what is there, where it is defined and used, what may be written, and how it is renamed."""
+
+from __future__ import annotations
+
+import re
+from typing import Any, Dict, Iterator, List, NamedTuple, Optional, Tuple
+
+from .bibtext import Field, Item
+from .bsttext import COMMANDS, LIST_WORD, Word
+from .builtins import BUILT_IN, described
+from .diagnosing import citations
+from .doctor import JOURNALS, MONTHS
+from .documents import Document
+from .workspace import Workspace
+
+__all__ = ["Named", "Place", "RenameRefused", "completions", "definition", "hover", "name_at", "references", "rename", "symbols"]
+
+WORD = re.compile(rb"[^\s{}%\"']+")
+IN_CITE = re.compile(rb"\\[A-Za-z]*[cC]ite[A-Za-z]*\*?(?:\[[^\]\r\n]*\]){0,2}\{[^{}]*$")
+AFTER_AT = re.compile(rb"@[A-Za-z]*$")
+AFTER_CROSSREF = re.compile(rb"(?i)crossref\s*=\s*[{\"][^{}\"]*$")
+AFTER_EQUALS = re.compile(rb"[=#]\s*[^\s{}\"#,=]*$")
+# What the standard styles of TeX define.
+TYPES = "article book booklet conference inbook incollection inproceedings manual mastersthesis misc phdthesis proceedings techreport unpublished".split()
+FIELDS = (
+    "address annote author booktitle chapter crossref edition editor howpublished institution journal key month note number organization pages publisher school "
+    "series title type volume year".split()
+)
+PREDEFINED = {"crossref": "field", "sort.key$": "string of entries", "entry.max$": "integer", "global.max$": "integer"}
+# What the protocol calls kinds of symbols and of completions.
+FUNCTION, FIELD, STRING, VARIABLE, KEY, KEYWORD = 12, 8, 15, 13, 20, 14
+COMPLETIONS = {"function": 3, "field": 5, "type": 7, "variable": 6, "key": 18, "string": 21, "command": 14}
+
+
+class RenameRefused(Exception):
+    """A name can't be changed so."""
+
+
+class Place(NamedTuple):
+    """Bytes of a text."""
+
+    document: Document
+    start: int
+    end: int
+
+
+class Named(NamedTuple):
+    """A name in a text. kind: function (also a field or a variable of a style), macro, string or key. name: in lower case."""
+
+    kind: str
+    name: str
+    place: Place
+
+
+def shown(text: bytes) -> str:
+    return text.decode("utf8", "replace")
+
+
+# ---- the names of a text ----
+
+
+def names_of(document: Document, workspace: Workspace) -> Iterator[Tuple[Named, bool]]:
+    """The names of a text, and whether each is a definition."""
+    if document.uri.endswith(".bst"):
+        style = workspace.style(document)
+        for word in (*style.definitions, *style.uses):
+            kind = "macro" if word.kind == "string" else "function"
+            yield Named(kind, word.name, Place(document, word.start, word.end)), bool(word.kind)
+    elif document.uri.endswith(".bib"):
+        for item in workspace.base(document).database.items:
+            yield from names_of_item(document, item)
+    else:
+        for start, end in citations(document):
+            yield Named("key", shown(document.text[start:end].lower()), Place(document, start, end)), False
+
+
+def names_of_item(document: Document, item: Item) -> Iterator[Tuple[Named, bool]]:
+    """The key of an item, the strings that it uses and the key that its crossref names."""
+    text = document.text
+    if item.key:
+        kind = "key" if item.is_entry else "string"
+        yield Named(kind, shown(item.key.lower()), Place(document, item.key_end - len(item.key), item.key_end)), True
+    for field in item.fields:
+        for part in field.parts or ():
+            if part.is_name:
+                yield Named("string", shown(text[part.start : part.end].lower()), Place(document, part.start, part.end)), False
+        if field.parts is None and text[field.name_start : field.name_end].lower() == b"crossref":
+            raw = text[field.start + 1 : field.end - 1]
+            start = field.start + 1 + len(raw) - len(raw.lstrip())
+            yield Named("key", shown(raw.strip().lower()), Place(document, start, start + len(raw.strip()))), False
+
+
+def name_at(document: Document, workspace: Workspace, place: int) -> Optional[Named]:
+    """The name at a place of a text, or directly before it."""
+    found = [named for named, _ in names_of(document, workspace) if named.place.start <= place <= named.place.end]
+    return min(found, key=lambda named: named.place.end == place, default=None)
+
+
+def uses(named: Named, workspace: Workspace) -> Iterator[Tuple[Place, bool]]:
+    """All places of a name, and whether each is its definition: in its text, and of a key and a string also in the files beside it."""
+    endings = {"key": (".bib", ".tex", ".aux"), "string": (".bib",), "macro": (".bst",), "function": (".bst",)}[named.kind]
+    document = named.place.document
+    files = [document] if document.uri.endswith(".bst") else workspace.beside(document, *endings)
+    for file in files:
+        for other, is_definition in names_of(file, workspace):
+            if (other.kind, other.name) == (named.kind, named.name):
+                yield other.place, is_definition
+
+
+def definition(named: Named, workspace: Workspace) -> List[Place]:
+    found = [place for place, is_definition in uses(named, workspace) if is_definition]
+    if not found and named.kind == "string":
+        used = workspace.style_in_use(named.place.document)
+        if used is not None:
+            found = [Place(used[0], word.start, word.end) for word in used[2].definitions if (word.kind, word.name) == ("string", named.name)]
+    if not found and named.kind == "key":
+        for base in workspace.databases(named.place.document):
+            found += [other.place for other, is_definition in names_of(base, workspace) if is_definition and (other.kind, other.name) == ("key", named.name)]
+    return found
+
+
+def references(named: Named, workspace: Workspace, with_definition: bool) -> List[Place]:
+    return [place for place, is_definition in uses(named, workspace) if with_definition or not is_definition]
+
+
+def rename(named: Named, workspace: Workspace, new: str) -> List[Place]:
+    """The places at which the new name is to be written. What LaTeX writes isn't changed."""
+    if named.kind == "function" and (named.name in BUILT_IN or named.name in PREDEFINED):
+        raise RenameRefused(f"{named.name} is BibTeX's own")
+    wanted = new.encode("utf8", "surrogatepass")
+    is_key = named.kind == "key"
+    if is_key and (not wanted or re.search(rb"[,\s{}\"#%~\\]", wanted)):
+        raise RenameRefused(f"{new} can't be a key")
+    if not is_key and (LIST_WORD.fullmatch(wanted) is None or wanted[:1].isdigit()):
+        raise RenameRefused(f"{new} can't be a name: it has no whitespace and none of \" # % ' ( ) , = {{ }}, and doesn't begin with a digit")
+    same = Named(named.kind, new.lower(), named.place)
+    if new.lower() != named.name and (any(True for _ in uses(same, workspace)) or (named.kind == "function" and (new.lower() in BUILT_IN or new.lower() in PREDEFINED))):
+        raise RenameRefused(f"{new} is a name already")
+    found = [place for place, _ in uses(named, workspace) if not place.document.uri.endswith(".aux")]
+    if not any(is_definition for _, is_definition in uses(named, workspace)):
+        raise RenameRefused(f"{named.name} isn't defined here")
+    return found
+
+
+# ---- what is there ----
+
+
+def hover(document: Document, workspace: Workspace, place: int) -> Optional[Tuple[str, int, int]]:
+    """What is said of the word at a place, in Markdown, and where the word is."""
+    named = name_at(document, workspace, place)
+    if named is None:
+        return None
+    said = hover_of_style(document, workspace, named) if document.uri.endswith(".bst") else hover_of_entry(workspace, named)
+    return None if said is None else (said, named.place.start, named.place.end)
+
+
+def hover_of_style(document: Document, workspace: Workspace, named: Named) -> Optional[str]:
+    if named.kind == "function" and named.name in BUILT_IN:
+        return described(named.name)
+    style = workspace.style(document)
+    kinds = {word.name: word.kind for word in style.definitions if (word.kind == "string") == (named.kind == "macro")}
+    kind = kinds.get(named.name) or PREDEFINED.get(named.name)
+    if named.kind == "macro" and named.name in style.values:
+        return f"string `{named.name}` = {shown(document.text[slice(*style.values[named.name])])}"
+    return None if kind is None else f"{kind} `{named.name}`"
+
+
+def hover_of_entry(workspace: Workspace, named: Named) -> Optional[str]:
+    """What is said of a string or an entry."""
+    if named.kind == "string":
+        own = workspace.base(named.place.document).strings.get(named.name.encode("utf8", "surrogatepass"))
+        used = workspace.style_in_use(named.place.document) if own is None else None
+        value = own if used is None else used[1].strings.get(named.name.encode("utf8", "surrogatepass"))
+        return None if value is None else f"string `{named.name}` = {shown(value)}"
+    for place in definition(named, workspace):
+        base = workspace.base(place.document)
+        for item in base.database.items:
+            if item.is_entry and item.key_end == place.end:
+                values = {base.database.name(field): base.database.value(field, base.strings) for field in reversed(item.fields)}
+                rows = [f"{name}: {shown(values[name.encode()].strip())}" for name in ("author", "editor", "title", "year") if name.encode() in values]
+                return "\n\n".join([f"**@{shown(item.kind)}** `{shown(item.key or b'')}`", *rows])
+    return None
+
+
+def symbols(document: Document, workspace: Workspace) -> Iterator[Tuple[str, str, int, Place, Place]]:
+    """The parts of a text: name, detail, kind, the whole and the name's place."""
+    if document.uri.endswith(".bst"):
+        for command in workspace.style(document).commands:
+            name = command.name or Word(command.word, command.start, command.start + len(command.word))
+            shown_name = f"{command.word} {name.name}" if command.word not in ("FUNCTION", name.name) else name.name
+            kind = {"FUNCTION": FUNCTION, "MACRO": STRING}.get(command.word, KEYWORD if command.name else VARIABLE)
+            yield shown_name, command.word, kind, Place(document, command.start, command.end), Place(document, name.start, name.end)
+    elif document.uri.endswith(".bib"):
+        for item in workspace.base(document).database.items:
+            if item.key:
+                where = Place(document, item.key_end - len(item.key), item.key_end)
+                yield shown(item.key), shown(item.kind), KEY if item.is_entry else STRING, Place(document, item.start, max(item.end, item.key_end)), where
+
+
+# ---- what may be written ----
+
+
+def completions(document: Document, workspace: Workspace, place: int) -> List[Dict[str, Any]]:
+    """What may be written at a place."""
+    text = document.text
+    before = text[max(text.rfind(b"\n", 0, place) + 1, place - 2000) : place]
+    if document.uri.endswith(".bst"):
+        kinds = {word.name: word.kind for word in workspace.style(document).definitions if word.kind != "string"}
+        rows = [(name, "function", BUILT_IN[name].gives) for name in BUILT_IN]
+        rows += [(name, kind if kind in ("function", "field") else "variable", kind) for name, kind in kinds.items()]
+        return rows_of([*rows, *((word, "command", "command") for word in COMMANDS)])
+    if document.uri.endswith(".bib"):
+        return rows_of(completions_of_database(document, workspace, before))
+    if IN_CITE.search(before) is None:
+        return []
+    return rows_of([row for base in workspace.databases(document) or workspace.beside(document, ".bib") for row in keys_of(base, workspace)])
+
+
+def completions_of_database(document: Document, workspace: Workspace, before: bytes) -> List[Tuple[str, str, str]]:
+    used = workspace.style_in_use(document)
+    if AFTER_AT.search(before):
+        types = TYPES if used is None else types_of(used[2].named("function"), used[2].uses)
+        return [(name, "type", "type") for name in [*types, "string", "preamble", "comment"]]
+    if AFTER_CROSSREF.search(before):
+        return keys_of(document, workspace)
+    if AFTER_EQUALS.search(before):
+        known = [*workspace.base(document).strings, *(used[1].strings if used is not None else (*MONTHS, *JOURNALS))]
+        return [(shown(name), "string", "string") for name in known]
+    if b"{" in before.rpartition(b",")[2]:
+        return []
+    return [(name, "field", "field") for name in (FIELDS if used is None else sorted(map(shown, used[1].fields)))]
+
+
+def types_of(functions: List[str], uses_of: List[Word]) -> List[str]:
+    """The functions that no other one of the style uses: those are its types."""
+    used = {word.name for word in uses_of}
+    return [name for name in functions if name not in used]
+
+
+def keys_of(document: Document, workspace: Workspace) -> List[Tuple[str, str, str]]:
+    base = workspace.base(document)
+    return [(shown(item.key), "key", title_of(base.database.text, item.fields)) for item in base.database.items if item.is_entry and item.key]
+
+
+def title_of(text: bytes, fields: List[Field]) -> str:
+    title = next((text[it.start : it.end] for it in fields if text[it.name_start : it.name_end].lower() == b"title"), b"")
+    return shown(title[:80])
+
+
+def rows_of(rows: List[Tuple[str, str, str]]) -> List[Dict[str, Any]]:
+    """The rows as the protocol has them, each name once."""
+    once = {name: (kind, detail) for name, kind, detail in reversed(rows)}
+    return [{"label": name, "kind": COMPLETIONS.get(kind, 1), "detail": detail} for name, (kind, detail) in sorted(once.items())]

@@ -1,0 +1,264 @@
+"""`python3 -m btx lsp`: a language server for styles, databases, `.aux` files and citations, over standard input and output.
+
+A notice of a change is answered when no further message waits, so many changes at once give one answer, for the last text."""
+
+from __future__ import annotations
+
+import os
+import sys
+from typing import Any, Callable, Dict, List, Optional
+
+from . import editing
+from .diagnosing import Diagnostic, diagnose
+from .documents import Document
+from .editing import Place, RenameRefused
+from .wire import BadMessage, Ended, Wire
+from .workspace import Workspace
+
+__all__ = ["main"]
+
+PARSE, INVALID, UNKNOWN_METHOD, BAD_PARAMS, INTERNAL = -32700, -32600, -32601, -32602, -32603
+NOT_INITIALIZED, FAILED = -32002, -32803
+# How long no message has to come before diagnostics are made.
+REST = 0.03
+CAPABILITIES = {
+    "positionEncoding": "utf-16",
+    "textDocumentSync": {"openClose": True, "change": 2},
+    "hoverProvider": True,
+    "definitionProvider": True,
+    "referencesProvider": True,
+    "renameProvider": {"prepareProvider": True},
+    "completionProvider": {"triggerCharacters": ["@", "=", "#", "{", ",", "'"]},
+    "documentSymbolProvider": True,
+    "codeActionProvider": {"codeActionKinds": ["quickfix"]},
+}
+
+
+class Refused(Exception):
+    """A request that can't be answered: a code of the protocol, and why."""
+
+    def __init__(self, code: int, text: str) -> None:
+        super().__init__(text)
+        self.code = code
+
+
+def main(words: List[str]) -> int:
+    """Serves standard input and output; the status is 0 after a shutdown, else 1."""
+    if words:
+        print("usage: python3 -m btx lsp", file=sys.stderr)
+        return 1
+    source, target = os.dup(0), os.dup(1)
+    # (what anything else would print goes to standard error)
+    os.dup2(2, 1)
+    return Server(Wire(source, target)).serve()
+
+
+class Server:
+    """A language server over a wire."""
+
+    def __init__(self, wire: Wire) -> None:
+        self.wire = wire
+        self.workspace = Workspace()
+        self.is_ready = self.is_down = False
+        self.changed: Dict[str, None] = {}
+        self.known: Dict[str, List[Diagnostic]] = {}
+        self.methods: Dict[str, Callable[[Dict[str, Any]], Any]] = {
+            "textDocument/didOpen": self.did_open,
+            "textDocument/didChange": self.did_change,
+            "textDocument/didClose": self.did_close,
+            "textDocument/didSave": self.did_save,
+            "textDocument/hover": self.hover,
+            "textDocument/definition": self.definition,
+            "textDocument/references": self.references,
+            "textDocument/prepareRename": self.prepare_rename,
+            "textDocument/rename": self.rename,
+            "textDocument/completion": self.completion,
+            "textDocument/documentSymbol": self.symbols,
+            "textDocument/codeAction": self.actions,
+        }
+
+    # ---- messages ----
+
+    def serve(self) -> int:
+        """Answers messages until the client ends it."""
+        while True:
+            try:
+                message = self.wire.take(REST if self.changed else None)
+            except (Ended, OSError):
+                return 0 if self.is_down else 1
+            except BadMessage as error:
+                self.wire.send({"id": None, "error": {"code": PARSE, "message": str(error)}})
+                continue
+            if message is None:
+                self.publish(next(iter(self.changed)))
+            elif message.get("method") == "exit":
+                return 0 if self.is_down else 1
+            elif isinstance(message.get("method"), str):
+                self.take(message)
+            elif "id" in message and "result" not in message and "error" not in message:
+                self.wire.send({"id": message["id"], "error": {"code": INVALID, "message": "a message without a method"}})
+
+    def take(self, message: Dict[str, Any]) -> None:
+        """Does what a message asks, and answers it if it is a request."""
+        is_request = "id" in message
+        try:
+            answer: Dict[str, Any] = {"result": self.answer(message["method"], message.get("params"), is_request)}
+        except Refused as error:
+            answer = {"error": {"code": error.code, "message": str(error)}}
+        except (KeyError, TypeError, ValueError, AttributeError, IndexError) as error:
+            answer = {"error": {"code": BAD_PARAMS, "message": f"{type(error).__name__}: {error}"}}
+        except Exception as error:  # noqa: BLE001 (one request that fails isn't to end the others)
+            answer = {"error": {"code": INTERNAL, "message": f"{type(error).__name__}: {error}"}}
+        if is_request:
+            self.wire.send({"id": message["id"], **answer})
+        elif "error" in answer:
+            print(f"btx lsp: {message['method']}: {answer['error']['message']}", file=sys.stderr)
+
+    def answer(self, method: str, params: Any, is_request: bool) -> Any:
+        if method == "initialize":
+            self.is_ready = True
+            return {"capabilities": CAPABILITIES, "serverInfo": {"name": "btx"}}
+        if not self.is_ready:
+            raise Refused(NOT_INITIALIZED, "the first request is initialize")
+        if self.is_down:
+            raise Refused(INVALID, "it is shut down")
+        if method == "shutdown":
+            self.is_down = True
+            return None
+        call = self.methods.get(method)
+        if call is None:
+            if is_request:
+                raise Refused(UNKNOWN_METHOD, f"there is no method {method}")
+            return None
+        return call(params)
+
+    # ---- texts ----
+
+    def did_open(self, params: Dict[str, Any]) -> None:
+        given = params["textDocument"]
+        self.workspace.open[given["uri"]] = Document(given["uri"], given["text"], given.get("version"))
+        self.changed[given["uri"]] = None
+
+    def did_change(self, params: Dict[str, Any]) -> None:
+        document = self.document(params)
+        self.known.pop(document.uri, None)
+        document.change(params["contentChanges"])
+        document.version = params["textDocument"].get("version")
+        self.changed[document.uri] = None
+
+    def did_save(self, params: Dict[str, Any]) -> None:
+        """Looks again at the texts that may depend on what was saved."""
+        self.known.clear()
+        self.changed.update(dict.fromkeys(self.workspace.open))
+
+    def did_close(self, params: Dict[str, Any]) -> None:
+        uri = self.document(params).uri
+        self.workspace.forget(uri)
+        self.changed.pop(uri, None)
+        self.known.pop(uri, None)
+        self.notify_diagnostics({"uri": uri, "diagnostics": []})
+
+    def document(self, params: Dict[str, Any]) -> Document:
+        uri = params["textDocument"]["uri"]
+        if uri not in self.workspace.open:
+            raise Refused(BAD_PARAMS, f"{uri} isn't open")
+        return self.workspace.open[uri]
+
+    # ---- diagnostics ----
+
+    def diagnostics(self, document: Document) -> List[Diagnostic]:
+        if document.uri not in self.known:
+            self.known[document.uri] = diagnose(document, self.workspace)
+        return self.known[document.uri]
+
+    def publish(self, uri: str) -> None:
+        """Sends the diagnostics of a text."""
+        del self.changed[uri]
+        document = self.workspace.open[uri]
+        try:
+            found = [shown_diagnostic(document, it) for it in self.diagnostics(document)]
+        except Exception as error:  # noqa: BLE001 (a text that can't be checked isn't to end the server)
+            print(f"btx lsp: {uri}: {type(error).__name__}: {error}", file=sys.stderr)
+            found = []
+        params = {"uri": uri, "diagnostics": found}
+        if document.version is not None:
+            params["version"] = document.version
+        self.notify_diagnostics(params)
+
+    def notify_diagnostics(self, params: Dict[str, Any]) -> None:
+        self.wire.send({"method": "textDocument/publishDiagnostics", "params": params})
+
+    def actions(self, params: Dict[str, Any]) -> List[Dict[str, Any]]:
+        """The mendings of the diagnostics that touch a range."""
+        document = self.document(params)
+        start, end = document.place(params["range"]["start"]), document.place(params["range"]["end"])
+        found = []
+        for it in self.diagnostics(document):
+            mending = it.mend() if it.start <= end and it.end >= start else None
+            if mending is None:
+                continue
+            edit = {"range": document.range(mending.start, mending.end), "newText": mending.text}
+            changes = {"changes": {document.uri: [edit]}}
+            found.append({"title": mending.title, "kind": "quickfix", "diagnostics": [shown_diagnostic(document, it)], "edit": changes})
+        return found
+
+    # ---- places ----
+
+    def place(self, params: Dict[str, Any]) -> int:
+        return self.document(params).place(params["position"])
+
+    def hover(self, params: Dict[str, Any]) -> Optional[Dict[str, Any]]:
+        document = self.document(params)
+        found = editing.hover(document, self.workspace, self.place(params))
+        if found is None:
+            return None
+        return {"contents": {"kind": "markdown", "value": found[0]}, "range": document.range(found[1], found[2])}
+
+    def named(self, params: Dict[str, Any]) -> Optional[editing.Named]:
+        return editing.name_at(self.document(params), self.workspace, self.place(params))
+
+    def definition(self, params: Dict[str, Any]) -> List[Dict[str, Any]]:
+        named = self.named(params)
+        return [] if named is None else [location(place) for place in editing.definition(named, self.workspace)]
+
+    def references(self, params: Dict[str, Any]) -> List[Dict[str, Any]]:
+        named = self.named(params)
+        is_whole = bool(params.get("context", {}).get("includeDeclaration", True))
+        return [] if named is None else [location(place) for place in editing.references(named, self.workspace, is_whole)]
+
+    def prepare_rename(self, params: Dict[str, Any]) -> Optional[Dict[str, Any]]:
+        named = self.named(params)
+        return None if named is None else named.place.document.range(named.place.start, named.place.end)
+
+    def rename(self, params: Dict[str, Any]) -> Dict[str, Any]:
+        named = self.named(params)
+        if named is None:
+            raise Refused(FAILED, "there is no name here")
+        try:
+            places = editing.rename(named, self.workspace, params["newName"])
+        except RenameRefused as error:
+            raise Refused(FAILED, str(error)) from error
+        changes: Dict[str, List[Dict[str, Any]]] = {}
+        for place in places:
+            edit = {"range": place.document.range(place.start, place.end), "newText": params["newName"]}
+            changes.setdefault(place.document.uri, []).append(edit)
+        return {"changes": changes}
+
+    def completion(self, params: Dict[str, Any]) -> List[Dict[str, Any]]:
+        return editing.completions(self.document(params), self.workspace, self.place(params))
+
+    def symbols(self, params: Dict[str, Any]) -> List[Dict[str, Any]]:
+        document = self.document(params)
+        return [
+            {"name": name, "detail": detail, "kind": kind, "range": document.range(*whole[1:]), "selectionRange": document.range(*place[1:])}
+            for name, detail, kind, whole, place in editing.symbols(document, self.workspace)
+        ]
+
+
+def location(place: Place) -> Dict[str, Any]:
+    return {"uri": place.document.uri, "range": place.document.range(place.start, place.end)}
+
+
+def shown_diagnostic(document: Document, it: Diagnostic) -> Dict[str, Any]:
+    text = it.text.encode("utf8", "replace").decode()
+    return {"range": document.range(it.start, it.end), "severity": it.severity, "source": "btx", "code": it.code, "message": text}

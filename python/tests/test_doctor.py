@@ -1,0 +1,167 @@
+"""The checks of databases, each on a text where it finds something and on one where it doesn't; what a run would log, beside runs; the command."""
+
+import json
+import os
+import pathlib
+import tempfile
+import time
+import unittest
+
+import btx
+from btx.doctor import CHECKS, Citation, Source, Style, examine, hide_braces
+from tests.spoilt import logged, run_module, spoilt
+
+STYLE = b"ENTRY {author title year} {} {}\nMACRO {acm} {\"ACM\"}\nFUNCTION {book} {}\nFUNCTION {misc} {}\nREAD\n"
+TITLE = b"title = {A Title That Is Long}, year = 2000"
+# A check; a text with its finding, which is marked by < and >; one without.
+ROWS = [
+    ("mistake", b"@misc{k, note <1>}", b"@misc{k, note = 1}"),
+    ("repeated-key", b"@misc{k} @misc{<K>}", b"@misc{k} @misc{kk}"),
+    ("repeated-field", b"@misc{k, note = {A}, <Note> = {B}}", b"@misc{k, note = {A}, notes = {B}}"),
+    ("undefined-string", b"@misc{k, note = {A} # <zz>}", b"@string{ZZ = {z}} @misc{k, note = zz # jan # jacm}"),
+    ("undefined-string", b"@string{s = <s> # {a}}", b"@string{s = {a}} @string{t = s}"),
+    ("fields-in-text", b"@misc{k}\n  <note> = {A}\n", b"@misc{k}\n see note, or a = b\n"),
+    ("repeated-doi", b"@misc{a, doi = {10.1/X}} @misc{<b>, doi = {https://doi.org/10.1/x}}", b"@misc{a, doi = {10.1/x}} @misc{b, doi = {10.1/y}}"),
+    ("repeated-title", b"@misc{a, " + TITLE + b"} @misc{<b>, title = \"{A} title -- that is \\bf Long\", year = {2000}}", b"@misc{a, " + TITLE + b"} @misc{b, " + TITLE + b"1}"),
+    ("et-al", b"@misc{k, author = {A. Bee <et al>.}}", b"@misc{k, author = {A. Bee and Pet Albers and others}}"),
+    ("others-inside", b"@misc{k, author = {A Bee and <others> and C Dee}}", b"@misc{k, author = {A Bee and C Dee and others}}"),
+    ("von-letter", "@misc{k, author = {<Émile> Zola}}".encode(), "@misc{k, author = {Zola, Émile and {\\'E}mile Zola and Émile and ÉA Zola and É{\\'M}ile Zola}}".encode()),
+    ("empty-field", b"@misc{k, note = <{ \n}>}", b"@misc{k, note = {a}, x = 0}"),
+    ("one-hyphen", b"@misc{k, pages = <{1-2}>}", b"@misc{k, pages = {1--2, a-b}}"),
+    ("month-text", b"@misc{k, month = <\"January\">}", b"@misc{k, month = jan} @misc{j, month = {Spring}}"),
+]
+OF_STYLE = [
+    ("unread-field", b"@misc{k, <note> = {A}}", b"@misc{k, title = {A}, crossref = {x}}"),
+    ("unknown-type", b"<@article>{k}", b"@book{k}"),
+    ("undefined-string", b"@misc{k, title = <jan>}", b"@misc{k, title = acm, note = zz}"),
+]
+
+
+def found_in(text, style=None, **named):
+    return examine([Source("d.bib", text)], style, **named)
+
+
+class Checks(unittest.TestCase):
+    def check_rows(self, rows, style):
+        for name, marked, other in rows:
+            with self.subTest(check=name, text=marked):
+                start, end = marked.index(b"<"), marked.index(b">") - 1
+                text = marked.replace(b"<", b"").replace(b">", b"")
+                found = [finding for finding in found_in(text, style) if finding.check == name]
+                self.assertEqual([(finding.start, finding.end) for finding in found], [(start, end)])
+                self.assertEqual([finding for finding in found_in(other, style) if finding.check == name], [])
+
+    def test_each(self):
+        self.check_rows(ROWS, None)
+
+    def test_each_of_a_style(self):
+        self.check_rows(OF_STYLE, Style(STYLE))
+
+    def test_each_can_be_switched_off(self):
+        for name, marked, _ in ROWS:
+            with self.subTest(check=name):
+                text = marked.replace(b"<", b"").replace(b">", b"")
+                self.assertNotIn(name, {finding.check for finding in found_in(text, off=frozenset([name]))})
+
+    def test_citations(self):
+        aux = Source("j.aux", b"k,zz,K")
+        citations = [Citation(b"k", aux, 0), Citation(b"zz", aux, 2), Citation(b"K", aux, 5)]
+        found = found_in(b"@misc{k, crossref = {p}} @misc{p} @misc{q}", citations=citations)
+        self.assertEqual([(it.check, it.source.name, it.start, it.key) for it in found], [("no-entry", "j.aux", 2, "zz"), ("uncited", "d.bib", 40, "q")])
+        found = found_in(b"@misc{k}", citations=[Citation(b"*", aux, 0), Citation(b"zz", aux, 2)])
+        self.assertEqual([it.check for it in found], ["no-entry"])
+
+    def test_all_checks_have_a_row(self):
+        rows = {name for name, *_ in (*ROWS, *OF_STYLE)} | {"no-entry", "uncited"}
+        self.assertEqual(rows, set(CHECKS))
+        self.assertEqual({check.severity for check in CHECKS.values()}, {"error", "warning", "info"})
+        self.assertTrue(all(check.exact.startswith(("Exact", "A guess")) for check in CHECKS.values()))
+
+    def test_two_databases_are_those_of_one_job(self):
+        one, two = Source("1.bib", b"@string{s = {x}} @misc{k}"), Source("2.bib", b"@misc{K, note = s} @misc{j, note = s}")
+        self.assertEqual([(it.source.name, it.check) for it in examine([one, two])], [("2.bib", "repeated-key")])
+
+    def test_braces_are_hidden(self):
+        for text, hidden in ((b"a {b {c} and} d", b"a ........... d"), (b"{}a}b", b"..a.b"), (b"a {b", b"a .."), (b"", b"")):
+            self.assertEqual(hide_braces(text), hidden)
+
+
+class BesideRuns(unittest.TestCase):
+    def test_what_a_run_logs(self):
+        checks = ("mistake", "repeated-key", "repeated-field", "undefined-string")
+        for text in spoilt(200, 65):
+            source = Source("d.bib", text)
+            fields = {source.text[it.name_start : it.name_end].lower() for item in btx.bibtext.read(text).items for it in item.fields}
+            lines = btx.bibtext.Lines(text)
+            found = sorted(it.text for it in examine([source], Style(b"ENTRY {" + b" ".join(sorted(fields)) + b"}{}{}")) if it.check in checks)
+            self.assertEqual(found, sorted(said for _, said in logged(text, fields)), (text, lines.starts))
+
+
+class Command(unittest.TestCase):
+    def setUp(self):
+        self.room = tempfile.TemporaryDirectory()
+        self.addCleanup(self.room.cleanup)
+        self.folder = pathlib.Path(self.room.name)
+        (self.folder / "d.bib").write_bytes("@misc{k, note = {é} # zz, note 1}\n@misc{j}".encode())
+        (self.folder / "ok.bib").write_bytes(b"@misc{k, note = {A}}\n")
+        (self.folder / "s.bst").write_bytes(STYLE)
+        (self.folder / "j.aux").write_bytes(b"\\relax\n\\citation{k,no}\n\\@input{c.aux}\n\\@input{j.aux}\n")
+        (self.folder / "c.aux").write_bytes(b"\\citation{j}\n")
+
+    def run_doctor(self, *words):
+        done = run_module("doctor", *words, cwd=self.folder)
+        return done.returncode, done.stdout.decode(), done.stderr.decode()
+
+    def test_lines_for_people(self):
+        status, out, errors = self.run_doctor("d.bib")
+        self.assertEqual((status, errors), (2, ""))
+        self.assertEqual(out.splitlines()[0], 'd.bib:1:23: warning: string name "zz" is undefined (k) [undefined-string]')
+        self.assertEqual(out.splitlines()[1], "d.bib:1:32: error: I was expecting an = (k) [mistake]")
+        self.assertEqual(self.run_doctor("ok.bib"), (0, "", ""))
+
+    def test_lines_of_json(self):
+        status, out, _ = self.run_doctor("--json", "--job", "j", "--style", "s", "d.bib")
+        rows = [json.loads(line) for line in out.splitlines()]
+        self.assertEqual(rows[0], {"file": "j.aux", "line": 2, "column": 13, "end_line": 2, "end": 15, "name": "no-entry", "severity": "warning",
+                                   "text": 'I didn\'t find a database entry for "no"', "key": "no"})
+        self.assertEqual([row["name"] for row in rows], ["no-entry", "unread-field", "mistake"])
+        self.assertEqual(status, 2)
+
+    def test_off_and_list(self):
+        self.assertEqual(self.run_doctor("--off", "mistake,undefined-string", "d.bib"), (0, "", ""))
+        status, out, _ = self.run_doctor("--list")
+        self.assertEqual((status, [line.split()[0] for line in out.splitlines()]), (0, list(CHECKS)))
+
+    def test_refused_words(self):
+        for words in ([], ["--off", "nothing", "d.bib"], ["--style", "nosuch", "d.bib"], ["--wrong"]):
+            with self.subTest(words=words):
+                self.assertEqual(self.run_doctor(*words)[:2], (1, ""))
+        self.assertEqual(self.run_doctor("nosuch.bib")[:2], (6, ""))
+        self.assertEqual(self.run_doctor("--job", "nosuch", "d.bib")[:2], (6, ""))
+
+    def test_it_changes_no_file(self):
+        before = {path: (path.read_bytes(), path.stat().st_mtime_ns) for path in self.folder.iterdir()}
+        self.run_doctor("--job", "j", "--style", "s.bst", "d.bib", "ok.bib")
+        self.assertEqual({path: (path.read_bytes(), path.stat().st_mtime_ns) for path in self.folder.iterdir()}, before)
+
+    def test_the_readme_has_the_table(self):
+        readme = (pathlib.Path(__file__).resolve().parent.parent / "README.md").read_text()
+        for check in CHECKS.values():
+            self.assertIn(f"| `{check.name}` | {check.severity} | {check.exact} |", readme)
+
+
+class Cost(unittest.TestCase):
+    def test_hostile_texts_take_a_linear_time(self):
+        size = 100_000
+        hostile = [b"@misc{k, author = {" + "é".encode() * size + b"{" * size + b"}" * size + b"}}", b"@misc{k, author = {" + b" et " * size + b"}}",
+                   b"@misc{k}" + b" a = b\n" * size, b"@misc{k, author = {" + " É and".encode() * (size // 4) + b" others}}", b"@misc{k, pages = {" + b"1-" * size + b"}}",
+                   b"@misc{k, doi = {" + b"doi:" * size + b"}}", b"@misc{k, month = {jan" + b"a" * size + b"}}", b"@misc{k, note = zz}" * 5_000]
+        for text in hostile:
+            with self.subTest(text=text[:30]):
+                begin = time.process_time()
+                found_in(text)
+                self.assertLess(time.process_time() - begin, float(os.environ.get("BTX_TEST_SECONDS", "4")))
+
+
+if __name__ == "__main__":
+    unittest.main()

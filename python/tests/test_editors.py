@@ -1,0 +1,52 @@
+"""The extension of VS Code, driven through a stand-in of VS Code by node."""
+
+import json
+import os
+import pathlib
+import shutil
+import subprocess
+import tempfile
+import unittest
+
+from btx.builtins import described
+from tests.jobs import SOURCES
+
+EDITORS = SOURCES / "contrib" / "editors"
+STYLE = "ENTRY {note} {} {}\nFUNCTION {output} { write$ newline$ }\nFUNCTION {misc} { output }\nREAD\nITERATE {call.type$}\n"
+BASE = "@misc{k, note 1}\n@misc{j}\n"
+
+
+class VisualStudioCode(unittest.TestCase):
+    def setUp(self):
+        if shutil.which("node") is None:
+            self.skipTest("there is no node")
+
+    def test_the_extension(self):
+        with tempfile.TemporaryDirectory() as room:
+            folder = pathlib.Path(room).resolve()
+            (folder / "s.bst").write_text(STYLE)
+            (folder / "d.bib").write_text(BASE)
+            env = {**os.environ, "PYTHONPATH": str(SOURCES / "python")}
+            done = subprocess.run(["node", str(EDITORS / "vscode" / "drive.js"), room], env=env, capture_output=True, timeout=120)
+            self.assertEqual((done.returncode, done.stderr), (0, b""))
+        found = json.loads(done.stdout)
+        self.assertEqual(found["diagnostics"]["d.bib"], [["I was expecting an =", 0, "mistake"]])
+        self.assertEqual({row[2] for row in found["diagnostics"]["s.bst"]}, {"check"})
+        self.assertEqual((found["hover"], found["refused"]), (described("write$"), "write$ is BibTeX's own"))
+        self.assertEqual(found["actions"], [["Add the =", [["d.bib", 0, 14, "= "]]]])
+        self.assertEqual(found["definition"], [{"line": 1, "character": 10}])
+        self.assertEqual(found["references"], 2)
+        self.assertEqual(found["rename"], [["s.bst", 1, 10, "put"], ["s.bst", 2, 18, "put"]])
+        self.assertEqual(found["symbols"], ["k", "j"])
+        self.assertGreater(found["completion"], 37)
+        self.assertEqual(found["after"], [])
+
+    def test_its_manifest(self):
+        manifest = json.loads((EDITORS / "vscode" / "package.json").read_text())
+        self.assertTrue((EDITORS / "vscode" / manifest["main"]).is_file())
+        self.assertEqual(manifest["contributes"]["configuration"]["properties"]["btx.command"]["default"], ["python3", "-m", "btx", "lsp"])
+        self.assertNotIn("dependencies", manifest)
+
+
+if __name__ == "__main__":
+    unittest.main()

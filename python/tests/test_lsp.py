@@ -1,0 +1,372 @@
+"""The language server, driven by a scripted editor."""
+
+import pathlib
+import random
+import re
+import tempfile
+import time
+import unittest
+
+from btx.builtins import BUILT_IN, described
+from btx.documents import Document, split_lines
+from btx.bsttext import read_style
+from tests.editor import Editor, edit, marked, spot
+from tests.jobs import SOURCES
+
+STYLE = r"""ENTRY {author title year} {} {label}
+MACRO {jan} {"January"}
+MACRO {acm} {"ACM"}
+INTEGERS {n}
+FUNCTION {output} { write$ newline$ }
+FUNCTION {article}
+{ title output year empty$ 'skip$ { year output } if$ #1 'n := }
+FUNCTION {book} { "😀" author * titel output }
+READ
+ITERATE {call.type$}
+"""
+BASE = r"""@string{tug = "TUGboat" # acm}
+@article{kay, title = "É 😀" # acm, month = jan, yaer = 1984, crossref = {Book1}}
+@book{Book1, title = {Café}, author = {A B}, year = 2000}
+@misc{j, note 1}
+@book{k2, title = tgu, pages = {1-2}}
+"""
+PAPER = "Text \\cite{kay, bok1} and \\citep[p.~1]{Book1}.\n\\bibliographystyle{s}\n\\bibliography{d}\n"
+AUX = "\\citation{kay}\n\\citation{zz}\n\\bibstyle{s}\n\\bibdata{d}\n\\citation{a b}\n"
+SENT = []
+
+
+class WithEditor(unittest.TestCase):
+    def setUp(self):
+        room = tempfile.TemporaryDirectory()
+        self.addCleanup(room.cleanup)
+        folder = pathlib.Path(room.name).resolve()
+        for name, text in (("s.bst", STYLE), ("d.bib", BASE), ("paper.tex", PAPER), ("paper.aux", AUX)):
+            (folder / name).write_text(text)
+        self.editor = Editor(folder)
+        self.addCleanup(self.end)
+        self.status = None
+        self.editor.result("initialize", processId=None, rootUri=None, capabilities={})
+        self.editor.tell("initialized")
+
+    def end(self):
+        SENT.append(self.editor.exchanges)
+        if self.status is None:
+            self.status, errors = self.editor.close()
+            self.assertEqual(self.status, 0, errors)
+
+    def said(self, name, text):
+        """What is said of a text: the word, the code and the severity."""
+        return [(marked(text, it["range"]), it["code"], it["severity"]) for it in self.editor.open(name, text)]
+
+    def places(self, texts, found):
+        return sorted((it["uri"].rpartition("/")[2], marked(texts[it["uri"].rpartition("/")[2]], it["range"]), it["range"]["start"]["line"]) for it in found)
+
+    def hover(self, name, text, word, nth=0):
+        found = self.editor.result("textDocument/hover", **self.editor.at(name, *spot(text, word, nth)))
+        return found and found["contents"]["value"]
+
+    def labels(self, name, line, column):
+        return [it["label"] for it in self.editor.result("textDocument/completion", **self.editor.at(name, line, column))]
+
+
+class Styles(WithEditor):
+    def test_diagnostics(self):
+        found = self.said("s.bst", STYLE)
+        self.assertEqual([it for it in found if it[1] == "mistake"], [("titel", "mistake", 1)])
+        self.assertIn(("write$", "check", 2), found)
+
+    def test_a_warning_is_on_its_token(self):
+        text = "ENTRY {title}{}{}\nFUNCTION {book} { \"a\" write$ title write$ \"b\" write$ }\nREAD\nITERATE {call.type$}\n"
+        (found,) = self.editor.open("s.bst", text)
+        self.assertEqual((found["range"]["start"]["character"], found["severity"]), (text.split("\n")[1].index("title write$") + 6, 2))
+        self.assertIn("title may be missing", found["message"])
+
+    def test_each_built_in_function_is_described(self):
+        text = "ENTRY{}{}{}\nFUNCTION {f} {\n" + "\n".join(BUILT_IN) + "\n}\n"
+        self.editor.open("s.bst", text)
+        for number, name in enumerate(BUILT_IN):
+            with self.subTest(name=name):
+                found = self.editor.result("textDocument/hover", **self.editor.at("s.bst", number + 2, 0))
+                self.assertEqual(found["contents"]["value"], described(name))
+
+    def test_other_names_are_described(self):
+        self.editor.open("s.bst", STYLE)
+        self.assertEqual(self.hover("s.bst", STYLE, "output", 1), "function `output`")
+        self.assertEqual(self.hover("s.bst", STYLE, "title"), "field `title`")
+        self.assertEqual(self.hover("s.bst", STYLE, "acm"), 'string `acm` = "ACM"')
+        self.assertIsNone(self.hover("s.bst", STYLE, "titel"))
+        self.assertIsNone(self.hover("s.bst", STYLE, '"January'))
+
+    def test_definition_and_references(self):
+        self.editor.open("s.bst", STYLE)
+        found = self.editor.result("textDocument/definition", **self.editor.at("s.bst", *spot(STYLE, "output", 2)))
+        self.assertEqual(self.places({"s.bst": STYLE}, found), [("s.bst", "output", 4)])
+        found = self.editor.result("textDocument/references", **self.editor.at("s.bst", *spot(STYLE, "output")), context={"includeDeclaration": False})
+        self.assertEqual([line for _, _, line in self.places({"s.bst": STYLE}, found)], [6, 6, 7])
+        found = self.editor.result("textDocument/references", **self.editor.at("s.bst", *spot(STYLE, "n :=")), context={"includeDeclaration": True})
+        self.assertEqual([line for _, _, line in self.places({"s.bst": STYLE}, found)], [3, 6])
+
+    def test_rename(self):
+        self.editor.open("s.bst", STYLE)
+        where = self.editor.at("s.bst", *spot(STYLE, "output", 2))
+        (edits,) = self.editor.result("textDocument/rename", **where, newName="put.out")["changes"].values()
+        self.assertEqual([(marked(STYLE, it["range"]), it["newText"]) for it in edits], [("output", "put.out")] * 4)
+        for name in ("year", "write$", "crossref", "a b", "1a", "", "a{b", "a%"):
+            with self.subTest(name=name):
+                self.assertEqual(self.editor.ask("textDocument/rename", {**where, "newName": name})["error"]["code"], -32803)
+        self.assertEqual(self.editor.ask("textDocument/rename", {**self.editor.at("s.bst", *spot(STYLE, "write$")), "newName": "w"})["error"]["code"], -32803)
+        self.assertEqual(self.editor.result("textDocument/prepareRename", **where)["start"]["line"], 6)
+
+    def test_completion_and_symbols(self):
+        self.editor.open("s.bst", STYLE)
+        labels = self.labels("s.bst", 7, 0)
+        self.assertTrue({"write$", "output", "title", "n", "label", "FUNCTION"} <= set(labels))
+        self.assertNotIn("jan", labels)
+        found = self.editor.result("textDocument/documentSymbol", textDocument={"uri": self.editor.uri("s.bst")})
+        self.assertEqual([it["name"] for it in found], ["ENTRY", "MACRO jan", "MACRO acm", "INTEGERS", "output", "article", "book", "READ", "ITERATE call.type$"])
+
+    def test_actions(self):
+        text = STYLE.replace("ITERATE", "ITERTE")
+        self.editor.open("s.bst", text)
+        for word, new in (("titel", "title"), ("ITERTE", "ITERATE")):
+            with self.subTest(word=word):
+                place = self.editor.at("s.bst", *spot(text, word))
+                (found,) = self.editor.result("textDocument/codeAction", textDocument=place["textDocument"], range={"start": place["position"], "end": place["position"]}, context={"diagnostics": []})
+                ((change,),) = found["edit"]["changes"].values()
+                self.assertEqual((marked(text, change["range"]), change["newText"]), (word, new))
+
+    def test_a_missing_brace(self):
+        text = "ENTRY{}{}{}\nFUNCTION {f} { skip$\n"
+        self.editor.open("s.bst", text)
+        whole = {"start": {"line": 0, "character": 0}, "end": {"line": 9, "character": 0}}
+        (found,) = self.editor.result("textDocument/codeAction", textDocument={"uri": self.editor.uri("s.bst")}, range=whole, context={"diagnostics": []})
+        ((change,),) = found["edit"]["changes"].values()
+        self.editor.change("s.bst", edit([change["range"]["start"][it] for it in ("line", "character")], [change["range"]["end"][it] for it in ("line", "character")], change["newText"]))
+        self.assertEqual(self.editor.diagnostics("s.bst"), [])
+
+
+class Databases(WithEditor):
+    def test_diagnostics(self):
+        found = self.said("d.bib", BASE)
+        self.assertIn(("1", "mistake", 1), found)
+        self.assertIn(("tgu", "undefined-string", 2), found)
+        self.assertIn(("yaer", "unread-field", 4), found)
+        self.assertIn(("@misc", "unknown-type", 2), found)
+        self.assertIn(("{1-2}", "one-hyphen", 3), found)
+
+    def test_hover(self):
+        self.editor.open("d.bib", BASE)
+        self.assertEqual(self.hover("d.bib", BASE, "jan"), "string `jan` = January")
+        self.assertEqual(self.hover("d.bib", BASE, "acm"), "string `acm` = ACM")
+        self.assertEqual(self.hover("d.bib", BASE, "Book1"), "**@book** `Book1`\n\nauthor: A B\n\ntitle: Café\n\nyear: 2000")
+
+    def test_definitions_and_references(self):
+        self.editor.open("d.bib", BASE)
+        texts = {"d.bib": BASE, "s.bst": STYLE, "paper.tex": PAPER, "paper.aux": AUX}
+        found = self.editor.result("textDocument/definition", **self.editor.at("d.bib", *spot(BASE, "Book1")))
+        self.assertEqual(self.places(texts, found), [("d.bib", "Book1", 2)])
+        found = self.editor.result("textDocument/definition", **self.editor.at("d.bib", *spot(BASE, "acm", 1)))
+        self.assertEqual(self.places(texts, found), [("s.bst", "acm", 2)])
+        found = self.editor.result("textDocument/references", **self.editor.at("d.bib", *spot(BASE, "Book1,")), context={"includeDeclaration": True})
+        self.assertEqual(self.places(texts, found), [("d.bib", "Book1", 1), ("d.bib", "Book1", 2), ("paper.tex", "Book1", 0)])
+
+    def test_rename(self):
+        self.editor.open("d.bib", BASE)
+        where = self.editor.at("d.bib", *spot(BASE, "kay"))
+        changes = self.editor.result("textDocument/rename", **where, newName="Kay84")["changes"]
+        self.assertEqual(sorted(uri.rpartition("/")[2] for uri in changes), ["d.bib", "paper.tex"])
+        where = self.editor.at("d.bib", *spot(BASE, "tug"))
+        self.assertEqual(len(self.editor.result("textDocument/rename", **where, newName="tb")["changes"]), 1)
+        for name in ("a b", "k2", "", "a,b", "a}"):
+            with self.subTest(name=name):
+                self.assertEqual(self.editor.ask("textDocument/rename", {**self.editor.at("d.bib", *spot(BASE, "kay")), "newName": name})["error"]["code"], -32803)
+
+    def test_completion(self):
+        text = BASE + "@\n@book{x,\n  t\n  title = a\n  crossref = {B\n"
+        self.editor.open("d.bib", text)
+        lines = text.split("\n")
+        number = lines.index("@")
+        self.assertEqual(self.labels("d.bib", number, 1), ["article", "book", "comment", "preamble", "string"])
+        self.assertEqual(self.labels("d.bib", number + 2, 3), ["author", "crossref", "title", "year"])
+        self.assertEqual(self.labels("d.bib", number + 3, 11), ["acm", "jan", "tug"])
+        self.assertEqual(self.labels("d.bib", number + 4, 15), ["Book1", "j", "k2", "kay", "x"])
+
+    def test_symbols_and_actions(self):
+        self.editor.open("d.bib", BASE)
+        found = self.editor.result("textDocument/documentSymbol", textDocument={"uri": self.editor.uri("d.bib")})
+        self.assertEqual([it["name"] for it in found], ["tug", "kay", "Book1", "j", "k2"])
+        for word, new in (("tgu", "tug"), ("yaer", "year"), ("{1-2}", "{1--2}")):
+            with self.subTest(word=word):
+                place = self.editor.at("d.bib", *spot(BASE, word))
+                found = self.editor.result("textDocument/codeAction", textDocument=place["textDocument"], range={"start": place["position"], "end": place["position"]}, context={"diagnostics": []})
+                self.assertIn(new, [change["newText"] for it in found for (change,) in it["edit"]["changes"].values()])
+
+    def test_the_comma_is_added(self):
+        text = "@book{k,\n  title = {😀}\n  year = 1}\n"
+        self.assertEqual(self.said("d.bib", text), [("y", "mistake", 1)])
+        place = {"line": 2, "character": 2}
+        (found,) = self.editor.result("textDocument/codeAction", textDocument={"uri": self.editor.uri("d.bib")}, range={"start": place, "end": place}, context={"diagnostics": []})
+        ((change,),) = found["edit"]["changes"].values()
+        self.assertEqual((change["range"]["start"], change["newText"]), ({"line": 1, "character": 14}, ","))
+
+
+class Documents(WithEditor):
+    def test_citations(self):
+        self.assertEqual(self.said("paper.tex", PAPER), [("bok1", "no-entry", 2)])
+        self.assertEqual(self.hover("paper.tex", PAPER, "Book1").split("\n")[0], "**@book** `Book1`")
+        self.assertEqual(self.labels("paper.tex", 0, 12), ["Book1", "j", "k2", "kay"])
+        self.assertEqual(self.labels("paper.tex", 0, 2), [])
+        found = self.editor.result("textDocument/definition", **self.editor.at("paper.tex", *spot(PAPER, "kay")))
+        self.assertEqual(self.places({"d.bib": BASE}, found), [("d.bib", "kay", 1)])
+        place = self.editor.at("paper.tex", *spot(PAPER, "bok1"))
+        (found,) = self.editor.result("textDocument/codeAction", textDocument=place["textDocument"], range={"start": place["position"], "end": place["position"]}, context={"diagnostics": []})
+        self.assertEqual(found["title"], "Write Book1")
+
+    def test_auxiliary_files(self):
+        self.assertEqual(self.said("paper.aux", AUX), [("\\citation{a b}", "mistake", 1), ("zz", "no-entry", 2)])
+
+    def test_an_open_database_counts_before_the_one_on_disk(self):
+        self.editor.open("d.bib", BASE + "@misc{bok1}")
+        self.assertEqual(self.said("paper.tex", PAPER), [])
+        self.editor.tell("textDocument/didClose", textDocument={"uri": self.editor.uri("d.bib")})
+        self.assertEqual(self.editor.diagnostics("d.bib"), [])
+        self.editor.tell("textDocument/didSave", textDocument={"uri": self.editor.uri("paper.tex")})
+        self.assertEqual(len(self.editor.diagnostics("paper.tex")), 1)
+
+
+class Hostile(WithEditor):
+    def test_two_hundred_changes_give_one_answer_for_the_last_text(self):
+        self.editor.open("d.bib", "@misc{k}")
+        messages = []
+        for number in range(200):
+            text = "@book{k, title 1}" if number < 199 else "@book{k,\n\n title 1}"
+            params = {"textDocument": {"uri": self.editor.uri("d.bib"), "version": number + 2}, "contentChanges": [{"text": text}]}
+            messages.append(self.editor.framed({"method": "textDocument/didChange", "params": params}))
+        self.editor.raw(b"".join(messages))
+        message = self.editor.take()
+        self.assertEqual((message["params"]["version"], message["params"]["diagnostics"][0]["range"]["start"]["line"]), (201, 2))
+        self.assertIsNone(self.editor.take(0.5))
+
+    def test_edits_in_the_middle_of_a_letter(self):
+        self.editor.open("d.bib", "@misc{k, note 😀}")
+        self.editor.change("d.bib", edit((0, 15), (0, 15), "= "), edit((0, 99), (0, 99), "\n"), edit((99, 99), (99, 99), "@"))
+        (found,) = [it for it in self.editor.diagnostics("d.bib") if it["code"] == "mistake"]
+        self.assertEqual(found["range"]["start"]["line"], 1)
+        self.editor.change("d.bib", edit((0, 5), (0, 2), ""), edit((1, 0), (0, 0), "x"))
+        self.assertIn("mistake", [it["code"] for it in self.editor.diagnostics("d.bib")])
+
+    def test_half_letters(self):
+        self.assertEqual(self.editor.open("d.bib", "@book{k, title = {\ud83d}}\n"), [])
+        self.editor.change("d.bib", {"text": "@book{k, title \udc00}"})
+        self.assertEqual([it["code"] for it in self.editor.diagnostics("d.bib")], ["mistake"])
+
+    def test_a_text_of_50_megabytes(self):
+        line = "@misc{k%d, title = {Some title that is long enough}, year = 2000}\n"
+        text = "".join(line % number for number in range(50_000_000 // 70))
+        begin = time.monotonic()
+        (found,) = self.editor.open("big.bib", text)
+        self.assertEqual(found["code"], "too-long")
+        for number in range(20):
+            self.editor.change("big.bib", edit((number, 0), (number, 1), "@"))
+        self.assertEqual([it["code"] for it in self.editor.diagnostics("big.bib")], ["too-long"])
+        self.assertLess(time.monotonic() - begin, 120)
+
+    def test_what_nobody_should_send(self):
+        where = self.editor.at("d.bib", 0, 0)
+        rows = [("nosuch", {}, -32601), ("textDocument/hover", where, -32602), ("textDocument/hover", None, -32602), ("textDocument/hover", [], -32602),
+                ("textDocument/hover", {"textDocument": {}}, -32602)]
+        for method, params, code in rows:
+            with self.subTest(method=method, params=params):
+                self.assertEqual(self.editor.ask(method, params)["error"]["code"], code)
+        self.editor.open("d.bib", BASE)
+        bad = {**where, "position": {"line": "x", "character": None}}
+        self.assertEqual(self.editor.ask("textDocument/hover", bad)["error"]["code"], -32602)
+        self.editor.result("textDocument/hover", **self.editor.at("d.bib", -5, -5))
+        self.editor.raw(b"Content-Length: 3\r\n\r\n{x}")
+        self.assertEqual(self.editor.take()["error"]["code"], -32700)
+        self.editor.raw(b"Content-Length: 2\r\n\r\n[]")
+        self.assertEqual(self.editor.take()["error"]["code"], -32700)
+        self.editor.raw(b"X: 1\r\n\r\n")
+        self.assertEqual(self.editor.take()["error"]["code"], -32700)
+        self.editor.send(id=77)
+        self.assertEqual(self.editor.take()["error"]["code"], -32600)
+        self.editor.tell("textDocument/didChange", textDocument={"uri": self.editor.uri("d.bib")}, contentChanges=[{"range": 3, "text": "x"}])
+        self.editor.tell("$/cancelRequest", id=5)
+        self.assertIsNotNone(self.editor.result("textDocument/documentSymbol", textDocument={"uri": self.editor.uri("d.bib")}))
+
+    def test_texts_of_other_kinds(self):
+        self.assertEqual(self.editor.open("x.txt", "@misc{k, note 1}"), [])
+        self.editor.tell("textDocument/didOpen", textDocument={"uri": "untitled:1.bib", "languageId": "bibtex", "version": 1, "text": "@misc{k, note 1}"})
+        message = self.editor.take()
+        self.assertEqual([it["code"] for it in message["params"]["diagnostics"]], ["mistake"])
+
+    def test_thousands_of_mistakes(self):
+        found = self.editor.open("d.bib", "@misc{k, note = zz}\n" * 2 + "@string{s = a%d}\n" * 30_000)
+        self.assertEqual((len(found), found[-1]["code"]), (1001, "more"))
+
+    def test_its_status(self):
+        self.assertEqual(self.editor.ask("shutdown")["result"], None)
+        self.assertEqual(self.editor.ask("textDocument/hover", {})["error"]["code"], -32600)
+        self.editor.tell("exit")
+        self.assertEqual(self.editor.server.wait(20), 0)
+        for stream in (self.editor.server.stdin, self.editor.server.stdout, self.editor.server.stderr):
+            stream.close()
+        self.status = 0
+
+
+class Alone(unittest.TestCase):
+    def test_without_a_shutdown_the_status_is_1(self):
+        with tempfile.TemporaryDirectory() as folder:
+            editor = Editor(folder)
+            self.assertEqual(editor.ask("textDocument/hover", {})["error"]["code"], -32002)
+            editor.server.stdin.close()
+            self.assertEqual(editor.server.wait(20), 1)
+            editor.server.stdout.close()
+            editor.server.stderr.close()
+
+    def test_the_functions_are_those_of_rules(self):
+        table = {}
+        for line in (SOURCES / "docs/RULES.md").read_text().splitlines():
+            cells = [cell.strip() for cell in re.split(r"(?<!\\)\|", line)[1:-1]]
+            if len(cells) == 6 and re.fullmatch(r"`([^`]+\$|[-=<>+*]|:=)`", cells[0]):
+                table[cells[0].strip("`")] = tuple(cells[1:])
+        self.assertEqual(len(table), 37)
+        self.assertEqual({name: tuple(it) for name, it in BUILT_IN.items()}, table)
+
+    def test_edits_beside_edits_of_the_whole_text(self):
+        maker = random.Random(3)
+        for _ in range(5000):
+            text = "".join(maker.choice(["a", "b", "\n", "\r", "\r\n", "😀", "é"]) for _ in range(maker.randrange(12)))
+            document = Document("u", text)
+            places = [{"line": maker.randrange(6), "character": maker.randrange(6)} for _ in range(2)]
+            new = "".join(maker.choice(["x", "\n", "\r", "😀"]) for _ in range(maker.randrange(4)))
+            start, end = sorted(document.place(place) for place in places)
+            whole = text.encode()[:start] + new.encode() + text.encode()[end:]
+            document.edit(dict(zip(("start", "end"), places)), new)
+            self.assertEqual((document.text, document.lines), (whole, split_lines(whole.decode())))
+
+    def test_places_and_positions(self):
+        document = Document("u", "a😀é\r\nb\rc\n")
+        for place in (0, 1, 5, 7, 9, 10, 11, 12, 13):
+            self.assertEqual(document.place(document.position(place)), place)
+        self.assertEqual(document.position(5), {"line": 0, "character": 3})
+        self.assertEqual(document.place({"line": 0, "character": 2}), 1)
+
+    def test_styles_with_mistakes_are_read_on(self):
+        style = read_style(b"FUNCTION {f} { g {\n\nFUNCTION {h} { 'f }\nMACRO {m} {\"x\"}\n")
+        self.assertEqual([it.name for it in style.definitions], ["f", "h", "m"])
+        self.assertEqual([(it.name, it.token, it.is_quoted) for it in style.uses], [("g", 0, False), ("f", 0, True)])
+        for text in (b"", b"FUNCTION", b"FUNCTION {", b"MACRO {}{}", b"ENTRY {a", b"}{", b'"', b"'", b"FUNCTION {f}{'", b"\xff" * 9, b"%", b"FUNCTION {f}{" + b"{" * 5000):
+            with self.subTest(text=text[:20]):
+                read_style(text)
+
+
+class ZZExchanges(unittest.TestCase):
+    def test_zz_enough_exchanges_were_made(self):
+        if not SENT:
+            self.skipTest("the other tests weren't run")
+        self.assertGreaterEqual(sum(SENT), 150)
+
+
+if __name__ == "__main__":
+    unittest.main()
