@@ -3,9 +3,13 @@ use Rattle.std.proofs.Common.{arith, ◌≡◌, ℕ, ◌+◌, ◌≤◌, List, [
 use Rattle.std.specs.Prelude.{IfSome, Result, Ok, Err, OnOk}
 use Rattle.std.proofs.lemmas.List.{length-append, length-map, map_push, length_push, take_all, take-append-le}
 use Rattle.btx_text.specs.language.LogLines.{Line}
-use Rattle.btx_machine.specs.declared.report.Report.{Report}
+<<<<<<< HEAD
 use Rattle.btx_machine.specs.laws.Noting.{Printed, printed}
+=======
+use Rattle.btx_machine.specs.declared.report.Report.{Report}
+use Rattle.btx_machine.specs.language.Noting.{Printed, printed}
 use Rattle.btx_c.specs.declared.cause.Cause.{Cause}
+>>>>>>> f5938a0f7173c8de006f2bd67b2d61f9d6b3f85d
 use Rattle.btx_c.specs.declared.event.BtxEvent.{BtxEvent}
 use Rattle.btx_c.specs.declared.noted.Events.{Events}
 use Rattle.btx_c.specs.Events.{Divided, Mark, kind_number, mark, marks, marks_from}
