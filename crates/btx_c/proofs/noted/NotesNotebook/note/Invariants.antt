@@ -1,5 +1,0 @@
-use Rattle.std.proofs.Common.{[], ◌∷◌, ◌++◌}
-use Rattle.btx_c.proofs.noted.NotesNotebook.note.Given as goal
-
-abbrev pub ghost-of : goal.ghost-of
-ghost-of g a = a.seen.now.0.now.list ++ a.seen.now.1.now ∷ []
