@@ -21,6 +21,7 @@ ROWS = [
     (b"@preamble{\"a}\"}", [(12, "Unbalanced braces")]),
     (b"@misc{k, note = {a", [(18, "Illegal end of database file")]),
     (b"@misc{k, 1 = 2}", [(9, "I was expecting a name")]),
+    (b"@misc{k, a'b = 1}", [(10, "I was expecting an =")]),
     (b"@a@b{k x}", [(7, "I was expecting a , or a }")]),
     (b"@misc{a} @misc{A, x 1}", [(16, "Repeated entry")]),
     (b"@misc{k, note = {A {B} \"} # zz # 12,} @misc(k) ) @misc{} @comment{@misc{x}}", []),
