@@ -1,7 +1,8 @@
 ;;; btx.el --- the language server of BibTeX, proved, for eglot -*- lexical-binding: t -*-
 
 ;; (load "/path/of/btx.el") in your init file; Emacs 29 has eglot, and for Emacs 26.3 to 28 it is a package of GNU ELPA.
-;; Styles get a mode of their own, `btx-style-mode'; databases keep `bibtex-mode', and documents the mode that they have.
+;; Styles get a mode of their own, `btx-style-mode'; databases keep `bibtex-mode'. Citations in documents aren't served here: eglot has one server for a buffer, and
+;; `latex-mode' has others.
 
 (require 'eglot)
 

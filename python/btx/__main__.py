@@ -44,7 +44,7 @@ def main(words: Optional[List[str]] = None) -> int:
 
 def parser() -> argparse.ArgumentParser:
     result = Words(prog="python3 -m btx", description="Writes the reference list of JOB.aux to JOB.bbl, and a log to JOB.blg.")
-    result.add_argument("job", metavar="JOB", help="the .aux file of a document, with or without .aux; `compare` compares old lists with new ones, `doctor` examines databases, `lsp` serves editors")
+    result.add_argument("job", metavar="JOB", help="the .aux file of a document, with or without .aux; `compare`, `doctor` and `lsp` are commands of their own")
     result.add_argument("--min-crossrefs", type=int, metavar="N", help="how many entries name a parent that is listed without being cited (2)")
     result.add_argument("--budget", type=int, metavar="N", help="how many steps the style may take (1,000,000,000)")
     result.add_argument("--line", type=int, metavar="N", help="the length of a line of the list (79)")

@@ -30,10 +30,12 @@ SKIPS_WHITE = re.compile(WHITE)
 TAKES_NAME = re.compile(NAME)
 TAKES_PART_NAME = re.compile(rb"[^\x00- \"#%'(),={}]+")
 TAKES_DIGITS = re.compile(rb"[0-9]+")
-# The usual beginning of an entry, and a usual field with the sign after it: a group of at most four depths of braces, a text in quotes without braces, or digits.
+# The usual beginning of an entry, and a usual field with the sign after it. Its value is one part, in which braces are at most four deep.
 BEGINS_ENTRY = re.compile(WHITE + rb"(" + NAME + rb")" + WHITE + rb"\{" + WHITE + rb"([^, \t\r\n}]*)" + WHITE + rb",")
 GROUP = rb"\{[^{}]*(?:\{[^{}]*(?:\{[^{}]*(?:\{[^{}]*\}[^{}]*)*\}[^{}]*)*\}[^{}]*)*\}"
-USUAL_FIELD = WHITE + rb"(" + NAME + rb")" + WHITE + rb"=" + WHITE + rb"(" + GROUP + rb"|\"[^{}\"]*\"|[0-9]+)" + WHITE
+QUOTED = rb"\"[^{}\"]*(?:" + GROUP + rb"[^{}\"]*)*\""
+USUAL_FIELD = WHITE + rb"(" + NAME + rb")" + WHITE + rb"=" + WHITE + rb"(" + GROUP + rb"|" + QUOTED + rb"|[0-9]+|" + NAME + rb")" + WHITE
+BEGINS_TEXT = b'{"0123456789'
 TAKES_FIELD = {b"}": re.compile(USUAL_FIELD + rb"([,}])"), b")": re.compile(USUAL_FIELD + rb"([,)])")}
 TAKES_KEY = {b"}": re.compile(rb"[^, \t\r\n}]*"), b")": re.compile(rb"[^, \t\r\n]*")}
 BRACE = re.compile(rb"[{}]")
@@ -272,7 +274,8 @@ class Reader:
                 fields.append(self.field())
                 byte = self.sign(b"," + closing, f"I was expecting a , or a {closing.decode()}")
             else:
-                fields.append(Field(*found.span(1), *found.span(2), None))
+                start, end = found.span(2)
+                fields.append(Field(*found.span(1), start, end, None if text[start] in BEGINS_TEXT else (Part(start, end, True),)))
                 self.at = found.end()
                 byte = text[self.at - 1]
             if byte == closing[0]:

@@ -72,7 +72,8 @@ def diagnose(document: Document, workspace: Workspace) -> List[Diagnostic]:
     if ending not in by_ending:
         return []
     if len(document.text) > MOST_BYTES:
-        return [Diagnostic(0, 0, INFO, "too-long", f"this text has more than {MOST_BYTES:,} bytes, and isn't checked while you type: python3 -m btx doctor checks databases of any length")]
+        said = f"this text has more than {MOST_BYTES:,} bytes, and isn't checked while you type: python3 -m btx doctor examines databases of any length"
+        return [Diagnostic(0, 0, INFO, "too-long", said)]
     found = list(itertools.islice(by_ending[ending](document, workspace), MOST_SHOWN + 1))
     if len(found) > MOST_SHOWN:
         found[MOST_SHOWN:] = [Diagnostic(0, 0, INFO, "more", f"only the first {MOST_SHOWN:,} diagnostics are shown")]

@@ -8,7 +8,7 @@ import subprocess
 import btx
 from tests.jobs import EXAMPLES
 
-SIGNS = [b"{", b"}", b'"', b"#", b"=", b",", b"(", b")", b"@", b"%", b" ", b"\n", b"\r", b"\0", b"1", b"a", b"\xc3", b"@string{", b"@comment", b"@misc{a,"]
+SIGNS = [b"{", b"}", b'"', b"#", b"=", b",", b"(", b")", b"@", b"%", b" ", b"\n", b"\r", b"\0", b"1", b"a", b"\xc3", b"@string{", b"@comment", b"@misc{a,", b"'"]
 SEEDS = [
     b"@misc{a, title = {A {B} \"} # zz # 12,}\n@string(s = \"a{\"}b\") @preamble{s}\n@misc(k) )\n@misc{}\n@book{Kay, title=\"x\", title = 1, TITLE = s}\n",
     b"@STRING{s = {A}}\n@string{S = s # {b}}\n@article{a, author = s # s # t, year = 1984, crossref = {b}}\n@comment{@misc{k}}\n@proceedings(b, note = {{{{{deep}}}}}, x = zz)\n",

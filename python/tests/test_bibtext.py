@@ -4,7 +4,6 @@ import os
 import time
 import unittest
 
-from btx import bibtext
 from btx.bibtext import Lines, read, undefined_strings
 from tests.spoilt import logged, of_tex_live, spoilt
 
@@ -22,6 +21,7 @@ ROWS = [
     (b"@preamble{\"a}\"}", [(12, "Unbalanced braces")]),
     (b"@misc{k, note = {a", [(18, "Illegal end of database file")]),
     (b"@misc{k, 1 = 2}", [(9, "I was expecting a name")]),
+    (b"@misc{k, a'b = 1}", [(10, "I was expecting an =")]),
     (b"@a@b{k x}", [(7, "I was expecting a , or a }")]),
     (b"@misc{a} @misc{A, x 1}", [(16, "Repeated entry")]),
     (b"@misc{k, note = {A {B} \"} # zz # 12,} @misc(k) ) @misc{} @comment{@misc{x}}", []),
@@ -103,7 +103,7 @@ class Cost(unittest.TestCase):
     def test_long_texts_take_a_linear_time(self):
         size = 200_000
         hostile = [b"@misc{k, x = " + b"{" * size, b"@a{b,c=\"" * (size // 8), b"@a{b,c={" * (size // 8), b"@" * size, b"@misc{k" * (size // 7), b"@misc{k, " + b"a" * size,
-                   b"@misc{k, x = {" + b"{a}" * size + b"} y", b"@misc{k, x = 1 #" + b" 1 #" * size, b"@misc{k" + b",x=1" * size, b"@string{a=a#a}" * 20_000,
+                   b"@misc{k, x = {" + b"{a}" * size + b"} y", b"@misc{k, x = \"" + b"{a}" * size, b"@misc{k, x = \"" + b"{a}\"" * size, b"@misc{k, x = \"{{{{" + b"{a}" * size, b"@misc{k, x = 1 #" + b" 1 #" * size, b"@misc{k" + b",x=1" * size, b"@string{a=a#a}" * 20_000,
                    b"@string{a={xx}}" + b"@string{b=a#a}@string{a=b#b}" * 2_000, b"".join(b"@string{s%d=a#b}" % number for number in range(20_000)),
                    b"@string{a={" + b"x" * size + b"}}@misc{k,x=a" + b"#a" * 20_000,
                    b"@misc{k,x=" + b"{" * 5 + b"a" * size, b" " * size + b"@" + b" " * size + b"misc" + b" " * size]

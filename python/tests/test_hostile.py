@@ -23,6 +23,7 @@ REFUSALS = {
     btx.MemoryRefused: ("no memory",),
     btx.FileUnknown: ("odd",),
     btx.OutputTooLong: (b"list", b"log"),
+    btx.StyleTooLong: (7,),
 }
 
 

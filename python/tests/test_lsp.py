@@ -1,5 +1,6 @@
 """The language server, driven by a scripted editor."""
 
+import os
 import pathlib
 import random
 import re
@@ -10,6 +11,7 @@ import unittest
 from btx.builtins import BUILT_IN, described
 from btx.documents import Document, split_lines
 from btx.bsttext import read_style
+from btx.wire import Wire
 from tests.editor import Editor, edit, marked, spot
 from tests.jobs import SOURCES
 
@@ -247,6 +249,16 @@ class Hostile(WithEditor):
         self.assertEqual((message["params"]["version"], message["params"]["diagnostics"][0]["range"]["start"]["line"]), (201, 2))
         self.assertIsNone(self.editor.take(0.5))
 
+    def test_changes_one_after_another_give_few_answers(self):
+        self.editor.open("d.bib", "@misc{k}")
+        for number in range(60):
+            self.editor.change("d.bib", {"text": f"@misc{{k{number}}}"})
+            time.sleep(0.002)
+        answers = []
+        while not answers or answers[-1]["params"]["version"] < 61:
+            answers.append(self.editor.take())
+        self.assertLess(len(answers), 15)
+
     def test_edits_in_the_middle_of_a_letter(self):
         self.editor.open("d.bib", "@misc{k, note 😀}")
         self.editor.change("d.bib", edit((0, 15), (0, 15), "= "), edit((0, 99), (0, 99), "\n"), edit((99, 99), (99, 99), "@"))
@@ -323,6 +335,19 @@ class Alone(unittest.TestCase):
             self.assertEqual(editor.server.wait(20), 1)
             editor.server.stdout.close()
             editor.server.stderr.close()
+
+    def test_a_message_may_come_in_pieces(self):
+        source, into = os.pipe()
+        wire, whole = Wire(source, into), b"Content-Length: 7\r\nX: y\r\n\r\n" + b'{"a":1}'
+        try:
+            for cut in range(1, len(whole)):
+                os.write(into, whole[:cut])
+                self.assertIsNone(wire.take(0))
+                os.write(into, whole[cut:] + whole)
+                self.assertEqual([wire.take(5), wire.take(5), wire.take(0)], [{"a": 1}, {"a": 1}, None])
+        finally:
+            os.close(source)
+            os.close(into)
 
     def test_the_functions_are_those_of_rules(self):
         table = {}
