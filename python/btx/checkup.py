@@ -7,7 +7,7 @@ import json
 import os
 import re
 import sys
-from typing import Dict, Iterator, List, Optional, Set
+from typing import Dict, FrozenSet, Iterator, List, Optional, Set
 
 from .bibtext import Lines
 from .commands import STATUS_REFUSED, Words, broken_pipe
@@ -67,7 +67,7 @@ def check_up(given: argparse.Namespace) -> int:
     """Examines the databases, and prints what is found."""
     if not given.databases:
         raise Refused("name a database, or --list")
-    off = frozenset(filter(None, given.off.split(",")))
+    off: FrozenSet[str] = frozenset(filter(None, given.off.split(",")))
     unknown = sorted(off - set(CHECKS))
     if unknown:
         raise Refused(f"there is no check {unknown[0]}: --list prints them")

@@ -167,8 +167,8 @@ def mending_of(document: Document, workspace: Workspace, finding: Finding, style
     if finding.check != "mistake" or finding.text == REPEATED:
         return None
     if finding.text.startswith("I was expecting a , or a"):
-        place = len(document.text[: finding.start].rstrip(b" \t\r\n"))
-        return Mending("Add the comma", place, place, ",")
+        end = len(document.text[: finding.start].rstrip(b" \t\r\n"))
+        return Mending("Add the comma", end, end, ",")
     if finding.text == NO_EQUALS:
         return Mending("Add the =", finding.start, finding.start, "= ")
     return closing(document, finding.text, len(document.text[: finding.start].rstrip(b" \t\r\n")))

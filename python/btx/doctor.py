@@ -8,7 +8,7 @@ A check that a run would log says what the run logs. The others are guesses, and
 from __future__ import annotations
 
 import re
-from typing import Dict, FrozenSet, Iterator, List, NamedTuple, Optional, Set, Tuple
+from typing import Dict, FrozenSet, Iterable, Iterator, List, NamedTuple, Optional, Set, Tuple
 
 from .bibtext import BRACE, REPEATED, Database, Field, Item, Lines, read, undefined_strings
 from .bsttext import StyleText, read_style
@@ -100,10 +100,13 @@ class Style:
 
     def __init__(self, text: bytes, found: Optional[StyleText] = None) -> None:
         style = read_style(text) if found is None else found
-        encode = lambda names: frozenset(name.encode("utf8", "surrogateescape") for name in names)  # noqa: E731
-        self.fields: FrozenSet[bytes] = encode([*style.named("field"), "crossref"])
-        self.types: FrozenSet[bytes] = encode(style.named("function"))
+        self.fields = encoded([*style.named("field"), "crossref"])
+        self.types = encoded(style.named("function"))
         self.strings = {name.encode("utf8", "surrogateescape"): text[slice(*place)].strip(b'"') for name, place in style.values.items()}
+
+
+def encoded(names: Iterable[str]) -> FrozenSet[bytes]:
+    return frozenset(name.encode("utf8", "surrogateescape") for name in names)
 
 
 def shown(text: bytes) -> str:
@@ -224,7 +227,10 @@ class Examiner:
 
     def remember(self, work: Work, values: Dict[bytes, Field]) -> None:
         """Keeps what tells a work, and its parent."""
-        value = lambda name: self.database.value(values[name], self.strings).strip(b" ")  # noqa: E731
+
+        def value(name: bytes) -> bytes:
+            return self.database.value(values[name], self.strings).strip(b" ")
+
         if b"doi" in values:
             doi = RESOLVER.sub(b"", value(b"doi").lower())
             self.dois.setdefault(doi, []).append(work)

@@ -93,7 +93,7 @@ def names_of_item(document: Document, item: Item) -> Iterator[Tuple[Named, bool]
 def name_at(document: Document, workspace: Workspace, place: int) -> Optional[Named]:
     """The name at a place of a text, or directly before it."""
     found = [named for named, _ in names_of(document, workspace) if named.place.start <= place <= named.place.end]
-    return min(found, key=lambda named: named.place.end == place, default=None)
+    return min(found, key=lambda named: named.place.end == place) if found else None
 
 
 def uses(named: Named, workspace: Workspace) -> Iterator[Tuple[Place, bool]]:

@@ -180,7 +180,7 @@ class Server:
         except Exception as error:  # noqa: BLE001 (a text that can't be checked isn't to end the server)
             print(f"btx lsp: {uri}: {type(error).__name__}: {error}", file=sys.stderr)
             found = []
-        params = {"uri": uri, "diagnostics": found}
+        params: Dict[str, Any] = {"uri": uri, "diagnostics": found}
         if document.version is not None:
             params["version"] = document.version
         self.notify_diagnostics(params)
