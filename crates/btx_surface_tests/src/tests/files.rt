@@ -85,26 +85,33 @@ fn fault_letter(fault: FetchFault) -> u8 {
 // The text of a top file, and what it says: a key, all entries after it, a database and a style.
 const AUX: &[u8] = b"\\citation{k,*}\n\\bibdata{d}\n\\bibstyle{s}\n";
 
+// Whether these are one name alone.
+fn is_only(names: &[Vec<u8>], name: &[u8]) -> bool {
+    names.len() == 1 && names[0].as_slice() == name
+}
+
 // Whether a job is that of the text, read from its one file.
 fn is_job(job: &AuxJob) -> bool {
-    job.keys().first().map(|key| key.as_slice()) == Some(b"k".as_slice())
+    is_only(job.keys(), b"k")
         && job.all() == Some(1)
-        && job.databases().first().map(|name| name.as_slice()) == Some(b"d.bib".as_slice())
+        && is_only(job.databases(), b"d.bib")
         && job.style() == Some(b"s.bst".as_slice())
         && job.log().len() == 1
         && end_letter(job.end()) == b'w'
 }
 
-// Whether the job of these files is that of the text.
-fn reads<F: Finder + Drop>(alloc: Global, finder: F) -> Result<bool, Fault> {
-    let mut finder = finder;
-    read_aux(alloc, &mut finder, b"job.aux").map(|job: AuxJob| is_job(&job))
+// Whether a job is that of the text, and the letter of its end.
+fn told(answer: Result<AuxJob, Fault>) -> Result<(bool, u8), Fault> {
+    match answer {
+        Ok(job) => Ok((is_job(&job), end_letter(job.end()))),
+        Err(fault) => Err(fault),
+    }
 }
 
-// The letter of the end of a job without a top file.
-fn missing(alloc: Global) -> Result<u8, Fault> {
-    let mut finder = one_file(alloc, AUX, false);
-    read_aux(alloc, &mut finder, b"none.aux").map(|job: AuxJob| end_letter(job.end()))
+// What is told of the job of this name.
+fn reads<F: Finder + Drop>(alloc: Global, finder: F, name: &[u8]) -> Result<(bool, u8), Fault> {
+    let mut finder = finder;
+    told(read_aux(alloc, &mut finder, name))
 }
 
 // Keeps the text under this name, in memory, after another that has it first.
@@ -121,10 +128,10 @@ fn fetches(alloc: Global, name: &[u8]) -> Result<(bool, bool), FetchFault> {
     found.map(|found| (found, bytes.as_slice() == AUX))
 }
 
-// Whether the job of the files in memory is that of the text.
-fn reads_kept(alloc: Global) -> Result<bool, Fault> {
+// What is told of the job of the files in memory.
+fn reads_kept(alloc: Global) -> Result<(bool, u8), Fault> {
     match kept(alloc, b"job.aux") {
-        Ok(finder) => reads(alloc, finder),
+        Ok(finder) => reads(alloc, finder, b"job.aux"),
         Err(fault) => Err(fault.into()),
     }
 }
@@ -132,10 +139,10 @@ fn reads_kept(alloc: Global) -> Result<bool, Fault> {
 #[test]
 fn files(rt: HostRuntime) {
     let alloc = rt.alloc();
-    assert!(rt; reads(alloc, one_file(alloc, AUX, false)) == Ok(true));
-    assert!(rt; reads(alloc, one_file(alloc, AUX, true)) == Err(Fault::Device));
-    assert!(rt; missing(alloc) == Ok(b'm'));
+    assert!(rt; reads(alloc, one_file(alloc, AUX, false), b"job.aux") == Ok((true, b'w')));
+    assert!(rt; reads(alloc, one_file(alloc, AUX, true), b"job.aux") == Err(Fault::Device));
+    assert!(rt; reads(alloc, one_file(alloc, AUX, false), b"none.aux") == Ok((false, b'm')));
     assert!(rt; fetches(alloc, b"job.aux") == Ok((true, true)));
     assert!(rt; fetches(alloc, b"none") == Ok((false, false)));
-    assert!(rt; reads_kept(alloc) == Ok(true) && fault_letter(FetchFault::Memory) == b'm');
+    assert!(rt; reads_kept(alloc) == Ok((true, b'w')) && fault_letter(FetchFault::Memory) == b'm');
 }
