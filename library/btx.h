@@ -98,6 +98,41 @@ uint32_t btx_needs(const unsigned char *job, size_t job_len, const btx_file *fil
 uint32_t btx_run(const unsigned char *job, size_t job_len, const btx_file *files, size_t files_len, const btx_options *options,
                  unsigned char *list, size_t list_room, unsigned char *log, size_t log_room, btx_report *report);
 
+/* An event of a run, which is a line of its log. (Text that a style prints may have a byte 10 of its own: so cut the log by events, not at each byte 10.) */
+typedef struct {
+    uint64_t at;    /* how many bytes of the log stand before the line */
+    uint64_t len;   /* how many bytes the line has, without its line feed */
+    uint64_t entry; /* the number of the current entry, from 0, while the style is executed for one; else BTX_NO_ENTRY */
+    uint32_t kind;  /* what the line is: BTX_PLAIN .. BTX_ERROR */
+    uint32_t met;   /* where it was met: BTX_MET_IN_FILES .. BTX_MET_AT_END */
+} btx_event;
+
+/* There is no current entry. */
+#define BTX_NO_ENTRY UINT64_MAX
+
+/* What a line of the log is. */
+enum {
+    BTX_PLAIN = 0,   /* neither a warning nor an error: a file that was found, text that a style prints, how the run ended */
+    BTX_WARNING = 1, /* a warning; the report counts these, */
+    BTX_ERROR = 2    /* and the errors */
+};
+
+/* Where a line of the log was met. */
+enum {
+    BTX_MET_IN_FILES = 0,     /* in the .aux files, or where the style and the databases are looked for */
+    BTX_MET_IN_STYLE = 1,     /* in the text of the style */
+    BTX_MET_IN_DATABASES = 2, /* in the databases */
+    BTX_MET_IN_EXECUTION = 3, /* while the style is executed */
+    BTX_MET_AT_END = 4        /* at the end: how the run ended */
+};
+
+/* Runs the job as btx_run does, and writes an event for each line of the log: the first ones, as many as there is room for in `events`, and in `*events_len` how many
+   there are in all. It answers BTX_DONE also where that is more than the room. So no caller needs to guess from a line's text whether it is an error: a style may
+   print a line that looks like one. After BTX_REFUSED nothing was written; after BTX_MEMORY, BTX_ASKS and BTX_FULL no event, and `*events_len` is 0. */
+uint32_t btx_run_events(const unsigned char *job, size_t job_len, const btx_file *files, size_t files_len, const btx_options *options,
+                        unsigned char *list, size_t list_room, unsigned char *log, size_t log_room, btx_report *report,
+                        btx_event *events, size_t events_room, size_t *events_len);
+
 /* Runs the job once more, and notes where its style stands: at each of the first `most` events that log errors in its execution, and where the run is stopped or
    meets a limit: the function and the line of the style, who called it, and the literals on the stack. The notes are lines, whose form the man page says; there is
    none where no error was logged and the run finished. As many bytes are written as there is room for, and in `*notes_len` how many there are in all; if that is

@@ -1,8 +1,10 @@
 -- What a call has left in the caller's memory.
-use Rattle.std.proofs.Common.{arith, ◌≡◌, ◌⊎◌, inl, inr, ℕ, ◌<◌, Bool, true, false, List, [], Some, length, min, refl, ap, ◌∙◌, subst}
-use Rattle.std.specs.Prelude.{Result, Ok, Err, IfOk, OnOk, OnErr}
+use Rattle.std.proofs.Common.{arith, ◌≡◌, ◌⊎◌, inl, inr, ℕ, ◌<◌, Bool, true, false, List, [], Option, None, Some, length, min, refl, ap, ◌∙◌, subst}
+use Rattle.std.specs.Prelude.{Result, Ok, Err, IfOk, IfSome, OnOk, OnErr, is_some, not}
+use Rattle.btx_text.specs.language.LogLines.{Line}
 use Rattle.btx_machine.specs.declared.report.Report.{Report}
 use Rattle.btx_machine.specs.language.KeepingStep.{AtFault}
+use Rattle.btx_machine.specs.laws.Noting.{printed}
 use Rattle.btx_machine.specs.language.Product.{log_of}
 use Rattle.btx_core.specs.declared.options.Options.{Options}
 use Rattle.btx_core.specs.refinement.ComputedProduct.{product_with}
@@ -10,9 +12,11 @@ use Rattle.btx_c.specs.declared.cause.Cause.{Cause}
 use Rattle.btx_c.specs.declared.cause.Cause.TheVariants as cause
 use Rattle.btx_c.specs.declared.cause.TheConstants.{LIST_FULL, LOG_FULL}
 use Rattle.btx_c.specs.declared.handed.BtxFile.{BtxFile}
+use Rattle.btx_c.specs.declared.noted.Events.{Events}
 use Rattle.btx_c.specs.declared.options.BtxOptions.{BtxOptions}
 use Rattle.btx_c.specs.declared.report.BtxReport.{BtxReport}
 use Rattle.btx_c.specs.Handed.{OtherFiles}
+use Rattle.btx_c.specs.Noted.{AreAll, HasEvents}
 use Rattle.btx_c.specs.Options.{asked}
 use Rattle.btx_c.specs.Outcomes.{Broke, Overflows, Wrote, all_files, filled, outcome}
 use Rattle.btx_c.proofs.FullLemmas.{list_length, log_length}
@@ -43,31 +47,46 @@ broke_of files others job given options report list log wrote_list wrote_log is 
 -- ---- how a run ended, once the rooms were looked at
 
 module _ (C : Report → Type 0) where
-  pub ok_of : (ended : Result Report Cause) (a b : Bool) → IfOk ended C → IfOk (outcome ended a b) C
-  ok_of ended true b is = tt
-  ok_of ended false true is = tt
-  ok_of ended false false is = is
+  pub ok_of : (ended : Result Report Cause) (a b c : Bool) → IfOk ended C → IfOk (outcome ended a b c) C
+  ok_of ended true b c is = tt
+  ok_of ended false true c is = tt
+  ok_of ended false false true is = tt
+  ok_of ended false false false is = is
 
-  -- a run that ended, but is too long for a room, is as one that broke off
-  pub err_of : (A : Type 0) (ended : Result Report Cause) (a b : Bool) → IfOk ended C → OnErr ended A → ((report : Report) → C report → A)
-      → OnErr (outcome ended a b) A
-  err_of A (Ok report) true b is fails so = so report is
-  err_of A (Ok report) false true is fails so = so report is
-  err_of A (Ok report) false false is fails so = tt
-  err_of A (Err cause) true b is fails so = fails
-  err_of A (Err cause) false true is fails so = fails
-  err_of A (Err cause) false false is fails so = fails
+  -- a run that ended, but is too long for a room, or of which events were left out, is as one that broke off
+  pub err_of : (A : Type 0) (ended : Result Report Cause) (a b c : Bool) → IfOk ended C → OnErr ended A → ((report : Report) → C report → A)
+      → OnErr (outcome ended a b c) A
+  err_of A (Ok report) true b c is fails so = so report is
+  err_of A (Ok report) false true c is fails so = so report is
+  err_of A (Ok report) false false true is fails so = so report is
+  err_of A (Ok report) false false false is fails so = tt
+  err_of A (Err cause) true b c is fails so = fails
+  err_of A (Err cause) false true c is fails so = fails
+  err_of A (Err cause) false false true is fails so = fails
+  err_of A (Err cause) false false false is fails so = fails
 
-pub fits_of : (ended : Result Report Cause) (a b : Bool) (A B : Type 0) → (a ≡ false → A) → (b ≡ false → B) → OnOk (outcome ended a b) (A × B)
-fits_of ended true b A B left right = tt
-fits_of ended false true A B left right = tt
-fits_of (Ok report) false false A B left right = (left refl, right refl)
-fits_of (Err c) false false A B left right = tt
+pub fits_of : (ended : Result Report Cause) (a b c : Bool) (A B : Type 0) → (a ≡ false → A) → (b ≡ false → B) → OnOk (outcome ended a b c) (A × B)
+fits_of ended true b c A B left right = tt
+fits_of ended false true c A B left right = tt
+fits_of ended false false true A B left right = tt
+fits_of (Ok report) false false false A B left right = (left refl, right refl)
+fits_of (Err cause) false false false A B left right = tt
 
-pub asks_of : (ended : Result Report Cause) (a b : Bool) → outcome ended a b ≡ Err cause.UnknownFile → ended ≡ Err cause.UnknownFile
-asks_of ended true b is = cc
-asks_of ended false true is = cc
-asks_of ended false false is = is
+pub asks_of : (ended : Result Report Cause) (a b c : Bool) → outcome ended a b c ≡ Err cause.UnknownFile → ended ≡ Err cause.UnknownFile
+asks_of ended true b c is = cc
+asks_of ended false true c is = cc
+asks_of ended false false true is = cc
+asks_of ended false false false is = is
+
+-- events were left out of no run that ended
+pub events_of : (ended : Result Report Cause) (a b c : Bool) (events : Option Events) (log : List ℕ) (lines : List Line) (most : ℕ) → is_some events ≡ not c
+    → OnOk ended (log ≡ printed lines) → IfSome events (AreAll lines most) → OnOk (outcome ended a b c) (HasEvents log most events)
+events_of ended true b c events log lines most short whole are = tt
+events_of ended false true c events log lines most short whole are = tt
+events_of ended false false true events log lines most short whole are = tt
+events_of (Err cause) false false false events log lines most short whole are = tt
+events_of (Ok report) false false false None log lines most short whole are = cc
+events_of (Ok report) false false false (Some events) log lines most short whole are = record { lines = lines; log_is = whole; are_all = are }
 
 -- ---- a room that is too small
 

@@ -1,7 +1,9 @@
 pub mod Checks
+pub mod Events
 pub mod Handed
 pub mod Known
 pub mod Needs
+pub mod Noted
 pub mod Options
 pub mod Outcomes
 pub mod Reports

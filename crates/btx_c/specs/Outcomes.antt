@@ -6,7 +6,7 @@ use Rattle.btx_machine.specs.language.KeepingStep.{AtFault}
 use Rattle.btx_machine.specs.language.Product.{Product, log_of}
 use Rattle.btx_core.specs.refinement.ComputedProduct.{product, product_with}
 use Rattle.btx_c.specs.declared.cause.Cause.{Cause}
-use Rattle.btx_c.specs.declared.cause.Cause.TheVariants.{ListFull, LogFull}
+use Rattle.btx_c.specs.declared.cause.Cause.TheVariants.{ListFull, LogFull, Memory}
 use Rattle.btx_c.specs.declared.cause.TheConstants.{LIST_FULL, LOG_FULL}
 use Rattle.btx_c.specs.declared.handed.BtxFile.{BtxFile}
 use Rattle.btx_c.specs.declared.options.BtxOptions.{BtxOptions}
@@ -39,9 +39,10 @@ pub record IsOf (product : Product) (report : BtxReport) (list log : List ℕ ×
 abbrev pub Ran : List BtxFile → OtherFiles → List ℕ → BtxOptions → BtxReport → List ℕ × List ℕ → List ℕ × List ℕ → Type 0
 Ran files others job options = IsOf (product (all_files files others) job (asked options))
 
--- how a run ended: for want of room, if the list or the log is longer than its room, and else as `ended` has it
-abbrev pub outcome : Result Report Cause → Bool → Bool → Result Report Cause
-outcome ended is_list_full is_log_full = if is_list_full then Err ListFull else if is_log_full then Err LogFull else ended
+-- how a run ended: for want of room, if the list or the log is longer than its room; for want of memory, if events were left out; and else as `ended` has it
+abbrev pub outcome : Result Report Cause → Bool → Bool → Bool → Result Report Cause
+outcome ended is_list_full is_log_full is_short =
+    if is_list_full then Err ListFull else if is_log_full then Err LogFull else if is_short then Err Memory else ended
 
 -- a room is too small for the product of all files, and the report says which one
 abbrev pub Overflows : List BtxFile → OtherFiles → List ℕ → BtxOptions → BtxReport → List ℕ → List ℕ → Type 0

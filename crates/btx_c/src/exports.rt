@@ -1,15 +1,21 @@
 //! The calls for C.
 ghost use Rattle.std.specs.Prelude.{◌≡◌, ◌<◌, ◌≤◌, ◌⊎◌, length};
+ghost use Rattle.btx_machine.specs.language.Product.{log_of};
+ghost use Rattle.btx_core.specs.refinement.ComputedProduct.{product};
 ghost use Rattle.btx_c.specs.Checks.{SaidClean};
+ghost use Rattle.btx_c.specs.Events.{Divided};
 ghost use Rattle.btx_c.specs.Handed.{OtherFiles};
 ghost use Rattle.btx_c.specs.Needs.{EndsWithAuxFiles, NeedsAnother, NeedsNoOther, ReadsAuxFiles};
-ghost use Rattle.btx_c.specs.Options.{IsInRange};
-ghost use Rattle.btx_c.specs.Outcomes.{Broke, Overflows, Ran, Wrote, filled};
+ghost use Rattle.btx_c.specs.Noted.{PutsEvents};
+ghost use Rattle.btx_c.specs.Options.{IsInRange, asked};
+ghost use Rattle.btx_c.specs.Outcomes.{Broke, Overflows, Ran, Wrote, all_files, filled};
 
 use crate::cause::Cause;
 use crate::checked::check_style;
+use crate::event::BtxEvent;
 use crate::handed::BtxFile;
 use crate::needs::{Needs, needed};
+use crate::noted::Events;
 use crate::options::{BtxOptions, read_options};
 use crate::places::places;
 use crate::report::{BtxReport, broken_off, in_numbers};
@@ -44,6 +50,20 @@ fn copy_out(bytes: &[u8], into: &mut [u8]) -> usize
     let fits = bytes.len().min(into.len());
     into[..fits].copy_from_slice(&bytes[..fits]);
     bytes.len()
+}
+
+// Copies `events`, as many as `into` has room for, and answers how many lines there are.
+fn put_events(events: Option<Events>, into: &mut [BtxEvent]) -> usize
+    ensures { PutsEvents events result (into.old, into.new) }
+{
+    match events {
+        Some(events) => {
+            let fits = events.first.len().min(into.len());
+            into[..fits].copy_from_slice(&events.first.as_slice()[..fits]);
+            events.count
+        }
+        None => 0,
+    }
 }
 
 /// Writes the names of the files that a job needs and of which nothing was said, each with byte 10, and how many bytes these are.
@@ -110,21 +130,82 @@ pub extern "C" fn btx_run(
     // and keep step.
     ensures broke { REFUSED < result → Broke files.now others job.now options.now report.new (list.old, list.new) (log.old, log.new) }
 {
+    btx_run_events(
+        alloc,
+        job,
+        files,
+        options,
+        list,
+        log,
+        report,
+        &mut [],
+        &mut 0,
+    )
+}
+
+/// Runs a job as `btx_run` does, and writes an event for each line of its log, and how many lines there are.
+#[unsafe(no_mangle)]
+pub extern "C" fn btx_run_events(
+    alloc: Global,
+    job: &[u8],
+    files: &[BtxFile<'_>],
+    options: &BtxOptions,
+    list: &mut [u8],
+    log: &mut [u8],
+    report: &mut BtxReport,
+    events: &mut [BtxEvent],
+    events_len: &mut usize,
+) -> u32
+    ghost others: { OtherFiles }
+    ensures answers { result ≤ FULL }
+    ensures refused { result ≡ REFUSED → (¬ IsInRange options.now) × (report.new ≡ report.old) × (list.new ≡ list.old) × (log.new ≡ log.old)
+        × (events.new ≡ events.old) × (events_len.new ≡ events_len.old) }
+
+    // Whatever other files there are: the report, the list and the log are those of the product.
+    ensures done { result ≡ DONE → Ran files.now others job.now options.now report.new (list.old, list.new) (log.old, log.new) }
+    ensures bound { result ≡ DONE → report.new.steps ≤ options.now.budget }
+    ensures fits { result ≡ DONE → (report.new.list_len ≤ length list.old) × (report.new.log_len ≤ length log.old) }
+    ensures deep { result ≡ DONE → report.new.deepest ≤ 4096 }
+
+    // A file is asked for only if the job needs one of which nothing was said, and a room is too small only for what the product has.
+    ensures asks { result ≡ ASKS → NeedsAnother files.now job.now }
+    ensures full { result ≡ FULL → Overflows files.now others job.now options.now report.new list.old log.old }
+
+    // If memory was refused, a file was asked for of which nothing was said, or the room was too small, list and log are prefixes of the product's
+    // and keep step.
+    ensures broke { REFUSED < result → Broke files.now others job.now options.now report.new (list.old, list.new) (log.old, log.new) }
+
+    // At `DONE` the log is the lines that the events divide it into, and the first events are written, as many as there is room for. After a greater answer
+    // there is none.
+    ensures events { result ≡ DONE → Divided (log_of (product (all_files files.now others) job.now (asked options.now))) events_len.new
+        (events.old, events.new) }
+    ensures no_events { REFUSED < result → (events.new ≡ events.old) × (events_len.new ≡ 0) }
+{
     let Some(options) = read_options(options) else {
         return REFUSED;
     };
     let list_room = list.len();
     let log_room = log.len();
-    let ran = run_handed(alloc, job, files, &options, list_room, log_room);
+    let ran = run_handed(
+        alloc,
+        job,
+        files,
+        &options,
+        list_room,
+        log_room,
+        events.len(),
+    );
     let list_len = copy_out(ran.list.as_slice(), list);
     let log_len = copy_out(ran.log.as_slice(), log);
     match ran.outcome {
         Ok(answer) => {
             *report = in_numbers(answer, list_len, log_len);
+            *events_len = put_events(ran.events, events);
             DONE
         }
         Err(cause) => {
             *report = broken_off(cause, list_len.min(list_room), log_len.min(log_room));
+            *events_len = 0;
             cause.answer()
         }
     }

@@ -5,12 +5,15 @@
 pub mod answers;
 pub mod cause;
 pub mod checked;
+pub mod event;
 pub mod exports;
 pub mod handed;
 pub mod index;
 pub mod kept;
 pub mod laws;
+pub mod lines;
 pub mod needs;
+pub mod noted;
 pub mod options;
 pub mod others;
 pub mod places;

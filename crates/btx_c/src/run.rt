@@ -1,17 +1,20 @@
 //! A run over files that were handed in.
 ghost use Rattle.std.specs.Prelude.{◌≡◌, ◌<◌, ◌≤◌, ◌⊎◌, [], Some, Err, IfOk, IfErr, OnErr, OnOk, length};
 ghost use Rattle.btx_machine.specs.language.KeepingStep.{AtFault, Completes};
+ghost use Rattle.btx_machine.specs.laws.Noting.{Printed};
 ghost use Rattle.btx_core.specs.refinement.ComputedProduct.{product, product_with};
 ghost use Rattle.btx_c.specs.Handed.{OtherFiles};
 ghost use Rattle.btx_c.specs.Needs.{NeedsAnother};
+ghost use Rattle.btx_c.specs.Noted.{HasEvents};
 ghost use Rattle.btx_c.specs.Outcomes.{all_files, outcome};
 
 use crate::cause::Cause;
 use crate::handed::{BtxFile, Handed};
 use crate::index::Index;
 use crate::kept::Kept;
+use crate::noted::{Events, Notes};
 use crate::supposed::needs_another;
-use btx_run::{Options, Report, RunFault, run};
+use btx_run::{Options, Report, RunFault, run_noted};
 use std::alloc::Global;
 
 /// What a run wrote, up to one byte more than there is room for, and its report, or why it broke off.
@@ -19,6 +22,8 @@ use std::alloc::Global;
 pub struct Ran {
     pub list: Vec<u8>,
     pub log: Vec<u8>,
+    /// The events of the log's lines, as many as were asked for, unless something was left out.
+    pub events: Option<Events>,
     pub outcome: Result<Report, Cause>,
 }
 
@@ -49,6 +54,7 @@ fn run_into(
     options: &Options,
     list: &mut Kept,
     log: &mut Kept,
+    notes: &mut Notes,
 ) -> Result<Report, Cause>
     ghost others: { OtherFiles }
     ensures ok { IfOk result (λ report. Completes report (Some list.old.bytes.items, Some log.old.bytes.items)
@@ -60,36 +66,41 @@ fn run_into(
     ensures asks { result ≡ Err Cause.UnknownFile → NeedsAnother files.now name.now }
     ensures bound { IfOk result (λ report. report.steps ≤ options.now.budget) }
     ensures deep { IfOk result (λ report. report.deepest ≤ 4096) }
+    ensures noted { OnOk result (Printed (Some notes.old, Some notes.new) (Some log.old.bytes.items, Some log.new.bytes.items)) }
 {
     let Ok(index) = Index::new(alloc, &*files) else {
         return Err(Cause::Memory);
     };
     let mut finder = Handed::new(alloc, &index);
-    match run(alloc, &mut finder, name, options, list, log) {
+    match run_noted(alloc, &mut finder, name, options, list, log, notes) {
         Ok(report) => Ok(report),
         Err(_) => Err(cause_of(alloc, &index, name, options, finder.failures.count > 0)),
     }
 }
 
-// Answers how a run ended: for want of room, if the list or the log is longer than its room, and else as `ended` has it.
+// Answers how a run ended: for want of room, if the list or the log is longer than its room; for want of memory, if events were left out; and else as
+// `ended` has it.
 fn outcome_of(
     ended: Result<Report, Cause>,
     is_list_full: bool,
     is_log_full: bool,
+    is_short: bool,
 ) -> Result<Report, Cause>
-    ensures { result ≡ outcome ended is_list_full is_log_full }
+    ensures { result ≡ outcome ended is_list_full is_log_full is_short }
 {
     if is_list_full {
         Err(Cause::ListFull)
     } else if is_log_full {
         Err(Cause::LogFull)
+    } else if is_short {
+        Err(Cause::Memory)
     } else {
         ended
     }
 }
 
 /// Runs the job `name` over `files`, whatever others there are, and keeps at most `most_list` bytes of the list and `most_log` of the log, and
-/// one more where there are more.
+/// one more where there are more; and the events of the first `most_events` lines of the log.
 pub fn run_handed(
     alloc: Global,
     name: &[u8],
@@ -97,6 +108,7 @@ pub fn run_handed(
     options: &Options,
     most_list: usize,
     most_log: usize,
+    most_events: usize,
 ) -> Ran
     ghost others: { OtherFiles }
     ensures ok { IfOk result.outcome (λ report. Completes report (Some [], Some []) (Some result.list.items, Some result.log.items)
@@ -106,23 +118,28 @@ pub fn run_handed(
     ensures fits { OnOk result.outcome ((length result.list.items ≤ most_list) × (length result.log.items ≤ most_log)) }
     ensures list_full { result.outcome ≡ Err Cause.ListFull → most_list < length result.list.items }
     ensures log_full { result.outcome ≡ Err Cause.LogFull → most_log < length result.log.items }
+    ensures events { OnOk result.outcome (HasEvents result.log.items most_events result.events) }
     ensures asks { result.outcome ≡ Err Cause.UnknownFile → NeedsAnother files.now name.now }
     ensures bound { IfOk result.outcome (λ report. report.steps ≤ options.now.budget) }
     ensures deep { IfOk result.outcome (λ report. report.deepest ≤ 4096) }
 {
     let mut list = Kept::new(alloc, most_list);
     let mut log = Kept::new(alloc, most_log);
+    let mut notes = Notes::new(alloc, most_events);
     // The proof reads that the length of a line is in its range.
     let _line = options.line.get();
-    let ended = run_into(alloc, name, files, options, &mut list, &mut log);
+    let ended = run_into(alloc, name, files, options, &mut list, &mut log, &mut notes);
+    let events = notes.into_events(most_events);
     let outcome = outcome_of(
         ended,
         list.bytes.len() > most_list,
         log.bytes.len() > most_log,
+        events.is_none(),
     );
     Ran {
         list: list.bytes,
         log: log.bytes,
+        events,
         outcome,
     }
 }

@@ -1,12 +1,14 @@
 use Rattle.std.proofs.Common.{sym, subst, Some, []}
-use Rattle.std.specs.Prelude.{Result, IfOk, OnErr}
+use Rattle.std.specs.Prelude.{Result, IfOk, OnErr, OnOk}
 use Rattle.btx_machine.specs.declared.report.Report.{Report}
 use Rattle.btx_machine.specs.language.KeepingStep.{AtFault, Completes, Received}
 use Rattle.btx_core.specs.refinement.ComputedProduct.{product, product_with}
 use Rattle.btx_c.specs.declared.cause.Cause.{Cause}
+use Rattle.btx_c.specs.Noted.{HasEvents}
 use Rattle.btx_c.specs.Outcomes.{all_files}
 use Rattle.btx_c.proofs.FullLemmas.{whole_at_fault}
-use Rattle.btx_c.proofs.OutcomeLemmas.{err_of, ok_of}
+use Rattle.btx_c.proofs.EventLemmas.{logged_of}
+use Rattle.btx_c.proofs.OutcomeLemmas.{err_of, events_of, ok_of}
 use Rattle.btx_c.proofs.run.run_handed.Goals as goal
 
 pub returns-clause-ok : goal.returns-clause-ok
@@ -17,7 +19,7 @@ returns-clause-ok g c =
       Some c.run_into-ended.new.log.bytes.items,
     ) (product files c.args.name.now c.args.options.now) in
     subst (λ (outcome : Result Report Cause). IfOk outcome Whole) (sym c.outcome_of-outcome.ensures)
-    (ok_of Whole c.run_into-ended.result _ _ (rw (c.new-list.ensures, c.new-log.ensures) at c.run_into-ended.ensures.ok))
+    (ok_of Whole c.run_into-ended.result _ _ _ (rw (c.new-list.ensures, c.new-log.ensures) at c.run_into-ended.ensures.ok))
 
 pub returns-clause-err : goal.returns-clause-err
 returns-clause-err g c =
@@ -27,7 +29,15 @@ returns-clause-err g c =
     let Fault : Type 0 = AtFault (Some [], Some []) after (product_with files c.args.name.now c.args.options.now) c.args.options.now.budget in
     let line = rw c.get-line.ensures.value at c.get-line.ensures.range in
     subst (λ (outcome : Result Report Cause). OnErr outcome Fault) (sym c.outcome_of-outcome.ensures)
-    (err_of Whole Fault c.run_into-ended.result _ _
+    (err_of Whole Fault c.run_into-ended.result _ _ _
     (rw (c.new-list.ensures, c.new-log.ensures) at c.run_into-ended.ensures.ok)
     (rw (c.new-list.ensures, c.new-log.ensures) at c.run_into-ended.ensures.err)
     (λ report whole. whole_at_fault files c.args.name.now c.args.options.now line report (Some [], Some []) after whole))
+
+pub returns-clause-events : goal.returns-clause-events
+returns-clause-events g c =
+    let log = c.run_into-ended.new.log.bytes.items in
+    subst (λ (outcome : Result Report Cause). OnOk outcome (HasEvents log c.args.most_events c.into_events-events.result)) (sym c.outcome_of-outcome.ensures)
+    (events_of c.run_into-ended.result _ _ _ c.into_events-events.result log c.run_into-ended.new.notes c.args.most_events c.is_none.ensures
+    (logged_of c.run_into-ended.result _ c.run_into-ended.new.notes _ log c.run_into-ended.ensures.noted c.new-notes.ensures c.new-log.ensures)
+    c.into_events-events.ensures)

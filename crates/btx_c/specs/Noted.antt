@@ -1,0 +1,43 @@
+-- What is kept of the lines that a run notes.
+use Rattle.std.specs.Prelude.{◌≡◌, ℕ, ◌+◌, ◌≤◌, List, [], ◌∷◌, ◌++◌, Option, None, Some, IfSome, map, length, min, take}
+use Rattle.btx_text.specs.language.LogLines.{Line}
+use Rattle.btx_machine.specs.laws.Noting.{printed}
+use Rattle.btx_c.specs.declared.noted.Events.{Events}
+use Rattle.btx_c.specs.declared.event.BtxEvent.{BtxEvent}
+use Rattle.btx_c.specs.Events.{Divided, mark, marks}
+
+-- where a log ends that has these lines after its first `at` bytes
+abbrev pub end_from : ℕ → List Line → ℕ
+end_from at [] = at
+end_from at (line ∷ lines) = end_from (at + length line.text + 1) lines
+
+-- what is kept of these lines: the events of the first ones, how many there are, and where the next one stands
+pub record AreOf (lines : List Line) (events : Events) : Type 0 where
+  pub count_is : events.count ≡ length lines
+  pub next_is : events.next ≡ end_from 0 lines
+  pub are_first : length events.first.items ≤ length lines
+  pub are_theirs : map mark events.first.items ≡ take (length events.first.items) (marks lines)
+
+-- what was kept of some lines, if it was kept, is then kept of these and one more
+abbrev pub KeepsUp : Option Events → Option Events → Line → Type 0
+KeepsUp before after line = (lines : List Line) → IfSome before (AreOf lines) → IfSome after (AreOf (lines ++ line ∷ []))
+
+-- the same, of as many lines as there may be events
+pub record AreAll (lines : List Line) (most : ℕ) (events : Events) : Type 0 where
+  pub are : AreOf lines events
+  pub as_many : length events.first.items ≡ min events.count most
+
+-- the log is some lines, and these are their events
+pub record AreInLog (log : List ℕ) (most : ℕ) (events : Events) : Type 0 where
+  pub lines : List Line
+  pub log_is : log ≡ printed lines
+  pub are_all : AreAll lines most events
+
+-- there are events of the log's lines
+abbrev pub HasEvents : List ℕ → ℕ → Option Events → Type 0
+HasEvents log most None = ⊥
+HasEvents log most (Some events) = AreInLog log most events
+
+-- events are put into a room: where they are those of a log's lines, they divide it
+abbrev pub PutsEvents : Option Events → ℕ → List BtxEvent × List BtxEvent → Type 0
+PutsEvents events len room = (log : List ℕ) → HasEvents log (length room.0) events → Divided log len room
