@@ -45,7 +45,7 @@ typedef struct {
 /* What a call answers. */
 enum {
     BTX_DONE = 0,    /* it did what it says */
-    BTX_REFUSED = 1, /* a number of the options is out of its range; nothing was written */
+    BTX_REFUSED = 1, /* a number of the options is out of its range, or a style or a database is too long; nothing was written */
     BTX_MEMORY = 2,  /* memory was refused */
     BTX_ASKS = 3,    /* the run asked for a file of which nothing was said */
     BTX_FULL = 4,    /* the list or the log is longer than its room */
@@ -155,7 +155,7 @@ enum {
     BTX_ENTRY = 3,    /* the beginning of an entry: its type as the name, its key as the text */
     BTX_FIELD = 4,    /* a field of the entry: its name, and its text */
     BTX_END = 5,      /* the end of a @preamble, a @string or an entry */
-    BTX_WRONG = 6     /* what is wrong: the line that a run logs of it as the text */
+    BTX_WRONG = 6     /* what is wrong: as the text the line that a run logs of it, where no key is repeated before */
 };
 
 /* A record of a database. Its name and its text lie in `texts`, with no byte after them. */
