@@ -4,9 +4,9 @@ use Rattle.std.proofs.Common.{Some, is_some, refl, sym, ap, subst, ◌∙◌, ap
 use Rattle.std.proofs.lemmas.List.{at_drop_more}
 use Rattle.btx_bib.specs.declared.end.End.TheVariants.{FileLimit}
 use Rattle.btx_bib.specs.declared.gathering.Gathering.{Gathering}
-use Rattle.btx_bib.specs.declared.grammar.commands.Wanted.{Wanted as Next}
-use Rattle.btx_bib.specs.declared.grammar.commands.Wanted.TheVariants.{Item}
-use Rattle.btx_bib.specs.declared.grammar.slip.Slip.TheVariants.{Repeated}
+use Rattle.btx_bib.specs.declared.grammar.commands.Expected.{Expected as Next}
+use Rattle.btx_bib.specs.declared.grammar.commands.Expected.TheVariants.{Item}
+use Rattle.btx_bib.specs.declared.grammar.slip.SyntaxError.TheVariants.{Repeated}
 use Rattle.btx_bib.specs.declared.message.Message.{Message}
 use Rattle.btx_bib.specs.language.Grammar.Items.{Event, Comment, Preamble, Definition, Entry, FieldOf, End, Wrong, Placed, Step, events_from, is_repeated}
 use Rattle.btx_bib.specs.language.Grammar.Items.{next_step, expected_step}
@@ -14,7 +14,7 @@ use Rattle.btx_bib.specs.language.Known.{Known, known_after, after_event, with_c
 use Rattle.btx_bib.specs.laws.Known.{after_all}
 use Rattle.btx_bib.specs.language.Stored.{entry_with_key}
 use Rattle.btx_bib.specs.language.Messages.{Database, event_messages}
-use Rattle.btx_bib.specs.language.Wanted.{Request}
+use Rattle.btx_bib.specs.language.Request.{Request}
 use Rattle.btx_bib.specs.refinement.Gatherings.{closed, events_with, is_kept, kept_after, kept_along, kept_messages}
 use Rattle.btx_bib.specs.refinement.Pairs.{BorrowedPair, database_of_pair, databases_of_pairs}
 use Rattle.btx_bib.specs.refinement.Readings.{kept_by_all, kept_one, messages_of_all, messages_of_one}

@@ -7,7 +7,7 @@ use Rattle.btx_bib.specs.language.Grammar.Items.{Placed}
 use Rattle.btx_bib.specs.language.Known.{Known, known_after, with_current_stored, goes_on}
 use Rattle.btx_bib.specs.laws.Known.{after_all}
 use Rattle.btx_bib.specs.language.Messages.{Database, Reading, read_next}
-use Rattle.btx_bib.specs.language.Wanted.{Request}
+use Rattle.btx_bib.specs.language.Request.{Request}
 use Rattle.btx_text.specs.language.Limits.{is_too_long}
 use Rattle.btx_bib.specs.refinement.Messages.{messages_at}
 use Rattle.btx_bib.specs.laws.Databases.{database_events, with_macros, read_all}

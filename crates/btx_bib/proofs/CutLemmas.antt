@@ -10,9 +10,9 @@ use Rattle.btx_bib.specs.declared.end.End.{End}
 use Rattle.btx_bib.specs.declared.end.End.TheVariants as end
 use Rattle.btx_bib.specs.declared.grammar.commands.Command.{Command}
 use Rattle.btx_bib.specs.declared.grammar.commands.Command.TheVariants as command
-use Rattle.btx_bib.specs.declared.grammar.commands.Wanted.{Wanted as Next}
-use Rattle.btx_bib.specs.declared.grammar.commands.Wanted.TheVariants.{Item, Closing, Fields}
-use Rattle.btx_bib.specs.declared.grammar.slip.Slip.TheVariants.{NoEquals, Repeated}
+use Rattle.btx_bib.specs.declared.grammar.commands.Expected.{Expected as Next}
+use Rattle.btx_bib.specs.declared.grammar.commands.Expected.TheVariants.{Item, Closing, Fields}
+use Rattle.btx_bib.specs.declared.grammar.slip.SyntaxError.TheVariants.{NoEquals, Repeated}
 use Rattle.btx_bib.specs.declared.grammar.value_ends.Ends.{Ends}
 use Rattle.btx_bib.specs.declared.grammar.value_ends.Ends.TheVariants.{Kept, Trimmed}
 use Rattle.btx_bib.specs.declared.message.Message.{Message}
@@ -22,7 +22,7 @@ use Rattle.btx_bib.specs.language.Grammar.Items.{Event, Comment, Preamble, Defin
 use Rattle.btx_bib.specs.language.Grammar.Items.{head_at, command_of, step_by, behind_at, expected_step, is_repeated, next_step, events_within, events_from}
 use Rattle.btx_bib.specs.language.Grammar.Values.{Part, Braced, Quoted, Digits, Named, value_at}
 use Rattle.btx_bib.specs.language.Grammar.ValueTexts.{text_of_part, shaped, value_text}
-use Rattle.btx_bib.specs.language.Wanted.{Request}
+use Rattle.btx_bib.specs.language.Request.{Request}
 use Rattle.btx_bib.specs.language.Strings.{string_value, other_value, defined}
 use Rattle.btx_bib.specs.language.Entries.{Given}
 use Rattle.btx_bib.specs.language.Stored.{entry_with_key}

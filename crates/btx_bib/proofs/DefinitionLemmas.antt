@@ -14,7 +14,7 @@ use Rattle.btx_bib.specs.declared.grammar.value_ends.Ends.TheVariants.{Kept, Tri
 use Rattle.btx_bib.specs.language.Grammar.Fields.{Field}
 use Rattle.btx_bib.specs.language.Grammar.Items.{Event, Comment, Preamble, Definition, Entry, FieldOf, End as Close, Wrong, Placed}
 use Rattle.btx_bib.specs.language.Grammar.ValueTexts.{squeezed, value_text}
-use Rattle.btx_bib.specs.language.Wanted.{Request}
+use Rattle.btx_bib.specs.language.Request.{Request}
 use Rattle.btx_bib.specs.language.Strings.{string_value, other_value, defined}
 use Rattle.btx_bib.specs.language.Entries.{Given}
 use Rattle.btx_bib.specs.language.Stored.{is_wanted}

@@ -2,7 +2,7 @@
 use Rattle.std.proofs.Common.{◌≡◌, ℕ, suc, ◌+◌, ◌<◌, List, ap, ◌∙◌, sym, add-one, drop, drop-cons, get_or, length}
 use Rattle.btx_aux.specs.refinement.Entries.{Bytes, texts_of}
 use Rattle.btx_bib.specs.declared.draft.Draft.{Draft}
-use Rattle.btx_bib.specs.language.Wanted.{Request}
+use Rattle.btx_bib.specs.language.Request.{Request}
 use Rattle.btx_bib.specs.refinement.Drafts.{cited_all, cited_at, place_in}
 
 pub cited-next : (wanted : Request) (keys : List Bytes) (place : ℕ) (d : Bytes) (before after : Draft) → place < length keys

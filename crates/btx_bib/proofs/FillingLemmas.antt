@@ -4,7 +4,7 @@ use Rattle.std.proofs.Common.{None, Some, is_some, refl, sym, ap, ◌∙◌}
 use Rattle.std.specs.Option.{option_or, option_map}
 use Rattle.std.proofs.lemmas.Bool.Decides.{nat_tests}
 use Rattle.btx_bib.specs.refinement.Finding.{changed_at}
-use Rattle.btx_bib.specs.language.Wanted.{Request}
+use Rattle.btx_bib.specs.language.Request.{Request}
 use Rattle.btx_bib.specs.language.Entries.{KeptField, value_in, values_from}
 use Rattle.btx_bib.specs.refinement.Filling.{blanks, with_value}
 use Rattle.btx_bib.specs.language.Values.{field_value}

@@ -12,7 +12,7 @@ use Rattle.btx_aux.specs.refinement.Entries.{Bytes, texts_of}
 use Rattle.btx_bib.specs.declared.draft.Draft.{Draft}
 use Rattle.btx_bib.specs.declared.slots.Slot.{Slot}
 use Rattle.btx_bib.specs.language.Listing.{first_cited}
-use Rattle.btx_bib.specs.language.Wanted.{Request}
+use Rattle.btx_bib.specs.language.Request.{Request}
 use Rattle.btx_bib.specs.refinement.Drafts.{cited_all, cited_at, empty, open_slot}
 use Rattle.btx_bib.specs.refinement.Finding.{first_place}
 

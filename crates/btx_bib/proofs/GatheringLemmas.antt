@@ -1,11 +1,11 @@
 -- What is kept while a database is read, event by event.
 use Rattle.std.proofs.Common.{◌≡◌, ℕ, Bool, true, false, not, if◌then◌else◌, List, [], ◌∷◌, ◌++◌, None, Some, refl, sym, ap, ◌∙◌}
 use Rattle.btx_bib.specs.declared.gathering.Gathering.{Gathering}
-use Rattle.btx_bib.specs.declared.grammar.commands.Wanted.{Wanted as Next}
+use Rattle.btx_bib.specs.declared.grammar.commands.Expected.{Expected as Next}
 use Rattle.btx_bib.specs.language.Grammar.Items.{Event, Placed, Step, next_step}
 use Rattle.btx_bib.specs.language.Known.{goes_on}
 use Rattle.btx_bib.specs.language.Messages.{Database}
-use Rattle.btx_bib.specs.language.Wanted.{Request}
+use Rattle.btx_bib.specs.language.Request.{Request}
 use Rattle.btx_bib.specs.refinement.Gatherings.{events_with, is_kept, kept_after, kept_along, kept_next, kept_messages, keeping_kept, messages_of}
 use Rattle.btx_bib.proofs.GrammarLemmas.LengthLemmas.{events-none, events-some}
 

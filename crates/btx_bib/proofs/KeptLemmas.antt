@@ -19,7 +19,7 @@ use Rattle.btx_bib.specs.language.Grammar.Items.{Event, Comment, Preamble, Defin
 use Rattle.btx_bib.specs.language.Grammar.ValueTexts.{value_text}
 use Rattle.btx_bib.specs.language.Known.{Known, with_current_stored, after_event, after_field, if_fits, stored_in}
 use Rattle.btx_bib.specs.language.Messages.{Database, event_messages, field_messages, spot_at, spot_before, value_messages}
-use Rattle.btx_bib.specs.language.Wanted.{Request}
+use Rattle.btx_bib.specs.language.Request.{Request}
 use Rattle.btx_bib.specs.language.Entries.{Given, body_of, field_values}
 use Rattle.btx_bib.specs.refinement.Finding.{changed_at}
 use Rattle.btx_bib.specs.language.Stored.{entry_with_key, is_wanted}
@@ -80,7 +80,7 @@ module _ (wanted : Request) where
 
   is_repeated_standing : Standing → Bool
   is_repeated_standing standing.Unwanted = false
-  is_repeated_standing standing.Wanted = false
+  is_repeated_standing standing.Expected = false
   is_repeated_standing standing.Repeated = true
 
   new-standing : (all : Option ℕ) → is_repeated_standing (new_standing all) ≡ false
@@ -92,7 +92,7 @@ module _ (wanted : Request) where
   unfolding is_repeated_standing
   standing-has d None = new-standing wanted.all
   standing-has d (Some place) = at (has_body (slice_get d.slots place)) where
-    at : (b : Bool) → is_repeated_standing (if b then standing.Repeated else standing.Wanted) ≡ b
+    at : (b : Bool) → is_repeated_standing (if b then standing.Repeated else standing.Expected) ≡ b
     at true = refl
     at false = refl
 

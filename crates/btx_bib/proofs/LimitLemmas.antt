@@ -12,7 +12,7 @@ use Rattle.btx_bib.specs.language.Grammar.ValueTexts.{squeezed}
 use Rattle.btx_bib.specs.language.Known.{Known, goes_on}
 use Rattle.btx_bib.specs.language.Messages.{Database, Reading}
 use Rattle.btx_bib.specs.language.Strings.{defined}
-use Rattle.btx_bib.specs.language.Wanted.{Request}
+use Rattle.btx_bib.specs.language.Request.{Request}
 use Rattle.btx_bib.specs.laws.Databases.{LongDatabaseEnds, MessagesStay, read_all, with_macros}
 use Rattle.btx_bib.specs.laws.Storing.{MacrosGoOn}
 

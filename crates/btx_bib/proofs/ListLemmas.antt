@@ -10,7 +10,7 @@ use Rattle.btx_bib.specs.declared.end.End.TheVariants as end
 use Rattle.btx_bib.specs.declared.entry.Entry.{Entry}
 use Rattle.btx_bib.specs.declared.message.Message.{Message}
 use Rattle.btx_bib.specs.declared.slots.Body.{Body}
-use Rattle.btx_bib.specs.language.Wanted.{Request}
+use Rattle.btx_bib.specs.language.Request.{Request}
 use Rattle.btx_bib.specs.language.Entries.{Given}
 use Rattle.btx_bib.specs.language.Listing.{Slot, first_cited, added, last_cited, list_keys, slots_of}
 use Rattle.btx_bib.specs.language.Passes.{passed, inherited, checked, after_first, after_second, entries_of, entry_at}

@@ -13,7 +13,7 @@ use Rattle.btx_bib.specs.declared.end.End.TheVariants as end
 use Rattle.btx_bib.specs.declared.entry.Entry.{Entry}
 use Rattle.btx_bib.specs.declared.message.Message.{Message}
 use Rattle.btx_bib.specs.declared.slots.Body.{Body}
-use Rattle.btx_bib.specs.language.Wanted.{Request}
+use Rattle.btx_bib.specs.language.Request.{Request}
 use Rattle.btx_bib.specs.language.Entries.{parent_in}
 use Rattle.btx_bib.specs.language.Listing.{Slot, slots_of}
 use Rattle.btx_bib.specs.language.Passes.{passed, inherited, inherited_from, inherited_values, checked, without_crossref, is_parent, slot_at, parent_at}

@@ -6,7 +6,7 @@ use Rattle.std.specs.Option.{option_map, option_or, unwrap_or}
 use Rattle.std.specs.List.{filter, find}
 use Rattle.std.proofs.lemmas.Bool.Decides.{nat_tests}
 use Rattle.btx_aux.specs.language.Names.{is_same_key, listed_as}
-use Rattle.btx_bib.specs.language.Wanted.{Request}
+use Rattle.btx_bib.specs.language.Request.{Request}
 use Rattle.btx_bib.specs.language.Entries.{Given}
 use Rattle.btx_bib.specs.language.Stored.{entry_with_key, parents_in, references}
 use Rattle.btx_bib.specs.language.Listing.{first_cited, added, last_cited, list_keys}

@@ -3,15 +3,15 @@ use Rattle.std.proofs.Common.{◌≡◌, ℕ, ◌<◌, Bool, true, false, if◌t
 use Rattle.btx_bib.specs.declared.draft.Standing.TheVariants as standing
 use Rattle.btx_bib.specs.declared.gathering.Gathering.{Gathering}
 use Rattle.btx_bib.specs.declared.gathering.Pending.{Pending}
-use Rattle.btx_bib.specs.declared.grammar.commands.Wanted.{Wanted as Next}
-use Rattle.btx_bib.specs.declared.grammar.commands.Wanted.TheVariants.{Item}
+use Rattle.btx_bib.specs.declared.grammar.commands.Expected.{Expected as Next}
+use Rattle.btx_bib.specs.declared.grammar.commands.Expected.TheVariants.{Item}
 use Rattle.btx_bib.specs.declared.grammar.item_readers.EntryHead.{EntryHead}
-use Rattle.btx_bib.specs.declared.grammar.slip.Slip.TheVariants.{Repeated}
+use Rattle.btx_bib.specs.declared.grammar.slip.SyntaxError.TheVariants.{Repeated}
 use Rattle.btx_bib.specs.declared.message.Message.{Message}
 use Rattle.btx_bib.specs.language.Grammar.Items.{Event, End, FieldOf, Wrong, Step, expected_step, next_step}
 use Rattle.btx_bib.specs.language.Known.{goes_on}
 use Rattle.btx_bib.specs.language.Messages.{Database}
-use Rattle.btx_bib.specs.language.Wanted.{Request}
+use Rattle.btx_bib.specs.language.Request.{Request}
 use Rattle.btx_bib.specs.refinement.Drafts.{has_entry, place_in, standing_at}
 use Rattle.btx_bib.specs.refinement.Gatherings.{GoesOn, all_messages, begun_by, closed, closed_by, fielded_by, is_kept, is_pending, kept_after, messages_of}
 use Rattle.btx_bib.specs.refinement.Gatherings.{messages_of_current, messages_of_standing}
@@ -27,7 +27,7 @@ unwanted_unstored : (wanted : Request) (kept : Gathering) (place : Option ℕ) �
     → has_entry kept.draft place ≡ false
 unwanted_unstored wanted kept None h = refl
 unwanted_unstored wanted kept (Some place) h = at (has_entry kept.draft (Some place)) h where
-  at : (t : Bool) → (if t then standing.Repeated else standing.Wanted) ≡ standing.Unwanted → t ≡ false
+  at : (t : Bool) → (if t then standing.Repeated else standing.Expected) ≡ standing.Unwanted → t ≡ false
   at true h = cc
   at false h = refl
 

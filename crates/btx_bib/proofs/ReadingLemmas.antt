@@ -1,7 +1,7 @@
 -- What is kept and reported while a database is read, event by event.
 use Rattle.std.proofs.Common.{◌≡◌, ℕ, true, false, List, [], ◌++◌, None, Some, ap, ap₂, ◌∙◌, append-nil, append_assoc}
 use Rattle.btx_bib.specs.declared.gathering.Gathering.{Gathering}
-use Rattle.btx_bib.specs.declared.grammar.commands.Wanted.{Wanted as Next}
+use Rattle.btx_bib.specs.declared.grammar.commands.Expected.{Expected as Next}
 use Rattle.btx_bib.specs.declared.message.Message.{Message}
 use Rattle.btx_bib.specs.declared.reading.Reading.{Reading}
 use Rattle.btx_bib.specs.language.Grammar.Items.{Step, next_step}

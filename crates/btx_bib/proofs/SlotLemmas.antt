@@ -8,7 +8,7 @@ use Rattle.std.proofs.lemmas.Bool.Decides.{nat_tests}
 use Rattle.std.proofs.lemmas.List.Sums.{sum_by-append}
 use Rattle.btx_aux.specs.language.Names.{is_same_key, listed_as}
 use Rattle.btx_bib.specs.declared.slots.Slot.{Slot as CodeSlot}
-use Rattle.btx_bib.specs.language.Wanted.{Request}
+use Rattle.btx_bib.specs.language.Request.{Request}
 use Rattle.btx_bib.specs.language.Entries.{Given, body_of}
 use Rattle.btx_bib.specs.language.Stored.{entry_with_key, references}
 use Rattle.btx_bib.specs.language.Listing.{slot_of}

@@ -4,14 +4,14 @@ use Rattle.std.proofs.Common.{sym, ap, ◌∙◌, append-nil}
 use Rattle.btx_text.specs.language.Limits.{greatest_string}
 use Rattle.btx_aux.specs.language.Names.{is_same_key}
 use Rattle.btx_bib.specs.declared.end.End.TheVariants as end
-use Rattle.btx_bib.specs.declared.grammar.commands.Wanted.{Wanted as Next}
-use Rattle.btx_bib.specs.declared.grammar.commands.Wanted.TheVariants.{Item}
-use Rattle.btx_bib.specs.declared.grammar.slip.Slip.TheVariants.{Repeated}
+use Rattle.btx_bib.specs.declared.grammar.commands.Expected.{Expected as Next}
+use Rattle.btx_bib.specs.declared.grammar.commands.Expected.TheVariants.{Item}
+use Rattle.btx_bib.specs.declared.grammar.slip.SyntaxError.TheVariants.{Repeated}
 use Rattle.btx_bib.specs.declared.grammar.value_ends.Ends.TheVariants.{Kept, Trimmed}
 use Rattle.btx_bib.specs.language.Grammar.Fields.{Field}
 use Rattle.btx_bib.specs.language.Grammar.Items.{Event, Comment, Preamble, Definition, Entry, FieldOf, End as Close, Wrong}
 use Rattle.btx_bib.specs.language.Grammar.ValueTexts.{value_text}
-use Rattle.btx_bib.specs.language.Wanted.{Request}
+use Rattle.btx_bib.specs.language.Request.{Request}
 use Rattle.btx_bib.specs.language.Strings.{string_value, other_value, defined}
 use Rattle.btx_bib.specs.language.Entries.{Given}
 use Rattle.btx_bib.specs.language.Stored.{entry_with_key, is_wanted, parents_in}

@@ -13,7 +13,7 @@ use Rattle.btx_bib.specs.declared.draft.Draft.{Draft}
 use Rattle.btx_bib.specs.declared.draft.Standing.{Standing}
 use Rattle.btx_bib.specs.declared.draft.Standing.TheVariants as standing
 use Rattle.btx_bib.specs.declared.slots.Slot.{Slot as CodeSlot}
-use Rattle.btx_bib.specs.language.Wanted.{Request}
+use Rattle.btx_bib.specs.language.Request.{Request}
 use Rattle.btx_bib.specs.refinement.Finding.{first_place, changed_at}
 use Rattle.btx_bib.specs.language.Entries.{Given, body_of}
 use Rattle.btx_bib.specs.language.Stored.{entry_with_key, references, is_wanted}
@@ -433,16 +433,16 @@ module _ (wanted : Request) where
 
   -- how an entry stands, by whether one of its key is stored, and whether it is wanted
   abbrev pub standing_of : Bool → Bool → Standing
-  standing_of repeated asks = if repeated then standing.Repeated else (if asks then standing.Wanted else standing.Unwanted)
+  standing_of repeated asks = if repeated then standing.Repeated else (if asks then standing.Expected else standing.Unwanted)
 
   standing-new : (stored : List Given) (key : List ℕ) → (all : Option ℕ) → wanted.all ≡ all → is_any_key (asked stored) key ≡ false
-      → new_standing all ≡ (if is_wanted wanted stored key then standing.Wanted else standing.Unwanted)
+      → new_standing all ≡ (if is_wanted wanted stored key then standing.Expected else standing.Unwanted)
   standing-new stored key None plain unasked =
       let same : is_wanted wanted stored key ≡ is_any_key (asked stored) key = rw plain refl in
-      ap (λ (b : Bool). if b then standing.Wanted else standing.Unwanted) (sym unasked ∙ sym same)
+      ap (λ (b : Bool). if b then standing.Expected else standing.Unwanted) (sym unasked ∙ sym same)
   standing-new stored key (Some place) starred unasked =
       let asks : is_wanted wanted stored key ≡ true = rw starred refl in
-      ap (λ (b : Bool). if b then standing.Wanted else standing.Unwanted) (sym asks)
+      ap (λ (b : Bool). if b then standing.Expected else standing.Unwanted) (sym asks)
 
   wanted-listed : (stored : List Given) (key : List ℕ) → (all : Option ℕ) → wanted.all ≡ all → is_any_key (asked stored) key ≡ true
       → is_wanted wanted stored key ≡ true
@@ -463,7 +463,7 @@ module _ (wanted : Request) where
       let found = at_place (slot stored) (keys stored) key place at in
       let there : is_any_key (asked stored) key ≡ true = sym (listed_keys stored key) ∙ place_of-some (keys stored) key place at in
       let asks : is_wanted wanted stored key ≡ true = wanted-listed stored key wanted.all refl there in
-      ap (λ (b : Bool). if b then standing.Repeated else standing.Wanted) (ap has_body found.1.1 ∙ has-body stored key found.0 found.1.0)
+      ap (λ (b : Bool). if b then standing.Repeated else standing.Expected) (ap has_body found.1.1 ∙ has-body stored key found.0 found.1.0)
       ∙ ap (λ (w : Bool). standing_of (is_some (entry_with_key stored key)) w) (sym asks)
 
   pub standing-draft : (stored : List Given) (key : List ℕ) → Covered stored

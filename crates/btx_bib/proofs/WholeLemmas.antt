@@ -16,7 +16,7 @@ use Rattle.btx_bib.specs.language.Listing.{Slot, list_keys}
 use Rattle.btx_bib.specs.language.Passes.{entries_of, reference_messages}
 use Rattle.btx_bib.specs.language.Strings.{defined}
 use Rattle.btx_bib.specs.language.Messages.{Database, Reading}
-use Rattle.btx_bib.specs.language.Wanted.{Request}
+use Rattle.btx_bib.specs.language.Request.{Request}
 use Rattle.btx_bib.specs.refinement.Readings.{IsListed, nothing_gathered, kept_by_all, kept_macro, kept_macros, library_kept, listed_draft, messages_of_all}
 use Rattle.btx_bib.proofs.AlongLemmas.{all-kept, all-sound, all-logged}
 use Rattle.btx_bib.proofs.ApartLemmas.{known_all, reading-apart}

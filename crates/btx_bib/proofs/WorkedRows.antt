@@ -3,7 +3,7 @@ use Rattle.std.proofs.Common.{◌≡◌, ◌<◌, ◌⊎◌, ℕ, List, inl, inr
 use Rattle.std.proofs.lemmas.Bool.{true≢false}
 use Rattle.std.specs.Fmt.{digits}
 use Rattle.std.specs.Prelude.{codes}
-use Rattle.btx_bib.specs.declared.grammar.slip.Slip.TheVariants.{EndOfFile}
+use Rattle.btx_bib.specs.declared.grammar.slip.SyntaxError.TheVariants.{EndOfFile}
 use Rattle.btx_text.specs.language.Lines.{line_pieces}
 use Rattle.btx_text.specs.language.LogLines.{mark_of, place_text}
 use Rattle.btx_bib.specs.language.Grammar.ByteSets.{longest_run_len, enclosed_len}

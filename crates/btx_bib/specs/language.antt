@@ -1,7 +1,7 @@
 pub mod Grammar
 pub mod Values
 pub mod Library
-pub mod Wanted
+pub mod Request
 pub mod Entries
 pub mod Stored
 pub mod Listing

@@ -22,7 +22,7 @@ type Pair<'a> = (&'a [u8], &'a [u8]);
 impl<'a> Gathering<'a> {
     ghost use Rattle.std.specs.Prelude.{◌≡◌, ◌++◌, true, IfOk, OnOk};
     ghost use Rattle.btx_bib.specs.declared.end.End.TheVariants as end;
-    ghost use Rattle.btx_bib.specs.declared.grammar.commands.Wanted.TheVariants as next;
+    ghost use Rattle.btx_bib.specs.declared.grammar.commands.Expected.TheVariants as next;
     ghost use Rattle.btx_bib.specs.refinement.Gatherings.{closed, events_with, kept_along, kept_messages};
     ghost use Rattle.btx_bib.specs.language.Known.{goes_on};
     ghost use Rattle.btx_bib.specs.refinement.Readings.{IsListed, kept_macro, kept_macros, nothing_gathered, library_kept, listed_draft, kept_by_all, kept_one};

@@ -26,7 +26,7 @@ pub enum Standing {
     /// An entry with its key is stored.
     Repeated,
     /// It is stored.
-    Wanted,
+    Expected,
 }
 
 impl<'a> Draft<'a> {
@@ -143,7 +143,7 @@ impl<'a> Draft<'a> {
         if self.slots.has_body(place) {
             return Ok(Standing::Repeated);
         }
-        Ok(Standing::Wanted)
+        Ok(Standing::Expected)
     }
 
     /// Whether an entry with this key is stored.

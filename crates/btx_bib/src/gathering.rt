@@ -144,7 +144,7 @@ impl<'a> Gathering<'a> {
     ghost use Rattle.btx_bib.specs.refinement.Grammar.EventViews.{event_view};
     ghost use Rattle.btx_bib.specs.refinement.Grammar.Reads.{left};
     ghost use Rattle.btx_bib.specs.language.Known.{goes_on};
-    ghost use Rattle.btx_bib.specs.declared.grammar.commands.Wanted.TheVariants as next;
+    ghost use Rattle.btx_bib.specs.declared.grammar.commands.Expected.TheVariants as next;
     ghost use Rattle.btx_bib.specs.refinement.Requests.{wanted};
 
     /// The entry that was being read is at its end.
@@ -185,9 +185,9 @@ impl<'a> Gathering<'a> {
         rest: &[u8],
         reading: &mut Reading<'_, 'a>,
     ) -> Result<(), AllocError>
-        ensures state { OnOk result (self.new ≡ begun_by (asked_in reading.old) self.old kind.now key.entry.now standing.Wanted) }
+        ensures state { OnOk result (self.new ≡ begun_by (asked_in reading.old) self.old kind.now key.entry.now standing.Expected) }
         ensures logged { OnOk result (reading.new ≡ reported reading.old
-            (messages_of_standing (asked_in reading.old) (database_read reading.old) kind.now key.entry.now rest.now standing.Wanted)) }
+            (messages_of_standing (asked_in reading.old) (database_read reading.old) kind.now key.entry.now rest.now standing.Expected)) }
     {
         let kind = reading.request.kind(reading.alloc, kind)?;
         reading.report_kind(kind, key, rest)?;
@@ -209,7 +209,7 @@ impl<'a> Gathering<'a> {
         self.close(reading.alloc, reading.request)?;
         match self.draft.standing(reading.alloc, reading.request, key)? {
             Standing::Unwanted | Standing::Repeated => Ok(()),
-            Standing::Wanted => self.begin_messages(kind, key, rest, reading),
+            Standing::Expected => self.begin_messages(kind, key, rest, reading),
         }
     }
 

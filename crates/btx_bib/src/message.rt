@@ -1,5 +1,5 @@
 //! The messages of databases.
-use crate::grammar::slip::Slip;
+use crate::grammar::slip::SyntaxError;
 use crate::spelling::{Spelling, Word};
 use btx_text::List;
 
@@ -33,7 +33,7 @@ impl<'a> Spot<'a> {
 #[derive(Drop)]
 pub enum Message<'a> {
     /// What is wrong in a database.
-    Wrong(Slip, Spot<'a>),
+    Wrong(SyntaxError, Spot<'a>),
     /// The type of the entry with this key isn't one of the style.
     UnknownKind(Word<'a>, Spot<'a>),
     /// An entry's key, and a field of it that it had already.

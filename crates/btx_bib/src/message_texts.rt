@@ -5,7 +5,7 @@ ghost use Rattle.btx_bib.specs.refinement.Wordings.{wording_text};
 ghost use Rattle.btx_bib.specs.refinement.MessageTexts.{spot_text};
 
 use crate::grammar::byte_sets::Delimiter;
-use crate::grammar::slip::Slip;
+use crate::grammar::slip::SyntaxError;
 use crate::message::{Message, Spot};
 use crate::spelling::{Spelling, Word};
 use btx_text::log_texts::{push_four, push_mark, push_place};
@@ -149,21 +149,21 @@ fn reference<'m>(
 
 // What is wrong at a place of a database, in words.
 #[tactic(auto, unfolding(crate::specs::language::MessageTexts::slip_text))]
-fn slip_text(slip: Slip) -> &'static [u8]
+fn slip_text(slip: SyntaxError) -> &'static [u8]
     ensures { result.now ≡ slip_text slip }
 {
     match slip {
-        Slip::NoName => b"I was expecting a name",
-        Slip::NoDelimiter => b"I was expecting a { or a (",
-        Slip::NoComma(Delimiter::Braces) => b"I was expecting a , or a }",
-        Slip::NoComma(Delimiter::Parens) => b"I was expecting a , or a )",
-        Slip::NoEquals => b"I was expecting an =",
-        Slip::NoClosing(Delimiter::Braces) => b"I was expecting a }",
-        Slip::NoClosing(Delimiter::Parens) => b"I was expecting a )",
-        Slip::NoValue => b"I was expecting a value",
-        Slip::Unbalanced => b"Unbalanced braces",
-        Slip::EndOfFile => b"Illegal end of database file",
-        Slip::Repeated => b"Repeated entry",
+        SyntaxError::NoName => b"I was expecting a name",
+        SyntaxError::NoDelimiter => b"I was expecting a { or a (",
+        SyntaxError::NoComma(Delimiter::Braces) => b"I was expecting a , or a }",
+        SyntaxError::NoComma(Delimiter::Parens) => b"I was expecting a , or a )",
+        SyntaxError::NoEquals => b"I was expecting an =",
+        SyntaxError::NoClosing(Delimiter::Braces) => b"I was expecting a }",
+        SyntaxError::NoClosing(Delimiter::Parens) => b"I was expecting a )",
+        SyntaxError::NoValue => b"I was expecting a value",
+        SyntaxError::Unbalanced => b"Unbalanced braces",
+        SyntaxError::EndOfFile => b"Illegal end of database file",
+        SyntaxError::Repeated => b"Repeated entry",
     }
 }
 

@@ -128,7 +128,7 @@ impl<'r, 'a> Request<'r, 'a> {
         ensures { result ≡ new_standing self.now.all }
     {
         match self.all {
-            Some(_) => Standing::Wanted,
+            Some(_) => Standing::Expected,
             None => Standing::Unwanted,
         }
     }

@@ -3,7 +3,7 @@ use btx_bst::{Callee, PlacedStyle, Style};
 use btx_check::description::{Mask, Upper, Value};
 use btx_code::Code;
 use btx_lint::{Cause, Fault, Finding, Findings, Growth, Operand};
-use btx_step::Wanted;
+use btx_step::OperandKind;
 use btx_text::log_texts::{push_number, push_two};
 use btx_where::Place;
 use btx_where::notes::Known;
@@ -36,12 +36,12 @@ fn fault_word(fault: Fault) -> &'static [u8] {
 }
 
 // The word of what a function wants.
-fn wanted_word(wanted: Wanted) -> &'static [u8] {
+fn wanted_word(wanted: OperandKind) -> &'static [u8] {
     match wanted {
-        Wanted::Integer => b"integer",
-        Wanted::Text => b"text",
-        Wanted::TextOrMissing => b"text-or-missing",
-        Wanted::Function => b"function",
+        OperandKind::Integer => b"integer",
+        OperandKind::Text => b"text",
+        OperandKind::TextOrMissing => b"text-or-missing",
+        OperandKind::Function => b"function",
     }
 }
 

@@ -20,7 +20,7 @@ use Rattle.btx_step.specs.declared.said.Said.TheVariants as said
 use Rattle.btx_step.specs.language.Jobs.{Job}
 use Rattle.btx_step.specs.language.Stores.{Store, EntryVariables}
 use Rattle.btx_step.specs.language.Answers.{Answer, noted, says, with_literals}
-use Rattle.btx_step.specs.declared.literal.Wanted.TheVariants as wanted
+use Rattle.btx_step.specs.declared.literal.OperandKind.TheVariants as wanted
 use Rattle.btx_step.specs.declared.operands.Operand.TheVariants.{Of}
 use Rattle.btx_step.specs.language.Table.{row}
 use Rattle.btx_step.specs.language.Variables.{values_of, integer_of, string_of, with_global_integer, with_global_string, with_entry_integer, with_entry_string}

@@ -7,7 +7,7 @@ use Rattle.btx_bst.specs.declared.token.Token.{Token}
 use Rattle.btx_check.specs.declared.description.Value.{Value}
 use Rattle.btx_check.specs.declared.description.Value.TheVariants as value
 use Rattle.btx_check.specs.declared.description.Value.TheVariants.{Any as Unknown}
-use Rattle.btx_step.specs.declared.literal.Wanted.TheVariants as wanted
+use Rattle.btx_step.specs.declared.literal.OperandKind.TheVariants as wanted
 use Rattle.btx_step.specs.declared.operands.Operand.{Operand}
 use Rattle.btx_step.specs.declared.operands.Operand.TheVariants.{Any, Of}
 use Rattle.btx_step.specs.language.Table.{row}

@@ -8,7 +8,7 @@ use crate::adding::{Known, add_new, add_sure};
 use crate::description::Value;
 use crate::state::State;
 use crate::work::Work;
-use btx_step::Wanted;
+use btx_step::OperandKind;
 use btx_step::operands::Operand;
 use std::alloc::AllocError;
 
@@ -114,10 +114,10 @@ pub fn is_fit(value: Value, operand: Operand) -> bool
 {
     match operand {
         Operand::Any => true,
-        Operand::Of(Wanted::Integer) => matches!(value, Value::Integer(_, _)),
-        Operand::Of(Wanted::Function) => matches!(value, Value::Function(_)),
-        Operand::Of(Wanted::TextOrMissing) => matches!(value, Value::Text(_)),
-        Operand::Of(Wanted::Text) => match value {
+        Operand::Of(OperandKind::Integer) => matches!(value, Value::Integer(_, _)),
+        Operand::Of(OperandKind::Function) => matches!(value, Value::Function(_)),
+        Operand::Of(OperandKind::TextOrMissing) => matches!(value, Value::Text(_)),
+        Operand::Of(OperandKind::Text) => match value {
             Value::Text(m) => !m.missing,
             _ => false,
         },

@@ -33,7 +33,7 @@ use Rattle.btx_aux.specs.refinement.Reads as reads
 use Rattle.btx_aux.proofs.DraftLemmas.{learned-bibdata, learned-key_new, learned-key_other, learned-key_same}
 use Rattle.btx_aux.proofs.JobLemmas.{closed-topped}
 use Rattle.btx_aux.proofs.ReadLemmas.{run-ended}
-use Rattle.btx_core.specs.language.AuxFiles.{AuxSaid, FileGives, IsSaid, LinesGive, absent, cites, closed, command_says, ended, full, inputs, line_says}
+use Rattle.btx_core.specs.language.AuxFiles.{AuxContents, FileGives, AreAuxContents, LinesGive, absent, cites, closed, command_says, ended, full, inputs, line_says}
 use Rattle.btx_core.specs.language.AuxFiles.{names_database, names_style, none, opening, opens, pieces, plain, read, too_long, unread, wrong}
 use Rattle.btx_core.specs.language.AuxFiles as core
 use Rattle.btx_core.specs.laws.SameParts.{job_said}
@@ -41,7 +41,7 @@ use Rattle.btx_core.specs.laws.SameParts.{job_said}
 -- ---- the two ways to say what is known
 
 -- what is known, as the reader has it
-abbrev pub as_draft : AuxSaid → Draft
+abbrev pub as_draft : AuxContents → Draft
 as_draft s = record {
   keys = s.keys;
   all = s.all;
@@ -55,7 +55,7 @@ as_draft s = record {
 }
 
 -- and back
-abbrev pub of_draft : Draft → AuxSaid
+abbrev pub of_draft : Draft → AuxContents
 of_draft d = record {
   keys = d.keys;
   all = d.all;
@@ -156,11 +156,11 @@ single_piece text = list_pieces false text ∙ ap (map as_piece) (one_piece text
 -- ---- one thing that a line says
 
 module _ (file : List ℕ) (line : ℕ) where
-  cite_is : (s : AuxSaid) (p : Piece) → as_draft (cites file line s (as_piece p)) ≡ learned (as_draft s) (event_at file line (Cites p))
+  cite_is : (s : AuxContents) (p : Piece) → as_draft (cites file line s (as_piece p)) ≡ learned (as_draft s) (event_at file line (Cites p))
   unfolding learned aux_note_text aux_note_kind aux_complaint_text
   cite_is s (Cut slip) = refl
   cite_is s (Taken key) = star (bytes_eq key (codes "*")) refl where
-    other : (earlier : List ℕ) → AuxSaid
+    other : (earlier : List ℕ) → AuxContents
     other earlier = wrong file line (codes "Case mismatch error between cite keys " ++ earlier ++ codes " and " ++ key) s
 
     same : (earlier : List ℕ) (b : Bool) → bytes_eq earlier key ≡ b → is_star key ≡ false → Some earlier ≡ listed_as s.keys key
@@ -189,11 +189,11 @@ module _ (file : List ℕ) (line : ℕ) where
     star true e = all s.all refl e
     star false e = listed (listed_as s.keys key) refl e
 
-  cite_whole : (s : AuxSaid) (p : Piece) → is_whole s.ending ≡ true → is_whole (cites file line s (as_piece p)).ending ≡ true
+  cite_whole : (s : AuxContents) (p : Piece) → is_whole s.ending ≡ true → is_whole (cites file line s (as_piece p)).ending ≡ true
   unfolding learned
   cite_whole s p w = ap (λ (d : Draft). is_whole d.ending) (cite_is s p) ∙ w
 
-  database_is : (s : AuxSaid) (name : List ℕ) → as_draft (names_database file line s (Ok name)) ≡ with_database file line (as_draft s) name
+  database_is : (s : AuxContents) (name : List ℕ) → as_draft (names_database file line s (Ok name)) ≡ with_database file line (as_draft s) name
   unfolding aux_note_text aux_note_kind aux_complaint_text
   database_is s name = by (is_among s.databases (with_ending (codes ".bib") name)) where
     database : List ℕ
@@ -207,14 +207,14 @@ module _ (file : List ℕ) (line : ℕ) where
     by true = refl
     by false = refl
 
-  databases_are : (s : AuxSaid) (ps : List Piece) → as_draft (fold (names_database file line) s (map as_piece ps)) ≡ with_databases file line (as_draft s) ps
+  databases_are : (s : AuxContents) (ps : List Piece) → as_draft (fold (names_database file line) s (map as_piece ps)) ≡ with_databases file line (as_draft s) ps
   unfolding aux_note_text aux_note_kind
   databases_are s [] = refl
   databases_are s (Taken name ∷ ps) =
       databases_are (names_database file line s (Ok name)) ps ∙ ap (λ (d : Draft). with_databases file line d ps) (database_is s name)
   databases_are s (Cut slip ∷ ps) = databases_are (wrong file line (aux_complaint_text (Slipped slip)) s) ps
 
-  bibdata_is : (s : AuxSaid) (ps : List Piece) (had : Bool) → s.has_bibdata ≡ had
+  bibdata_is : (s : AuxContents) (ps : List Piece) (had : Bool) → s.has_bibdata ≡ had
       → as_draft (if had then wrong file line (codes "Illegal, another \\bibdata command") s
       else fold (names_database file line) (record s { has_bibdata = true; databases = [] }) (map as_piece ps))
       ≡ learned (as_draft s) (event_at file line (Databases ps))
@@ -222,7 +222,7 @@ module _ (file : List ℕ) (line : ℕ) where
   bibdata_is s ps true h = rw h refl
   bibdata_is s ps false h = databases_are (record s { has_bibdata = true; databases = [] }) ps ∙ learned-bibdata file line (as_draft s) ps [] refl h
 
-  style_is : (s : AuxSaid) (p : Piece) (had : Bool) → s.has_bibstyle ≡ had
+  style_is : (s : AuxContents) (p : Piece) (had : Bool) → s.has_bibstyle ≡ had
       → as_draft (if had then wrong file line (codes "Illegal, another \\bibstyle command") s
       else names_style file line (record s { has_bibstyle = true }) (as_piece p))
       ≡ learned (as_draft s) (event_at file line (Styles p))
@@ -234,11 +234,11 @@ module _ (file : List ℕ) (line : ℕ) where
 -- ---- what a line says
 
 -- what is known behind a line, and what is to be read, before the file that it asks for is read
-abbrev go_on : Files → reads.Opening → List ℕ → ℕ → AuxSaid × Option (List ℕ) → List AuxEvent → Draft
+abbrev go_on : Files → reads.Opening → List ℕ → ℕ → AuxContents × Option (List ℕ) → List AuxEvent → Draft
 go_on files op file line said rest = run files op (asked_for files op (as_draft said.0) file line said.1) rest
 
 module _ (files : Files) (op : reads.Opening) (file : List ℕ) (line : ℕ) where
-  cites_run : (s : AuxSaid) (ps : List Piece) (rest : List AuxEvent) → is_whole s.ending ≡ true
+  cites_run : (s : AuxContents) (ps : List Piece) (rest : List AuxEvent) → is_whole s.ending ≡ true
       → run files op (as_draft s) (map (event_at file line) (map Cites ps) ++ rest) ≡ run files op (as_draft (fold (cites file line) s (map as_piece ps))) rest
   unfolding run
   cites_run s [] rest w = refl
@@ -248,7 +248,7 @@ module _ (files : Files) (op : reads.Opening) (file : List ℕ) (line : ℕ) whe
       ∙ cites_run (cites file line s (as_piece p)) ps rest (cite_whole file line s p w)
 
   -- a thing that asks for no file
-  quiet_run : (s next : AuxSaid) (word : EventKind) (rest : List AuxEvent) → is_whole s.ending ≡ true → asked_of s.files word ≡ None
+  quiet_run : (s next : AuxContents) (word : EventKind) (rest : List AuxEvent) → is_whole s.ending ≡ true → asked_of s.files word ≡ None
       → as_draft next ≡ learned (as_draft s) (event_at file line word)
       → run files op (as_draft s) (event_at file line word ∷ rest) ≡ run files op (as_draft next) rest
   unfolding run
@@ -257,7 +257,7 @@ module _ (files : Files) (op : reads.Opening) (file : List ℕ) (line : ℕ) whe
       ∙ ap (λ (b : Bool). run files op (if b then learned (as_draft s) (event_at file line word) else as_draft s) rest) w
       ∙ ap (λ (d : Draft). run files op d rest) (sym is)
 
-  input_run : (s : AuxSaid) (p : Piece) (rest : List AuxEvent) → is_whole s.ending ≡ true
+  input_run : (s : AuxContents) (p : Piece) (rest : List AuxEvent) → is_whole s.ending ≡ true
       → run files op (as_draft s) (event_at file line (Includes p) ∷ rest) ≡ go_on files op file line (inputs file line s (as_piece p ∷ [])) rest
   unfolding run learned aux_note_text aux_note_kind aux_complaint_text
   input_run s (Cut slip) rest w = rw w refl
@@ -272,7 +272,7 @@ module _ (files : Files) (op : reads.Opening) (file : List ℕ) (line : ℕ) whe
     by true true h g = rw (w, h, g) refl
     by true false h g = rw (w, h, g) refl
 
-  command_run : (s : AuxSaid) (command argument : List ℕ) (rest : List AuxEvent) → is_whole s.ending ≡ true
+  command_run : (s : AuxContents) (command argument : List ℕ) (rest : List AuxEvent) → is_whole s.ending ≡ true
       → run files op (as_draft s) (map (event_at file line) (words_of_command (aux_command_named command) argument) ++ rest)
       ≡ go_on files op file line (command_says file line s command argument) rest
   unfolding aux_command_named
@@ -291,7 +291,7 @@ module _ (files : Files) (op : reads.Opening) (file : List ℕ) (line : ℕ) whe
         cited : run files op (as_draft s) (known (Some Citation)) ≡ go_on files op file line (fold (cites file line) s (pieces true [] argument), None) rest
         cited = cites_run s many rest w ∙ ap (λ ps. run files op (as_draft (fold (cites file line) s ps)) rest) (sym (list_pieces true argument))
 
-        data_read : List core.Piece → AuxSaid
+        data_read : List core.Piece → AuxContents
         data_read ps = if s.has_bibdata then wrong file line (codes "Illegal, another \\bibdata command") s
             else fold (names_database file line) (record s { has_bibdata = true; databases = [] }) ps
 
@@ -300,7 +300,7 @@ module _ (files : Files) (op : reads.Opening) (file : List ℕ) (line : ℕ) whe
             quiet_run s (data_read (map as_piece many)) (Databases many) rest w refl (bibdata_is file line s many s.has_bibdata refl)
             ∙ ap (λ ps. run files op (as_draft (data_read ps)) rest) (sym (list_pieces true argument))
 
-        style_read : List core.Piece → AuxSaid
+        style_read : List core.Piece → AuxContents
         style_read ps = if s.has_bibstyle then wrong file line (codes "Illegal, another \\bibstyle command") s
             else fold (names_style file line) (record s { has_bibstyle = true }) ps
 
@@ -326,7 +326,7 @@ module _ (files : Files) (op : reads.Opening) (file : List ℕ) (line : ℕ) whe
         by false false false true = input
         by false false false false = refl
 
-  line_run : (s : AuxSaid) (text : List ℕ) (rest : List AuxEvent) → is_whole s.ending ≡ true
+  line_run : (s : AuxContents) (text : List ℕ) (rest : List AuxEvent) → is_whole s.ending ≡ true
       → run files op (as_draft s) (map (event_at file line) (words_of text) ++ rest) ≡ go_on files op file line (line_says file line s text) rest
   unfolding words_of
   line_run s text rest w = by (position (λ b. b == byte "{") text) where
@@ -340,20 +340,20 @@ module _ (files : Files) (op : reads.Opening) (file : List ℕ) (line : ℕ) whe
 -- ---- nothing that a line says ends the reading
 
 module _ (file : List ℕ) (line : ℕ) where
-  either_whole : (b : Bool) (e : End) (x y : AuxSaid) → x.ending ≡ e → y.ending ≡ e → (if b then x else y).ending ≡ e
+  either_whole : (b : Bool) (e : End) (x y : AuxContents) → x.ending ≡ e → y.ending ≡ e → (if b then x else y).ending ≡ e
   either_whole true e x y h k = h
   either_whole false e x y h k = k
 
-  either_whole₂ : (b : Bool) (e : End) (x y : AuxSaid × Option (List ℕ)) → x.0.ending ≡ e → y.0.ending ≡ e → (if b then x else y).0.ending ≡ e
+  either_whole₂ : (b : Bool) (e : End) (x y : AuxContents × Option (List ℕ)) → x.0.ending ≡ e → y.0.ending ≡ e → (if b then x else y).0.ending ≡ e
   either_whole₂ true e x y h k = h
   either_whole₂ false e x y h k = k
 
-  fold_whole : (step : AuxSaid → core.Piece → AuxSaid) → ((s : AuxSaid) (p : core.Piece) → (step s p).ending ≡ s.ending) → (s : AuxSaid) (ps : List core.Piece)
+  fold_whole : (step : AuxContents → core.Piece → AuxContents) → ((s : AuxContents) (p : core.Piece) → (step s p).ending ≡ s.ending) → (s : AuxContents) (ps : List core.Piece)
       → (fold step s ps).ending ≡ s.ending
   fold_whole step keeps s [] = refl
   fold_whole step keeps s (p ∷ ps) = fold_whole step keeps (step s p) ps ∙ keeps s p
 
-  cites_whole : (s : AuxSaid) (p : core.Piece) → (cites file line s p).ending ≡ s.ending
+  cites_whole : (s : AuxContents) (p : core.Piece) → (cites file line s p).ending ≡ s.ending
   cites_whole s (Err text) = refl
   cites_whole s (Ok key) = either_whole (bytes_eq key (codes "*")) s.ending _ _ (either_whole (is_some s.all) s.ending _ _ refl refl)
       (listed (listed_as s.keys key)) where
@@ -364,21 +364,21 @@ module _ (file : List ℕ) (line : ℕ) where
         listed None = refl
         listed (Some earlier) = either_whole (bytes_eq earlier key) s.ending s _ refl refl
 
-  database_whole : (s : AuxSaid) (p : core.Piece) → (names_database file line s p).ending ≡ s.ending
+  database_whole : (s : AuxContents) (p : core.Piece) → (names_database file line s p).ending ≡ s.ending
   database_whole s (Err text) = refl
   database_whole s (Ok name) = either_whole (is_among s.databases (with_ending (codes ".bib") name)) s.ending _ _ refl refl
 
-  style_whole : (s : AuxSaid) (p : core.Piece) → (names_style file line s p).ending ≡ s.ending
+  style_whole : (s : AuxContents) (p : core.Piece) → (names_style file line s p).ending ≡ s.ending
   style_whole s (Err text) = refl
   style_whole s (Ok name) = refl
 
-  inputs_whole : (s : AuxSaid) (ps : List core.Piece) → (inputs file line s ps).0.ending ≡ s.ending
+  inputs_whole : (s : AuxContents) (ps : List core.Piece) → (inputs file line s ps).0.ending ≡ s.ending
   inputs_whole s [] = refl
   inputs_whole s (Err text ∷ ps) = refl
   inputs_whole s (Ok name ∷ ps) =
       either_whole₂ (not (has_ending (codes ".aux") name)) s.ending _ _ refl (either_whole₂ (is_among s.files name) s.ending _ _ refl refl)
 
-  command_whole : (s : AuxSaid) (command argument : List ℕ) → (command_says file line s command argument).0.ending ≡ s.ending
+  command_whole : (s : AuxContents) (command argument : List ℕ) → (command_says file line s command argument).0.ending ≡ s.ending
   command_whole s command argument =
       either_whole₂ (bytes_eq command (codes "\\citation")) s.ending _ _ (fold_whole (cites file line) cites_whole s (pieces true [] argument))
       (either_whole₂ (bytes_eq command (codes "\\bibdata")) s.ending _ _
@@ -389,41 +389,41 @@ module _ (file : List ℕ) (line : ℕ) where
       (fold_whole (names_style file line) style_whole (record s { has_bibstyle = true }) (pieces false [] argument)))
       (either_whole₂ (bytes_eq command (codes "\\@input")) s.ending _ _ (inputs_whole s (pieces false [] argument)) refl)))
 
-  line_whole : (s : AuxSaid) (text : List ℕ) → (line_says file line s text).0.ending ≡ s.ending
+  line_whole : (s : AuxContents) (text : List ℕ) → (line_says file line s text).0.ending ≡ s.ending
   line_whole s text = by (position (λ b. b == byte "{") text) where
     by : (o : Option ℕ) → (option_map_or (λ place. command_says file line s (take place text) (drop (place + 1) text)) o (s, None)).0.ending ≡ s.ending
     by None = refl
     by (Some place) = command_whole s (take place text) (drop (place + 1) text)
 
   -- so it goes on behind a line
-  still_whole : (s next : AuxSaid) (text : List ℕ) (asked : Option (List ℕ)) → is_whole s.ending ≡ true → line_says file line s text ≡ (next, asked)
+  still_whole : (s next : AuxContents) (text : List ℕ) (asked : Option (List ℕ)) → is_whole s.ending ≡ true → line_says file line s text ≡ (next, asked)
       → is_whole next.ending ≡ true
   still_whole s next text asked w e =
-      ap (λ (x : AuxSaid × Option (List ℕ)). is_whole x.0.ending) (sym e) ∙ ap is_whole (line_whole s text) ∙ w
+      ap (λ (x : AuxContents × Option (List ℕ)). is_whole x.0.ending) (sym e) ∙ ap is_whole (line_whole s text) ∙ w
 
 -- ---- files
 
 -- the top file has a name that is known
-abbrev IsKnown : ℕ → AuxSaid → List ℕ → Type 0
+abbrev IsKnown : ℕ → AuxContents → List ℕ → Type 0
 IsKnown level s name = level ≡ 0 → is_among s.files name ≡ true
 
-opening_same : (level : ℕ) (s : AuxSaid) (name : List ℕ) → is_whole s.ending ≡ true → IsKnown level s name
+opening_same : (level : ℕ) (s : AuxContents) (name : List ℕ) → is_whole s.ending ≡ true → IsKnown level s name
     → as_draft (opening level name s) ≡ after (as_draft s) (event_at name 0 (Opens level))
 unfolding learned aux_note_text aux_note_kind
 opening_same zero s name w known = let among : is_among s.files name ≡ true = known refl in rw (w, among) refl
 opening_same (suc level) s name w known = let above : (suc level == 0) ≡ false = not_zero level in rw (w, above) refl
 
-full_is : (s : AuxSaid) (name : List ℕ) → is_whole s.ending ≡ true → as_draft (record s { ending = end.TooManyOpen })
+full_is : (s : AuxContents) (name : List ℕ) → is_whole s.ending ≡ true → as_draft (record s { ending = end.TooManyOpen })
     ≡ after (as_draft s) (event_at name 0 Full)
 unfolding learned
 full_is s name w = rw w refl
 
-long_is : (s : AuxSaid) (name : List ℕ) → is_whole s.ending ≡ true → as_draft (record s { ending = end.FileLimit })
+long_is : (s : AuxContents) (name : List ℕ) → is_whole s.ending ≡ true → as_draft (record s { ending = end.FileLimit })
     ≡ after (as_draft s) (event_at name 0 TooLong)
 unfolding learned
 long_is s name w = rw w refl
 
-missing_is : (s : AuxSaid) (file : List ℕ) (line : ℕ) (name : List ℕ) → is_whole s.ending ≡ true
+missing_is : (s : AuxContents) (file : List ℕ) (line : ℕ) (name : List ℕ) → is_whole s.ending ≡ true
     → as_draft (wrong file line (codes "I couldn't open auxiliary file " ++ name) s) ≡ after (as_draft s) (event_at file line (Absent name))
 unfolding learned aux_note_text aux_note_kind aux_complaint_text
 missing_is s file line name w = rw w refl
@@ -433,21 +433,21 @@ module _ (files : Files) where
   opening_is r level e = omega (arith, e)
 
   -- a file behind its opening
-  opened_at : (r level : ℕ) (s : AuxSaid) (name text : List ℕ) → suc r + level ≡ MOST_OPEN → is_whole s.ending ≡ true → IsKnown level s name
+  opened_at : (r level : ℕ) (s : AuxContents) (name text : List ℕ) → suc r + level ≡ MOST_OPEN → is_whole s.ending ≡ true → IsKnown level s name
       → within (is_too_long text) files (opened_by files r) (as_draft (opening level name s)) name text ≡ opened_by files (suc r) (as_draft s) name text
   unfolding opened_by
   opened_at r level s name text e w known =
       ap (λ (d : Draft). within (is_too_long text) files (opened_by files r) d name text) (opening_same level s name w known)
       ∙ ap (λ l. within (is_too_long text) files (opened_by files r) (after (as_draft s) (event_at name 0 (Opens l))) name text) (opening_is r level e)
 
-  found_run : (op : reads.Opening) (file : List ℕ) (line : ℕ) (s : AuxSaid) (name : List ℕ) (there : Option (List ℕ)) → files name ≡ there
+  found_run : (op : reads.Opening) (file : List ℕ) (line : ℕ) (s : AuxContents) (name : List ℕ) (there : Option (List ℕ)) → files name ≡ there
       → asked_for files op (as_draft s) file line (Some name) ≡ included op (as_draft s) file line name there
   found_run op file line s name there is = ap (included op (as_draft s) file line name) is
 
   mutual
     unfolding opened_by within said run included
 
-    file_is : {level : ℕ} {s : AuxSaid} {name text : List ℕ} {next : AuxSaid} → FileGives files level s name text next
+    file_is : {level : ℕ} {s : AuxContents} {name text : List ℕ} {next : AuxContents} → FileGives files level s name text next
         → (room : ℕ) → room + level ≡ MOST_OPEN → is_whole s.ending ≡ true → IsKnown level s name → as_draft next ≡ opened_by files room (as_draft s) name text
     file_is (full level s name text le) room e w known =
         let z : 0 ≡ room = omega (arith, le, e) in full_is s name w ∙ ap (λ m. opened_by files m (as_draft s) name text) z
@@ -462,7 +462,7 @@ module _ (files : Files) where
         ∙ ap (λ t. within t files (opened_by files (room - 1)) (as_draft (opening level name s)) name text) (sym tl)
         ∙ opened_at (room - 1) level s name text (omega (arith, lt, e)) w known ∙ ap (λ m. opened_by files m (as_draft s) name text) z
 
-    lines_are : {level : ℕ} {file : List ℕ} {number : ℕ} {s : AuxSaid} {lines : List (List ℕ)} {behind : AuxSaid}
+    lines_are : {level : ℕ} {file : List ℕ} {number : ℕ} {s : AuxContents} {lines : List (List ℕ)} {behind : AuxContents}
         → LinesGive files level file number s lines behind
         → (room : ℕ) → suc room + level ≡ MOST_OPEN → as_draft behind ≡ run files (opened_by files room) (as_draft s) (said_from file number lines)
     lines_are (none level file number s) room e = refl
@@ -490,17 +490,17 @@ module _ (files : Files) where
 
   -- ---- and there is one
 
-  lines_there : (level : ℕ) → ((s : AuxSaid) (name text : List ℕ) → (next : AuxSaid) × FileGives files (level + 1) s name text next)
-      → (file : List ℕ) (number : ℕ) (s : AuxSaid) (lines : List (List ℕ)) → (behind : AuxSaid) × LinesGive files level file number s lines behind
+  lines_there : (level : ℕ) → ((s : AuxContents) (name text : List ℕ) → (next : AuxContents) × FileGives files (level + 1) s name text next)
+      → (file : List ℕ) (number : ℕ) (s : AuxContents) (lines : List (List ℕ)) → (behind : AuxContents) × LinesGive files level file number s lines behind
   lines_there level file_there file number s [] = (s, none level file number s)
   lines_there level file_there file number s (line ∷ lines) = by (is_whole s.ending) refl (λ n t. lines_there level file_there file n t lines) where
     Rest : Type 0
-    Rest = (n : ℕ) (t : AuxSaid) → (behind : AuxSaid) × LinesGive files level file n t lines behind
+    Rest = (n : ℕ) (t : AuxContents) → (behind : AuxContents) × LinesGive files level file n t lines behind
 
     Here : Type 0
-    Here = (behind : AuxSaid) × LinesGive files level file number s (line ∷ lines) behind
+    Here = (behind : AuxContents) × LinesGive files level file number s (line ∷ lines) behind
 
-    found : is_whole s.ending ≡ true → (next : AuxSaid) (name : List ℕ) → line_says file number s line ≡ (next, Some name) → (o : Option (List ℕ))
+    found : is_whole s.ending ≡ true → (next : AuxContents) (name : List ℕ) → line_says file number s line ≡ (next, Some name) → (o : Option (List ℕ))
         → files name ≡ o → Rest → Here
     found w next name says None gone rest =
         let r = rest (number + 1) (wrong file number (codes "I couldn't open auxiliary file " ++ name) next) in
@@ -510,7 +510,7 @@ module _ (files : Files) where
         let r = rest (number + 1) g.0 in
         (r.0, opens level file number s next g.0 r.0 line name text lines w says there g.1 r.1)
 
-    said_so : is_whole s.ending ≡ true → (next : AuxSaid) (asked : Option (List ℕ)) → line_says file number s line ≡ (next, asked) → Rest → Here
+    said_so : is_whole s.ending ≡ true → (next : AuxContents) (asked : Option (List ℕ)) → line_says file number s line ≡ (next, asked) → Rest → Here
     said_so w next None says rest = let r = rest (number + 1) next in (r.0, plain level file number s next r.0 line lines w says r.1)
     said_so w next (Some name) says rest = found w next name says (files name) refl rest
 
@@ -518,11 +518,11 @@ module _ (files : Files) where
     by false off rest = (s, ended level file number s (line ∷ lines) off)
     by true w rest = said_so w (line_says file number s line).0 (line_says file number s line).1 refl rest
 
-  file_there : (room level : ℕ) → room + level ≡ MOST_OPEN → (s : AuxSaid) (name text : List ℕ) → (next : AuxSaid) × FileGives files level s name text next
+  file_there : (room level : ℕ) → room + level ≡ MOST_OPEN → (s : AuxContents) (name text : List ℕ) → (next : AuxContents) × FileGives files level s name text next
   file_there zero level e s name text = (record s { ending = end.TooManyOpen }, full level s name text (omega (arith, e)))
   file_there (suc room) level e s name text = by (is_too_long text) refl (λ s name text. file_there room (level + 1) (omega (arith, e)) s name text) where
-    by : (t : Bool) → is_too_long text ≡ t → ((s : AuxSaid) (name text : List ℕ) → (next : AuxSaid) × FileGives files (level + 1) s name text next)
-        → (next : AuxSaid) × FileGives files level s name text next
+    by : (t : Bool) → is_too_long text ≡ t → ((s : AuxContents) (name text : List ℕ) → (next : AuxContents) × FileGives files (level + 1) s name text next)
+        → (next : AuxContents) × FileGives files level s name text next
     by true tl inner = (record (opening level name s) { ending = end.FileLimit }, too_long level s name text (omega (arith, e)) tl)
     by false tl inner =
         let r = lines_there level inner name 1 (opening level name s) (lines_of text) in
@@ -531,36 +531,36 @@ module _ (files : Files) where
   -- ---- the job
 
   -- what is known before the top file
-  abbrev start : List ℕ → AuxSaid
+  abbrev start : List ℕ → AuxContents
   start top = record unread { files = top ∷ [] }
 
   top_known : (top : List ℕ) → IsKnown 0 (start top) top
   top_known top z = ap (λ b. b || false) ((bytes_eq-Decides top top).1 refl)
 
   -- what is known behind it
-  abbrev last_of : List ℕ → List ℕ → AuxSaid
+  abbrev last_of : List ℕ → List ℕ → AuxContents
   last_of top text = of_draft (opened_by files MOST_OPEN (as_draft (start top)) top text)
 
-  last_is : (top text : List ℕ) (last : AuxSaid) → FileGives files 0 (start top) top text last → last ≡ last_of top text
+  last_is : (top text : List ℕ) (last : AuxContents) → FileGives files 0 (start top) top text last → last ≡ last_of top text
   last_is top text last g = ap of_draft (file_is g MOST_OPEN (omega arith) refl (top_known top))
 
-  abbrev pub said_by : List ℕ → AuxSaid
+  abbrev pub said_by : List ℕ → AuxContents
   said_by top = option_map_or (λ text. closed (last_of top text)) (files top) (record unread { ending = end.TopMissing })
 
-  pub only_said : (top : List ℕ) (job : AuxSaid) → IsSaid files top job → job ≡ said_by top
+  pub only_said : (top : List ℕ) (job : AuxContents) → AreAuxContents files top job → job ≡ said_by top
   only_said top job (inl h) = h.1 ∙ ap (λ f. option_map_or (λ text. closed (last_of top text)) f (record unread { ending = end.TopMissing })) (sym h.0)
   only_said top job (inr h) =
       h.4 ∙ ap closed (last_is top h.0 h.1 h.3)
       ∙ ap (λ f. option_map_or (λ text. closed (last_of top text)) f (record unread { ending = end.TopMissing })) (sym h.2)
 
-  pub is_said : (top : List ℕ) → IsSaid files top (said_by top)
+  pub is_said : (top : List ℕ) → AreAuxContents files top (said_by top)
   is_said top = by (files top) refl where
     by : (f : Option (List ℕ)) → files top ≡ f
-        → IsSaid files top (option_map_or (λ text. closed (last_of top text)) f (record unread { ending = end.TopMissing }))
+        → AreAuxContents files top (option_map_or (λ text. closed (last_of top text)) f (record unread { ending = end.TopMissing }))
     by None gone = inl (gone, refl)
     by (Some text) there =
         let g = file_there MOST_OPEN 0 (omega arith) (start top) top text in
-        inr (text, last_of top text, there, subst (λ (s : AuxSaid). FileGives files 0 (start top) top text s) (last_is top text g.0 g.1) g.1, refl)
+        inr (text, last_of top text, there, subst (λ (s : AuxContents). FileGives files 0 (start top) top text s) (last_is top text g.0 g.1) g.1, refl)
 
   -- ---- and the job is the reader's
 

@@ -13,8 +13,8 @@ use Rattle.btx_strings.specs.language.Controls.{glyphs_of}
 use Rattle.btx_strings.specs.language.Lengths.{text_length_of, text_prefix_of}
 use Rattle.btx_strings.specs.language.Purify.{purify_of}
 use Rattle.btx_strings.specs.language.Width.{width_of}
-use Rattle.btx_names.specs.declared.name_tokens.Joint.{Joint}
-use Rattle.btx_names.specs.declared.name_tokens.Joint.TheVariants.{Space, Tie, Hyphen}
+use Rattle.btx_names.specs.declared.name_tokens.TokenSeparator.{TokenSeparator}
+use Rattle.btx_names.specs.declared.name_tokens.TokenSeparator.TheVariants.{Space, Tie, Hyphen}
 use Rattle.btx_names.specs.language.Answered.{nth_name, one_name_text, format_name_text}
 use Rattle.btx_names.specs.language.Formats.{FormatItem, FormatPiece, Literal, Plain, Name, Illegal, is_legal, items_of}
 use Rattle.btx_names.specs.language.FormattedNames.{between_text, ends_in_tie, finished, initial_of, item_text, piece_text, tie_of, tokens_of_part, with_tokens}
@@ -64,15 +64,15 @@ unfolding initial_of
 initial_same mode [] = refl
 initial_same mode (b ∷ bs) = ap (λ more. if begins_initial (b ∷ bs) then first_text (elements_of mode (b ∷ bs)) else more) (initial_same mode bs)
 
-ended_by : (mode : TextMode) (text : List ℕ) (t : Bool) → ends_in_tie text ≡ t → names.ended computed mode text ≡ finished mode text
+ended_by : (mode : TextMode) (text : List ℕ) (t : Bool) → ends_in_tie text ≡ t → names.with_final_tie_resolved computed mode text ≡ finished mode text
 unfolding finished
 ended_by mode text true e = rw e refl
 ended_by mode text false e = rw e refl
 
-ended_same : (mode : TextMode) (text : List ℕ) → names.ended computed mode text ≡ finished mode text
+ended_same : (mode : TextMode) (text : List ℕ) → names.with_final_tie_resolved computed mode text ≡ finished mode text
 ended_same mode text = ended_by mode text (ends_in_tie text) refl
 
-tie_same : (mode : TextMode) (so_far : List ℕ) (joint : Joint) (is_last : Bool) → names.tie computed mode so_far joint is_last
+tie_same : (mode : TextMode) (so_far : List ℕ) (joint : TokenSeparator) (is_last : Bool) → names.separator_between computed mode so_far joint is_last
     ≡ tie_of mode so_far joint is_last
 tie_same mode so_far Tie is_last = refl
 tie_same mode so_far Hyphen is_last = refl
@@ -92,7 +92,7 @@ not_zero left = by (suc left == 0) refl where
   by true h = let z = eqb-true (suc left) 0 h in absurd (omega (arith, z))
   by false h = h
 
-behind_same : (mode : TextMode) (piece : FormatPiece) (so_far : List ℕ) (joint : Joint) (left : ℕ) → names.behind_token computed mode piece so_far joint left
+behind_same : (mode : TextMode) (piece : FormatPiece) (so_far : List ℕ) (joint : TokenSeparator) (left : ℕ) → names.behind_token computed mode piece so_far joint left
     ≡ between_text mode piece so_far joint left
 unfolding between_text
 behind_same mode piece so_far joint zero = refl

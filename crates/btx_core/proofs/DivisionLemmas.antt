@@ -8,7 +8,7 @@ use Rattle.btx_text.specs.language.Elements.{Element, depth_of}
 use Rattle.btx_text.proofs.DivisionLemmas.{elements_of-only}
 use Rattle.btx_strings.proofs.ReadingLemmas.{glyphs_of-only}
 use Rattle.btx_bib.specs.language.Grammar.ByteSets.{begins}
-use Rattle.btx_names.specs.declared.name_tokens.Joint.TheVariants.{Hyphen}
+use Rattle.btx_names.specs.declared.name_tokens.TokenSeparator.TheVariants.{Hyphen}
 use Rattle.btx_names.specs.language.Runs.{is_break}
 use Rattle.btx_names.specs.language.Tokens.{NameToken, joint_of}
 use Rattle.btx_names.specs.language.Formats.{FormatItem}
@@ -19,7 +19,7 @@ use Rattle.btx_text.specs.declared.element_kind.TextMode.TheVariants.{Bytes}
 use Rattle.btx_names.specs.language.VonTokens.{first_is_lower}
 use Rattle.btx_names.specs.language.NameParts.{cut_again}
 use Rattle.std.specs.Option.{option_map_or}
-use Rattle.btx_core.specs.language.Names.{IsFront, AreNames, AreTokens, IsCut, sections, is_von, HaveNoVon, AreVonLast, HasVon, HasNoVon, AreParts, IsFormat}
+use Rattle.btx_core.specs.language.Names.{IsUpTo, AreNames, AreTokens, IsCut, sections, is_von, HaveNoVon, AreVonLast, HasVon, HasNoVon, AreParts, IsFormat}
 use Rattle.btx_core.specs.language.Names.{AreDivisions}
 
 -- ---- two ways to cut a list
@@ -61,8 +61,8 @@ module _ {X : Type 0} where
 
 -- ---- fronts
 
-front_ends : (test : ℕ → Bool) (f r g : List ℕ) (x : ℕ) (m s : List ℕ) → g ≡ f ++ x ∷ m → r ≡ x ∷ m ++ s → IsFront test f r
-    → ((rest : List ℕ) × IsFront test g rest) → ⊥
+front_ends : (test : ℕ → Bool) (f r g : List ℕ) (x : ℕ) (m s : List ℕ) → g ≡ f ++ x ∷ m → r ≡ x ∷ m ++ s → IsUpTo test f r
+    → ((rest : List ℕ) × IsUpTo test g rest) → ⊥
 front_ends test f r g x m s e k h l = by h.ends where
   by : (r ≡ []) ⊎ ((depth_of f ≡ 0) × (begins test r ≡ true)) → ⊥
   by (inl n) = not_empty x (m ++ s) (sym k ∙ n)
@@ -70,7 +70,7 @@ front_ends test f r g x m s e k h l = by h.ends where
       let yes : test x ≡ true = subst (λ t. begins test t ≡ true) k n.1 in
       absurd (true≢false (sym yes ∙ l.1.none f m x e n.0))
 
-pub front_one : (test : ℕ → Bool) (f r g s : List ℕ) → f ++ r ≡ g ++ s → IsFront test f r → IsFront test g s → (f ≡ g) × (r ≡ s)
+pub front_one : (test : ℕ → Bool) (f r g s : List ℕ) → f ++ r ≡ g ++ s → IsUpTo test f r → IsUpTo test g s → (f ≡ g) × (r ≡ s)
 front_one test f r g s e h k = by (compare f r g s e) where
   by : Compared f r g s → (f ≡ g) × (r ≡ s)
   by (inl c) = c
@@ -94,14 +94,14 @@ all_there test (x ∷ xs) b ys h = all_there test xs b ys (tail_of (test x) (lis
   tail_of false q h = absurd (true≢false (sym h))
 
 -- a token has a first byte, which is no break
-token_front : (text rest : List ℕ) → 0 < length text → IsFront is_break text rest → (b : ℕ) × (bs : List ℕ) × (text ≡ b ∷ bs) × (is_break b ≡ false)
+token_front : (text rest : List ℕ) → 0 < length text → IsUpTo is_break text rest → (b : ℕ) × (bs : List ℕ) × (text ≡ b ∷ bs) × (is_break b ≡ false)
 token_front [] rest some h = absurd (omega (arith, some))
 token_front (b ∷ bs) rest some h = (b, bs, refl, h.none [] bs b refl refl)
 
 -- what stands before a token is all the breaks that stand there
 breaks_end : (breaks text rest breaks' : List ℕ) (x : ℕ) (m others : List ℕ) → breaks' ≡ breaks ++ x ∷ m → text ++ rest ≡ x ∷ m ++ others
     → list_all is_break breaks' ≡ true
-    → 0 < length text → IsFront is_break text rest → ⊥
+    → 0 < length text → IsUpTo is_break text rest → ⊥
 breaks_end breaks text rest breaks' x m others e k all some h =
     let t = token_front text rest some h in
     let same : t.0 ≡ x = first_is t.0 x (t.1 ++ rest) (m ++ others) (ap (λ l. l ++ rest) (sym t.2) ∙ k) in
@@ -109,14 +109,14 @@ breaks_end breaks text rest breaks' x m others e k all some h =
 
 breaks_one : (breaks text rest breaks' text' rest' : List ℕ) → breaks ++ (text ++ rest) ≡ breaks' ++ (text' ++ rest') → list_all is_break breaks ≡ true
     → list_all is_break breaks' ≡ true
-    → 0 < length text → 0 < length text' → IsFront is_break text rest → IsFront is_break text' rest' → text ++ rest ≡ text' ++ rest'
+    → 0 < length text → 0 < length text' → IsUpTo is_break text rest → IsUpTo is_break text' rest' → text ++ rest ≡ text' ++ rest'
 breaks_one breaks text rest breaks' text' rest' e all all' some some' h h' = by (compare breaks (text ++ rest) breaks' (text' ++ rest') e) where
   by : Compared breaks (text ++ rest) breaks' (text' ++ rest') → text ++ rest ≡ text' ++ rest'
   by (inl c) = c.1
   by (inr (inl c)) = absurd (breaks_end breaks text rest breaks' c.0 c.1 (text' ++ rest') c.2 c.3 all' some h)
   by (inr (inr c)) = absurd (breaks_end breaks' text' rest' breaks c.0 c.1 (text ++ rest) c.2 c.3 all some' h')
 
-no_token : (text breaks token rest : List ℕ) → list_all is_break text ≡ true → text ≡ breaks ++ (token ++ rest) → 0 < length token → IsFront is_break token rest
+no_token : (text breaks token rest : List ℕ) → list_all is_break text ≡ true → text ≡ breaks ++ (token ++ rest) → 0 < length token → IsUpTo is_break token rest
     → ⊥
 no_token text breaks token rest all e some h =
     let t = token_front token rest some h in

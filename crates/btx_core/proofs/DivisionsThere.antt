@@ -16,8 +16,8 @@ use Rattle.btx_names.specs.language.Tokens.{NameToken, joint_of, tokens_from, to
 use Rattle.btx_names.specs.language.NameLists.{names_of}
 use Rattle.btx_names.specs.language.NameParts.{NameParts, Sections, One, Two, Three, before_final, before_first, cut_again, cut_first, is_hyphen, parts_by}
 use Rattle.btx_names.specs.language.NameParts.{sections_of, split_at_comma, up_to_last, von_end}
-use Rattle.btx_names.specs.declared.name_tokens.Joint.{Joint}
-use Rattle.btx_names.specs.declared.name_tokens.Joint.TheVariants.{Space, Tie, Hyphen}
+use Rattle.btx_names.specs.declared.name_tokens.TokenSeparator.{TokenSeparator}
+use Rattle.btx_names.specs.declared.name_tokens.TokenSeparator.TheVariants.{Space, Tie, Hyphen}
 use Rattle.btx_names.specs.language.Formats.{is_legal, items_of}
 use Rattle.btx_names.specs.laws.WrittenFormats.{are_items, IsFormatOf}
 use Rattle.btx_names.proofs.WrittenLemmas.{written_legal}
@@ -27,7 +27,7 @@ use Rattle.std.specs.Option.{option_map_or}
 use Rattle.btx_names.specs.language.VonTokens.{is_von as is_von_computed}
 use Rattle.btx_core.proofs.ComputedLemmas.{computed}
 use Rattle.btx_names.proofs.GapLemmas.{names_between}
-use Rattle.btx_core.specs.language.Names.{IsFront, AreNames, AreTokens, AreVonLast, AreParts, AreDivisions, CutsAt, HasVon, HasNoVon, IsCut, IsFormat, is_von}
+use Rattle.btx_core.specs.language.Names.{IsUpTo, AreNames, AreTokens, AreVonLast, AreParts, AreDivisions, CutsAt, HasVon, HasNoVon, IsCut, IsFormat, is_von}
 use Rattle.btx_core.specs.language.Names.{sections}
 
 -- ---- fronts
@@ -74,7 +74,7 @@ run_ends stop d (x ∷ xs) = by (d == 0) (stops stop x) refl refl (run_ends stop
   by true false h k more = more
   by false hit h k more = more
 
-pub run_front : (stop : Stop) (text : List ℕ) → IsFront (stops stop) (take (run_len stop 0 text) text) (drop (run_len stop 0 text) text)
+pub run_front : (stop : Stop) (text : List ℕ) → IsUpTo (stops stop) (take (run_len stop 0 text) text) (drop (run_len stop 0 text) text)
 run_front stop text = record {
   none = λ before behind b e z. run_none stop 0 text before behind b e z;
   ends = run_ends stop 0 text;
@@ -141,10 +141,10 @@ tokens_there text = tokens_at zero text
 -- ---- commas
 
 -- what stands behind the front: nothing, or a byte that ends it
-cut_there_by : (name front rest : List ℕ) → name ≡ front ++ rest → IsFront (λ b. b == byte ",") front rest → (t : Bool) → list_all is_break (drop 1 rest) ≡ t
+cut_there_by : (name front rest : List ℕ) → name ≡ front ++ rest → IsUpTo (λ b. b == byte ",") front rest → (t : Bool) → list_all is_break (drop 1 rest) ≡ t
     → IsCut name (if t then None else Some (front, drop 1 rest))
 cut_there_by name front rest e h true k = λ f r c. cut_false name front rest e h k f r c where
-  cut_false : (name front rest : List ℕ) → name ≡ front ++ rest → IsFront (λ b. b == byte ",") front rest → list_all is_break (drop 1 rest) ≡ true
+  cut_false : (name front rest : List ℕ) → name ≡ front ++ rest → IsUpTo (λ b. b == byte ",") front rest → list_all is_break (drop 1 rest) ≡ true
       → (f r : List ℕ) → CutsAt name f r → ⊥
   cut_false name front rest e h k f r c =
       let same = front_one (λ b. b == byte ",") front rest f (byte "," ∷ r) (sym e ∙ c.joined) h c.first in
@@ -157,7 +157,7 @@ cut_there_by name front (b ∷ bs) e h false k = by h.ends where
       let comma : b ≡ byte "," = eqb-true b (byte ",") n.1 in
       record {
         joined = e ∙ ap (λ c. front ++ c ∷ bs) comma;
-        first = subst (λ c. IsFront (λ b. b == byte ",") front (c ∷ bs)) comma h;
+        first = subst (λ c. IsUpTo (λ b. b == byte ",") front (c ∷ bs)) comma h;
         counts = k;
       }
 
@@ -297,7 +297,7 @@ not_true : (b : Bool) → not b ≡ true → b ≡ false
 not_true false h = refl
 not_true true h = absurd (true≢false (sym h))
 
-hyphen_is : (j : Joint) → is_hyphen j ≡ true → j ≡ Hyphen
+hyphen_is : (j : TokenSeparator) → is_hyphen j ≡ true → j ≡ Hyphen
 hyphen_is Hyphen h = refl
 hyphen_is Space h = absurd (true≢false (sym h))
 hyphen_is Tie h = absurd (true≢false (sym h))

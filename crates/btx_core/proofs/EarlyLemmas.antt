@@ -25,8 +25,8 @@ use Rattle.btx_core.specs.language.Files.Lines.{style_line}
 use Rattle.btx_core.specs.language.Files.Databases.{databases_logged, files_found}
 use Rattle.btx_core.specs.refinement.Files.Readings.{Logged, after_job, style_named, style_read}
 use Rattle.btx_core.specs.refinement.ComputedProduct.{product_of_files}
-use Rattle.btx_core.specs.language.AuxFiles.{AuxSaid}
-use Rattle.btx_core.specs.language.Product.{ends_with, IsFound, IsNamed, IsAsked, IsBehind}
+use Rattle.btx_core.specs.language.AuxFiles.{AuxContents}
+use Rattle.btx_core.specs.language.Product.{ends_with, FollowsStyleSize, FollowsStyleFile, FollowsStyleName, FollowsAuxFiles}
 use Rattle.btx_core.specs.laws.ProductLaws.{EarlyEnds}
 use Rattle.btx_core.specs.laws.SameParts.{job_said}
 use Rattle.btx_core.proofs.AuxLemmas.{is_said, said_by, same_job}
@@ -64,30 +64,30 @@ read_if t files job style =
     if t then record { lines = []; gives = Ends (ended.Limit limit.File) }
     else record { lines = databases_logged files [] job.databases; gives = Found (record { style = style; databases = files_found files job.databases }) }
 
-early_found : (t : Bool) (files : Files) (job : AuxSaid) (name text : List ℕ) (options : Options) (ending : End)
+early_found : (t : Bool) (files : Files) (job : AuxContents) (name text : List ℕ) (options : Options) (ending : End)
     → (read_if t files (job_said job) (record { name = name; bytes = text })).gives ≡ Ends ending
-    → IsFound t files job name text (job.log ++ style_line name ∷ []) options
+    → FollowsStyleSize t files job name text (job.log ++ style_line name ∷ []) options
     (whole ending (job.log ++ style_line name ∷ (read_if t files (job_said job) (record { name = name; bytes = text })).lines))
 early_found true files job name text options ending h = ended_is ending (ended.Limit limit.File) _ _ refl h
 early_found false files job name text options ending h = absurd (found_ends _ ending h)
 
-early_named : (f : Option (List ℕ)) (files : Files) (job : AuxSaid) (name : List ℕ) (options : Options) (ending : End)
+early_named : (f : Option (List ℕ)) (files : Files) (job : AuxContents) (name : List ℕ) (options : Options) (ending : End)
     → (style_read files (job_said job) name (option_map (λ (bytes : List ℕ). record { name = name; bytes = bytes }) f)).gives ≡ Ends ending
-    → IsNamed f files job name options (whole ending
+    → FollowsStyleFile f files job name options (whole ending
     (job.log ++ (style_read files (job_said job) name (option_map (λ (bytes : List ℕ). record { name = name; bytes = bytes }) f)).lines))
 unfolding style_read
 early_named None files job name options ending h = ended_is ending ended.Finished _ _ refl h
 early_named (Some text) files job name options ending h = early_found (is_too_long text) files job name text options ending h
 
-early_asked : (s : Option (List ℕ)) (files : Files) (job : AuxSaid) (options : Options) (ending : End)
+early_asked : (s : Option (List ℕ)) (files : Files) (job : AuxContents) (options : Options) (ending : End)
     → (style_named files (job_said job) s).gives ≡ Ends ending
-    → IsAsked s files job options (whole ending (job.log ++ (style_named files (job_said job) s).lines))
+    → FollowsStyleName s files job options (whole ending (job.log ++ (style_named files (job_said job) s).lines))
 unfolding style_named
 early_asked None files job options ending h = ended_is ending ended.Finished _ _ (append-nil job.log) h
 early_asked (Some name) files job options ending h = early_named (files name) files job name options ending h
 
-early_behind : (e : AuxEnd) (files : Files) (job : AuxSaid) (options : Options) (ending : End)
-    → (after_job files (job_said job) e).gives ≡ Ends ending → IsBehind e files job options (whole ending (job.log ++ (after_job files (job_said job) e).lines))
+early_behind : (e : AuxEnd) (files : Files) (job : AuxContents) (options : Options) (ending : End)
+    → (after_job files (job_said job) e).gives ≡ Ends ending → FollowsAuxFiles e files job options (whole ending (job.log ++ (after_job files (job_said job) e).lines))
 unfolding after_job
 early_behind aux.Whole files job options ending h = early_asked job.style files job options ending h
 early_behind aux.TooManyOpen files job options ending h = ended_is ending (ended.Limit limit.Files) _ _ (append-nil job.log) h
@@ -112,5 +112,5 @@ holds files name options ending h =
     record {
       job = said;
       said = is_said files top;
-      behind = subst (IsBehind said.ending files said options) (sym whole_ ∙ ap outcome same) is;
+      behind = subst (FollowsAuxFiles said.ending files said options) (sym whole_ ∙ ap outcome same) is;
     }

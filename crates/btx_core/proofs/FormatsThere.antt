@@ -21,7 +21,7 @@ use Rattle.btx_names.specs.laws.FormatTexts.{in_braces, in_lower_case, is_brace,
 use Rattle.btx_names.specs.laws.WrittenFormats.{are_items, begin_literal, can_be_between, is_balanced, is_item, is_outer, IsFormatOf, IsTextOf}
 use Rattle.btx_names.proofs.ItemLemmas.{closes, deeper, letter_keeps, named}
 use Rattle.btx_names.proofs.RunLemmas.{run_len-le}
-use Rattle.btx_core.specs.language.Names.{AreDivisions, IsFront}
+use Rattle.btx_core.specs.language.Names.{AreDivisions, IsUpTo}
 use Rattle.btx_core.proofs.ComputedLemmas.{computed}
 use Rattle.btx_core.proofs.DivisionsThere.{WrittenSo, are_divisions, run_front}
 
@@ -78,7 +78,7 @@ outer_test : (text : List ℕ) → IsBalanced text → has_no_letter text ≡ tr
 outer_test text h k = ap₂ (λ p q. p && q) (balanced_test text h) k
 
 -- what a front leaves, if it leaves something
-left_over : (test : ℕ → Bool) (front rest : List ℕ) → IsFront test front rest → 0 < length rest → (depth_of front ≡ 0) × (b : ℕ) × (bs : List ℕ)
+left_over : (test : ℕ → Bool) (front rest : List ℕ) → IsUpTo test front rest → 0 < length rest → (depth_of front ≡ 0) × (b : ℕ) × (bs : List ℕ)
     × (rest ≡ b ∷ bs) × (test b ≡ true)
 left_over test front [] h some = absurd (omega (arith, some))
 left_over test front (b ∷ bs) h some = by h.ends where
@@ -238,7 +238,7 @@ split_by : (before : List ℕ) (letter : ℕ) (rest : List ℕ) (o : Option Part
 split_by before letter rest None e h z nl = illegal_no (in_braces (before ++ letter ∷ rest))
 split_by before letter rest (Some part) e h z nl = piece_there before letter rest part e h z nl
 
-split_there : (before rest : List ℕ) → IsBalanced (before ++ rest) → IsFront (stops Letter) before rest
+split_there : (before rest : List ℕ) → IsBalanced (before ++ rest) → IsUpTo (stops Letter) before rest
     → There (split_item before rest) (in_braces (before ++ rest))
 split_there before [] h f = λ legal.
     let same : before ++ [] ≡ before = append-nil before in

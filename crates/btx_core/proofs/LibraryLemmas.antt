@@ -1,9 +1,9 @@
 -- Databases give one library.
 use Rattle.std.proofs.Common.{◌≡◌, ℕ, ◌++◌, List, [], ◌∷◌, Bool, true, false, Option, None, Some, Result, Ok, Err, sym, ap, subst, ◌∙◌, refl, zero, suc, ◌<◌}
 use Rattle.std.proofs.Common.{length, arith}
-use Rattle.btx_bib.specs.declared.grammar.commands.Wanted.{Wanted}
-use Rattle.btx_bib.specs.declared.grammar.commands.Wanted.TheVariants.{Item}
-use Rattle.btx_bib.specs.declared.grammar.slip.Slip.{Slip}
+use Rattle.btx_bib.specs.declared.grammar.commands.Expected.{Expected}
+use Rattle.btx_bib.specs.declared.grammar.commands.Expected.TheVariants.{Item}
+use Rattle.btx_bib.specs.declared.grammar.slip.SyntaxError.{SyntaxError}
 use Rattle.btx_bib.specs.language.Grammar.Items.{Event, Placed, Step, as_known, expected_step, step_by}
 use Rattle.btx_bib.specs.language.Messages.{Database}
 use Rattle.btx_bib.specs.laws.Grammar.Spelling.{read_as}
@@ -13,8 +13,8 @@ use Rattle.btx_text.specs.declared.limits.Limit.TheVariants as limit
 use Rattle.btx_text.specs.language.Limits.{is_too_long}
 use Rattle.std.specs.Prelude.{is_some}
 use Rattle.btx_core.specs.language.Styles.{Library}
-use Rattle.btx_core.specs.language.Databases.{Request, Known, keeping, known_after, closed, AreEvents, IsReadBy, AreRead, with_macros}
-use Rattle.btx_core.specs.language.Lists.{Slot, IsInherited, no_entry_line, entry_at, places, parent_messages, slots_of, IsGathered, IsLibrary}
+use Rattle.btx_core.specs.language.Databases.{Request, DatabaseState, keeping, known_after, closed, AreEvents, IsReadBy, AreRead, with_macros}
+use Rattle.btx_core.specs.language.Lists.{Slot, IsInherited, no_entry_line, entry_at, places, parent_messages, slots_of, IsLibraryAtEnd, IsLibrary}
 use Rattle.btx_bib.proofs.GrammarLemmas.ReadingLemmas.{stands-step, nothing-step, step-stands, known-outcome, OptionStands}
 use Rattle.btx_bib.proofs.GrammarLemmas.LengthLemmas.{StepsTo, next-leaves}
 use Rattle.btx_bib.specs.refinement.Grammar.Items.{known_step}
@@ -27,15 +27,15 @@ use Rattle.std.specs.Prelude.{slice_get, is_none}
 use Rattle.btx_text.specs.language.Lists.{only_if}
 
 -- the event of a step, and what is wanted behind it, where the keys of stored entries are known
-abbrev known_pair : Known → Step → Event × Wanted
+abbrev known_pair : DatabaseState → Step → Event × Expected
 known_pair known step = as_known (keeping.is_stored known) (step.event, step.wanted)
 
-outcome_is : (known : Known) (event : Event) (next : Wanted) (o : Result (Event × Wanted) Slip) (rest : List ℕ) → IsOutcome keeping known event next o
+outcome_is : (known : DatabaseState) (event : Event) (next : Expected) (o : Result (Event × Expected) SyntaxError) (rest : List ℕ) → IsOutcome keeping known event next o
     → (event, next) ≡ known_pair known (step_by (read_as o rest))
 outcome_is known event next (Ok got) rest h = λ i. (h.0 i, h.1 i)
 outcome_is known event next (Err slip) rest h = λ i. (h.0 i, h.1 i)
 
-step_rest : (o : Result (Event × Wanted) Slip) (rest : List ℕ) → (step_by (read_as o rest)).rest ≡ rest
+step_rest : (o : Result (Event × Expected) SyntaxError) (rest : List ℕ) → (step_by (read_as o rest)).rest ≡ rest
 step_rest (Ok got) rest = refl
 step_rest (Err slip) rest = refl
 
@@ -43,7 +43,7 @@ some_step : (a b : Step) → Some a ≡ Some b → a ≡ b
 some_step a b e = cc
 
 -- two events that stand at one place are one
-same_step : (w : Wanted) (text : List ℕ) (o o' : Result (Event × Wanted) Slip) (front front' rest rest' : List ℕ) → front ++ rest ≡ text
+same_step : (w : Expected) (text : List ℕ) (o o' : Result (Event × Expected) SyntaxError) (front front' rest rest' : List ℕ) → front ++ rest ≡ text
     → front' ++ rest' ≡ text
     → Stands w o front rest → Stands w o' front' rest' → step_by (read_as o rest) ≡ step_by (read_as o' rest')
 same_step w text o o' front front' rest rest' e e' h h' =
@@ -53,12 +53,12 @@ same_step w text o o' front front' rest rest' e e' h h' =
 no_step : (step : Step) → None ≡ Some step → ⊥
 no_step step e = absurd (cc)
 
-nothing_stands : (w : Wanted) (text : List ℕ) (o : Result (Event × Wanted) Slip) (front rest : List ℕ) → w ≡ Item → HasNoAt text → front ++ rest ≡ text
+nothing_stands : (w : Expected) (text : List ℕ) (o : Result (Event × Expected) SyntaxError) (front rest : List ℕ) → w ≡ Item → HasNoAt text → front ++ rest ≡ text
     → Stands w o front rest → ⊥
 nothing_stands w text o front rest is none e h =
     no_step (step_by (read_as o rest)) (sym (nothing-step w text is none) ∙ ap (expected_step w) (sym e) ∙ stands-step w o front rest h)
 
-events_one : (asked : Request) (database : Database) (events events' : List Placed) (known : Known) (w : Wanted) (text : List ℕ) (last last' : Known)
+events_one : (asked : Request) (database : Database) (events events' : List Placed) (known : DatabaseState) (w : Expected) (text : List ℕ) (last last' : DatabaseState)
     → AreEvents asked database known w text events last → AreEvents asked database known w text events' last' → last ≡ last'
 events_one asked database [] [] known w text last last' h k = h.2 ∙ sym k.2
 events_one asked database [] (p ∷ ps) known w text last last' h k = absurd (nothing_stands w text k.0 k.2 p.rest h.0 h.1 k.3 k.4)
@@ -71,18 +71,18 @@ events_one asked database (p ∷ ps) (q ∷ qs) known w text last last' h k =
     let placed : p ≡ q = λ i. record { event = (pairs i).0; rest = rests i } in
     let moved : AreEvents asked database (known_after asked database known q) k.1 q.rest ps last =
     subst (λ (t : List ℕ). AreEvents asked database (known_after asked database known q) k.1 t ps last) rests
-    (subst (λ (v : Wanted). AreEvents asked database (known_after asked database known q) v p.rest ps last) (ap (λ (x : Event × Wanted). x.1) pairs)
+    (subst (λ (v : Expected). AreEvents asked database (known_after asked database known q) v p.rest ps last) (ap (λ (x : Event × Expected). x.1) pairs)
     (subst (λ (x : Placed). AreEvents asked database (known_after asked database known x) h.1 p.rest ps last) placed h.6)) in
     events_one asked database ps qs (known_after asked database known q) k.1 q.rest last last' moved k.6
 
-read_by_one : (a b : Bool) (asked : Request) (known : Known) (database : Database) (next next' : Known) → IsReadBy a b asked known database next
+read_by_one : (a b : Bool) (asked : Request) (known : DatabaseState) (database : Database) (next next' : DatabaseState) → IsReadBy a b asked known database next
     → IsReadBy a b asked known database next' → next ≡ next'
 read_by_one true b asked known database next next' h k = h ∙ sym k
 read_by_one false true asked known database next next' h k = h ∙ sym k
 read_by_one false false asked known database next next' h k = h.3 ∙ ap closed (events_one asked database h.0 k.0 known Item database.text h.1 k.1 h.2 k.2)
     ∙ sym k.3
 
-read_one : (asked : Request) (databases : List Database) (known last last' : Known) → AreRead asked known databases last → AreRead asked known databases last'
+read_one : (asked : Request) (databases : List Database) (known last last' : DatabaseState) → AreRead asked known databases last → AreRead asked known databases last'
     → last ≡ last'
 read_one asked [] known last last' h k = h ∙ sym k
 read_one asked (database ∷ databases) known last last' h k =
@@ -90,7 +90,7 @@ read_one asked (database ∷ databases) known last last' h k =
     read_one asked databases k.0 last last' (subst (λ n. AreRead asked n databases last) same h.2) k.2
 
 -- the library of what is known, with what entries inherit
-abbrev gathered : Request → Known → List Slot → (ℕ → List ℕ → Option (List ℕ)) → Library
+abbrev gathered : Request → DatabaseState → List Slot → (ℕ → List ℕ → Option (List ℕ)) → Library
 gathered asked known slots value = record {
   entries = flat_map (λ i. option_map_or (entry_at slots asked.types value i) (slice_get slots i) []) (places slots);
   preamble = known.preamble;
@@ -98,7 +98,7 @@ gathered asked known slots value = record {
   limit = None;
 }
 
-gathered_one : (limit : Option Limit) (asked : Request) (known : Known) (a b : Library) → IsGathered limit asked known a → IsGathered limit asked known b
+gathered_one : (limit : Option Limit) (asked : Request) (known : DatabaseState) (a b : Library) → IsLibraryAtEnd limit asked known a → IsLibraryAtEnd limit asked known b
     → a ≡ b
 gathered_one (Some limit) asked known a b h k = h ∙ sym k
 gathered_one None asked known a b h k =
@@ -110,16 +110,16 @@ pub library_one : (asked : Request) (macros : List (List ℕ × List ℕ)) (data
     → IsLibrary asked macros databases b → a ≡ b
 library_one asked macros databases a b h k =
     let same = read_one asked databases (with_macros macros) h.0 k.0 h.1 k.1 in
-    gathered_one k.0.limit asked k.0 a b (subst (λ (known : Known). IsGathered known.limit asked known a) same h.2) k.2
+    gathered_one k.0.limit asked k.0 a b (subst (λ (known : DatabaseState). IsLibraryAtEnd known.limit asked known a) same h.2) k.2
 
 -- ---- and there is one
 
-abbrev Events : Request → Database → Known → Wanted → List ℕ → Type 0
-Events asked database known w text = (events : List Placed) × (last : Known) × AreEvents asked database known w text events last
+abbrev Events : Request → Database → DatabaseState → Expected → List ℕ → Type 0
+Events asked database known w text = (events : List Placed) × (last : DatabaseState) × AreEvents asked database known w text events last
 
-unfoldable pub events_by : (asked : Request) (database : Database) (known : Known) (w : Wanted) (text : List ℕ) (o : Option Step) → OptionStands w text o
+unfoldable pub events_by : (asked : Request) (database : Database) (known : DatabaseState) (w : Expected) (text : List ℕ) (o : Option Step) → OptionStands w text o
     → StepsTo (left w (length text)) (known_step (keeping.is_stored known) o)
-    → ((q : Known) (v : Wanted) (t : List ℕ) → left v (length t) < left w (length text) → Events asked database q v t) → Events asked database known w text
+    → ((q : DatabaseState) (v : Expected) (t : List ℕ) → left v (length t) < left w (length text) → Events asked database q v t) → Events asked database known w text
 events_by asked database known w text None h less others = ([], known, (h.0, h.1, refl))
 events_by asked database known w text (Some step) h less others =
     let got = as_known (keeping.is_stored known) (step.event, step.wanted) in
@@ -127,28 +127,28 @@ events_by asked database known w text (Some step) h less others =
     let more = others (known_after asked database known placed) got.1 step.rest less in
     (placed ∷ more.0, more.1, (h.0, got.1, h.1, h.2, h.4, known-outcome keeping known step.event step.wanted h.0 h.3, more.2))
 
-unfoldable pub events_there : (m : ℕ) (asked : Request) (database : Database) (known : Known) (w : Wanted) (text : List ℕ) → left w (length text) < m
+unfoldable pub events_there : (m : ℕ) (asked : Request) (database : Database) (known : DatabaseState) (w : Expected) (text : List ℕ) → left w (length text) < m
     → Events asked database known w text
 events_there zero asked database known w text lt = absurd (omega (arith, lt))
 events_there (suc m) asked database known w text lt =
     events_by asked database known w text (expected_step w text) (step-stands w text) (next-leaves (keeping.is_stored known) w text)
     (λ q v t less. events_there m asked database q v t (omega (arith, lt, less)))
 
-unfoldable pub there_is_reading : (a b : Bool) (asked : Request) (known : Known) (database : Database) → (next : Known) × IsReadBy a b asked known database next
+unfoldable pub there_is_reading : (a b : Bool) (asked : Request) (known : DatabaseState) (database : Database) → (next : DatabaseState) × IsReadBy a b asked known database next
 there_is_reading true b asked known database = (known, refl)
 there_is_reading false true asked known database = (record known { limit = Some limit.File }, refl)
 there_is_reading false false asked known database =
     let h = events_there (suc (left Item (length database.text))) asked database known Item database.text (omega arith) in
     (closed h.1, (h.0, h.1, h.2, refl))
 
-unfoldable pub all_read : (asked : Request) (databases : List Database) (known : Known) → (last : Known) × AreRead asked known databases last
+unfoldable pub all_read : (asked : Request) (databases : List Database) (known : DatabaseState) → (last : DatabaseState) × AreRead asked known databases last
 all_read asked [] known = (known, refl)
 all_read asked (database ∷ databases) known =
     let h = there_is_reading (is_some known.limit) (is_too_long database.text) asked known database in
     let more = all_read asked databases h.0 in
     (more.0, (h.0, h.1, more.1))
 
-unfoldable pub gathering : (l : Option Limit) (asked : Request) (known : Known) → (library : Library) × IsGathered l asked known library
+unfoldable pub gathering : (l : Option Limit) (asked : Request) (known : DatabaseState) → (library : Library) × IsLibraryAtEnd l asked known library
 gathering (Some l) asked known = (record { entries = []; preamble = []; log = known.log; limit = Some l }, refl)
 gathering None asked known =
     let slots = slots_of asked known.stored in

@@ -7,11 +7,11 @@ use Rattle.std.proofs.lemmas.Bool.{ltb-true, cases_lt}
 use Rattle.std.specs.List.{AllByRecursion}
 use Rattle.std.proofs.lemmas.List.Elements.{recursion_from_All}
 use Rattle.btx_text.specs.language.Class.{is_white}
-use Rattle.btx_out.specs.language.Breaking.{Break, Broken, Unbroken, break_of, written_line, wrap, sure}
+use Rattle.btx_out.specs.language.Breaking.{Break, Broken, Unbroken, break_of, written_line, wrap, committed}
 use Rattle.btx_out.proofs.BreakLemmas.{cut_short, cut_long, table_ends, table_more}
 use Rattle.btx_out.specs.laws.Places.{IsBreakInside, IsBreakPast, IsUnbroken}
 use Rattle.btx_out.proofs.PlaceLemmas.{place_inside, place_past, place_none}
-use Rattle.btx_core.specs.language.Lines.{IsBroken, IsWrapped, IsSure, goes_on}
+use Rattle.btx_core.specs.language.Lines.{IsBroken, IsWrapped, IsCommitted, continuation_lines}
 use Rattle.btx_core.specs.language.Lists.{Slot, own, parent, IsInherited}
 
 module _ (slots : List Slot) (one other : ℕ → List ℕ → Option (List ℕ)) (is : IsInherited slots one) (also : IsInherited slots other) where
@@ -40,7 +40,7 @@ module _ (slots : List Slot) (one other : ℕ → List ℕ → Option (List ℕ)
 
 module _ (most : ℕ) (short long f g : List ℕ → List ℕ) (is : IsBroken most short long f) (also : IsBroken most short long g) (room : 3 ≤ most) where
   same_rest : (n : ℕ) → ((text : List ℕ) → length text < n → f text ≡ g text) → (head rest : List ℕ) → length rest + 2 < n
-      → written_line head ++ goes_on f rest ≡ written_line head ++ goes_on g rest
+      → written_line head ++ continuation_lines f rest ≡ written_line head ++ continuation_lines g rest
   same_rest n h head [] lt = refl
   same_rest n h head (b ∷ bs) lt = ap (λ t. written_line head ++ t) (h (codes "  " ++ b ∷ bs) (omega (arith, lt)))
 
@@ -211,35 +211,35 @@ module _ (most : ℕ) (text : List ℕ) (long_ : most < length text) (room : 3 �
   -- what a text gives whose break is given, by the table of btx_out
   abbrev Gives : (List ℕ → List ℕ) → (List ℕ → List ℕ) → Break → Type 0
   Gives f long Unbroken = f text ≡ long text
-  Gives f long (Broken past head rest) = f text ≡ written_line head ++ goes_on f rest
+  Gives f long (Broken past head rest) = f text ≡ written_line head ++ continuation_lines f rest
 
   wrap_gives : (b : Break) → break_of most text ≡ b → Gives (wrap most) (λ t. t ++ codes "\n") b
   wrap_gives Unbroken e = rw (cut_long most text room long_, e) refl
   wrap_gives (Broken past head []) e = (table_ends most text head past room long_ e).0 ∙ sym (append-nil (written_line head))
   wrap_gives (Broken past head (b ∷ rest)) e = (table_more most text head rest b past room long_ e).0
 
-  sure_gives : (b : Break) → break_of most text ≡ b → Gives (sure most) (λ t. t) b
+  sure_gives : (b : Break) → break_of most text ≡ b → Gives (committed most) (λ t. t) b
   sure_gives Unbroken e = rw (cut_long most text room long_, e) refl
   sure_gives (Broken past head []) e = (table_ends most text head past room long_ e).1 ∙ sym (append-nil (written_line head))
   sure_gives (Broken past head (b ∷ rest)) e = (table_more most text head rest b past room long_ e).1
 
   inside_by : (f long : List ℕ → List ℕ) (head rest : List ℕ) → IsBreakInside most text head rest → (b : Break) → break_of most text ≡ b → Gives f long b
-      → f text ≡ written_line head ++ goes_on f rest
+      → f text ≡ written_line head ++ continuation_lines f rest
   inside_by f long head rest h Unbroken e g = absurd (inside_none most text long_ head rest h (place_none most text long_ e))
   inside_by f long head rest h (Broken false head' rest') e g =
       let same = inside_one most text long_ head rest head' rest' h (place_inside most text head' rest' long_ e) in
-      g ∙ ap₂ (λ x y. written_line x ++ goes_on f y) (sym same.0) (sym same.1)
+      g ∙ ap₂ (λ x y. written_line x ++ continuation_lines f y) (sym same.0) (sym same.1)
   inside_by f long head rest h (Broken true head' rest') e g =
       absurd (inside_past most text long_ head rest head' rest' h (place_past most text head' rest' long_ e))
 
   past_by : (f long : List ℕ → List ℕ) (head rest : List ℕ) → IsBreakPast most text head rest → (b : Break) → break_of most text ≡ b → Gives f long b
-      → f text ≡ written_line head ++ goes_on f rest
+      → f text ≡ written_line head ++ continuation_lines f rest
   past_by f long head rest h Unbroken e g = absurd (past_none most text long_ room head rest h (place_none most text long_ e))
   past_by f long head rest h (Broken false head' rest') e g =
       absurd (inside_past most text long_ head' rest' head rest (place_inside most text head' rest' long_ e) h)
   past_by f long head rest h (Broken true head' rest') e g =
       let same = past_one head rest head' rest' h (place_past most text head' rest' long_ e) in
-      g ∙ ap₂ (λ x y. written_line x ++ goes_on f y) (sym same.0) (sym same.1)
+      g ∙ ap₂ (λ x y. written_line x ++ continuation_lines f y) (sym same.0) (sym same.1)
 
   none_by : (f long : List ℕ → List ℕ) → IsUnbroken text → (b : Break) → break_of most text ≡ b → Gives f long b → f text ≡ long text
   none_by f long h Unbroken e g = g
@@ -258,12 +258,12 @@ wrapped most room = record {
       (wrap_gives most text lt room (break_of most text) refl);
 }
 
-pub sure_is : (most : ℕ) → 3 ≤ most → IsSure most (sure most)
+pub sure_is : (most : ℕ) → 3 ≤ most → IsCommitted most (committed most)
 sure_is most room = record {
   fits = λ text le. rw (cut_short most text le) refl;
-  inside = λ text head rest lt h. inside_by most text lt room (sure most) (λ t. t) head rest h (break_of most text) refl
+  inside = λ text head rest lt h. inside_by most text lt room (committed most) (λ t. t) head rest h (break_of most text) refl
       (sure_gives most text lt room (break_of most text) refl);
-  past = λ text head rest lt h. past_by most text lt room (sure most) (λ t. t) head rest h (break_of most text) refl
+  past = λ text head rest lt h. past_by most text lt room (committed most) (λ t. t) head rest h (break_of most text) refl
       (sure_gives most text lt room (break_of most text) refl);
-  unbroken = λ text lt h. none_by most text lt room (sure most) (λ t. t) h (break_of most text) refl (sure_gives most text lt room (break_of most text) refl);
+  unbroken = λ text lt h. none_by most text lt room (committed most) (λ t. t) h (break_of most text) refl (sure_gives most text lt room (break_of most text) refl);
 }

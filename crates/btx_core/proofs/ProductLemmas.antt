@@ -15,9 +15,9 @@ use Rattle.btx_core.specs.language.Files.Lines.{style_line}
 use Rattle.btx_core.specs.language.Files.Databases.{databases_logged, files_found}
 use Rattle.btx_core.specs.language.Styles.{Command, Says, Read, Execute, Iterate, Reverse, Sort, Entry, Job, Library, State, Style, first_state}
 use Rattle.btx_core.specs.language.Meanings.{Outcome, Done, Stopped, Limited, Meaning, IsMeaning}
-use Rattle.btx_core.specs.language.Runs.{IsListBehind, sort_key, command_does, GoesOn, CommandsCome}
-use Rattle.btx_core.specs.language.AuxFiles.{AuxSaid}
-use Rattle.btx_core.specs.language.Product.{comes_to, IsExecuted, asked_by, IsStyled, IsFound, IsNamed, IsAsked, IsBehind}
+use Rattle.btx_core.specs.language.Runs.{IsListAfter, sort_key, command_does, GoesOn, CommandsCome}
+use Rattle.btx_core.specs.language.AuxFiles.{AuxContents}
+use Rattle.btx_core.specs.language.Product.{comes_to, IsExecuted, asked_by, IsExecutionOfStyle, FollowsStyleSize, FollowsStyleFile, FollowsStyleName, FollowsAuxFiles}
 use Rattle.btx_core.specs.laws.ProductLaws.{OneProduct}
 use Rattle.btx_core.specs.language.Lists.{IsLibrary}
 use Rattle.btx_core.proofs.SortLemmas.{order_one}
@@ -30,8 +30,8 @@ use Rattle.btx_core.proofs.AuxLemmas.{only_said}
 
 -- ---- commands
 
-behind_one : (library : Library) (c : Command) (list : List Entry) (s : State) (a b : List Entry) → IsListBehind library c list s a
-    → IsListBehind library c list s b → a ≡ b
+behind_one : (library : Library) (c : Command) (list : List Entry) (s : State) (a b : List Entry) → IsListAfter library c list s a
+    → IsListAfter library c list s b → a ≡ b
 behind_one library (Says line) list s a b h k = h ∙ sym k
 behind_one library Read list s a b h k = h ∙ sym k
 behind_one library (Execute f) list s a b h k = h ∙ sym k
@@ -65,14 +65,14 @@ executed_one job log options wide a b h k =
     let come = subst (λ (m : Meaning). CommandsCome m job.library job.style.commands [] options.budget (first_state job log) h.outcome) means h.come in
     let outcome = commands_one k.means job.library job.style.commands [] options.budget (first_state job log) h.outcome k.outcome come k.come in
     let wrapped = one_breaking options.line _ _ h.wrapped k.wrapped h.are_wrapped k.are_wrapped wide in
-    let sure = one_breaking options.line _ _ h.sure k.sure h.are_sure k.are_sure wide in
-    h.product_is ∙ ap (λ w. comes_to w h.sure options.budget h.outcome) wrapped ∙ ap (λ u. comes_to k.wrapped u options.budget h.outcome) sure
-    ∙ ap (comes_to k.wrapped k.sure options.budget) outcome ∙ sym k.product_is
+    let committed = one_breaking options.line _ _ h.committed k.committed h.are_committed k.are_committed wide in
+    h.product_is ∙ ap (λ w. comes_to w h.committed options.budget h.outcome) wrapped ∙ ap (λ u. comes_to k.wrapped u options.budget h.outcome) committed
+    ∙ ap (comes_to k.wrapped k.committed options.budget) outcome ∙ sym k.product_is
 
 -- ---- the files
 
-styled_one : (files : Files) (job : AuxSaid) (name text : List ℕ) (log : List Line) (options : Options) → 3 ≤ options.line → (a b : Product)
-    → IsStyled files job name text log options a → IsStyled files job name text log options b → a ≡ b
+styled_one : (files : Files) (job : AuxContents) (name text : List ℕ) (log : List Line) (options : Options) → 3 ≤ options.line → (a b : Product)
+    → IsExecutionOfStyle files job name text log options a → IsExecutionOfStyle files job name text log options b → a ≡ b
 styled_one files job name text log options wide a b h k =
     let databases : List Database = map (λ (file : NamedFile). record { file = file.name; text = file.bytes }) (files_found files job.databases) in
     let style = style_one name text h.style k.style h.styled k.styled in
@@ -88,24 +88,24 @@ styled_one files job name text log options wide a b h k =
     executed_one (record { style = k.style; library = k.library; mode = options.text; entry_max = options.entry_max; global_max = options.global_max }) lines
     options wide a b two k.executed
 
-found_one : (t : Bool) (files : Files) (job : AuxSaid) (name text : List ℕ) (log : List Line) (options : Options) → 3 ≤ options.line → (a b : Product)
-    → IsFound t files job name text log options a → IsFound t files job name text log options b → a ≡ b
+found_one : (t : Bool) (files : Files) (job : AuxContents) (name text : List ℕ) (log : List Line) (options : Options) → 3 ≤ options.line → (a b : Product)
+    → FollowsStyleSize t files job name text log options a → FollowsStyleSize t files job name text log options b → a ≡ b
 found_one true files job name text log options wide a b h k = h ∙ sym k
 found_one false files job name text log options wide a b h k = styled_one files job name text log options wide a b h k
 
-named_one : (f : Option (List ℕ)) (files : Files) (job : AuxSaid) (name : List ℕ) (options : Options) → 3 ≤ options.line → (a b : Product)
-    → IsNamed f files job name options a → IsNamed f files job name options b → a ≡ b
+named_one : (f : Option (List ℕ)) (files : Files) (job : AuxContents) (name : List ℕ) (options : Options) → 3 ≤ options.line → (a b : Product)
+    → FollowsStyleFile f files job name options a → FollowsStyleFile f files job name options b → a ≡ b
 named_one None files job name options wide a b h k = h ∙ sym k
 named_one (Some text) files job name options wide a b h k = found_one (is_too_long text) files job name text (job.log ++ style_line name ∷ []) options wide a b
     h k
 
-asked_one : (n : Option (List ℕ)) (files : Files) (job : AuxSaid) (options : Options) → 3 ≤ options.line → (a b : Product) → IsAsked n files job options a
-    → IsAsked n files job options b → a ≡ b
+asked_one : (n : Option (List ℕ)) (files : Files) (job : AuxContents) (options : Options) → 3 ≤ options.line → (a b : Product) → FollowsStyleName n files job options a
+    → FollowsStyleName n files job options b → a ≡ b
 asked_one None files job options wide a b h k = h ∙ sym k
 asked_one (Some name) files job options wide a b h k = named_one (files name) files job name options wide a b h k
 
-behind_files_one : (e : AuxEnd) (files : Files) (job : AuxSaid) (options : Options) → 3 ≤ options.line → (a b : Product) → IsBehind e files job options a
-    → IsBehind e files job options b → a ≡ b
+behind_files_one : (e : AuxEnd) (files : Files) (job : AuxContents) (options : Options) → 3 ≤ options.line → (a b : Product) → FollowsAuxFiles e files job options a
+    → FollowsAuxFiles e files job options b → a ≡ b
 behind_files_one aux.Whole files job options wide a b h k = asked_one job.style files job options wide a b h k
 behind_files_one aux.TooManyOpen files job options wide a b h k = h ∙ sym k
 behind_files_one aux.TopMissing files job options wide a b h k = h ∙ sym k
@@ -115,4 +115,4 @@ pub holds : OneProduct
 holds files name options wide a b h k =
     let top = with_ending (codes ".aux") name in
     let jobs = only_said files top h.job h.said ∙ sym (only_said files top k.job k.said) in
-    behind_files_one k.job.ending files k.job options wide a b (subst (λ (j : AuxSaid). IsBehind j.ending files j options a) jobs h.behind) k.behind
+    behind_files_one k.job.ending files k.job options wide a b (subst (λ (j : AuxContents). FollowsAuxFiles j.ending files j options a) jobs h.behind) k.behind

@@ -12,9 +12,9 @@ use Rattle.std.proofs.lemmas.Bool.{eqb-true, eq-eqb}
 use Rattle.btx_aux.specs.language.Names.{is_same_key}
 use Rattle.btx_bib.specs.declared.end.End.{End}
 use Rattle.btx_bib.specs.declared.end.End.TheVariants as end
-use Rattle.btx_bib.specs.declared.grammar.commands.Wanted.{Wanted}
-use Rattle.btx_bib.specs.declared.grammar.commands.Wanted.TheVariants.{Item}
-use Rattle.btx_bib.specs.declared.grammar.slip.Slip.{Slip}
+use Rattle.btx_bib.specs.declared.grammar.commands.Expected.{Expected}
+use Rattle.btx_bib.specs.declared.grammar.commands.Expected.TheVariants.{Item}
+use Rattle.btx_bib.specs.declared.grammar.slip.SyntaxError.{SyntaxError}
 use Rattle.btx_bib.specs.declared.grammar.value_ends.Ends.TheVariants.{Kept, Trimmed}
 use Rattle.btx_bib.specs.declared.message.Message.{Message}
 use Rattle.btx_bib.specs.declared.message.Message.TheVariants as message
@@ -35,14 +35,14 @@ use Rattle.btx_bib.specs.language.Messages.{Database, Reading, event_messages, f
 use Rattle.btx_bib.specs.language.Stored.{entry_with_key, parents_in, is_wanted}
 use Rattle.btx_bib.specs.language.Strings.{string_value, other_value, defined}
 use Rattle.btx_bib.specs.language.Values.{field_value}
-use Rattle.btx_bib.specs.language.Wanted.{Request as NumberedRequest}
+use Rattle.btx_bib.specs.language.Request.{Request as NumberedRequest}
 use Rattle.btx_bib.specs.laws.Databases.{with_macros as macros_known, nothing}
 use Rattle.btx_bib.specs.laws.Grammar.Reading.{IsOutcome, IsReading}
 use Rattle.btx_bib.proofs.DefinitionLemmas.{lookup-own, lookup-other}
 use Rattle.btx_bib.proofs.GrammarLemmas.ReadingLemmas.{is_reading}
 use Rattle.btx_bst.specs.declared.callee.Callee.TheVariants as callee
-use Rattle.btx_core.specs.language.Databases.{Request, Stored, Known, all_stored, closed, if_fits, stored_with, parents_named, is_asked, meaning_of}
-use Rattle.btx_core.specs.language.Databases.{part_messages, saying, field_read, known_behind, known_after, keeping, AreEvents, IsReadBy, AreRead, with_macros}
+use Rattle.btx_core.specs.language.Databases.{Request, Stored, DatabaseState, all_stored, closed, if_fits, stored_with, parents_named, is_asked, meaning_of}
+use Rattle.btx_core.specs.language.Databases.{part_messages, saying, field_read, known_after_event, known_after, keeping, AreEvents, IsReadBy, AreRead, with_macros}
 use Rattle.btx_core.specs.language.Databases.{at_spot}
 use Rattle.btx_core.specs.laws.SameLibraries.{limit_met, value_named}
 use Rattle.btx_core.specs.laws.SameStyles.{IsMeant, Numbers}
@@ -236,7 +236,7 @@ asked_same numbers R Q h gs es k key =
 -- ---- what is known
 
 -- the reading with numbers has come as far as the one in names
-pub record SameReading (R : NumberedRequest) (reading : Reading) (known : Known) : Type 0 where
+pub record SameReading (R : NumberedRequest) (reading : Reading) (known : DatabaseState) : Type 0 where
   pub strings : (name : List ℕ) → known.strings name ≡ lookup (bytes_eq name) reading.known.strings
   pub stored : AreSameGiven R reading.known.stored known.stored
   pub current : IsSameCurrent R reading.known.current known.current
@@ -244,12 +244,12 @@ pub record SameReading (R : NumberedRequest) (reading : Reading) (known : Known)
   pub messages : known.log ≡ map message_line reading.messages
   pub limit : known.limit ≡ limit_met reading.known.ending
 
-all_stored_same : (R : NumberedRequest) (reading : Reading) (known : Known) → SameReading R reading known
+all_stored_same : (R : NumberedRequest) (reading : Reading) (known : DatabaseState) → SameReading R reading known
     → AreSameGiven R (stored_in reading.known) (all_stored known)
 all_stored_same R reading known h = given_both R reading.known.stored (option_to_list reading.known.current) known.stored (option_to_list known.current)
     h.stored (current_list R reading.known.current known.current h.current)
 
-closed_same : (R : NumberedRequest) (reading : Reading) (known : Known) → SameReading R reading known
+closed_same : (R : NumberedRequest) (reading : Reading) (known : DatabaseState) → SameReading R reading known
     → SameReading R (record reading { known = numbered.with_current_stored reading.known }) (closed known)
 closed_same R reading known h = record {
   strings = h.strings;
@@ -267,7 +267,7 @@ lines_more [] ys = refl
 lines_more (x ∷ xs) ys = ap (λ (lines : List Line). message_line x ∷ lines) (lines_more xs ys)
 
 -- messages are added to both
-says_same : (R : NumberedRequest) (reading : Reading) (known : Known) (said : List Message) → SameReading R reading known
+says_same : (R : NumberedRequest) (reading : Reading) (known : DatabaseState) (said : List Message) → SameReading R reading known
     → SameReading R (record reading { messages = reading.messages ++ said }) (saying (map message_line said) known)
 says_same R reading known said h = record {
   strings = h.strings;
@@ -278,7 +278,7 @@ says_same R reading known said h = record {
   limit = h.limit;
 }
 
-no_messages : (R : NumberedRequest) (reading : Reading) (known : Known) → SameReading R reading known
+no_messages : (R : NumberedRequest) (reading : Reading) (known : DatabaseState) → SameReading R reading known
     → SameReading R (record reading { messages = reading.messages ++ [] }) known
 no_messages R reading known h = record {
   strings = h.strings;
@@ -290,7 +290,7 @@ no_messages R reading known h = record {
 }
 
 -- a string that fits, and one that doesn't
-fits_same : (R : NumberedRequest) (text : List ℕ) (a : numbered.Known) (b : numbered.Known) (messages : List Message) (k l : Known)
+fits_same : (R : NumberedRequest) (text : List ℕ) (a : numbered.Known) (b : numbered.Known) (messages : List Message) (k l : DatabaseState)
     → SameReading R (record { known = a; messages = messages }) k → SameReading R (record { known = b; messages = messages }) l
     → SameReading R (record { known = numbered.if_fits text a b; messages = messages }) (if_fits text k l)
 fits_same R text a b messages k l h g = by (nat_lt greatest_string (length text)) where
@@ -302,18 +302,18 @@ fits_same R text a b messages k l h g = by (nat_lt greatest_string (length text)
 -- ---- strings
 
 -- what a name stands for, where the strings are the same
-value_same : (R : NumberedRequest) (reading : Reading) (known : Known) → SameReading R reading known
+value_same : (R : NumberedRequest) (reading : Reading) (known : DatabaseState) → SameReading R reading known
     → meaning_of known None ≡ string_value reading.known.strings
 value_same R reading known h = λ i name. h.strings (folded name) i
 
-other_same : (R : NumberedRequest) (reading : Reading) (known : Known) (own : List ℕ) → SameReading R reading known → meaning_of known (Some own)
+other_same : (R : NumberedRequest) (reading : Reading) (known : DatabaseState) (own : List ℕ) → SameReading R reading known → meaning_of known (Some own)
     ≡ other_value reading.known.strings own
 other_same R reading known own h = λ i name. by (is_same_key own name) name i where
   by : (t : Bool) (name : List ℕ) → (if t then None else known.strings (folded name)) ≡ (if t then None else string_value reading.known.strings name)
   by true name = refl
   by false name = h.strings (folded name)
 
-part_same : (R : NumberedRequest) (database : Database) (reading : Reading) (known : Known) (own : Option (List ℕ)) (part : Part) → SameReading R reading known
+part_same : (R : NumberedRequest) (database : Database) (reading : Reading) (known : DatabaseState) (own : Option (List ℕ)) (part : Part) → SameReading R reading known
     → part_messages database known own part ≡ map message_line (name_messages database reading.known.strings own part)
 unfolding message_text mark_of
 part_same R database reading known own (Braced text) h = refl
@@ -334,7 +334,7 @@ part_same R database reading known own (Named string) h =
       by false true = refl
       by false false = refl
 
-parts_same : (R : NumberedRequest) (database : Database) (reading : Reading) (known : Known) (own : Option (List ℕ)) (value : List Part)
+parts_same : (R : NumberedRequest) (database : Database) (reading : Reading) (known : DatabaseState) (own : Option (List ℕ)) (value : List Part)
     → SameReading R reading known
     → flat_map (part_messages database known own) value ≡ map message_line (value_messages database reading.known.strings own value)
 parts_same R database reading known own [] h = refl
@@ -356,7 +356,7 @@ defined_same strings known name text h m = by (bytes_eq m (folded name)) refl wh
 -- ---- events
 
 module _ (numbers : Numbers) (R : NumberedRequest) (Q : Request) (h : SameRequest numbers R Q) where
-  abbrev Same : Reading → Known → Type 0
+  abbrev Same : Reading → DatabaseState → Type 0
   Same = SameReading R
 
   -- a further event, where no limit was met
@@ -366,8 +366,8 @@ module _ (numbers : Numbers) (R : NumberedRequest) (Q : Request) (h : SameReques
     messages = reading.messages ++ event_messages R database reading.known event rest;
   }
 
-  preamble_same : (database : Database) (reading : Reading) (known : Known) (value : List Part) (rest : List ℕ) → Same reading known
-      → Same (next_reading database reading (Preamble value) rest) (known_behind Q database known (Preamble value) rest)
+  preamble_same : (database : Database) (reading : Reading) (known : DatabaseState) (value : List Part) (rest : List ℕ) → Same reading known
+      → Same (next_reading database reading (Preamble value) rest) (known_after_event Q database known (Preamble value) rest)
   preamble_same database reading known value rest k =
       let said = value_messages database reading.known.strings None value in
       let lines = map message_line said in
@@ -398,8 +398,8 @@ module _ (numbers : Numbers) (R : NumberedRequest) (Q : Request) (h : SameReques
       (if_fits whole' (saying ms known) (record (saying ms known) { preamble = whole' })))
       (sym (parts_same R database reading known None value k)) of_text
 
-  definition_same : (database : Database) (reading : Reading) (known : Known) (name : List ℕ) (value : List Part) (rest : List ℕ) → Same reading known
-      → Same (next_reading database reading (Definition name value) rest) (known_behind Q database known (Definition name value) rest)
+  definition_same : (database : Database) (reading : Reading) (known : DatabaseState) (name : List ℕ) (value : List Part) (rest : List ℕ) → Same reading known
+      → Same (next_reading database reading (Definition name value) rest) (known_after_event Q database known (Definition name value) rest)
   definition_same database reading known name value rest k =
       let said = value_messages database reading.known.strings (Some name) value in
       let lines = map message_line said in
@@ -435,8 +435,8 @@ module _ (numbers : Numbers) (R : NumberedRequest) (Q : Request) (h : SameReques
   is_none_of None f k = ap is_none k
   is_none_of (Some n) f k = ap is_none k.2
 
-  entry_same : (database : Database) (reading : Reading) (known : Known) (kind key rest : List ℕ) → Same reading known
-      → Same (next_reading database reading (EntryHead kind key) rest) (known_behind Q database known (EntryHead kind key) rest)
+  entry_same : (database : Database) (reading : Reading) (known : DatabaseState) (kind key rest : List ℕ) → Same reading known
+      → Same (next_reading database reading (EntryHead kind key) rest) (known_after_event Q database known (EntryHead kind key) rest)
   unfolding message_text mark_of
   entry_same database reading known kind key rest k =
       let shut = closed_same R reading known k in
@@ -502,8 +502,8 @@ module _ (numbers : Numbers) (R : NumberedRequest) (Q : Request) (h : SameReques
   has_same g e k name = ap is_some (k.value (folded name) ∙ sym (value_kept numbers R Q h g.fields (folded name)))
 
   -- a field of the entry that is being read
-  field_same : (database : Database) (reading : Reading) (known : Known) (field : Field) (rest : List ℕ) → Same reading known
-      → Same (next_reading database reading (FieldOf field) rest) (known_behind Q database known (FieldOf field) rest)
+  field_same : (database : Database) (reading : Reading) (known : DatabaseState) (field : Field) (rest : List ℕ) → Same reading known
+      → Same (next_reading database reading (FieldOf field) rest) (known_after_event Q database known (FieldOf field) rest)
   unfolding message_text mark_of
   field_same database reading known field rest k = of_current reading.known.current refl known.current refl k.current where
     strings : List ℕ → Option (List ℕ)
@@ -553,7 +553,7 @@ module _ (numbers : Numbers) (R : NumberedRequest) (Q : Request) (h : SameReques
         messages = reading.messages ++ (if has then extra ∷ [] else if declared then said else []);
       }
 
-      right : Bool → Bool → Known
+      right : Bool → Bool → DatabaseState
       right declared has =
           if not declared then known else if has then saying (ignored x.key ∷ []) known
           else if_fits text' (saying said' known) (record (saying said' known) { current = Some (record x { value = set name (Some text') x.value }) })
@@ -615,8 +615,8 @@ module _ (numbers : Numbers) (R : NumberedRequest) (Q : Request) (h : SameReques
           (subst (λ (b : Bool). Same (left (is_some o) b) (right (is_some o) has)) (sym p) (by o e has p))))
 
   -- a further event
-  event_same : (database : Database) (reading : Reading) (known : Known) (event : Event) (rest : List ℕ) → Same reading known
-      → Same (next_reading database reading event rest) (known_behind Q database known event rest)
+  event_same : (database : Database) (reading : Reading) (known : DatabaseState) (event : Event) (rest : List ℕ) → Same reading known
+      → Same (next_reading database reading event rest) (known_after_event Q database known event rest)
   unfolding message_text mark_of
   event_same database reading known Comment rest k = no_messages R reading known k
   event_same database reading known (Preamble value) rest k = preamble_same database reading known value rest k
@@ -626,14 +626,14 @@ module _ (numbers : Numbers) (R : NumberedRequest) (Q : Request) (h : SameReques
   event_same database reading known items.End rest k = no_messages R reading known k
   event_same database reading known (Wrong slip) rest k = says_same R reading known (message.Wrong slip (spot_at database rest) ∷ []) k
 
-  goes_same : (reading : Reading) (known : Known) → Same reading known → is_some known.limit ≡ not (goes_on reading.known.ending)
+  goes_same : (reading : Reading) (known : DatabaseState) → Same reading known → is_some known.limit ≡ not (goes_on reading.known.ending)
   goes_same reading known k = ap is_some k.limit ∙ by reading.known.ending where
     by : (e : End) → is_some (limit_met e) ≡ not (goes_on e)
     by end.Whole = refl
     by end.FileLimit = refl
     by end.StringLimit = refl
 
-  next_same : (database : Database) (reading : Reading) (known : Known) (placed : Placed) → Same reading known
+  next_same : (database : Database) (reading : Reading) (known : DatabaseState) (placed : Placed) → Same reading known
       → Same (read_next R database reading placed) (known_after Q database known placed)
   next_same database reading known placed k = by (goes_on reading.known.ending) (goes_same reading known k) where
     by : (goes : Bool) → is_some known.limit ≡ not goes
@@ -644,16 +644,16 @@ module _ (numbers : Numbers) (R : NumberedRequest) (Q : Request) (h : SameReques
         })
         (known_after Q database known placed)
     by true e = subst (λ (b : Bool). Same (next_reading database reading placed.event placed.rest)
-        (if b then known else known_behind Q database known placed.event placed.rest)) (sym e) (event_same database reading known placed.event placed.rest k)
+        (if b then known else known_after_event Q database known placed.event placed.rest)) (sym e) (event_same database reading known placed.event placed.rest k)
     by false e = subst (λ (b : Bool). Same (record reading { messages = reading.messages ++ [] })
-        (if b then known else known_behind Q database known placed.event placed.rest)) (sym e) (no_messages R reading known k)
+        (if b then known else known_after_event Q database known placed.event placed.rest)) (sym e) (no_messages R reading known k)
 
   -- which keys are stored
-  stored_same : (reading : Reading) (known : Known) → Same reading known → keeping.is_stored known ≡ (numbered.keeping R).is_stored reading.known
+  stored_same : (reading : Reading) (known : DatabaseState) → Same reading known → keeping.is_stored known ≡ (numbered.keeping R).is_stored reading.known
   stored_same reading known k = λ i key. is_found R (entry_with_key (stored_in reading.known) key) (stored_with (all_stored known) key)
       (found_same R (stored_in reading.known) (all_stored known) (all_stored_same R reading known k) key) i
 
-  outcome_same : (reading : Reading) (known : Known) → Same reading known → (event : Event) (next : Wanted) (o : Result (Event × Wanted) Slip)
+  outcome_same : (reading : Reading) (known : DatabaseState) → Same reading known → (event : Event) (next : Expected) (o : Result (Event × Expected) SyntaxError)
       → IsOutcome (numbered.keeping R) reading.known event next o → IsOutcome keeping known event next o
   outcome_same reading known k event next (Ok got) g = (
     subst (λ stored. event ≡ (as_known stored got).0) (sym (stored_same reading known k)) g.0,
@@ -662,9 +662,9 @@ module _ (numbers : Numbers) (R : NumberedRequest) (Q : Request) (h : SameReques
   outcome_same reading known k event next (Err slip) g = g
 
   -- the events of a text
-  events_same : (database : Database) (events : List Placed) (reading : Reading) (known : Known) (wanted : Wanted) (text : List ℕ) → Same reading known
+  events_same : (database : Database) (events : List Placed) (reading : Reading) (known : DatabaseState) (wanted : Expected) (text : List ℕ) → Same reading known
       → IsReading (numbered.keeping R) reading.known wanted text events
-      → (last : Known) × AreEvents Q database known wanted text events last × Same (fold (read_next R database) reading events) last
+      → (last : DatabaseState) × AreEvents Q database known wanted text events last × Same (fold (read_next R database) reading events) last
   events_same database [] reading known wanted text k g = (known, (g.0, g.1, refl), k)
   events_same database (placed ∷ events) reading known wanted text k g =
       let next = next_same database reading known placed k in
@@ -673,8 +673,8 @@ module _ (numbers : Numbers) (R : NumberedRequest) (Q : Request) (h : SameReques
 
   -- ---- databases
 
-  database_same : (database : Database) (reading : Reading) (known : Known) → Same reading known
-      → (next : Known) × IsReadBy (is_some known.limit) (is_too_long database.text) Q known database next × Same (read_one R reading database) next
+  database_same : (database : Database) (reading : Reading) (known : DatabaseState) → Same reading known
+      → (next : DatabaseState) × IsReadBy (is_some known.limit) (is_too_long database.text) Q known database next × Same (read_one R reading database) next
   database_same database reading known k = by (goes_on reading.known.ending) (is_too_long database.text) (goes_same reading known k) where
     read : (goes too_long : Bool) → Reading
     read goes too_long =
@@ -684,11 +684,11 @@ module _ (numbers : Numbers) (R : NumberedRequest) (Q : Request) (h : SameReques
         let last = fold (read_next R database) reading (events_from (numbered.keeping R) reading.known Item database.text) in
         record last { known = numbered.with_current_stored last.known }
 
-    by : (goes too_long : Bool) → is_some known.limit ≡ not goes → (next : Known) × IsReadBy (is_some known.limit) too_long Q known database next
+    by : (goes too_long : Bool) → is_some known.limit ≡ not goes → (next : DatabaseState) × IsReadBy (is_some known.limit) too_long Q known database next
         × Same (read goes too_long) next
     by false too_long e = (known, subst (λ b. IsReadBy b too_long Q known database known) (sym e) refl, k)
     by true true e =
-        let next : Known = record known { limit = Some limit.File } in (
+        let next : DatabaseState = record known { limit = Some limit.File } in (
           next,
           subst (λ b. IsReadBy b true Q known database next) (sym e) refl,
           record { strings = k.strings; stored = k.stored; current = k.current; preamble = k.preamble; messages = k.messages; limit = refl },
@@ -701,7 +701,7 @@ module _ (numbers : Numbers) (R : NumberedRequest) (Q : Request) (h : SameReques
           closed_same R (fold (read_next R database) reading events) r.0 r.2,
         )
 
-  pub databases_same : (databases : List Database) (reading : Reading) (known : Known) → Same reading known → (last : Known) × AreRead Q known databases last
+  pub databases_same : (databases : List Database) (reading : Reading) (known : DatabaseState) → Same reading known → (last : DatabaseState) × AreRead Q known databases last
       × Same (fold (read_one R) reading databases) last
   databases_same [] reading known k = (known, refl, k)
   databases_same (database ∷ databases) reading known k =
@@ -710,18 +710,18 @@ module _ (numbers : Numbers) (R : NumberedRequest) (Q : Request) (h : SameReques
       (more.0, (next.0, next.1, more.1), more.2)
 
   -- the macros of a style
-  abbrev with_one : Known → List ℕ × List ℕ → Known
+  abbrev with_one : DatabaseState → List ℕ × List ℕ → DatabaseState
   with_one known macro =
       if is_some known.limit then known
       else if_fits (squeezed macro.1) known (record known { strings = set (folded macro.0) (Some (squeezed macro.1)) known.strings })
 
-  macro_same : (k : numbered.Known) (known : Known) (macro : List ℕ × List ℕ) → Same (record { known = k; messages = [] }) known
+  macro_same : (k : numbered.Known) (known : DatabaseState) (macro : List ℕ × List ℕ) → Same (record { known = k; messages = [] }) known
       → Same (record { known = with_macro k macro; messages = [] }) (with_one known macro)
   macro_same k known macro s = by (goes_on k.ending) (goes_same (record { known = k; messages = [] }) known s) where
     text : List ℕ
     text = squeezed macro.1
 
-    next : Known
+    next : DatabaseState
     next = record known { strings = set (folded macro.0) (Some text) known.strings }
 
     by : (goes : Bool) → is_some known.limit ≡ not goes
@@ -741,7 +741,7 @@ module _ (numbers : Numbers) (R : NumberedRequest) (Q : Request) (h : SameReques
           limit = s.limit;
         }))
 
-  all_macros : (macros : List (List ℕ × List ℕ)) (k : numbered.Known) (known : Known) → Same (record { known = k; messages = [] }) known
+  all_macros : (macros : List (List ℕ × List ℕ)) (k : numbered.Known) (known : DatabaseState) → Same (record { known = k; messages = [] }) known
       → Same (record { known = fold with_macro k macros; messages = [] }) (fold with_one known macros)
   all_macros [] k known s = s
   all_macros (macro ∷ macros) k known s = all_macros macros (with_macro k macro) (with_one known macro) (macro_same k known macro s)

@@ -32,7 +32,7 @@ use Rattle.btx_bib.specs.language.Passes.{check_messages}
 use Rattle.btx_bib.specs.language.Requests.{asked}
 use Rattle.btx_bib.specs.language.Stored.{entry_with_key, parents_in, references}
 use Rattle.btx_bib.specs.language.Values.{field_value}
-use Rattle.btx_bib.specs.language.Wanted.{Request as NumberedRequest}
+use Rattle.btx_bib.specs.language.Request.{Request as NumberedRequest}
 use Rattle.btx_bib.specs.laws.Databases.{with_macros as macros_known}
 use Rattle.btx_bib.proofs.PassLemmas.{key-inherited, key-checked}
 use Rattle.btx_bib.proofs.StayingLemmas.{view-passed}
@@ -45,9 +45,9 @@ use Rattle.btx_bst.specs.language.Style.{as_field}
 use Rattle.btx_bst.specs.language.StyleText.{style_of}
 use Rattle.btx_bst.specs.laws.FirstNames.{FirstNamesLaw}
 use Rattle.btx_bst.proofs.FirstNameLemmas.{first-names}
-use Rattle.btx_core.specs.language.Databases.{Request, Stored, Known, parents_named, stored_with, with_macros}
+use Rattle.btx_core.specs.language.Databases.{Request, Stored, DatabaseState, parents_named, stored_with, with_macros}
 use Rattle.btx_core.specs.language.Lists.{Slot, slot_of, slots_of, listed_keys, IsInherited, keeps_parent, parent_key, parent_messages, entry_at, places}
-use Rattle.btx_core.specs.language.Lists.{IsGathered, IsLibrary, no_entry_line}
+use Rattle.btx_core.specs.language.Lists.{IsLibraryAtEnd, IsLibrary, no_entry_line}
 use Rattle.btx_core.specs.laws.SameLibraries.{value_named, IsSameEntry, AreSameEntries, limit_met, IsSameLibrary, asked_of, SameLibrary}
 use Rattle.btx_core.specs.laws.SameStyles.{IsMeant, IsSameStyle, Numbers, numbers_of}
 use Rattle.btx_core.specs.language.Styles.{Entry, Library, Style, set}
@@ -276,21 +276,21 @@ module _ (numbers : Numbers) (R : NumberedRequest) (Q : Request) (h : SameReques
   -- ---- the library
 
   -- what is known at the end, in both ways
-  gathered_same : (reading : Reading) (known : Known) → SameReading R reading known → (library : Library) × IsGathered known.limit Q known library
+  gathered_same : (reading : Reading) (known : DatabaseState) → SameReading R reading known → (library : Library) × IsLibraryAtEnd known.limit Q known library
       × IsSameLibrary numbers R.field (library_by reading.known.ending R reading.known reading.messages) library
   unfolding entries_of reference_messages
   gathered_same reading known k = by reading.known.ending k.limit where
-    stopped : (e : End) (l : Limit) → limit_met e ≡ Some l → known.limit ≡ Some l → (library : Library) × IsGathered known.limit Q known library
+    stopped : (e : End) (l : Limit) → limit_met e ≡ Some l → known.limit ≡ Some l → (library : Library) × IsLibraryAtEnd known.limit Q known library
         × IsSameLibrary numbers R.field (record { entries = []; preamble = []; messages = reading.messages; ending = e }) library
     stopped e l f g =
         let library : Library = record { entries = []; preamble = []; log = known.log; limit = Some l } in
-        (library, subst (λ o. IsGathered o Q known library) (sym g) refl, record { entries = refl; preamble = refl; log = k.messages; limit = sym f })
+        (library, subst (λ o. IsLibraryAtEnd o Q known library) (sym g) refl, record { entries = refl; preamble = refl; log = k.messages; limit = sym f })
 
-    by : (e : End) → known.limit ≡ limit_met e → (library : Library) × IsGathered known.limit Q known library
+    by : (e : End) → known.limit ≡ limit_met e → (library : Library) × IsLibraryAtEnd known.limit Q known library
         × IsSameLibrary numbers R.field (library_by e R reading.known reading.messages) library
     by end.FileLimit e = stopped end.FileLimit _ refl e
     by end.StringLimit e = stopped end.StringLimit _ refl e
-    by end.Whole e = (library, subst (λ o. IsGathered o Q known library) (sym e) (slots, refl, value, there_is_inheritance slots, refl), same) where
+    by end.Whole e = (library, subst (λ o. IsLibraryAtEnd o Q known library) (sym e) (slots, refl, value, there_is_inheritance slots, refl), same) where
       slots : List Slot
       slots = slots_of Q known.stored
 

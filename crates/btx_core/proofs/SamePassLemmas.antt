@@ -24,7 +24,7 @@ use Rattle.btx_bib.specs.language.Passes as passes
 use Rattle.btx_bib.specs.language.Passes.{passed, pass_messages, body_values, parent_at, slot_at, or_values, inherited_values, inherited, inherited_from}
 use Rattle.btx_bib.specs.language.Passes.{without_parent, without_crossref, is_parent, checked, check_messages}
 use Rattle.btx_bib.specs.language.Values.{field_value}
-use Rattle.btx_bib.specs.language.Wanted.{Request as NumberedRequest}
+use Rattle.btx_bib.specs.language.Request.{Request as NumberedRequest}
 use Rattle.btx_bib.proofs.ListedKeyLemmas.{folded-same}
 use Rattle.btx_bib.proofs.PassLemmas.{inherited-alone, inherited-by, key-inherited, checked-alone, checked-is, messages-alone, messages-is, key-checked}
 use Rattle.btx_bib.proofs.StayingLemmas.{view-next}

@@ -36,7 +36,7 @@ use Rattle.btx_machine.specs.language.Reports.{report_of}
 use Rattle.btx_machine.specs.language.Saying.{ended_line}
 use Rattle.btx_machine.specs.language.States.{state}
 use Rattle.btx_machine.specs.language.States.{State as NumberedState, Outcome as Came, Done as CameDone, Stopped as CameStopped, Limit as CameLimit}
-use Rattle.btx_out.specs.language.Breaking.{wrap, sure}
+use Rattle.btx_out.specs.language.Breaking.{wrap, committed}
 use Rattle.btx_out.specs.language.Breakers.{written_at_end}
 use Rattle.btx_core.specs.declared.found.FilesRead.{FilesRead}
 use Rattle.btx_core.specs.declared.found.FilesRead.TheVariants.{Ends, Found}
@@ -47,9 +47,9 @@ use Rattle.btx_core.specs.language.Files.Lines.{no_style_line, style_line}
 use Rattle.btx_core.specs.language.Files.Databases.{databases_logged, files_found}
 use Rattle.btx_core.specs.refinement.Files.Readings.{Logged, after_job, style_named, style_read}
 use Rattle.btx_core.specs.refinement.ComputedProduct.{product, product_of_files}
-use Rattle.btx_core.specs.language.AuxFiles.{AuxSaid}
+use Rattle.btx_core.specs.language.AuxFiles.{AuxContents}
 use Rattle.btx_core.specs.language.Meanings.{Done, Limited, Outcome, Stopped}
-use Rattle.btx_core.specs.language.Product.{comes_to, ends_with, line_at_end, IsAsked, IsBehind, IsExecuted, IsFound, IsNamed, IsProduct, IsStyled, asked_by}
+use Rattle.btx_core.specs.language.Product.{comes_to, ends_with, line_at_end, FollowsStyleName, FollowsAuxFiles, IsExecuted, FollowsStyleSize, FollowsStyleFile, IsProduct, IsExecutionOfStyle, asked_by}
 use Rattle.btx_core.specs.laws.SameParts.{job_said}
 use Rattle.btx_core.specs.laws.ProductLaws.{SameProduct}
 use Rattle.btx_core.specs.laws.SameLibraries.{IsSameLibrary}
@@ -231,16 +231,16 @@ module _ (job : NumberedJob) (style : Style) (library : Library) (h : SameJob jo
       ∙ ap (λ (p : List ℕ). flat_map (wrap line) s.lines ++ at' p) (sym r.out.pending)
 
   come_same : (line budget : ℕ) (o : Came) (p : Outcome) → runs.SameCame job style library h before o p → lines_behind before (product_of line budget o)
-      ≡ comes_to (wrap line) (sure line) budget p
+      ≡ comes_to (wrap line) (committed line) budget p
   come_same line budget (CameDone S b) (Done s c) k =
       report_same ended.Finished (budget - b) S s k.0 _ _ (lines_same line S s k.0 (written_at_end line) (line_at_end (wrap line)) (at_end line))
       ∙ ap (λ c. ends_with ended.Finished (budget - c) s.deepest (flat_map (wrap line) s.lines ++ line_at_end (wrap line) s.pending) s.log) k.1
   come_same line budget (CameStopped S) (Stopped s) k =
-      report_same ended.Stopped budget S s k _ _ (lines_same line S s k (sure line) (sure line) (λ text. refl))
+      report_same ended.Stopped budget S s k _ _ (lines_same line S s k (committed line) (committed line) (λ text. refl))
   come_same line budget (CameLimit kind S b) (Limited limit s c) k =
-      report_same (ended.Limit kind) (budget - b) S s k.0 _ _ (lines_same line S s k.0 (sure line) (sure line) (λ text. refl))
-      ∙ ap (λ kind. ends_with (ended.Limit kind) (budget - b) s.deepest (flat_map (wrap line) s.lines ++ sure line s.pending) s.log) k.1.0
-      ∙ ap (λ c. ends_with (ended.Limit limit) (budget - c) s.deepest (flat_map (wrap line) s.lines ++ sure line s.pending) s.log) k.1.1
+      report_same (ended.Limit kind) (budget - b) S s k.0 _ _ (lines_same line S s k.0 (committed line) (committed line) (λ text. refl))
+      ∙ ap (λ kind. ends_with (ended.Limit kind) (budget - b) s.deepest (flat_map (wrap line) s.lines ++ committed line s.pending) s.log) k.1.0
+      ∙ ap (λ c. ends_with (ended.Limit limit) (budget - c) s.deepest (flat_map (wrap line) s.lines ++ committed line s.pending) s.log) k.1.1
   come_same line budget (CameDone S b) (Stopped s) k = absurd (true≢false k)
   come_same line budget (CameDone S b) (Limited limit s c) k = absurd (true≢false k)
   come_same line budget (CameStopped S) (Done s c) k = absurd (true≢false k)
@@ -300,11 +300,11 @@ same_job file text style same job databases library options k = record {
   keys = keys-differ (asked (style_of file text) job options.min_crossrefs) (style_of file text).macros databases;
 }
 
-abbrev databases_of : Files → AuxSaid → List Database
+abbrev databases_of : Files → AuxContents → List Database
 databases_of files job = map (λ (file : NamedFile). record { file = file.name; text = file.bytes }) (files_found files job.databases)
 
-styled : (files : Files) (job : AuxSaid) (name text : List ℕ) (options : Options) → 3 ≤ options.line
-    → IsStyled files job name text (job.log ++ style_line name ∷ []) options
+styled : (files : Files) (job : AuxContents) (name text : List ℕ) (options : Options) → 3 ≤ options.line
+    → IsExecutionOfStyle files job name text (job.log ++ style_line name ∷ []) options
     (out_of (job_said job) options (record {
       lines = style_line name ∷ databases_logged files [] job.databases;
       gives =
@@ -338,8 +338,8 @@ read_if t files job style =
     if t then record { lines = []; gives = Ends (ended.Limit limit.File) }
     else record { lines = databases_logged files [] job.databases; gives = Found (record { style = style; databases = files_found files job.databases }) }
 
-found : (t : Bool) (files : Files) (job : AuxSaid) (name text : List ℕ) (options : Options) → 3 ≤ options.line
-    → IsFound t files job name text (job.log ++ style_line name ∷ []) options
+found : (t : Bool) (files : Files) (job : AuxContents) (name text : List ℕ) (options : Options) → 3 ≤ options.line
+    → FollowsStyleSize t files job name text (job.log ++ style_line name ∷ []) options
     (out_of (job_said job) options (record {
       lines = style_line name ∷ (read_if t files (job_said job) (record { name = name; bytes = text })).lines;
       gives =
@@ -348,8 +348,8 @@ found : (t : Bool) (files : Files) (job : AuxSaid) (name text : List ℕ) (optio
 found true files job name text options wide = early (ended.Limit limit.File) (job.log ++ style_line name ∷ [])
 found false files job name text options wide = styled files job name text options wide
 
-named : (f : Option (List ℕ)) (files : Files) (job : AuxSaid) (name : List ℕ) (options : Options) → 3 ≤ options.line
-    → IsNamed f files job name options (out_of (job_said job) options
+named : (f : Option (List ℕ)) (files : Files) (job : AuxContents) (name : List ℕ) (options : Options) → 3 ≤ options.line
+    → FollowsStyleFile f files job name options (out_of (job_said job) options
     (style_read files (job_said job) name (option_map (λ (bytes : List ℕ). record { name = name; bytes = bytes }) f)))
 unfolding style_read
 named None files job name options wide = early ended.Finished (job.log ++ no_style_line name ∷ [])
@@ -359,14 +359,14 @@ ended_at : (ending : End) (lines : List Line)
     → lines_with (lines ++ []) (record { bbl = []; log_so_far = []; report = report_of ending 0 0 (counts_of (lines ++ [])) }) ≡ ends_with ending 0 0 [] lines
 ended_at ending lines = early ending (lines ++ []) ∙ ap (λ l. ends_with ending 0 0 [] l) (append-nil lines)
 
-asked_is : (s : Option (List ℕ)) (files : Files) (job : AuxSaid) (options : Options) → 3 ≤ options.line
-    → IsAsked s files job options (out_of (job_said job) options (style_named files (job_said job) s))
+asked_is : (s : Option (List ℕ)) (files : Files) (job : AuxContents) (options : Options) → 3 ≤ options.line
+    → FollowsStyleName s files job options (out_of (job_said job) options (style_named files (job_said job) s))
 unfolding style_named
 asked_is None files job options wide = ended_at ended.Finished job.log
 asked_is (Some name) files job options wide = named (files name) files job name options wide
 
-behind_is : (e : AuxEnd) (files : Files) (job : AuxSaid) (options : Options) → 3 ≤ options.line
-    → IsBehind e files job options (out_of (job_said job) options (after_job files (job_said job) e))
+behind_is : (e : AuxEnd) (files : Files) (job : AuxContents) (options : Options) → 3 ≤ options.line
+    → FollowsAuxFiles e files job options (out_of (job_said job) options (after_job files (job_said job) e))
 unfolding after_job
 behind_is aux.Whole files job options wide = asked_is job.style files job options wide
 behind_is aux.TooManyOpen files job options wide = ended_at (ended.Limit limit.Files) job.log
@@ -381,7 +381,7 @@ is_product files name options wide =
     record {
       job = said;
       said = is_said files top;
-      behind = subst (IsBehind said.ending files said options)
+      behind = subst (FollowsAuxFiles said.ending files said options)
           (ap (λ (j : AuxJob). out_of j options (after_job files j j.ending)) (same_aux_job files top))
           (behind_is said.ending files said options wide);
     }

@@ -68,9 +68,9 @@ SameTypes numbers names (Some count) types =
     × ((name : List ℕ) → IsMeant numbers (option_map callee.User (type_number (Some count) (named_lower names name))) (known name))
 
 -- READ stands behind as many functions at most as there are
-abbrev pub IsBehind : ℕ → Option ℕ → Type 0
-IsBehind most None = Unit {0}
-IsBehind most (Some count) = count ≤ most
+abbrev pub IsAfter : ℕ → Option ℕ → Type 0
+IsAfter most None = Unit {0}
+IsAfter most (Some count) = count ≤ most
 
 -- the names of a style so far are the same, and none of them is that of a built-in function
 pub record SameSoFar (s : NumberedStyle) (t : SoFar) : Type 0 where
@@ -84,7 +84,7 @@ pub record SameSoFar (s : NumberedStyle) (t : SoFar) : Type 0 where
   pub has_entry : t.has_entry ≡ s.has_entry
   pub types : SameTypes (numbers_of s functions) s.names s.before_read t.types
   pub named_first : length s.names.functions ≤ length s.bodies
-  pub behind : IsBehind (length s.bodies) s.before_read
+  pub behind : IsAfter (length s.bodies) s.before_read
 
 pub record SameEnd (o : CommandOutcome) (e : CommandEnd) : Type 0 where
   pub wrong : e.wrong ≡ o.complaint
@@ -154,7 +154,7 @@ makes_agree P change other same s t p o h w k = (ended_at None (other t) p, refl
 with_parts : (s : NumberedStyle) (t : SoFar) (h : SameSoFar s t) (items : List Item) (commands : List Command) (macros said_macros : List (List ℕ × List ℕ))
     (entry said_entry : Bool) (before : Option ℕ) (types : Option (List ℕ → Option Function))
     → AreCommandsOf (numbers_of s h.functions) s.file items commands → said_macros ≡ macros → said_entry ≡ entry
-    → SameTypes (numbers_of s h.functions) s.names before types → IsBehind (length s.bodies) before
+    → SameTypes (numbers_of s h.functions) s.names before types → IsAfter (length s.bodies) before
     → SameSoFar (record s { items = items; macros = macros; has_entry = entry; before_read = before })
     (record t { commands = commands; macros = said_macros; has_entry = said_entry; types = types })
 with_parts s t h items commands macros said_macros entry said_entry before types are same_macros same_entry same_types behind = record {
@@ -475,11 +475,11 @@ not_below n count le = by (nat_lt n count) refl where
   by false e = e
   by true e = let lt = ltb-true n count e in absurd (omega (arith, lt, le))
 
-still_behind : (m n : ℕ) (before : Option ℕ) → m ≤ n → IsBehind m before → IsBehind n before
+still_behind : (m n : ℕ) (before : Option ℕ) → m ≤ n → IsAfter m before → IsAfter n before
 still_behind m n None le h = h
 still_behind m n (Some count) le h = omega (arith, le, h)
 
-behind_count : (n : ℕ) (before : Option ℕ) (count : ℕ) → before ≡ Some count → IsBehind n before → count ≤ n
+behind_count : (n : ℕ) (before : Option ℕ) (count : ℕ) → before ≡ Some count → IsAfter n before → count ≤ n
 behind_count n None count e h = absurd (cc)
 behind_count n (Some c) count e h = let same : c ≡ count = cc in subst (λ x. x ≤ n) same h
 

@@ -54,8 +54,8 @@ use Rattle.btx_machine.specs.language.Saying.{logging}
 use Rattle.btx_machine.specs.language.States.{State as NumberedState, Outcome as Came, Done as CameDone, Stopped as CameStopped, Limit as CameLimit}
 use Rattle.btx_core.specs.language.Meanings.{Done, Limited, Meaning, Outcome, Stopped, then_do}
 use Rattle.btx_core.specs.language.Notes.{error, shows}
-use Rattle.btx_core.specs.language.Runs.{Ascends, CommandsCome, GoesOn, IsInOrder, IsListBehind, NoneBefore, cleared, command_does, sort_key, visits}
-use Rattle.btx_core.specs.language.Runs.{visits_all}
+use Rattle.btx_core.specs.language.Runs.{Ascends, CommandsCome, GoesOn, IsInOrder, IsListAfter, NoneBefore, cleared, command_does, sort_key, visits}
+use Rattle.btx_core.specs.language.Runs.{execute_for_each}
 use Rattle.btx_core.specs.laws.SameLibraries.{limit_met}
 use Rattle.btx_core.specs.laws.SameStyles.{AreCommandsOf, commands_of, stands_for}
 use Rattle.btx_core.specs.language.Styles.{Body, Command, Entry, Execute, Function, Iterate, Job, Library, Literal, Read, Reverse, Says, Sort, State, Style}
@@ -269,7 +269,7 @@ module _ (job : NumberedJob) (style : Style) (library : Library) (h : SameJob jo
 
   visits_same : (c : Commanded) (name : List ℕ) → name ≡ command_word c → (f : Callee) → known (token.Run f) → (xs : List ℕ) → AllIn xs
       → (left : ℕ) (S : NumberedState) (s : State) → Same S s
-      → SameCame (in_order (λ e. visit job c f (Some e)) xs left S) (visits_all means name (of f) (map entry xs) left s)
+      → SameCame (in_order (λ e. visit job c f (Some e)) xs left S) (execute_for_each means name (of f) (map entry xs) left s)
   visits_same c name named f k [] all left S s r = (r, refl)
   visits_same c name named f k (x ∷ xs) all left S s r =
       then_same _ _ (visit_same c name named f k (Some x) (λ i is. subst (λ j. j < entries) (same_Some x i is) all.0) left S s r) _ _
@@ -443,7 +443,7 @@ module _ (job : NumberedJob) (style : Style) (library : Library) (h : SameJob jo
   -- an item that is a command
   commanded : (x : Item) (items : List Item) (c : Command) (more : List Command) (list next : List ℕ) (left : ℕ) (S : NumberedState) (s : State)
       → list_after job x list S.store ≡ next
-      → IsListBehind library c (map entry list) s (map entry next) → SameCame (do_item job list x left S) (command_does means library (map entry list) c left s)
+      → IsListAfter library c (map entry list) s (map entry next) → SameCame (do_item job list x left S) (command_does means library (map entry list) c left s)
       → ((b : ℕ) (T : NumberedState) (t : State) → Same T t → Comes items more next b T t) → Comes (x ∷ items) (c ∷ more) list left S s
   unfolding do_items
   commanded x items c more list next left S s e behind same rest =
@@ -494,7 +494,7 @@ module _ (job : NumberedJob) (style : Style) (library : Library) (h : SameJob jo
       subst (λ cs. Comes (item.Reverse f ∷ items) (cs ++ more) list left S s) (sym (executed_is (λ (f : Function). Reverse f ∷ []) f first e))
       (commanded (item.Reverse f) items (Reverse (of f)) more list list left S s refl refl
       (subst (λ (es : List Entry). SameCame (in_order (λ e. visit job command.Reverse f (Some e)) (reverse list) left S)
-      (visits_all means (codes "REVERSE") (of f) es left s)) (map_reverse list)
+      (execute_for_each means (codes "REVERSE") (of f) es left s)) (map_reverse list)
       (visits_same command.Reverse (codes "REVERSE") refl f (function_known f k) (reverse list) (reversed_in list all) left S s r)) (rest list all))
   item_same item.Sort items more first e k rest list all left S s r =
       subst (λ f. Comes (item.Sort ∷ items) (f ++ more) list left S s) (same_Some _ first e)

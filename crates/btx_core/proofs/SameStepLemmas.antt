@@ -28,7 +28,7 @@ use Rattle.btx_step.specs.declared.said.Said.TheVariants as said
 use Rattle.btx_step.specs.language.Answers as answers
 use Rattle.btx_step.specs.language.Answers.{Answer, pushes_text, pushes, with_literals}
 use Rattle.btx_step.specs.language.Variables as variables
-use Rattle.btx_step.specs.declared.literal.Wanted.TheVariants as wanted
+use Rattle.btx_step.specs.declared.literal.OperandKind.TheVariants as wanted
 use Rattle.btx_step.specs.declared.stand_in.StandIn.TheVariants as stand_in
 use Rattle.btx_text.specs.declared.limits.Limit.TheVariants as limit
 use Rattle.btx_text.specs.declared.limits.TheConstants.{MOST_LITERALS}
@@ -46,8 +46,8 @@ use Rattle.btx_machine.specs.language.States.{Out, state}
 use Rattle.btx_machine.specs.language.States.{State as NumberedState}
 use Rattle.btx_machine.specs.language.Steps.{token_effect, turn_of}
 use Rattle.btx_core.specs.language.Files.Counts.{counts_of}
-use Rattle.btx_core.specs.language.Functions.{AFunction, AnyLiteral, Effect, Leaves, assigns, by_rule, function_effect}
-use Rattle.btx_core.specs.language.Functions.{not_what_was_asked, on_literals, or_instead, push, push_instead, push_text, row, test_of, tested, word_effect}
+use Rattle.btx_core.specs.language.Functions.{AFunction, AnyLiteral, Effect, Leaves, assigns, with_operands_checked, function_effect}
+use Rattle.btx_core.specs.language.Functions.{wrong_operand_text, on_literals, or_else_default, push, push_default, push_text, row, test_of, tested, word_effect}
 use Rattle.btx_core.specs.language.Meanings.{deeper}
 use Rattle.btx_core.specs.language.Notes.{empty_stack, error, errors}
 use Rattle.btx_core.specs.language.Notes.{name_of as shown_name}
@@ -516,11 +516,11 @@ module _ (job : NumberedJob) (style : Style) (library : Library) (h : SameJob jo
 
   -- what `:=` does is the same, whatever stands on the stack; and the store stays whole
   record Assigned (frame : State) (s : Store) : Type 0 where
-    same : by_rule (row computed here built_in.Assign) (state_of frame s) ≡ now frame (built_in_run job built_in.Assign s)
+    same : with_operands_checked (row computed here built_in.Assign) (state_of frame s) ≡ now frame (built_in_run job built_in.Assign s)
     whole : Whole (built_in_run job built_in.Assign s).store
 
   -- this many literals are missing
-  lacking : (n : ℕ) (frame : State) (s : Store) → push_instead None (errors (replicate n empty_stack) (state_of frame (with_literals [] s)))
+  lacking : (n : ℕ) (frame : State) (s : Store) → push_default None (errors (replicate n empty_stack) (state_of frame (with_literals [] s)))
       ≡ now frame (answers.complained (replicate n note.EmptyStack) stand_in.Nothing (with_literals [] s))
   lacking n frame s = table.complained_same job style library naming (replicate n note.EmptyStack) (replicate n empty_stack)
       (table.errors_absent job style library naming n) stand_in.Nothing (vars frame s) (with_literals [] s)
@@ -542,15 +542,15 @@ module _ (job : NumberedJob) (style : Style) (library : Library) (h : SameJob jo
     taken : Literal → Result (State → Effect) (List ℕ)
     taken top = on_literals (AFunction ∷ AnyLiteral ∷ []) (assigns here) (top ∷ lit y ∷ map lit xs)
 
-    ruled : (top : Numbered) → by_rule (row computed here built_in.Assign) (state_of frame (with_literals (top ∷ y ∷ xs) s))
-        ≡ or_instead (taken (lit top)) None (state_of frame below)
-    ruled top = ap (λ (t : Bool). if t then push_instead None (errors (replicate (2 - suc (suc (length (map lit xs)))) empty_stack) (state_of frame below)) else
-        or_instead (taken (lit top)) None (state_of frame below))
+    ruled : (top : Numbered) → with_operands_checked (row computed here built_in.Assign) (state_of frame (with_literals (top ∷ y ∷ xs) s))
+        ≡ or_else_default (taken (lit top)) None (state_of frame below)
+    ruled top = ap (λ (t : Bool). if t then push_default None (errors (replicate (2 - suc (suc (length (map lit xs)))) empty_stack) (state_of frame below)) else
+        or_else_default (taken (lit top)) None (state_of frame below))
         (table.at_least_two job style library naming (length (map lit xs)))
 
-    wrong_kind : (top : Numbered) → Leaves (error (not_what_was_asked AFunction (lit top)) (state_of frame below))
+    wrong_kind : (top : Numbered) → Leaves (error (wrong_operand_text AFunction (lit top)) (state_of frame below))
         ≡ now frame (answers.complains (note.WrongKind top wanted.Function) stand_in.Nothing below)
-    wrong_kind top = table.complains_same job style library naming (note.WrongKind top wanted.Function) (not_what_was_asked AFunction (lit top))
+    wrong_kind top = table.complains_same job style library naming (note.WrongKind top wanted.Function) (wrong_operand_text AFunction (lit top))
         (table.no_function job style library naming top) stand_in.Nothing (vars frame s) below
 
     of_top : (top : Numbered) → HasLiteral job h.refers top → Assigned frame (with_literals (top ∷ y ∷ xs) s)

@@ -13,14 +13,14 @@ use Rattle.btx_bst.specs.laws.StyleText.{unread_style}
 use Rattle.btx_bst.specs.laws.Places.{beginning}
 use Rattle.btx_bst.proofs.CommandSpellingLemmas.{style-read, one-reading}
 use Rattle.btx_bib.specs.declared.end.End.TheVariants as end
-use Rattle.btx_bib.specs.declared.grammar.commands.Wanted.TheVariants as wants
+use Rattle.btx_bib.specs.declared.grammar.commands.Expected.TheVariants as wants
 use Rattle.btx_bib.specs.language.Grammar.Items.{events_from}
 use Rattle.btx_bib.specs.language.Known.{goes_on, keeping, with_current_stored}
 use Rattle.btx_bib.specs.language.Databases.{library_of, library_by, read_one}
 use Rattle.btx_bib.specs.language.Library.{Library}
 use Rattle.btx_bib.specs.language.Messages.{Database, Reading, read_next}
 use Rattle.btx_bib.specs.language.Requests.{asked}
-use Rattle.btx_bib.specs.language.Wanted.{Request}
+use Rattle.btx_bib.specs.language.Request.{Request}
 use Rattle.btx_bib.specs.laws.Databases.{with_macros}
 use Rattle.btx_bib.proofs.GrammarLemmas.ReadingLemmas.{is_reading, one_reading}
 use Rattle.btx_step.specs.language.Jobs.{Job}
@@ -48,7 +48,7 @@ use Rattle.btx_core.specs.language.Files.Counts.{counts_of}
 use Rattle.btx_core.specs.refinement.Files.Readings.{job_named, reading_of}
 use Rattle.btx_core.specs.refinement.ComputedProduct.{product_of_files, product}
 use Rattle.btx_machine.specs.language.Saying.{ended_line}
-use Rattle.btx_core.specs.laws.ByNumbers.{item_by, IsListBehind, GoesOn, ItemsCome, IsStyleProduct, IsReadBy, AreRead, IsLibrary, IsStyleOf, IsProductOfFiles}
+use Rattle.btx_core.specs.laws.ByNumbers.{item_by, IsListAfter, GoesOn, ItemsCome, IsStyleProduct, IsReadBy, AreRead, IsLibrary, IsStyleOf, IsProductOfFiles}
 use Rattle.btx_core.specs.laws.ByNumbers.{IsTheProduct}
 
 -- ---- commands
@@ -70,7 +70,7 @@ item_same job list item.Integers left s = refl
 item_same job list item.Strings left s = refl
 item_same job list item.Macro left s = refl
 
-behind : (job : Job) (x : Item) (list : List ℕ) (store : Store) → IsListBehind job x list store (list_after job x list store)
+behind : (job : Job) (x : Item) (list : List ℕ) (store : Store) → IsListAfter job x list store (list_after job x list store)
 behind job (item.Message complaint line) list store = refl
 behind job item.Read list store = refl
 behind job (item.Execute f) list store = refl
@@ -83,7 +83,7 @@ behind job item.Integers list store = refl
 behind job item.Strings list store = refl
 behind job item.Macro list store = refl
 
-behind_only : (job : Job) (x : Item) (list : List ℕ) (store : Store) (next : List ℕ) → IsListBehind job x list store next → next ≡ list_after job x list store
+behind_only : (job : Job) (x : Item) (list : List ℕ) (store : Store) (next : List ℕ) → IsListAfter job x list store next → next ≡ list_after job x list store
 behind_only job (item.Message complaint line) list store next h = h
 behind_only job item.Read list store next h = h
 behind_only job (item.Execute f) list store next h = h

@@ -22,7 +22,7 @@ use Rattle.btx_bst.specs.language.Style.{type_of}
 use Rattle.btx_bib.specs.language.Library.{key_of, entry_type, entry_value}
 use Rattle.btx_stack.specs.declared.literal.Literal.{Literal as Numbered}
 use Rattle.btx_stack.specs.declared.literal.Literal.TheVariants as literal
-use Rattle.btx_step.specs.declared.literal.Wanted.TheVariants as wanted
+use Rattle.btx_step.specs.declared.literal.OperandKind.TheVariants as wanted
 use Rattle.btx_step.specs.declared.next.Next.{Next}
 use Rattle.btx_step.specs.declared.next.Next.TheVariants as next
 use Rattle.btx_step.specs.declared.said.Note.{Note}
@@ -44,9 +44,9 @@ use Rattle.btx_step.specs.language.Stores.{Store, EntryVariables}
 use Rattle.btx_core.specs.language.Styles.{set, Declared, Defined, Body, Entry, Function, Built, Integer, Text, Quoted, Missing, Job, Library, Literal, State}
 use Rattle.btx_core.specs.language.Styles.{Style}
 use Rattle.btx_core.specs.language.Notes.{cut_to, name_of, shown, logs, place, error, errors, shows, empty_stack, no_entry, not_ascii}
-use Rattle.btx_core.specs.language.Functions.{Effect, Leaves, Meets, Runs, Opens, Loops, push, push_text_in, push_instead, zero_instead, empty_instead, Operand}
-use Rattle.btx_core.specs.language.Functions.{AnyLiteral, AnInteger, AString, AFunction, AField, Value, not_what_was_asked, Does, on_literals, or_instead}
-use Rattle.btx_core.specs.language.Functions.{by_rule, takes}
+use Rattle.btx_core.specs.language.Functions.{Effect, Leaves, Meets, Runs, Opens, Loops, push, push_text_in, push_default, zero_default, empty_default, Operand}
+use Rattle.btx_core.specs.language.Functions.{AnyLiteral, AnInteger, AString, AFunction, AField, Value, wrong_operand_text, Does, on_literals, or_else_default}
+use Rattle.btx_core.specs.language.Functions.{with_operands_checked, takes}
 use Rattle.std.specs.Fmt.{signed_decimal}
 use Rattle.btx_core.specs.language.Functions.{function_effect, push_truth, push_text, in_entry, equals, push_result, code_of, character_of, changes_case}
 use Rattle.btx_core.specs.language.Functions.{is_empty_field, is_positive, calls_type, row, built_in_effect, missing_without_entry, swaps, formats_name}
@@ -283,19 +283,19 @@ module _ (job : NumberedJob) (style : Style) (library : Library) (naming : Namin
 
   abbrev pub stand : StandIn → Option Literal
   stand stand_in.Nothing = None
-  stand stand_in.Zero = zero_instead
-  stand stand_in.Empty = empty_instead
+  stand stand_in.Zero = zero_default
+  stand stand_in.Empty = empty_default
 
-  pub complained_same : (ns : List Note) (ts : List (List ℕ)) → AreErrors ns ts → (instead : StandIn)
-      → Same (λ s. push_instead (stand instead) (errors ts s)) (answers.complained ns instead)
+  pub complained_same : (ns : List Note) (ts : List (List ℕ)) → AreErrors ns ts → (default : StandIn)
+      → Same (λ s. push_default (stand default) (errors ts s)) (answers.complained ns default)
   complained_same ns ts h stand_in.Nothing frame s = ap Leaves (errors_same ns ts h frame s)
   complained_same ns ts h stand_in.Zero frame s = ap (push (Integer (pos 0))) (errors_same ns ts h frame s)
       ∙ push_same (said.Noted ns) (literal.Integer (pos 0)) frame s
   complained_same ns ts h stand_in.Empty frame s = ap (push (Text [])) (errors_same ns ts h frame s) ∙ push_same (said.Noted ns) (literal.Text []) frame s
 
-  pub complains_same : (n : Note) (t : List ℕ) → IsError n t → (instead : StandIn)
-      → Same (λ s. push_instead (stand instead) (error t s)) (answers.complains n instead)
-  complains_same n t h instead = complained_same (n ∷ []) (t ∷ []) (h, refl) instead
+  pub complains_same : (n : Note) (t : List ℕ) → IsError n t → (default : StandIn)
+      → Same (λ s. push_default (stand default) (error t s)) (answers.complains n default)
+  complains_same n t h default = complained_same (n ∷ []) (t ∷ []) (h, refl) default
 
   -- ---- operands
 
@@ -330,19 +330,19 @@ module _ (job : NumberedJob) (style : Style) (library : Library) (naming : Namin
   unfolding note_text note_kind has_place
   no_entry_is = record { of_text = refl; of_kind = refl; of_place = refl }
 
-  no_integer : (x : Numbered) → IsError (note.WrongKind x wanted.Integer) (not_what_was_asked AnInteger (lit x))
+  no_integer : (x : Numbered) → IsError (note.WrongKind x wanted.Integer) (wrong_operand_text AnInteger (lit x))
   unfolding note_text note_kind has_place
   no_integer x = record { of_text = ap (λ t. t ++ codes " is not an integer") (shown_same x); of_kind = refl; of_place = refl }
 
-  no_string : (x : Numbered) → IsError (note.WrongKind x wanted.Text) (not_what_was_asked AString (lit x))
+  no_string : (x : Numbered) → IsError (note.WrongKind x wanted.Text) (wrong_operand_text AString (lit x))
   unfolding note_text note_kind has_place
   no_string x = record { of_text = ap (λ t. t ++ codes " is not a string") (shown_same x); of_kind = refl; of_place = refl }
 
-  pub no_function : (x : Numbered) → IsError (note.WrongKind x wanted.Function) (not_what_was_asked AFunction (lit x))
+  pub no_function : (x : Numbered) → IsError (note.WrongKind x wanted.Function) (wrong_operand_text AFunction (lit x))
   unfolding note_text note_kind has_place
   no_function x = record { of_text = ap (λ t. t ++ codes " is not a function") (shown_same x); of_kind = refl; of_place = refl }
 
-  no_field : (x : Numbered) → IsError (note.WrongKind x wanted.TextOrMissing) (not_what_was_asked AField (lit x))
+  no_field : (x : Numbered) → IsError (note.WrongKind x wanted.TextOrMissing) (wrong_operand_text AField (lit x))
   unfolding note_text note_kind has_place
   no_field x = record { of_text = ap (λ t. t ++ codes " is not a string or missing field") (shown_same x); of_kind = refl; of_place = refl }
 
@@ -408,50 +408,50 @@ module _ (job : NumberedJob) (style : Style) (library : Library) (naming : Namin
   drop_map (suc k) [] = refl
   drop_map (suc k) (x ∷ xs) = drop_map k xs
 
-  rule : (os : List Operand) (instead : StandIn) (does : Does os) (now : operands.Does (map asked os)) → Related os does now
-      → Same (by_rule (takes os (stand instead) does)) (λ s. operands.on_operands (map asked os) (Push instead) now s.literals s)
-  rule os instead does now rel frame s =
+  rule : (os : List Operand) (default : StandIn) (does : Does os) (now : operands.Does (map asked os)) → Related os does now
+      → Same (with_operands_checked (takes os (stand default) does)) (λ s. operands.on_operands (map asked os) (Push default) now s.literals s)
+  rule os default does now rel frame s =
       ap₂ side (length-map s.literals lit) (drop_map (length os) s.literals)
       ∙ by (nat_lt (length s.literals) (length os)) refl
-      ∙ ap (λ k. answered frame (operands.or_default (operands.applied (map asked os) now s.literals) (Push instead)
+      ∙ ap (λ k. answered frame (operands.or_default (operands.applied (map asked os) now s.literals) (Push default)
       (operands.or_else (operands.absent (map asked os) s.literals) (operands.wrong (map asked os) s.literals)) s.literals (drop k s.literals) s))
       (sym (length-map os asked)) where
         side : ℕ → List Literal → Effect
-        side n ys = if nat_lt n (length os) then push_instead (stand instead)
+        side n ys = if nat_lt n (length os) then push_default (stand default)
             (errors (replicate (length os - n) empty_stack) (record (in_names frame s) { literals = ys }))
-            else or_instead (on_literals os does (map lit s.literals)) (stand instead) (record (in_names frame s) { literals = ys })
+            else or_else_default (on_literals os does (map lit s.literals)) (stand default) (record (in_names frame s) { literals = ys })
 
         below : Store
         below = answers.with_literals (drop (length os) s.literals) s
 
         finish : (r : Result (State → Effect) (List ℕ)) (m : Option (Store → Answer)) (ns : List Note) → RelatedResult r m ns
-            → or_instead r (stand instead) (in_names frame below)
-            ≡ answered frame (operands.or_default m (Push instead) ns s.literals (drop (length os) s.literals) s)
+            → or_else_default r (stand default) (in_names frame below)
+            ≡ answered frame (operands.or_default m (Push default) ns s.literals (drop (length os) s.literals) s)
         finish (Ok does) (Some now) ns h = h frame below
-        finish (Err text) None (n ∷ []) h = complains_same n text h instead frame below
+        finish (Err text) None (n ∷ []) h = complains_same n text h default frame below
         finish (Ok does) None ns h = absurd (true≢false h)
         finish (Err text) (Some now) ns h = absurd (true≢false h)
         finish (Err text) None [] h = absurd (true≢false h)
         finish (Err text) None (n ∷ m ∷ ns) h = absurd (true≢false h)
 
         by : (b : Bool) → nat_lt (length s.literals) (length os) ≡ b → side (length s.literals) (map lit (drop (length os) s.literals))
-            ≡ answered frame (operands.or_default (operands.applied (map asked os) now s.literals) (Push instead)
+            ≡ answered frame (operands.or_default (operands.applied (map asked os) now s.literals) (Push default)
             (operands.or_else (operands.absent (map asked os) s.literals) (operands.wrong (map asked os) s.literals)) s.literals (drop (length os) s.literals)
             s)
         by true h =
-            ap (λ (z : Bool). if z then push_instead (stand instead) (errors (replicate (length os - length s.literals) empty_stack) (in_names frame below))
-            else or_instead (on_literals os does (map lit s.literals)) (stand instead) (in_names frame below)) h
+            ap (λ (z : Bool). if z then push_default (stand default) (errors (replicate (length os - length s.literals) empty_stack) (in_names frame below))
+            else or_else_default (on_literals os does (map lit s.literals)) (stand default) (in_names frame below)) h
             ∙ complained_same (replicate (length os - length s.literals) note.EmptyStack) (replicate (length os - length s.literals) empty_stack)
-            (errors_absent (length os - length s.literals)) instead frame below
-            ∙ sym (ap₂ (λ m ns. answered frame (operands.or_default m (Push instead) ns s.literals (drop (length os) s.literals) s))
+            (errors_absent (length os - length s.literals)) default frame below
+            ∙ sym (ap₂ (λ m ns. answered frame (operands.or_default m (Push default) ns s.literals (drop (length os) s.literals) s))
             (not_applied os now s.literals (ltb-true (length s.literals) (length os) h))
             (are_absent os s.literals (operands.wrong (map asked os) s.literals) (ltb-true (length s.literals) (length os) h)))
         by false h =
-            ap (λ (z : Bool). if z then push_instead (stand instead) (errors (replicate (length os - length s.literals) empty_stack) (in_names frame below))
-            else or_instead (on_literals os does (map lit s.literals)) (stand instead) (in_names frame below)) h
+            ap (λ (z : Bool). if z then push_default (stand default) (errors (replicate (length os - length s.literals) empty_stack) (in_names frame below))
+            else or_else_default (on_literals os does (map lit s.literals)) (stand default) (in_names frame below)) h
             ∙ finish (on_literals os does (map lit s.literals)) (operands.applied (map asked os) now s.literals) (operands.wrong (map asked os) s.literals)
             (enough os does now rel s.literals (ltb-false (length s.literals) (length os) h))
-            ∙ sym (ap (λ ns. answered frame (operands.or_default (operands.applied (map asked os) now s.literals) (Push instead)
+            ∙ sym (ap (λ ns. answered frame (operands.or_default (operands.applied (map asked os) now s.literals) (Push default)
             (operands.or_else ns (operands.wrong (map asked os) s.literals)) s.literals (drop (length os) s.literals) s))
             (none_absent os s.literals (ltb-false (length s.literals) (length os) h)))
 
@@ -493,7 +493,7 @@ module _ (job : NumberedJob) (style : Style) (library : Library) (naming : Namin
   unfolding note_text note_kind has_place
   no_conversion_is letter = record { of_text = refl; of_kind = refl; of_place = refl }
 
-  incomparables : Same (λ s. push_instead zero_instead (error incomparable s)) (answers.complains note.Incomparable stand_in.Zero)
+  incomparables : Same (λ s. push_default zero_default (error incomparable s)) (answers.complains note.Incomparable stand_in.Zero)
   incomparables = complains_same note.Incomparable incomparable incomparable_is stand_in.Zero
 
   equals_same : (b a : Numbered) → Same (equals (lit b) (lit a)) (arithmetic.equals b a)
@@ -510,7 +510,7 @@ module _ (job : NumberedJob) (style : Style) (library : Library) (naming : Namin
 
   result_same : (n : ℤ) → Same (push_result n) (arithmetic.result_of n)
   result_same n frame s = by (arithmetic.fits n) where
-    by : (b : Bool) → (if b then push (Integer n) (in_names frame s) else push_instead zero_instead (error overflow (in_names frame s)))
+    by : (b : Bool) → (if b then push (Integer n) (in_names frame s) else push_default zero_default (error overflow (in_names frame s)))
         ≡ answered frame (if b then answers.pushed (literal.Integer n) s else answers.complains note.Overflow stand_in.Zero s)
     by true = pushed_same (literal.Integer n) frame s
     by false = complains_same note.Overflow overflow overflow_is stand_in.Zero frame s
@@ -522,7 +522,7 @@ module _ (job : NumberedJob) (style : Style) (library : Library) (naming : Namin
 
   character_same : (n : ℤ) → Same (character_of n) (arithmetic.gives_character n)
   character_same (pos n) frame s = by (nat_lt n 128) where
-    by : (b : Bool) → (if b then push (Text (n ∷ [])) (in_names frame s) else push_instead empty_instead (error (not_ascii (pos n)) (in_names frame s)))
+    by : (b : Bool) → (if b then push (Text (n ∷ [])) (in_names frame s) else push_default empty_default (error (not_ascii (pos n)) (in_names frame s)))
         ≡ answered frame (if b then answers.pushed (literal.Text (n ∷ [])) s else answers.complains (note.NotAscii (pos n)) stand_in.Empty s)
     by true = pushed_same (literal.Text (n ∷ [])) frame s
     by false = complains_same (note.NotAscii (pos n)) (not_ascii (pos n)) (not_ascii_is (pos n)) stand_in.Empty frame s
@@ -579,7 +579,7 @@ module _ (job : NumberedJob) (style : Style) (library : Library) (naming : Namin
 
   -- what a built-in function does by its row
   abbrev RowSame : BuiltIn → Type 0
-  RowSame f = Same (by_rule (row computed here f)) (table.runs f ((table.row f).does job))
+  RowSame f = Same (with_operands_checked (row computed here f)) (table.runs f ((table.row f).does job))
 
   call_type_row : RowSame built_in.CallType
   call_type_row = rule [] stand_in.Nothing (in_entry (calls_type computed here)) ((table.row built_in.CallType).does job)
@@ -761,13 +761,13 @@ module _ (job : NumberedJob) (style : Style) (library : Library) (naming : Namin
   swap_with (x ∷ y ∷ xs) frame s =
       ap (λ (z : Bool). if z then Leaves (errors (replicate (2 - length (map lit (x ∷ y ∷ xs))) empty_stack)
       (in_names frame (answers.with_literals (x ∷ y ∷ xs) s)))
-      else by_rule (row computed here built_in.Swap) (in_names frame (answers.with_literals (x ∷ y ∷ xs) s))) (at_least_two (length (map lit xs)))
-      ∙ ap (λ (z : Bool). if z then push_instead None
+      else with_operands_checked (row computed here built_in.Swap) (in_names frame (answers.with_literals (x ∷ y ∷ xs) s))) (at_least_two (length (map lit xs)))
+      ∙ ap (λ (z : Bool). if z then push_default None
       (errors (replicate (2 - length (map lit (x ∷ y ∷ xs))) empty_stack) (in_names frame (answers.with_literals xs s)))
       else Leaves (in_names frame (answers.with_literals (y ∷ x ∷ xs) s))) (at_least_two (length (map lit xs)))
 
   missing_with : (c : Option ℕ) (frame : State) (s : Store) → s.current ≡ c
-      → option_map_or (λ (entry : Entry). by_rule (row computed here built_in.Missing) (in_names frame s)) (option_map entry c)
+      → option_map_or (λ (entry : Entry). with_operands_checked (row computed here built_in.Missing) (in_names frame s)) (option_map entry c)
       (missing_without_entry computed here (in_names frame s))
       ≡ answered frame (table.runs_missing c s)
   missing_with None frame s e = missing_none s.literals frame s
@@ -802,13 +802,13 @@ module _ (job : NumberedJob) (style : Style) (library : Library) (naming : Namin
   tested_same (literal.Integer n ∷ xs) frame s = ap (λ (b : Bool). (b, in_names frame (answers.with_literals xs s))) (positive_same n)
   tested_same (literal.Text x ∷ xs) frame s =
       ap (λ (t : State). (false, t)) (error_same frame (answers.with_literals xs s) (note.WrongKind (literal.Text x) wanted.Integer)
-      (not_what_was_asked AnInteger (lit (literal.Text x))) (no_integer (literal.Text x)))
+      (wrong_operand_text AnInteger (lit (literal.Text x))) (no_integer (literal.Text x)))
   tested_same (literal.Function x ∷ xs) frame s =
       ap (λ (t : State). (false, t)) (error_same frame (answers.with_literals xs s) (note.WrongKind (literal.Function x) wanted.Integer)
-      (not_what_was_asked AnInteger (lit (literal.Function x))) (no_integer (literal.Function x)))
+      (wrong_operand_text AnInteger (lit (literal.Function x))) (no_integer (literal.Function x)))
   tested_same (literal.Missing ∷ xs) frame s =
       ap (λ (t : State). (false, t)) (error_same frame (answers.with_literals xs s) (note.WrongKind literal.Missing wanted.Integer)
-      (not_what_was_asked AnInteger Missing) (no_integer literal.Missing))
+      (wrong_operand_text AnInteger Missing) (no_integer literal.Missing))
 
   -- ---- `:=`
 

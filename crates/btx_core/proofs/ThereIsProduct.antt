@@ -11,7 +11,7 @@ use Rattle.btx_aux.specs.language.Names.{with_ending}
 use Rattle.btx_bib.specs.language.Messages.{Database}
 use Rattle.btx_machine.specs.declared.report.End.TheVariants as ended
 use Rattle.btx_machine.specs.language.Product.{Product}
-use Rattle.btx_out.specs.language.Breaking.{wrap, sure}
+use Rattle.btx_out.specs.language.Breaking.{wrap, committed}
 use Rattle.btx_core.specs.declared.options.Options.{Options}
 use Rattle.btx_core.specs.language.Files.Found.{NamedFile}
 use Rattle.btx_core.specs.language.Files.Lines.{no_style_line, style_line}
@@ -20,9 +20,9 @@ use Rattle.btx_core.specs.language.Styles.{Command, Says, Read, Execute, Iterate
 use Rattle.btx_core.specs.language.Divisions.{Divisions}
 use Rattle.btx_core.specs.language.Names.{AreDivisions}
 use Rattle.btx_core.specs.language.Meanings.{Outcome, Done, Stopped, Limited, Meaning}
-use Rattle.btx_core.specs.language.Runs.{IsListBehind, sort_key, command_does, GoesOn, CommandsCome}
-use Rattle.btx_core.specs.language.AuxFiles.{AuxSaid}
-use Rattle.btx_core.specs.language.Product.{comes_to, ends_with, IsExecuted, asked_by, IsStyled, IsFound, IsNamed, IsAsked, IsBehind}
+use Rattle.btx_core.specs.language.Runs.{IsListAfter, sort_key, command_does, GoesOn, CommandsCome}
+use Rattle.btx_core.specs.language.AuxFiles.{AuxContents}
+use Rattle.btx_core.specs.language.Product.{comes_to, ends_with, IsExecuted, asked_by, IsExecutionOfStyle, FollowsStyleSize, FollowsStyleFile, FollowsStyleName, FollowsAuxFiles}
 use Rattle.btx_core.specs.laws.ProductLaws.{SomeProduct}
 use Rattle.btx_core.proofs.SortLemmas.{there_is_order}
 use Rattle.btx_core.proofs.MeaningLemmas.{by_steps, there_is_meaning}
@@ -33,7 +33,7 @@ use Rattle.btx_core.proofs.AuxLemmas.{is_said, said_by}
 use Rattle.btx_core.proofs.ComputedLemmas.{computed}
 use Rattle.btx_core.proofs.FormatsThere.{divided}
 
-unfoldable pub behind_there : (library : Library) (c : Command) (list : List Entry) (s : State) → (next : List Entry) × IsListBehind library c list s next
+unfoldable pub behind_there : (library : Library) (c : Command) (list : List Entry) (s : State) → (next : List Entry) × IsListAfter library c list s next
 behind_there library (Says line) list s = (list, refl)
 behind_there library Read list s = (library.entries, refl)
 behind_there library (Execute f) list s = (list, refl)
@@ -59,7 +59,7 @@ module _ (the : Divisions) (are : AreDivisions the) (options : Options) (wide : 
   -- a style is executed as its commands come to
   pub executed_so : (job : Job) (log : List Line) (outcome : Outcome)
       → CommandsCome (by_steps the job) job.library job.style.commands [] options.budget (first_state job log) outcome
-      → (product : Product) → product ≡ comes_to (wrap options.line) (sure options.line) options.budget outcome → IsExecuted job log options product
+      → (product : Product) → product ≡ comes_to (wrap options.line) (committed options.line) options.budget outcome → IsExecuted job log options product
   executed_so job log outcome come product is = record {
     the = the;
     divided = are;
@@ -67,8 +67,8 @@ module _ (the : Divisions) (are : AreDivisions the) (options : Options) (wide : 
     meant = there_is_meaning the job;
     wrapped = wrap options.line;
     are_wrapped = wrapped options.line wide;
-    sure = sure options.line;
-    are_sure = sure_is options.line wide;
+    committed = committed options.line;
+    are_committed = sure_is options.line wide;
     outcome = outcome;
     come = come;
     product_is = is;
@@ -77,11 +77,11 @@ module _ (the : Divisions) (are : AreDivisions the) (options : Options) (wide : 
   unfoldable pub executed_there : (job : Job) (log : List Line) → (p : Product) × IsExecuted job log options p
   executed_there job log =
       let c = come_there (by_steps the job) job.library job.style.commands [] options.budget (first_state job log) in
-      let product : Product = comes_to (wrap options.line) (sure options.line) options.budget c.0 in
+      let product : Product = comes_to (wrap options.line) (committed options.line) options.budget c.0 in
       (product, executed_so job log c.0 c.1 product refl)
 
-  unfoldable pub styled_there : (files : Files) (job : AuxSaid) (name text : List ℕ) (log : List Line)
-      → (p : Product) × IsStyled files job name text log options p
+  unfoldable pub styled_there : (files : Files) (job : AuxContents) (name text : List ℕ) (log : List Line)
+      → (p : Product) × IsExecutionOfStyle files job name text log options p
   styled_there files job name text log =
       let databases : List Database = map (λ (file : NamedFile). record { file = file.name; text = file.bytes }) (files_found files job.databases) in
       let s = there_is_style name text in
@@ -90,20 +90,20 @@ module _ (the : Divisions) (are : AreDivisions the) (options : Options) (wide : 
       let e = executed_there work (log ++ databases_logged files [] job.databases) in
       (e.0, record { style = s.0; styled = s.1; library = l.0; gathered = l.1; executed = e.1 })
 
-  unfoldable pub found_there : (t : Bool) (files : Files) (job : AuxSaid) (name text : List ℕ) (log : List Line)
-      → (p : Product) × IsFound t files job name text log options p
+  unfoldable pub found_there : (t : Bool) (files : Files) (job : AuxContents) (name text : List ℕ) (log : List Line)
+      → (p : Product) × FollowsStyleSize t files job name text log options p
   found_there true files job name text log = (ends_with (ended.Limit limit.File) 0 0 [] log, refl)
   found_there false files job name text log = styled_there files job name text log
 
-  unfoldable pub named_there : (f : Option (List ℕ)) (files : Files) (job : AuxSaid) (name : List ℕ) → (p : Product) × IsNamed f files job name options p
+  unfoldable pub named_there : (f : Option (List ℕ)) (files : Files) (job : AuxContents) (name : List ℕ) → (p : Product) × FollowsStyleFile f files job name options p
   named_there None files job name = (ends_with ended.Finished 0 0 [] (job.log ++ no_style_line name ∷ []), refl)
   named_there (Some text) files job name = found_there (is_too_long text) files job name text (job.log ++ style_line name ∷ [])
 
-  unfoldable pub asked_there : (n : Option (List ℕ)) (files : Files) (job : AuxSaid) → (p : Product) × IsAsked n files job options p
+  unfoldable pub asked_there : (n : Option (List ℕ)) (files : Files) (job : AuxContents) → (p : Product) × FollowsStyleName n files job options p
   asked_there None files job = (ends_with ended.Finished 0 0 [] job.log, refl)
   asked_there (Some name) files job = named_there (files name) files job name
 
-  unfoldable pub behind_files_there : (e : AuxEnd) (files : Files) (job : AuxSaid) → (p : Product) × IsBehind e files job options p
+  unfoldable pub behind_files_there : (e : AuxEnd) (files : Files) (job : AuxContents) → (p : Product) × FollowsAuxFiles e files job options p
   behind_files_there aux.Whole files job = asked_there job.style files job
   behind_files_there aux.TooManyOpen files job = (ends_with (ended.Limit limit.Files) 0 0 [] job.log, refl)
   behind_files_there aux.TopMissing files job = (ends_with ended.NoTopFile 0 0 [] job.log, refl)

@@ -7,7 +7,7 @@ use btx_check::adding::add;
 use btx_check::description::Value;
 use btx_check::operands::is_fit;
 use btx_check::rules::mask_of;
-use btx_step::Wanted;
+use btx_step::OperandKind;
 use btx_step::operands::{Default, Operand as Wants, default_of, operands_of};
 use btx_step::stand_in::StandIn;
 use std::alloc::AllocError;
@@ -119,10 +119,12 @@ fn assigns_in_entry(a: &State, f: Callee) -> bool {
 }
 
 // The kind of the value that a function assigns, if it assigns to a variable.
-fn assigned_kind(a: &State, f: Callee) -> Option<Wanted> {
+fn assigned_kind(a: &State, f: Callee) -> Option<OperandKind> {
     match assigned(a, f) {
-        Some(Callee::EntryInteger(_)) | Some(Callee::GlobalInteger(_)) => Some(Wanted::Integer),
-        Some(Callee::EntryString(_)) | Some(Callee::GlobalString(_)) => Some(Wanted::Text),
+        Some(Callee::EntryInteger(_)) | Some(Callee::GlobalInteger(_)) => Some(
+            OperandKind::Integer,
+        ),
+        Some(Callee::EntryString(_)) | Some(Callee::GlobalString(_)) => Some(OperandKind::Text),
         _ => None,
     }
 }

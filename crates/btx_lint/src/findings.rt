@@ -10,7 +10,7 @@ use btx_bst::{Callee, Style};
 use btx_check::description::Value;
 use btx_check::verdict::{Clean, Verdict, judged};
 use btx_check::work::{Place, Work};
-use btx_step::Wanted;
+use btx_step::OperandKind;
 use std::alloc::{AllocError, Global};
 
 /// The message that a job may log.
@@ -40,7 +40,7 @@ pub struct Operand {
     /// The field or variable whose value it is, if it is one's.
     pub name: Option<Callee>,
     /// What the function wants there, if it wants one kind.
-    pub wanted: Option<Wanted>,
+    pub wanted: Option<OperandKind>,
 }
 
 /// What is known of a field of the entry where a fault was met.

@@ -4,7 +4,7 @@ use Rattle.std.specs.Io.KnownBytes.{Appends}
 use Rattle.std.specs.List.{flat_map}
 use Rattle.std.proofs.KnownBytes.{Appends-trans, Appends-nil}
 use Rattle.btx_machine.proofs.Common.{wrap, left, holding, AppendsPrefix, Journal, Outputs, Ending, Out, Start, StandsFor, ended_line, bbl_at, so_far}
-use Rattle.btx_out.specs.language.Breaking.{sure}
+use Rattle.btx_out.specs.language.Breaking.{committed}
 use Rattle.btx_out.specs.language.Breakers.{written_at_end}
 use Rattle.btx_out.specs.refinement.Breakers.{Finishes, FinishesPart, AppendsPartOfRest}
 use Rattle.btx_out.specs.language.Pieces.{AppendsAtLeast}
@@ -28,7 +28,7 @@ finished_part old new finishes start out h =
     let before = old.bbl.received in
     let after = new.bbl.received in
     let part : FinishesPart (holding start.line_length (left start.line_length out.pending)) before after = rw h.line at finishes in (
-      part_least start.bbl before after (flat_map (wrap start.line_length) out.lines) (sure start.line_length out.pending)
+      part_least start.bbl before after (flat_map (wrap start.line_length) out.lines) (committed start.line_length out.pending)
           (written_at_end start.line_length out.pending) h.bbl (part out.pending refl),
       begins-finish start.line_length out.lines out.pending old.breaker start.bbl before after h.line h.bbl finishes,
     )

@@ -4,7 +4,7 @@ use Rattle.std.specs.Io.KnownBytes.{Appends}
 use Rattle.std.proofs.KnownBytes.{Appends-trans}
 use Rattle.std.specs.List.{flat_map}
 use Rattle.btx_machine.proofs.Common.{wrap, left, holding, AppendsPrefix, Journal, Outputs, Out, IsPrefix, Starts, Start, StandsFor, Between, so_far}
-use Rattle.btx_out.specs.language.Breaking.{sure}
+use Rattle.btx_out.specs.language.Breaking.{committed}
 use Rattle.btx_out.specs.laws.Breaking.{Collecting}
 use Rattle.btx_out.specs.refinement.Breakers.{Held, AppendsPartOfRest, Puts, PutsPart, Ends, EndsPart}
 use Rattle.btx_out.specs.language.Pieces.{AppendsAtLeast}
@@ -91,8 +91,8 @@ module _ (start : Start) (old new : Outputs) (out : Out) (h : StandsFor start ol
   put_stops bytes puts =
       let puts' : PutsPart (holding start.line_length (left start.line_length out.pending)) bytes old.bbl.received new.bbl.received = rw h.line at puts in
       record {
-        bbl_least = part_least start.bbl old.bbl.received new.bbl.received (flat_map (wrap start.line_length) out.lines) (sure start.line_length out.pending)
-            (sure start.line_length (out.pending ++ bytes)) h.bbl (puts' out.pending refl);
+        bbl_least = part_least start.bbl old.bbl.received new.bbl.received (flat_map (wrap start.line_length) out.lines) (committed start.line_length out.pending)
+            (committed start.line_length (out.pending ++ bytes)) h.bbl (puts' out.pending refl);
         bbl_most = begins-put start.line_length out.lines out.pending bytes old.breaker start.bbl old.bbl.received new.bbl.received h.line h.bbl puts;
         log_least = log_least;
         log_most = log_most;
@@ -114,7 +114,7 @@ module _ (start : Start) (old new : Outputs) (out : Out) (h : StandsFor start ol
   ended_stops ends =
       let ends' : EndsPart (holding start.line_length (left start.line_length out.pending)) old.bbl.received new.bbl.received = rw h.line at ends in
       record {
-        bbl_least = part_least start.bbl old.bbl.received new.bbl.received (flat_map (wrap start.line_length) out.lines) (sure start.line_length out.pending)
+        bbl_least = part_least start.bbl old.bbl.received new.bbl.received (flat_map (wrap start.line_length) out.lines) (committed start.line_length out.pending)
             (wrap start.line_length out.pending) h.bbl (ends' out.pending refl);
         bbl_most = begins-newline start.line_length out.lines out.pending old.breaker start.bbl old.bbl.received new.bbl.received h.line h.bbl ends;
         log_least = log_least;

@@ -12,7 +12,7 @@ use Rattle.btx_names.specs.language.Tokens.{NameToken, tokens_from, tokens_of}
 use Rattle.btx_names.specs.laws.Tokens.{breaks_at, breaks_of, is_some_text}
 use Rattle.btx_names.specs.language.NameLists.{is_separator, pieces_from, names_of}
 use Rattle.btx_names.specs.laws.NameLists.{separators_of}
-use Rattle.btx_names.specs.laws.Gaps.{pieces_between, and_gap, byte_gap}
+use Rattle.btx_names.specs.laws.Gaps.{pieces_between, and_word_range, byte_gap}
 use Rattle.btx_names.proofs.SplitLemmas.{break_keeps}
 use Rattle.btx_names.proofs.SeparatorLemmas.{IsInk, separator_is_ink, separator_is_white, ink_separates_nothing, white_keeps, places_from, depth_push}
 use Rattle.btx_names.proofs.SeparatorLemmas.{filter_places}
@@ -56,7 +56,7 @@ slice_more before cur bs string b is =
 abbrev NamesAre : List ℕ → List ℕ → List ℕ → List ℕ → Type 0
 NamesAre string before cur rest =
     string ≡ before ++ (cur ++ rest) →
-    pieces_between (length before) (map and_gap (places_from (before ++ cur) rest)) string ≡ prepend cur (pieces_from 0 (depth_of (before ++ cur)) rest)
+    pieces_between (length before) (map and_word_range (places_from (before ++ cur) rest)) string ≡ prepend cur (pieces_from 0 (depth_of (before ++ cur)) rest)
 
 no_place : (before bs : List ℕ) (b : ℕ) → (eqb (depth_of before) 0 && is_separator (b ∷ bs)) ≡ false → places_from before (b ∷ bs)
     ≡ places_from (before ++ b ∷ []) bs
@@ -78,7 +78,7 @@ no_separator string before cur bs b none more is =
     let joined = append_assoc before cur (b ∷ []) in
     let again : string ≡ before ++ ((cur ++ b ∷ []) ++ bs) = is ∙ ap (λ xs. before ++ xs) (sym (append_assoc cur (b ∷ []) bs)) in
     let deep : depth_of (before ++ (cur ++ b ∷ [])) ≡ depth_after (depth_of (before ++ cur)) b = ap depth_of (sym joined) ∙ depth_push (before ++ cur) b in
-    ap (λ places. pieces_between (length before) (map and_gap places) string) (no_place (before ++ cur) bs b none ∙ ap (λ xs. places_from xs bs) joined)
+    ap (λ places. pieces_between (length before) (map and_word_range places) string) (no_place (before ++ cur) bs b none ∙ ap (λ xs. places_from xs bs) joined)
     ∙ more again
     ∙ ap (λ n. prepend (cur ++ b ∷ []) (pieces_from 0 n bs)) deep
     ∙ prepend_front cur b (pieces_from 0 (depth_after (depth_of (before ++ cur)) b) bs)
@@ -112,15 +112,15 @@ a_separator string before cur rest b x y z test more is =
     ∙ ap (λ ps. length all ∷ ps) (ink_is_no_place (all ++ b ∷ []) (y ∷ z ∷ rest) x ink.0 ∙ ink_is_no_place ((all ++ b ∷ []) ++ x ∷ []) (z ∷ rest) y ink.1.0
     ∙ ink_is_no_place (((all ++ b ∷ []) ++ x ∷ []) ++ y ∷ []) rest z ink.1.1.0) in
     let nothing : past ++ [] ≡ past = append-nil past in
-    let others : pieces_between (length past) (map and_gap (places_from past rest)) string ≡ pieces_from 0 0 rest =
-    ap (λ xs. pieces_between (length past) (map and_gap (places_from xs rest)) string) (sym nothing)
+    let others : pieces_between (length past) (map and_word_range (places_from past rest)) string ≡ pieces_from 0 0 rest =
+    ap (λ xs. pieces_between (length past) (map and_word_range (places_from xs rest)) string) (sym nothing)
     ∙ more (is ∙ sym joined)
     ∙ prepend_nothing (pieces_from 0 (depth_of (past ++ [])) rest) (pieces_some 0 (depth_of (past ++ [])) rest)
     ∙ ap (λ n. pieces_from 0 n rest) (ap depth_of nothing ∙ four) in
     let found : pieces_from 0 (depth_of all) (b ∷ x ∷ y ∷ z ∷ rest) ≡ (b ∷ []) ∷ pieces_from 0 0 rest = rw test refl in
-    ap (λ ps. pieces_between (length before) (map and_gap ps) string) places
-    ∙ ap (λ piece. piece ∷ pieces_between (length all + 4) (map and_gap (places_from past rest)) string) (slice_more before cur (x ∷ y ∷ z ∷ rest) string b is)
-    ∙ ap (λ n. (cur ++ b ∷ []) ∷ pieces_between n (map and_gap (places_from past rest)) string) (sym size)
+    ap (λ ps. pieces_between (length before) (map and_word_range ps) string) places
+    ∙ ap (λ piece. piece ∷ pieces_between (length all + 4) (map and_word_range (places_from past rest)) string) (slice_more before cur (x ∷ y ∷ z ∷ rest) string b is)
+    ∙ ap (λ n. (cur ++ b ∷ []) ∷ pieces_between n (map and_word_range (places_from past rest)) string) (sym size)
     ∙ ap (λ ps. (cur ++ b ∷ []) ∷ ps) others
     ∙ sym (ap (prepend cur) found)
 
@@ -144,10 +144,10 @@ names_are string before cur (b ∷ x ∷ y ∷ z ∷ rest) =
     (names_are string before (cur ++ b ∷ []) (x ∷ y ∷ z ∷ rest))
     (names_are string ((((before ++ cur ++ b ∷ []) ++ x ∷ []) ++ y ∷ []) ++ z ∷ []) [] rest)
 
-pub names_between : (b : ℕ) (bs : List ℕ) → names_of (b ∷ bs) ≡ pieces_between 0 (map and_gap (separators_of (b ∷ bs))) (b ∷ bs)
+pub names_between : (b : ℕ) (bs : List ℕ) → names_of (b ∷ bs) ≡ pieces_between 0 (map and_word_range (separators_of (b ∷ bs))) (b ∷ bs)
 unfolding names_of
 names_between b bs =
-    sym (ap (λ places. pieces_between 0 (map and_gap places) (b ∷ bs)) (filter_places (b ∷ bs) [] (b ∷ bs) refl)
+    sym (ap (λ places. pieces_between 0 (map and_word_range places) (b ∷ bs)) (filter_places (b ∷ bs) [] (b ∷ bs) refl)
     ∙ names_are (b ∷ bs) [] [] (b ∷ bs) refl
     ∙ prepend_nothing (pieces_from 0 0 (b ∷ bs)) (pieces_some 0 0 (b ∷ bs)))
 

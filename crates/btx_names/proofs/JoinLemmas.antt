@@ -2,7 +2,7 @@
 use Rattle.std.proofs.Common.{◌≡◌, ℕ, zero, suc, ◌<◌, Bool, true, false, cond, eqb, List, [], ◌∷◌, ◌++◌, Some, None, length, refl, sym, ◌∙◌, ap, arith}
 use Rattle.std.proofs.Common.{append_assoc}
 use Rattle.std.proofs.lemmas.Bool.{eqb-true, ne_eqb}
-use Rattle.btx_names.specs.declared.name_tokens.Joint.{Joint}
+use Rattle.btx_names.specs.declared.name_tokens.TokenSeparator.{TokenSeparator}
 use Rattle.std.specs.List.{join_by}
 use Rattle.btx_text.specs.declared.element_kind.TextMode.{TextMode}
 use Rattle.btx_names.specs.language.Tokens.{NameToken}
@@ -21,7 +21,7 @@ tokens_joined mode piece between token tokens is = ap (λ text. finished mode (t
 -- ---- without a string between
 
 -- what stands behind a token with others left is a period, if the token is abbreviated, and a tie
-behind_token : (mode : TextMode) (piece : FormatPiece) (so_far : List ℕ) (joint : Joint) (left : ℕ) (is_last : Bool) → piece.between ≡ None → 0 < left
+behind_token : (mode : TextMode) (piece : FormatPiece) (so_far : List ℕ) (joint : TokenSeparator) (left : ℕ) (is_last : Bool) → piece.between ≡ None → 0 < left
     → eqb left 1 ≡ is_last →
     between_text mode piece so_far joint left ≡ period_of piece.is_full ++ tie_of mode (so_far ++ period_of piece.is_full) joint is_last ∷ []
 unfolding between_text

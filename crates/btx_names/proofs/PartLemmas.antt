@@ -16,7 +16,7 @@ use Rattle.btx_names.specs.refinement.SectionViews.{has_commas, jr_of, first_sec
 use Rattle.btx_names.specs.refinement.TokenLists.{AreRangesOf, IsListOf, surname_in}
 use Rattle.btx_names.specs.declared.name_ranges.Ranges.{Ranges}
 use Rattle.btx_names.specs.declared.name_token.NameToken.{NameToken}
-use Rattle.btx_names.specs.declared.name_tokens.Joint.TheVariants.{Space}
+use Rattle.btx_names.specs.declared.name_tokens.TokenSeparator.TheVariants.{Space}
 use Rattle.btx_names.specs.declared.token_list.TokenList.{TokenList}
 use Rattle.btx_names.proofs.InitialLemmas.{elements_of_nothing, initial_from}
 use Rattle.btx_names.proofs.RangeLemmas.{ranges_within, tokens_of_nothing}

@@ -5,7 +5,7 @@ use Rattle.std.proofs.lemmas.List.{take-append-drop, length-take, take_at, drop_
 use Rattle.std.proofs.lemmas.Bool.{eqb-true, false≢true}
 use Rattle.btx_names.specs.refinement.ItemViews.{is_nothing, has_nothing_between}
 use Rattle.btx_text.specs.declared.element_kind.TextMode.{TextMode}
-use Rattle.btx_names.specs.declared.name_tokens.Joint.{Joint}
+use Rattle.btx_names.specs.declared.name_tokens.TokenSeparator.{TokenSeparator}
 use Rattle.btx_text.specs.declared.fault.Fault.{Fault}
 use Rattle.btx_text.specs.declared.fault.Fault.TheVariants.{Memory, Device, FileLimit, StringLimit}
 use Rattle.btx_names.specs.refinement.Becomes.{Becomes}
@@ -41,7 +41,7 @@ with_tokens_grows mode piece so_far (token ∷ tokens) =
 -- ---- a string between
 
 -- what stands behind a token with others left is the string between
-between_some : (mode : TextMode) (piece : FormatPiece) (between so_far : List ℕ) (joint : Joint) (left : ℕ) → piece.between ≡ Some between → 0 < left →
+between_some : (mode : TextMode) (piece : FormatPiece) (between so_far : List ℕ) (joint : TokenSeparator) (left : ℕ) → piece.between ≡ Some between → 0 < left →
     between_text mode piece so_far joint left ≡ between
 unfolding between_text
 between_some mode piece between so_far joint left is some = at (eqb left 0) refl where
@@ -50,7 +50,7 @@ between_some mode piece between so_far joint left is some = at (eqb left 0) refl
   at false none = rw is refl
 
 -- behind the last token stands nothing
-between_none : (mode : TextMode) (piece : FormatPiece) (so_far : List ℕ) (joint : Joint) → between_text mode piece so_far joint 0 ≡ []
+between_none : (mode : TextMode) (piece : FormatPiece) (so_far : List ℕ) (joint : TokenSeparator) → between_text mode piece so_far joint 0 ≡ []
 unfolding between_text
 between_none mode piece so_far joint = refl
 

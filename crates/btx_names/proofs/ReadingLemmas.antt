@@ -9,7 +9,7 @@ use Rattle.btx_text.specs.language.Class.{is_white}
 use Rattle.btx_text.specs.language.Elements.{depth_after}
 use Rattle.btx_names.specs.declared.name_reading.ReadName.{ReadName}
 use Rattle.btx_names.specs.declared.name_token.NameToken.{NameToken as KeptToken}
-use Rattle.btx_names.specs.declared.name_tokens.Joint.{Joint}
+use Rattle.btx_names.specs.declared.name_tokens.TokenSeparator.{TokenSeparator}
 use Rattle.btx_names.specs.declared.place.Place.{Place}
 use Rattle.btx_names.specs.declared.runs.Stop.TheVariants.{Break, Comma}
 use Rattle.btx_names.specs.language.NameLists.{is_separator}
@@ -145,7 +145,7 @@ joint_of_name (b ∷ bs) = at (is_separator (b ∷ bs)) where
 
 same_token : (one other : NameToken) → one.text ≡ other.text → one.joint ≡ other.joint → one ≡ other
 same_token one other text joint =
-    let make = λ (text : List ℕ) (joint : Joint). let token : NameToken = record { text = text; joint = joint } in token in
+    let make = λ (text : List ℕ) (joint : TokenSeparator). let token : NameToken = record { text = text; joint = joint } in token in
     ap (λ t. make t one.joint) text ∙ ap (λ j. make other.text j) joint
 
 take_take : (n m : ℕ) (s : List ℕ) → n ≤ m → take n (take m s) ≡ take n s

@@ -10,8 +10,8 @@ use Rattle.btx_text.specs.declared.element_kind.Kind.TheVariants.{Byte, Open, Cl
 use Rattle.btx_text.specs.declared.element_kind.TextMode.{TextMode}
 use Rattle.btx_text.specs.language.Sequences.{is_further, sequence_size, is_sequence, begins_sequence}
 use Rattle.btx_text.specs.language.Elements.{Element, depth_after, is_utf8, kind_at, extent, group_len, elements_from, elements_of, is_character}
-use Rattle.btx_names.specs.declared.name_tokens.Joint.{Joint}
-use Rattle.btx_names.specs.declared.name_tokens.Joint.TheVariants.{Space, Tie, Hyphen}
+use Rattle.btx_names.specs.declared.name_tokens.TokenSeparator.{TokenSeparator}
+use Rattle.btx_names.specs.declared.name_tokens.TokenSeparator.TheVariants.{Space, Tie, Hyphen}
 use Rattle.btx_names.specs.language.FormattedNames.{is_short, tie_of}
 use Rattle.btx_text.specs.refinement.Elements.{begins_special, kind_of, element_at}
 use Rattle.btx_text.proofs.SequenceLemmas.{further_high, is_sequence-size, second_fits-high}
@@ -213,7 +213,7 @@ stays_long mode text b more low long =
 
 -- ---- ties
 
-space_is_long : (mode : TextMode) (so_far : List ℕ) (joint : Joint) (is_last : Bool) → tie_of mode so_far joint is_last ≡ 32 → is_short mode so_far ≡ false
+space_is_long : (mode : TextMode) (so_far : List ℕ) (joint : TokenSeparator) (is_last : Bool) → tie_of mode so_far joint is_last ≡ 32 → is_short mode so_far ≡ false
 space_is_long mode so_far Tie is_last h = absurd (omega arith)
 space_is_long mode so_far Hyphen is_last h = absurd (omega arith)
 space_is_long mode so_far Space is_last h = at is_last (is_short mode so_far) h where
@@ -223,7 +223,7 @@ space_is_long mode so_far Space is_last h = at is_last (is_short mode so_far) h 
   at false false h = refl
 
 -- a space of the code's own says that the text before it is not short, and that it stays so
-pub long_behind_space : (mode : TextMode) (start : ℕ) (text new more : List ℕ) (joint : Joint) (is_last : Bool) (tie : ℕ) → start ≤ length text →
+pub long_behind_space : (mode : TextMode) (start : ℕ) (text new more : List ℕ) (joint : TokenSeparator) (is_last : Bool) (tie : ℕ) → start ≤ length text →
     tie ≡ tie_of mode (drop start text) joint is_last → tie ≡ 32 → new ≡ text ++ tie ∷ [] →
     is_short mode (drop start new ++ more) ≡ false
 long_behind_space mode start text new more joint is_last tie le is space added =

@@ -2,7 +2,7 @@
 use Rattle.std.proofs.Common.{◌≡◌, ℕ, suc, ◌-◌, ◌<◌, Bool, true, false, eqb, ◌&&◌, List, [], ◌∷◌, ◌++◌, length, take, drop, refl, sym, ◌∙◌, ap, subst, arith}
 use Rattle.std.proofs.lemmas.Bool.{eqb-true, and_parts, and_from, false_from_ne_true, true≢false}
 use Rattle.btx_text.specs.language.Elements.{depth_after}
-use Rattle.btx_names.specs.declared.name_tokens.Joint.{Joint}
+use Rattle.btx_names.specs.declared.name_tokens.TokenSeparator.{TokenSeparator}
 use Rattle.btx_names.specs.declared.runs.Stop.TheVariants.{Break, Comma}
 use Rattle.btx_names.specs.language.Runs.{is_break, run_len}
 use Rattle.btx_names.specs.language.Tokens.{NameToken, joint_of, tokens_from, tokens_of}
@@ -61,7 +61,7 @@ same_token_at : (b : ℕ) (bs front : List ℕ) (k m : ℕ) → take k bs ≡ ta
     let other : NameToken = record { text = b ∷ take m front; joint = joint_of (drop m front) } in
     one ≡ other
 same_token_at b bs front k m text joint =
-    let make = λ (text : List ℕ) (joint : Joint). let token : NameToken = record { text = text; joint = joint } in token in
+    let make = λ (text : List ℕ) (joint : TokenSeparator). let token : NameToken = record { text = text; joint = joint } in token in
     ap (λ t. make (b ∷ t) (joint_of (drop k bs))) text ∙ ap (λ j. make (b ∷ take m front) j) joint
 
 skip_break : (b : ℕ) (bs : List ℕ) → is_break b ≡ true → tokens_from 0 (b ∷ bs) ≡ tokens_from 0 bs

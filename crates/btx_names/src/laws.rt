@@ -13,7 +13,7 @@ ghost use Rattle.btx_names.specs.laws.NameLists.{separators_of};
 ghost use Rattle.btx_names.specs.laws.Commas.{commas_in, commas_of, final_commas_of};
 ghost use Rattle.btx_names.specs.language.NameParts.{ends_in_comma, has_third_comma, is_hyphen, One, before_final, sections_of};
 ghost use Rattle.btx_names.specs.laws.NameParts.{HasJrByForm, before_last, final_of, parts_in_order, surname_of, parts_of};
-ghost use Rattle.btx_names.specs.laws.Gaps.{and_gap, byte_gap, pieces_between};
+ghost use Rattle.btx_names.specs.laws.Gaps.{and_word_range, byte_gap, pieces_between};
 ghost use Rattle.btx_names.specs.language.Formats.{FormatItem, FormatPiece, is_legal, items_of};
 ghost use Rattle.btx_names.specs.language.FormattedNames.{finished, period_of, piece_text, tie_of, with_tokens};
 ghost use Rattle.btx_names.specs.laws.WrittenFormats.{IsFormatOf, are_items};
@@ -35,7 +35,7 @@ pub fn one_more_than_separators()
 #[tactic(auto, using(crate::proofs::GapLemmas::between))]
 pub fn pieces_between_separators()
     ensures names { (b : ℕ) (bs : List ℕ) →
-        names_of (b ∷ bs) ≡ pieces_between 0 (map and_gap (separators_of (b ∷ bs))) (b ∷ bs) }
+        names_of (b ∷ bs) ≡ pieces_between 0 (map and_word_range (separators_of (b ∷ bs))) (b ∷ bs) }
     ensures tokens { (text : List ℕ) →
         map (λ token. token.text) (tokens_of text) ≡ filter is_some_text (pieces_between 0 (map byte_gap (breaks_of text)) text) }
 {}

@@ -4,7 +4,7 @@ ghost use Rattle.btx_names.specs.language.Tokens.{joint_of};
 
 /// What joins a token to the next one.
 #[derive(Clone, Copy, PartialEq, Eq)]
-pub enum Joint {
+pub enum TokenSeparator {
     /// Whitespace, a comma, or the end of the name.
     Space,
     /// A `~`.
@@ -14,12 +14,12 @@ pub enum Joint {
 }
 
 // What joins a token to the next, of the text directly after it.
-pub(crate) fn joint_of(after: &[u8]) -> Joint
+pub(crate) fn joint_of(after: &[u8]) -> TokenSeparator
     ensures { result ≡ joint_of after.now }
 {
     match after {
-        [b'~', ..] => Joint::Tie,
-        [b'-', ..] => Joint::Hyphen,
-        _ => Joint::Space,
+        [b'~', ..] => TokenSeparator::Tie,
+        [b'-', ..] => TokenSeparator::Hyphen,
+        _ => TokenSeparator::Space,
     }
 }

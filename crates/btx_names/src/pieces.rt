@@ -13,7 +13,7 @@ ghost use Rattle.btx_names.specs.refinement.Places.{bytes_at};
 use crate::format_items::Piece;
 use crate::initials::initial_of;
 use crate::name_token::NameToken;
-use crate::name_tokens::Joint;
+use crate::name_tokens::TokenSeparator;
 use crate::part::Part;
 use crate::writer::Writer;
 use btx_text::Fault;
@@ -122,7 +122,7 @@ fn push_shown(
 fn push_between(
     writer: &mut Writer,
     piece: Piece<'_>,
-    joint: Joint,
+    joint: TokenSeparator,
     left: usize,
 ) -> Result<(), Fault>
     ensures text { Becomes (greatest_string + 1) result writer.new.text.items

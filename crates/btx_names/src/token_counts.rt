@@ -6,7 +6,7 @@ ghost use Rattle.btx_names.specs.language.NameParts as spec;
 ghost use Rattle.btx_names.specs.refinement.Steps as steps;
 
 use crate::name_token::NameToken;
-use crate::name_tokens::Joint;
+use crate::name_tokens::TokenSeparator;
 use crate::part::Part;
 use crate::von_tokens::is_von;
 
@@ -25,7 +25,7 @@ fn passes(test: TokenTest, bytes: &[u8], token: &NameToken) -> bool
 {
     match test {
         TokenTest::Von => is_von(token.text.of(bytes)),
-        TokenTest::Apart => !matches!(token.joint, Joint::Hyphen),
+        TokenTest::Apart => !matches!(token.joint, TokenSeparator::Hyphen),
     }
 }
 

@@ -4,7 +4,7 @@ ghost use Rattle.btx_text.specs.language.Limits.{greatest_string};
 ghost use Rattle.btx_names.specs.language.FormattedNames as spec;
 ghost use Rattle.btx_names.specs.refinement.Becomes.{Becomes};
 
-use crate::name_tokens::Joint;
+use crate::name_tokens::TokenSeparator;
 use btx_text::{Elements, Fault, GREATEST_STRING, TextMode};
 use std::alloc::Global;
 
@@ -85,7 +85,7 @@ impl Writer {
     }
 
     /// Adds what joins a token to the next.
-    pub fn push_tie(&mut self, joint: Joint, is_last: bool) -> Result<(), Fault>
+    pub fn push_tie(&mut self, joint: TokenSeparator, is_last: bool) -> Result<(), Fault>
         ensures text { Becomes (greatest_string + 1) result self.new.text.items
             (self.old.text.items ++ spec.tie_of self.old.mode (drop self.old.start self.old.text.items) joint is_last ∷ []) }
         ensures start { self.new.start ≡ self.old.start }
@@ -100,14 +100,14 @@ impl Writer {
     }
 
     // What joins a token to the next, behind the piece so far.
-    fn tie_of(&self, joint: Joint, is_last: bool) -> u8
+    fn tie_of(&self, joint: TokenSeparator, is_last: bool) -> u8
         ensures { result ≡ spec.tie_of self.now.mode (drop self.now.start self.now.text.items) joint is_last }
     {
         match joint {
-            Joint::Tie => b'~',
-            Joint::Hyphen => b'-',
-            Joint::Space if is_last || self.is_short() => b'~',
-            Joint::Space => b' ',
+            TokenSeparator::Tie => b'~',
+            TokenSeparator::Hyphen => b'-',
+            TokenSeparator::Space if is_last || self.is_short() => b'~',
+            TokenSeparator::Space => b' ',
         }
     }
 

@@ -8,7 +8,7 @@ use Rattle.btx_text.specs.language.Class.{is_white}
 use Rattle.btx_text.specs.language.Lines.{white_before, trimmed}
 use Rattle.btx_out.specs.language.Breaking.{skip_white, till_white, from_white, written_line, last_white, Break, Unbroken, Broken, break_past, break_at}
 use Rattle.btx_out.specs.language.Breaking.{break_of, indented, Last, Short, Long, Nothing, Cut, only, with_head, cut_at, cut_within, cut_of, written_last}
-use Rattle.btx_out.specs.language.Breaking.{sure_last, wrap, sure}
+use Rattle.btx_out.specs.language.Breaking.{sure_last, wrap, committed}
 use Rattle.btx_out.specs.laws.Breaking.{Collecting, Swallowing, Passing, left_last, left}
 use Rattle.btx_out.specs.laws.States.{break_full, ByteStep, step, left_after, sure_after, end_written, wrap_after}
 
@@ -362,18 +362,18 @@ goes (suc n) line_length text b wide h = ⊎_elim (λ lt. goes_short line_length
 -- ---- more bytes
 
 pub go_on : (line_length : ℕ) (u t : List ℕ) → 3 ≤ line_length → (left line_length (t ++ u) ≡ left_after line_length (left line_length t) u)
-    × (sure line_length (t ++ u) ≡ sure line_length t ++ sure_after line_length (left line_length t) u)
+    × (committed line_length (t ++ u) ≡ committed line_length t ++ sure_after line_length (left line_length t) u)
 unfolding left_after sure_after
 go_on line_length [] t wide = rw (append-nil, append-nil) (refl, refl)
 go_on line_length (b ∷ bs) t wide =
     let here = goes (length t) line_length t b wide (omega arith) in
     let more = rw (append_assoc t (b ∷ []) bs, here.0, here.1) at (go_on line_length bs (t ++ b ∷ []) wide) in (
       more.0,
-      more.1 ∙ append_assoc (sure line_length t) (step line_length (left line_length t) b).1
+      more.1 ∙ append_assoc (committed line_length t) (step line_length (left line_length t) b).1
           (sure_after line_length (step line_length (left line_length t) b).0 bs),
     )
 
-pub wrap_is : (line_length : ℕ) (t : List ℕ) → wrap line_length t ≡ sure line_length t ++ end_written (left line_length t)
+pub wrap_is : (line_length : ℕ) (t : List ℕ) → wrap line_length t ≡ committed line_length t ++ end_written (left line_length t)
 unfolding trimmed
 wrap_is line_length t = at (flat_map written_line (cut_of line_length t).heads) (cut_of line_length t).last where
   at : (written : List ℕ) (last : Last) → written ++ written_last last ≡ (written ++ sure_last last) ++ end_written (left_last last)
@@ -382,17 +382,17 @@ wrap_is line_length t = at (flat_map written_line (cut_of line_length t).heads) 
   at written (Nothing true) = sym (append-nil (written ++ []))
   at written (Nothing false) = sym (append-nil (written ++ []))
 
-pub wrap_on : (line_length : ℕ) (t u : List ℕ) → 3 ≤ line_length → wrap line_length (t ++ u) ≡ sure line_length t ++ wrap_after line_length (left line_length t)
+pub wrap_on : (line_length : ℕ) (t u : List ℕ) → 3 ≤ line_length → wrap line_length (t ++ u) ≡ committed line_length t ++ wrap_after line_length (left line_length t)
     u
 wrap_on line_length t u wide =
     let more = go_on line_length u t wide in
     wrap_is line_length (t ++ u) ∙ rw (more.0, more.1)
-    (append_assoc (sure line_length t) (sure_after line_length (left line_length t) u) (end_written (left_after line_length (left line_length t) u)))
+    (append_assoc (committed line_length t) (sure_after line_length (left line_length t) u) (end_written (left_after line_length (left line_length t) u)))
 
 -- ---- row by row
 
 pub table_ends : (line_length : ℕ) (t head : List ℕ) (past : Bool) → 3 ≤ line_length → line_length < length t → break_of line_length t ≡ Broken past head [] →
-    (wrap line_length t ≡ written_line head) × (sure line_length t ≡ written_line head) × (left line_length t ≡ cond past Swallowing (Collecting (indented [])))
+    (wrap line_length t ≡ written_line head) × (committed line_length t ≡ written_line head) × (left line_length t ≡ cond past Swallowing (Collecting (indented [])))
 table_ends line_length t head past wide long is = rw (cut_long line_length t wide long, is) (at past) where
   whole : written_line head ++ [] ++ [] ≡ written_line head
   whole = rw (append-nil, append-nil) refl
@@ -405,7 +405,7 @@ table_ends line_length t head past wide long is = rw (cut_long line_length t wid
 pub table_more : (line_length : ℕ) (t head rest : List ℕ) (b : ℕ) (past : Bool) → 3 ≤ line_length → line_length < length t
     → break_of line_length t ≡ Broken past head (b ∷ rest) →
     let more = indented (b ∷ rest) in
-    (wrap line_length t ≡ written_line head ++ wrap line_length more) × (sure line_length t ≡ written_line head ++ sure line_length more)
+    (wrap line_length t ≡ written_line head ++ wrap line_length more) × (committed line_length t ≡ written_line head ++ committed line_length more)
     × (left line_length t ≡ left line_length more)
 table_more line_length t head rest b past wide long is =
     let cut = cut_of line_length (indented (b ∷ rest)) in

@@ -4,7 +4,7 @@ use Rattle.std.specs.Io.KnownBytes.{Appends}
 use Rattle.std.proofs.KnownBytes.{Appends-nil}
 use Rattle.btx_text.specs.language.Class.{is_white}
 use Rattle.btx_out.specs.laws.Lengths.{IsLineLength}
-use Rattle.btx_out.specs.language.Breaking.{last_white, indented, cut_of, cut_within, sure, wrap}
+use Rattle.btx_out.specs.language.Breaking.{last_white, indented, cut_of, cut_within, committed, wrap}
 use Rattle.btx_out.specs.laws.Breaking.{Left, Collecting, Passing, Swallowing, left}
 use Rattle.btx_out.specs.language.Breakers.{written_at_end}
 use Rattle.btx_out.specs.refinement.Breakers.{Held, holding, AppendsRest, AppendsPartOfRest, is_fresh}
@@ -25,8 +25,8 @@ holds_left line_length state old text view held = same_some state (left line_len
 pub puts_more : (line_length : ℕ) (state next : Left) (old : Held) (text bytes : List ℕ) (before after : Option (List ℕ)) → holding line_length state ≡ old
     → IsLineLength line_length →
     old.pending ≡ Some (left old.line_length text) → next ≡ left_after line_length state bytes → Appends before after (sure_after line_length state bytes) →
-    (holding line_length next ≡ holding old.line_length (left old.line_length (text ++ bytes))) × AppendsRest before after (sure old.line_length text)
-    (sure old.line_length (text ++ bytes))
+    (holding line_length next ≡ holding old.line_length (left old.line_length (text ++ bytes))) × AppendsRest before after (committed old.line_length text)
+    (committed old.line_length (text ++ bytes))
 puts_more line_length state next old text bytes before after view range held is received =
     let state_is = holds_left line_length state old text view held in
     let wide : 3 ≤ line_length = omega arith in
@@ -41,7 +41,7 @@ puts_more line_length state next old text bytes before after view range held is 
 pub puts_part : (line_length : ℕ) (state : Left) (old : Held) (text bytes : List ℕ) (before after : Option (List ℕ)) → holding line_length state ≡ old
     → IsLineLength line_length →
     old.pending ≡ Some (left old.line_length text) → AppendsPrefix before after (sure_after line_length state bytes) →
-    AppendsPartOfRest before after (sure old.line_length text) (sure old.line_length (text ++ bytes))
+    AppendsPartOfRest before after (committed old.line_length text) (committed old.line_length (text ++ bytes))
 puts_part line_length state old text bytes before after view range held begins =
     let state_is = holds_left line_length state old text view held in
     let wide : 3 ≤ line_length = omega arith in
@@ -53,12 +53,12 @@ puts_part line_length state old text bytes before after view range held begins =
 
 module _ (line_length : ℕ) (state : Left) (old : Held) (text : List ℕ) (before after : Option (List ℕ)) (view : holding line_length state ≡ old)
     (held : old.pending ≡ Some (left old.line_length text)) where
-  pub ends_all : Appends before after (end_written state) → AppendsRest before after (sure old.line_length text) (wrap old.line_length text)
+  pub ends_all : Appends before after (end_written state) → AppendsRest before after (committed old.line_length text) (wrap old.line_length text)
   ends_all received =
       let received' = rw (holds_left line_length state old text view held) at received in
       rw (← view) (record { written = end_written (left line_length text); joined = sym (wrap_is line_length text); received = received' })
 
-  pub ends_part : AppendsPrefix before after (end_written state) → AppendsPartOfRest before after (sure old.line_length text) (wrap old.line_length text)
+  pub ends_part : AppendsPrefix before after (end_written state) → AppendsPartOfRest before after (committed old.line_length text) (wrap old.line_length text)
   ends_part begins =
       let begins' = rw (holds_left line_length state old text view held) at begins in
       rw (← view) (record { written = end_written (left line_length text); joined = sym (wrap_is line_length text); received = begins' })
@@ -114,7 +114,7 @@ fresh_is_empty line_length v (b ∷ bs) wide is fresh = absurd (none (left line_
 -- nothing is pending, and nothing is written
 pub finish_fresh : (old : Held) (text : List ℕ) (received : Option (List ℕ)) → IsLineLength old.line_length → old.pending ≡ Some (left old.line_length text)
     → is_fresh old.pending ≡ true →
-    AppendsRest received received (sure old.line_length text) (written_at_end old.line_length text)
+    AppendsRest received received (committed old.line_length text) (written_at_end old.line_length text)
 unfolding cut_of cut_within
 finish_fresh old text received range held fresh =
     let wide : 3 ≤ old.line_length = omega arith in
@@ -140,12 +140,12 @@ some_pending line_length v (b ∷ bs) held fresh = refl
 
 pub finish_ends : (old : Held) (text : List ℕ) (before after : Option (List ℕ)) → is_fresh old.pending ≡ false → old.pending ≡ Some (left old.line_length text)
     →
-    AppendsRest before after (sure old.line_length text) (wrap old.line_length text)
-    → AppendsRest before after (sure old.line_length text) (written_at_end old.line_length text)
+    AppendsRest before after (committed old.line_length text) (wrap old.line_length text)
+    → AppendsRest before after (committed old.line_length text) (written_at_end old.line_length text)
 finish_ends old text before after fresh held h = rw (some_pending old.line_length old.pending text held fresh) h
 
 pub finish_part : (old : Held) (text : List ℕ) (before after : Option (List ℕ)) → is_fresh old.pending ≡ false → old.pending ≡ Some (left old.line_length text)
     →
-    AppendsPartOfRest before after (sure old.line_length text) (wrap old.line_length text)
-    → AppendsPartOfRest before after (sure old.line_length text) (written_at_end old.line_length text)
+    AppendsPartOfRest before after (committed old.line_length text) (wrap old.line_length text)
+    → AppendsPartOfRest before after (committed old.line_length text) (written_at_end old.line_length text)
 finish_part old text before after fresh held h = rw (some_pending old.line_length old.pending text held fresh) h

@@ -2,7 +2,7 @@
 use Rattle.std.specs.Prelude.{◌≡◌, [], ◌∷◌, ◌++◌, replicate, codes, refl}
 use Rattle.btx_text.specs.language.Lines.{trimmed}
 use Rattle.btx_out.specs.language.Breakers.{written_at_end}
-use Rattle.btx_out.specs.language.Breaking.{wrap, sure, skip_white, till_white, from_white, last_white, break_of, cut_within, cut_of}
+use Rattle.btx_out.specs.language.Breaking.{wrap, committed, skip_white, till_white, from_white, last_white, break_of, cut_within, cut_of}
 use Rattle.btx_out.specs.laws.Breaking.{left, Collecting, Passing, Swallowing}
 
 -- the whitespace behind a full line breaks it
@@ -25,7 +25,7 @@ long_word : wrap 79 (codes "aaa " ++ replicate 80 98) ≡ codes "aaa" ++ 10 ∷ 
 unfolding trimmed skip_white till_white from_white last_white break_of cut_within cut_of
 long_word = refl
 
-long_word_pending : sure 79 (codes "aaa " ++ replicate 80 98) ≡ codes "aaa" ++ 10 ∷ codes "  " ++ replicate 80 98
+long_word_pending : committed 79 (codes "aaa " ++ replicate 80 98) ≡ codes "aaa" ++ 10 ∷ codes "  " ++ replicate 80 98
 unfolding trimmed skip_white till_white from_white last_white break_of cut_within cut_of
 long_word_pending = refl
 
@@ -68,7 +68,7 @@ full : wrap 20 (replicate 20 97) ≡ replicate 20 97 ++ 10 ∷ []
 unfolding trimmed cut_within cut_of
 full = refl
 
-full_pending : sure 20 (replicate 20 97) ≡ []
+full_pending : committed 20 (replicate 20 97) ≡ []
 unfolding cut_within cut_of
 full_pending = refl
 
@@ -107,6 +107,6 @@ unfolding skip_white till_white from_white last_white break_of cut_within cut_of
 left_long = refl
 
 -- a line that ended past the greatest length is sure, whether or not something follows
-sure_past : sure 20 (replicate 21 97 ++ codes " ") ≡ replicate 21 97 ++ 10 ∷ []
+sure_past : committed 20 (replicate 21 97 ++ codes " ") ≡ replicate 21 97 ++ 10 ∷ []
 unfolding trimmed skip_white till_white from_white last_white break_of cut_within cut_of
 sure_past = refl

@@ -35,7 +35,7 @@ sure_after-append line_length state (x ∷ xs) ys =
 -- nothing has been done yet
 pub goes_nowhere : (line_length : ℕ) (state : Left) (bytes : List ℕ) (received : Option (List ℕ))
     → Advances line_length state bytes state bytes received received
-goes_nowhere line_length state bytes received = record { written = []; lefts = refl; sures = refl; received = Appends-nil received }
+goes_nowhere line_length state bytes received = record { written = []; lefts = refl; committed_lines = refl; received = Appends-nil received }
 
 -- a part after the parts before
 pub goes_further : (line_length : ℕ) (s t u : Left) (xs ys zs : List ℕ) (a b c : Option (List ℕ)) → Advances line_length s xs t ys a b
@@ -43,7 +43,7 @@ pub goes_further : (line_length : ℕ) (s t u : Left) (xs ys zs : List ℕ) (a b
 goes_further line_length s t u xs ys zs a b c p q = record {
   written = p.written ++ q.written;
   lefts = p.lefts ∙ q.lefts;
-  sures = p.sures ∙ ap (λ more. p.written ++ more) q.sures ∙ sym (append_assoc p.written q.written (sure_after line_length u zs));
+  committed_lines = p.committed_lines ∙ ap (λ more. p.written ++ more) q.committed_lines ∙ sym (append_assoc p.written q.written (sure_after line_length u zs));
   received = Appends-trans a b c p.written q.written p.received q.received;
 }
 
@@ -51,13 +51,13 @@ goes_further line_length s t u xs ys zs a b c p q = record {
 pub goes_all : (line_length : ℕ) (s t : Left) (xs ys : List ℕ) (a b : Option (List ℕ)) → length ys ≡ 0 → Advances line_length s xs t ys a b
     → (t ≡ left_after line_length s xs) × Appends a b (sure_after line_length s xs)
 unfolding left_after sure_after
-goes_all line_length s t xs [] a b none p = (sym p.lefts, subst (Appends a b) (sym (p.sures ∙ append-nil p.written)) p.received)
+goes_all line_length s t xs [] a b none p = (sym p.lefts, subst (Appends a b) (sym (p.committed_lines ∙ append-nil p.written)) p.received)
 goes_all line_length s t xs (c ∷ zs) a b none p = absurd (omega arith)
 
 -- a part that fails
 pub goes_partly : (line_length : ℕ) (s t : Left) (xs ys : List ℕ) (a b c : Option (List ℕ)) → Advances line_length s xs t ys a b
     → AppendsPrefix b c (sure_after line_length t ys) → AppendsPrefix a c (sure_after line_length s xs)
-goes_partly line_length s t xs ys a b c p q = subst (AppendsPrefix a c) (sym p.sures) (prefix-after a b c p.written (sure_after line_length t ys) p.received q)
+goes_partly line_length s t xs ys a b c p q = subst (AppendsPrefix a c) (sym p.committed_lines) (prefix-after a b c p.written (sure_after line_length t ys) p.received q)
 
 -- ---- collecting
 
@@ -94,9 +94,9 @@ collect_last line_length kept bytes b full =
     let none : line_length ≤ length (kept ++ bytes) = omega (arith, length-append kept bytes) in
     let last = step_full line_length (kept ++ bytes) b (kept ++ (bytes ++ b ∷ [])) (sym (append_assoc kept bytes (b ∷ []))) none in
     let lefts = rw some.0 at (left_after-append line_length (Collecting kept) bytes (b ∷ [])) in
-    let sures = rw (some.0, some.1) at (sure_after-append line_length (Collecting kept) bytes (b ∷ [])) in (
+    let committed_lines = rw (some.0, some.1) at (sure_after-append line_length (Collecting kept) bytes (b ∷ [])) in (
       lefts ∙ left_after-one line_length (Collecting (kept ++ bytes)) b ∙ ap (λ s. s.0) last,
-      sures ∙ sure_after-one line_length (Collecting (kept ++ bytes)) b
+      committed_lines ∙ sure_after-one line_length (Collecting (kept ++ bytes)) b
           ∙ ap (λ s. s.1) last,
     )
 
@@ -120,7 +120,7 @@ pub goes_collected : (line_length : ℕ) (kept kept' bytes : List ℕ) (received
 unfolding left_after sure_after
 goes_collected line_length kept kept' bytes received short fits is =
     let some = collect_some line_length kept bytes (omega arith) in
-    record { written = []; lefts = some.0 ∙ ap Collecting (sym is); sures = some.1; received = Appends-nil received }
+    record { written = []; lefts = some.0 ∙ ap Collecting (sym is); committed_lines = some.1; received = Appends-nil received }
 
 -- the line is full
 pub goes_full : (line_length : ℕ) (kept full bytes first rest : List ℕ) (next : Left) (before after : Option (List ℕ)) → length kept ≤ line_length
@@ -133,7 +133,7 @@ goes_full line_length kept full bytes first rest next before after short cut roo
     record {
       written = (break_full full (last_white (length full) full)).1;
       lefts = rw cut (left_after-append line_length (Collecting kept) first rest ∙ ap (λ s. left_after line_length s rest) (all.0 ∙ sym state));
-      sures = rw cut (sure_after-append line_length (Collecting kept) first rest ∙ rw (all.0, all.1, state) refl);
+      committed_lines = rw cut (sure_after-append line_length (Collecting kept) first rest ∙ rw (all.0, all.1, state) refl);
       received = received;
     }
 
@@ -186,7 +186,7 @@ goes_passed line_length bytes before after none received =
           record {
             written = till_white bytes;
             lefts = ap (left_after line_length Passing) all ∙ ink.0;
-            sures = ap (sure_after line_length Passing) all ∙ ink.1 ∙ sym (append-nil (till_white bytes));
+            committed_lines = ap (sure_after line_length Passing) all ∙ ink.1 ∙ sym (append-nil (till_white bytes));
             received = received;
           }
       at (c ∷ cs) none is = absurd (omega arith)
@@ -201,9 +201,9 @@ passed_ended line_length bytes b others is =
     let white = from_white-white bytes b others is in
     let all : bytes ≡ till_white bytes ++ b ∷ others = till_from bytes ∙ ap (λ xs. till_white bytes ++ xs) is in
     let lefts = left_after-append line_length Passing (till_white bytes) (b ∷ others) in
-    let sures = sure_after-append line_length Passing (till_white bytes) (b ∷ others) in
+    let committed_lines = sure_after-append line_length Passing (till_white bytes) (b ∷ others) in
     let lefts' = rw (ink.0, white) at lefts in
-    let sures' = rw (ink.0, ink.1, white) at sures in (
+    let sures' = rw (ink.0, ink.1, white) at committed_lines in (
       ap (left_after line_length Passing) all ∙ lefts',
       ap (sure_after line_length Passing) all ∙ sures'
           ∙ sym (append_assoc (till_white bytes) (10 ∷ []) (sure_after line_length Swallowing others)),
@@ -214,15 +214,15 @@ pub goes_ended : (line_length : ℕ) (bytes : List ℕ) (b : ℕ) (others : List
     Advances line_length Passing bytes Swallowing others before after
 goes_ended line_length bytes b others before mid after is first second =
     let all = passed_ended line_length bytes b others is in
-    record { written = till_white bytes ++ 10 ∷ []; lefts = all.0; sures = all.1; received = Appends-trans before mid after _ _ first second }
+    record { written = till_white bytes ++ 10 ∷ []; lefts = all.0; committed_lines = all.1; received = Appends-trans before mid after _ _ first second }
 
 -- the writing of what is passed on fails
 pub fails_passed : (line_length : ℕ) (bytes : List ℕ) (before after : Option (List ℕ)) → AppendsPrefix before after (till_white bytes)
     → AppendsPrefix before after (sure_after line_length Passing bytes)
 fails_passed line_length bytes before after begins =
     let ink = goes_ink line_length bytes in
-    let sures = sure_after-append line_length Passing (till_white bytes) (from_white bytes) in
-    let sures' = rw ink.1 at sures in
+    let committed_lines = sure_after-append line_length Passing (till_white bytes) (from_white bytes) in
+    let sures' = rw ink.1 at committed_lines in
     rw (ap (sure_after line_length Passing) (till_from bytes) ∙ sures') (prefix-longer before after _ _ begins)
 
 -- or that of the line's end
@@ -264,7 +264,7 @@ goes_swallowed line_length bytes received none =
       at : (rest : List ℕ) → length rest ≡ 0 → (left_after line_length Swallowing bytes ≡ left_after line_length Swallowing rest)
           × (sure_after line_length Swallowing bytes ≡ sure_after line_length Swallowing rest)
           → Advances line_length Swallowing bytes Swallowing [] received received
-      at [] none all = record { written = []; lefts = all.0; sures = all.1; received = Appends-nil received }
+      at [] none all = record { written = []; lefts = all.0; committed_lines = all.1; received = Appends-nil received }
       at (c ∷ cs) none all = absurd (omega arith)
 
 -- something follows it
@@ -276,4 +276,4 @@ goes_begun line_length bytes b others kept received is begun =
     let all = rw is at (goes_white line_length bytes) in
     let ink = skip_white-ink bytes b others is in
     let all' = rw ink at all in
-    record { written = []; lefts = rw begun all'.0; sures = rw begun all'.1; received = Appends-nil received }
+    record { written = []; lefts = rw begun all'.0; committed_lines = rw begun all'.1; received = Appends-nil received }

@@ -8,7 +8,7 @@ use Rattle.std.proofs.lemmas.Bool.{le-leb, cases_lt, and_parts}
 use Rattle.std.specs.List.{All}
 use Rattle.btx_text.specs.language.Class.{is_white}
 use Rattle.btx_out.specs.language.Breaking.{skip_white, till_white, from_white, last_white, Unbroken, Broken, break_past, break_at, break_of}
-use Rattle.btx_out.specs.laws.Places.{HasInk, IsBreakInside, IsBreakPast, IsUnbroken}
+use Rattle.btx_out.specs.laws.Places.{HasNoWhitespace, IsBreakInside, IsBreakPast, IsUnbroken}
 use Rattle.btx_out.proofs.BreakLemmas.{last_white-some, last_white-none, no_white_at, past_none}
 use Rattle.btx_out.proofs.GoingOnLemmas.{from_white-white, skip_white-ink, till_from}
 
@@ -103,7 +103,7 @@ place_inside line_length text head rest long is = at (last_white (line_length + 
 -- ---- a break past the line
 
 no_white_before : (line_length : ℕ) (text : List ℕ) → line_length < length text → last_white (line_length + 1) text ≡ None
-    → HasInk text 3 (length (take (line_length + 1) text ++ till_white (drop (line_length + 1) text)))
+    → HasNoWhitespace text 3 (length (take (line_length + 1) text ++ till_white (drop (line_length + 1) text)))
 no_white_before line_length text long none i low high = ⊎_elim (λ inside. last_white-none (line_length + 1) i text none low inside) (λ past. at past)
     (cases_lt i (line_length + 1)) where
       at : line_length + 1 ≤ i → is_white (get_or text i 0) ≡ false

@@ -13,7 +13,7 @@ pub together_written : (line_length : ℕ) (s t : Left) (xs ys none gathered : L
     Appends before after gathered → Advances line_length s xs t ys before after
 together_written line_length s t xs ys none gathered before after empty p received =
     let same : gathered ≡ p.written = rw empty at p.received in
-    record { written = p.written; lefts = p.lefts; sures = p.sures; received = subst (Appends before after) same received }
+    record { written = p.written; lefts = p.lefts; committed_lines = p.committed_lines; received = subst (Appends before after) same received }
 
 -- or the write fails
 pub together_failed : (line_length : ℕ) (s t : Left) (xs ys none gathered : List ℕ) (before after : Option (List ℕ)) → none ≡ []
@@ -21,5 +21,5 @@ pub together_failed : (line_length : ℕ) (s t : Left) (xs ys none gathered : Li
     AppendsPrefix before after gathered → AppendsPrefix before after (sure_after line_length s xs)
 together_failed line_length s t xs ys none gathered before after empty p begins =
     let same : gathered ≡ p.written = rw empty at p.received in
-    subst (AppendsPrefix before after) (sym p.sures)
+    subst (AppendsPrefix before after) (sym p.committed_lines)
     (prefix-longer before after p.written (sure_after line_length t ys) (subst (AppendsPrefix before after) same begins))

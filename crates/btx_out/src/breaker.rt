@@ -103,7 +103,7 @@ fn break_full(line: &mut Kept, gathered: &mut Gathered) -> State
     ensures state { left_of result line.new.items
         ≡ (break_full line.old.items (last_white (array_vec_len line.old) line.old.items)).0 }
     ensures fits { 0 < array_vec_len line.old → array_vec_len line.new < array_vec_len line.old }
-    ensures sure { gathered.new.items
+    ensures committed { gathered.new.items
         ≡ gathered.old.items ++ (break_full line.old.items (last_white (array_vec_len line.old) line.old.items)).1 }
 {
     match last_white(line.as_slice()) {

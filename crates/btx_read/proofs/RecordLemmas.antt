@@ -1,8 +1,8 @@
 -- One event of a database gives one record.
 use Rattle.std.proofs.Common.{◌≡◌, ℕ, Bool, true, false, List, [], ◌∷◌, length, None, Some, if◌then◌else◌, nat_lt, refl, ap, ◌∙◌}
 use Rattle.btx_text.specs.language.Limits.{greatest_string}
-use Rattle.btx_bib.specs.declared.grammar.commands.Wanted.{Wanted}
-use Rattle.btx_bib.specs.declared.grammar.commands.Wanted.TheVariants.{Item}
+use Rattle.btx_bib.specs.declared.grammar.commands.Expected.{Expected}
+use Rattle.btx_bib.specs.declared.grammar.commands.Expected.TheVariants.{Item}
 use Rattle.btx_bib.specs.language.Grammar.Items.{Step, next_step, events_from}
 use Rattle.btx_bib.specs.language.Grammar.ValueTexts.{squeezed}
 use Rattle.btx_bib.specs.refinement.Grammar.Squeezing.{is_squeezed}
@@ -25,7 +25,7 @@ fitting-squeezed text given e = ap (is_squeezed false) (fitting-is (squeezed tex
 
 -- ---- the next record
 
-module _ (text : List ℕ) (strings : List (List ℕ × List ℕ)) (w : Wanted) (s : List ℕ) where
+module _ (text : List ℕ) (strings : List (List ℕ × List ℕ)) (w : Expected) (s : List ℕ) where
   pub none-left : next_step no_key w s ≡ None → records_along text strings s (events_from nothing_kept tt w s) ≡ []
   none-left e = ap (records_along text strings s) (events-none nothing_kept tt w s e)
 

@@ -1,6 +1,6 @@
 -- A database that is being read, record by record.
 use Rattle.std.specs.Prelude.{◌≡◌, ℕ, List, [], ◌∷◌, Option, None, Some}
-use Rattle.btx_bib.specs.declared.grammar.commands.Wanted.{Wanted}
+use Rattle.btx_bib.specs.declared.grammar.commands.Expected.{Expected}
 use Rattle.btx_bib.specs.language.Grammar.Items.{events_from}
 use Rattle.btx_read.specs.declared.record.Record.{Record}
 use Rattle.btx_read.specs.Records.{nothing_kept, records_along}
@@ -9,7 +9,7 @@ use Rattle.btx_read.specs.Records.{nothing_kept, records_along}
 pub record Reading : Type 0 where
   pub text : List ℕ
   pub strings : List (List ℕ × List ℕ)
-  pub wanted : Wanted
+  pub wanted : Expected
   pub rest : List ℕ
 
 -- the records that are left

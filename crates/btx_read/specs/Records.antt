@@ -3,7 +3,7 @@
 use Rattle.std.specs.Prelude.{ℕ, nat_lt, ◌-◌, suc, Bool, false, List, [], ◌∷◌, length, drop, Option, None, Some, if◌then◌else◌, unwrap_or}
 use Rattle.btx_text.specs.language.Limits.{greatest_string}
 use Rattle.btx_bib.specs.declared.grammar.byte_sets.ByteSet.TheVariants.{Gap}
-use Rattle.btx_bib.specs.declared.grammar.commands.Wanted.TheVariants.{Item}
+use Rattle.btx_bib.specs.declared.grammar.commands.Expected.TheVariants.{Item}
 use Rattle.btx_bib.specs.declared.grammar.value_ends.Ends.TheVariants.{Kept, Trimmed}
 use Rattle.btx_bib.specs.language.Grammar.ByteSets.{past}
 use Rattle.btx_bib.specs.language.Grammar.Items as event

@@ -1,6 +1,6 @@
 -- Records as rows of numbers, with their names and texts in a room of texts.
 use Rattle.std.specs.Prelude.{ℕ, ◌+◌, Bool, true, List, [], ◌∷◌, ◌++◌, Option, length, map, take, drop, is_some, unwrap_or}
-use Rattle.btx_bib.specs.declared.grammar.slip.Slip.{Slip}
+use Rattle.btx_bib.specs.declared.grammar.slip.SyntaxError.{SyntaxError}
 use Rattle.btx_bib.specs.declared.message.Message.TheVariants as message
 use Rattle.btx_bib.specs.declared.message.Spot.{Spot}
 use Rattle.btx_bib.specs.language.MessageTexts.{message_line}
@@ -40,7 +40,7 @@ abbrev pub given : Option (List ℕ) → List ℕ
 given text = unwrap_or text []
 
 -- the line that a run logs of what is wrong at a place
-abbrev pub wrong_line : Slip → Spot → List ℕ
+abbrev pub wrong_line : SyntaxError → Spot → List ℕ
 wrong_line slip spot = (message_line (message.Wrong slip spot)).text
 
 -- the text of a record of a file: of an entry its key, of what is wrong the line that a run logs

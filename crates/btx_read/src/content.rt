@@ -1,6 +1,6 @@
 //! What a record says.
 use btx_bib::Word;
-use btx_bib::grammar::slip::Slip;
+use btx_bib::grammar::slip::SyntaxError;
 use btx_text::Text;
 
 /// What a record says. A text that is longer than a string may be is left out.
@@ -19,5 +19,5 @@ pub enum Content<'a> {
     /// The end of a `@preamble`, a `@string` or an entry.
     End,
     /// What is wrong.
-    Wrong(Slip),
+    Wrong(SyntaxError),
 }

@@ -1,6 +1,6 @@
 //! The reading of a database, record by record.
 ghost use Rattle.std.specs.Prelude.{◌≡◌, ◌-◌, IfOk, length};
-ghost use Rattle.btx_bib.specs.declared.grammar.commands.Wanted.TheVariants.{Item};
+ghost use Rattle.btx_bib.specs.declared.grammar.commands.Expected.TheVariants.{Item};
 ghost use Rattle.btx_read.specs.Records.{records_of};
 ghost use Rattle.btx_read.specs.Readings.{IsNext};
 

@@ -9,7 +9,7 @@ use crate::reading::RecordReader;
 use crate::record::Record;
 use crate::row::Row;
 use crate::string_table::StringTable;
-use btx_bib::grammar::slip::Slip;
+use btx_bib::grammar::slip::SyntaxError;
 use btx_bib::{Message, Spot, Word};
 use btx_text::Text;
 use std::alloc::{AllocError, Global};
@@ -75,7 +75,7 @@ fn push_given(texts: &mut Vec<u8>, text: &Option<Text<'_>>) -> Result<(), AllocE
 fn push_wrong(
     alloc: Global,
     texts: &mut Vec<u8>,
-    slip: Slip,
+    slip: SyntaxError,
     spot: Spot<'_>,
 ) -> Result<(), AllocError>
     ensures { OnOk result (texts.new.items ≡ texts.old.items ++ spec.wrong_line slip spot.entry) }

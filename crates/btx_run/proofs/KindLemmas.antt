@@ -17,7 +17,7 @@ use Rattle.btx_bib.specs.language.Passes.{passed, slot_at, parent_at, inherited_
 use Rattle.btx_bib.specs.language.Passes.{after_second, entries_of, inherited_values, without_parent, body_values}
 use Rattle.btx_bib.specs.language.Stored.{entry_with_key}
 use Rattle.btx_bib.specs.language.Messages.{Database}
-use Rattle.btx_bib.specs.language.Wanted.{Request}
+use Rattle.btx_bib.specs.language.Request.{Request}
 use Rattle.btx_bib.specs.laws.Databases.{read_all}
 use Rattle.btx_bib.specs.refinement.Passes.{checked_by, parent_slot, entry_by, with_field_values}
 

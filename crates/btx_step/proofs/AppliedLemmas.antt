@@ -2,11 +2,11 @@
 use Rattle.std.proofs.Common.{◌≡◌, ◌≢◌, ◌≤◌, ◌+◌, ◌⊎◌, inl, inr, ℕ, zero, suc, List, [], ◌∷◌, ◌++◌, length, take, drop, replicate, Option, Some, None, refl}
 use Rattle.std.proofs.Common.{sym, ap, subst, ◌∙◌, arith}
 use Rattle.std.specs.Prelude.{option_and_then, MatchOption, ⊤}
-use Rattle.btx_step.proofs.Common.{BuiltIn, Literal, Wanted, Note, Job, Store, Answer, with_literals, Operand, Any, Of, Default, Push, Back, Does, applied}
+use Rattle.btx_step.proofs.Common.{BuiltIn, Literal, OperandKind, Note, Job, Store, Answer, with_literals, Operand, Any, Of, Default, Push, Back, Does, applied}
 use Rattle.btx_step.proofs.Common.{wrong, or_default, row, runs, runs_missing, built_in_run}
 use Rattle.btx_bst.specs.declared.built_in.BuiltIn.TheVariants as built_in
 use Rattle.btx_stack.specs.declared.literal.Literal.TheVariants as literal
-use Rattle.btx_step.specs.declared.literal.Wanted.TheVariants as wanted
+use Rattle.btx_step.specs.declared.literal.OperandKind.TheVariants as wanted
 use Rattle.btx_step.specs.declared.said.Note.TheVariants as note
 use Rattle.btx_step.specs.language.Operands.{Value, seen_as, absent, or_else}
 use Rattle.btx_step.specs.laws.Applied.{operand_literal, OperandValues, operand_literals, done_on, IsApplied, AreMissing, IsWrong, by_default, IsReported}
@@ -37,7 +37,7 @@ round (Of wanted.TextOrMissing) (Some text) = refl
 none_is_some : {A : Type 0} (a : A) → None ≡ Some a → ⊥
 none_is_some a e = subst (λ o. MatchOption o ⊤ (λ x. ⊥)) e tt
 
-misfit : (kind : Wanted) (x : Literal) → seen_as (Of kind) x ≡ None → (value : Value (Of kind)) → x ≢ operand_literal (Of kind) value
+misfit : (kind : OperandKind) (x : Literal) → seen_as (Of kind) x ≡ None → (value : Value (Of kind)) → x ≢ operand_literal (Of kind) value
 misfit kind x none value e = none_is_some value (sym none ∙ ap (seen_as (Of kind)) e ∙ round (Of kind) value)
 
 -- ---- operands that aren't there
@@ -115,7 +115,7 @@ module _ (operand : Operand) (more : List Operand) (does : Does (operand ∷ mor
   later (inl h) = inl (fits_later h)
   later (inr h) = inr (record { why = why_later h.why; is = go_on ∙ h.is })
 
-module _ (kind : Wanted) (more : List Operand) (x : Literal) (xs : List Literal) (none : seen_as (Of kind) x ≡ None) where
+module _ (kind : OperandKind) (more : List Operand) (x : Literal) (xs : List Literal) (none : seen_as (Of kind) x ≡ None) where
   -- it is logged, unless another one isn't there
   logged_here : (notes : List Note) → absent more xs ≡ notes → complaints (Of kind ∷ more) (x ∷ xs) ≡ or_else notes (note.WrongKind x kind ∷ [])
   logged_here notes e = ap (λ o. or_else (absent more xs) (misfit_notes o (note.WrongKind x kind) (wrong more xs))) none
@@ -140,7 +140,7 @@ module _ (kind : Wanted) (more : List Operand) (x : Literal) (xs : List Literal)
 abbrev Verdict : (operands : List Operand) → Does operands → List Literal → Type 0
 Verdict operands does xs = Fits operands does xs ⊎ Fails operands does xs
 
-of_kind : (kind : Wanted) (more : List Operand) (does : Does (Of kind ∷ more)) (x : Literal) (xs : List Literal)
+of_kind : (kind : OperandKind) (more : List Operand) (does : Does (Of kind ∷ more)) (x : Literal) (xs : List Literal)
     → ((value : Value (Of kind)) → Verdict more (does value) xs)
     → ((value : Value (Of kind)) × (x ≡ operand_literal (Of kind) value) × (seen_as (Of kind) x ≡ Some value)) ⊎ (seen_as (Of kind) x ≡ None)
     → Verdict (Of kind ∷ more) does (x ∷ xs)

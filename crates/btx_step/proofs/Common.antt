@@ -4,7 +4,7 @@ pub use Rattle.btx_bst.specs.declared.callee.Callee.{Callee}
 pub use Rattle.btx_stack.specs.declared.literal.Literal.{Literal}
 pub use Rattle.btx_stack.specs.declared.literal.Literal.TheVariants.{Function, Integer, Missing, Text}
 pub use Rattle.btx_stack.specs.refinement.Stacks.{Pushes, below_top, has_missing}
-pub use Rattle.btx_step.specs.declared.literal.Wanted.{Wanted}
+pub use Rattle.btx_step.specs.declared.literal.OperandKind.{OperandKind}
 pub use Rattle.btx_step.specs.declared.next.Next.{Next}
 pub use Rattle.btx_step.specs.declared.operands.Default.{Default}
 pub use Rattle.btx_step.specs.declared.operands.Default.TheVariants.{Back, Push}

@@ -2,7 +2,7 @@
 use Rattle.std.proofs.Common.{◌≡◌, ℕ, ℤ, ◌<◌, Bool, true, false, cond, nat_lt, List, [], ◌∷◌, length, take, Option, Some, None, refl, arith, sym}
 use Rattle.std.proofs.Common.{subst}
 use Rattle.std.specs.Prelude.{slice_get, slice_index_or}
-use Rattle.btx_step.proofs.Common.{BuiltIn, Callee, Literal, Wanted, Next, Note, Said, StandIn, Job, Store, Answer, answer, quiet, says, with_literals, pushes}
+use Rattle.btx_step.proofs.Common.{BuiltIn, Callee, Literal, OperandKind, Next, Note, Said, StandIn, Job, Store, Answer, answer, quiet, says, with_literals, pushes}
 use Rattle.btx_step.proofs.Common.{pushes_text, Operand, Push, Back, Does, on_operands, row, runs_missing, built_in_run, function_run, misses_entry}
 use Rattle.btx_text.specs.language.Limits.{greatest_string}
 use Rattle.btx_bst.specs.declared.built_in.BuiltIn.TheVariants as built_in
@@ -11,7 +11,7 @@ use Rattle.btx_bst.specs.declared.token.Token.{Token}
 use Rattle.btx_bst.specs.declared.token.Token.TheVariants as token
 use Rattle.btx_bst.specs.language.Direct.{is_choice}
 use Rattle.btx_stack.specs.declared.literal.Literal.TheVariants as literal
-use Rattle.btx_step.specs.declared.literal.Wanted.TheVariants as wanted
+use Rattle.btx_step.specs.declared.literal.OperandKind.TheVariants as wanted
 use Rattle.btx_text.specs.declared.limits.Limit.TheVariants as limit
 use Rattle.btx_step.specs.declared.next.Next.TheVariants as next
 use Rattle.btx_step.specs.declared.said.Note.TheVariants as note
@@ -120,7 +120,7 @@ module _ (r : ℕ) where
   complains_low : (note : Note) (instead : StandIn) (s : Store) → Free s.literals → Low r (complains note instead s)
   complains_low note instead s h = plain.complains Free Lowers pushed_low (note ∷ []) instead s h
 
-  refuses_low : (v : Literal) (wanted : Wanted) (instead : StandIn) (s : Store) → Free s.literals → Low r (refuses v wanted instead s)
+  refuses_low : (v : Literal) (wanted : OperandKind) (instead : StandIn) (s : Store) → Free s.literals → Low r (refuses v wanted instead s)
   refuses_low v wanted instead s h = complains_low (note.WrongKind v wanted) instead s h
 
   pub outside_low : (s : Store) → Free s.literals → Low r (outside s)

@@ -4,12 +4,12 @@ use Rattle.std.proofs.Common.{replicate, cond, Option, Some, None, refl, sym, ap
 use Rattle.std.specs.Option.{option_map_or}
 use Rattle.std.proofs.lemmas.List.{drop_all, drop_more, drop-drop, length-drop}
 use Rattle.std.specs.Prelude.{option_and_then}
-use Rattle.btx_step.proofs.Common.{BuiltIn, Literal, below_top, has_missing, Wanted, Default, Push, Back, Operand, Any, Of, Note, Answer, with_literals, Does}
+use Rattle.btx_step.proofs.Common.{BuiltIn, Literal, below_top, has_missing, OperandKind, Default, Push, Back, Operand, Any, Of, Note, Answer, with_literals, Does}
 use Rattle.btx_step.proofs.Common.{applied, or_default, wrong, finds_missing, Job, built_in_run, Store, misses_entry, row, runs, runs_missing}
 use Rattle.btx_bst.specs.declared.built_in.BuiltIn.TheVariants as built_in
 use Rattle.btx_stack.specs.declared.literal.Literal.TheVariants as literal
 use Rattle.btx_stack.specs.refinement.Stacks.{has_text}
-use Rattle.btx_step.specs.declared.literal.Wanted.TheVariants as wanted
+use Rattle.btx_step.specs.declared.literal.OperandKind.TheVariants as wanted
 use Rattle.btx_step.specs.declared.said.Note.TheVariants as note
 use Rattle.btx_step.specs.language.Operands.{absent, or_else, seen_as}
 use Rattle.btx_step.specs.laws.Applied.{FollowsRule}
@@ -37,7 +37,7 @@ pub ruleset drop_steps = (below_dropped, length-drop)
 -- ---- the first wrong one
 
 -- what is wrong where an operand of a kind is wanted: the literal on top, or what is wrong with the others
-wrong_of : (kind : Wanted) (more : List Operand) (x : Literal) (xs : List Literal)
+wrong_of : (kind : OperandKind) (more : List Operand) (x : Literal) (xs : List Literal)
     → wrong (Of kind ∷ more) (x ∷ xs) ≡ cond (stands kind (x ∷ xs)) (wrong more xs) (note.WrongKind x kind ∷ [])
 wrong_of wanted.Integer more (literal.Integer n) xs = refl
 wrong_of wanted.Text more (literal.Text text) xs = refl
@@ -46,7 +46,7 @@ wrong_of wanted.TextOrMissing more (literal.Text text) xs = refl
 wrong_of wanted.TextOrMissing more literal.Missing xs = refl
 wrong_of kind more x xs = refl
 
-wrong_as : (fits : Bool) (kind : Wanted) (operands more : List Operand) (ys xs : List Literal) (x : Literal) → operands ≡ Of kind ∷ more → ys ≡ x ∷ xs
+wrong_as : (fits : Bool) (kind : OperandKind) (operands more : List Operand) (ys xs : List Literal) (x : Literal) → operands ≡ Of kind ∷ more → ys ≡ x ∷ xs
     → stands kind ys ≡ fits → wrong operands ys ≡ cond fits (wrong more xs) (note.WrongKind x kind ∷ [])
 wrong_as fits kind operands more ys xs x e f p = ap (λ o. wrong o ys) e ∙ ap (λ y. wrong (Of kind ∷ more) y) f ∙ wrong_of kind more x xs
     ∙ ap (λ b. cond b (wrong more xs) (note.WrongKind x kind ∷ [])) (ap (stands kind) (sym f) ∙ p)
@@ -55,7 +55,7 @@ any_passed : (operands more : List Operand) (ys xs : List Literal) (x : Literal)
 any_passed operands more ys xs x e f = ap (λ o. wrong o ys) e ∙ ap (λ y. wrong (Any ∷ more) y) f
 
 -- at a place
-pub passed_at : (operands : List Operand) (xs : List Literal) (i : ℕ) (d : Operand) (kind : Wanted) → i < length operands → length operands ≤ length xs
+pub passed_at : (operands : List Operand) (xs : List Literal) (i : ℕ) (d : Operand) (kind : OperandKind) → i < length operands → length operands ≤ length xs
     → get_or operands i d ≡ Of kind → stands kind (drop i xs) ≡ true
     → wrong (drop i operands) (drop i xs) ≡ wrong (drop (i + 1) operands) (drop (i + 1) xs)
 passed_at operands xs i d kind h l e p =
@@ -68,7 +68,7 @@ any_passed_at operands xs i d h l e =
     any_passed (drop i operands) (drop (i + 1) operands) (drop i xs) (drop (i + 1) xs) (get_or xs i literal.Missing) (drop_more operands i d h
     ∙ ap (λ o. o ∷ drop (i + 1) operands) e) (drop_more xs i literal.Missing (omega (arith, h, l)))
 
-pub found_at : (operands : List Operand) (xs : List Literal) (i : ℕ) (d : Operand) (kind : Wanted) → i < length operands → get_or operands i d ≡ Of kind
+pub found_at : (operands : List Operand) (xs : List Literal) (i : ℕ) (d : Operand) (kind : OperandKind) → i < length operands → get_or operands i d ≡ Of kind
     → stands kind (drop i xs) ≡ false → wrong (drop i operands) (drop i xs) ≡ wrong operands xs
     → WrongAt i kind operands xs
 found_at operands xs i d kind h e p same = (
@@ -175,7 +175,7 @@ left_below place n x ys xs h e =
     ∙ ap (λ k. drop k xs) (omega (arith, h))
 
 -- the rule where one is wrong
-pub by_kind : (f : BuiltIn) (does : Does (row f).operands) (place : ℕ) (kind : Wanted) (x : Literal) (ys : List Literal) (a : Answer) (s : Store)
+pub by_kind : (f : BuiltIn) (does : Does (row f).operands) (place : ℕ) (kind : OperandKind) (x : Literal) (ys : List Literal) (a : Answer) (s : Store)
     → length (row f).operands ≤ length s.literals → WrongAt place kind (row f).operands s.literals
     → drop place s.literals ≡ x ∷ ys
     → a ≡ or_default None (row f).default (note.WrongKind x kind ∷ []) ys (drop (length (row f).operands - place - 1) ys) (with_literals ys s)

@@ -3,7 +3,7 @@ use Rattle.std.proofs.Common.{List, [], ◌∷◌, length, drop, Option, Some, N
 use Rattle.btx_step.proofs.Common.{Literal, Note, StandIn, Store, Answer, with_literals, Operand, Any, Of, Default, Push, Back, Does, applied, or_default}
 use Rattle.btx_step.proofs.Common.{on_operands}
 use Rattle.btx_stack.specs.declared.literal.Literal.TheVariants as literal
-use Rattle.btx_step.specs.declared.literal.Wanted.TheVariants as wanted
+use Rattle.btx_step.specs.declared.literal.OperandKind.TheVariants as wanted
 use Rattle.btx_step.specs.declared.stand_in.StandIn.TheVariants as stand_in
 use Rattle.btx_step.specs.language.Answers.{complained}
 use Rattle.btx_step.specs.language.Operands.{Value}

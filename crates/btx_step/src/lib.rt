@@ -20,7 +20,7 @@ mod values;
 
 pub use job::Job;
 pub use kept_bytes::KeptBytes;
-pub use literal::{Literal, Wanted};
+pub use literal::{Literal, OperandKind};
 pub use next::Next;
 pub use outcome::Outcome;
 pub use said::{Note, Notes, Said};

@@ -5,7 +5,7 @@ ghost use Rattle.std.specs.Fmt.{signed_decimal};
 ghost use Rattle.btx_step.specs.language.Notes as spec;
 ghost use Rattle.btx_step.specs.refinement.Notes as kept_spec;
 
-use crate::literal::{Literal, Wanted};
+use crate::literal::{Literal, OperandKind};
 use crate::said::Note;
 use btx_bst::{Callee, Style};
 use btx_text::log_texts::{push_four, push_mark, push_number, push_two};
@@ -228,16 +228,16 @@ fn push_note(text: &mut Vec<u8>, style: &Style<'_>, note: &Note<'_>) -> Result<(
 {
     match note {
         Note::EmptyStack => text.extend_from_slice(b"You can't pop an empty literal stack"),
-        Note::WrongKind(value, Wanted::Integer) => {
+        Note::WrongKind(value, OperandKind::Integer) => {
             push_form_before(text, style, value, b" is not an integer")
         }
-        Note::WrongKind(value, Wanted::Text) => {
+        Note::WrongKind(value, OperandKind::Text) => {
             push_form_before(text, style, value, b" is not a string")
         }
-        Note::WrongKind(value, Wanted::Function) => {
+        Note::WrongKind(value, OperandKind::Function) => {
             push_form_before(text, style, value, b" is not a function")
         }
-        Note::WrongKind(value, Wanted::TextOrMissing) => {
+        Note::WrongKind(value, OperandKind::TextOrMissing) => {
             push_form_before(text, style, value, b" is not a string or missing field")
         }
         Note::Incomparable => text.extend_from_slice(b"= needs two integers or two strings"),

@@ -3,7 +3,7 @@ pub use btx_stack::Literal;
 
 /// The kind of literal that a built-in function expects.
 #[derive(Clone, Copy, PartialEq, Eq, Debug)]
-pub enum Wanted {
+pub enum OperandKind {
     Integer,
     Text,
     Function,

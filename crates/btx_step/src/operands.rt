@@ -2,7 +2,7 @@
 ghost use Rattle.std.specs.Prelude.{◌≡◌};
 ghost use Rattle.btx_step.specs.language.Table.{row};
 
-use crate::literal::Wanted;
+use crate::literal::OperandKind;
 use crate::stand_in::StandIn;
 use btx_bst::BuiltIn;
 
@@ -10,7 +10,7 @@ use btx_bst::BuiltIn;
 #[derive(Clone, Copy, PartialEq, Eq, Debug)]
 pub enum Operand {
     Any,
-    Of(Wanted),
+    Of(OperandKind),
 }
 
 /// What follows where an operand is missing or wrong: the stand-in is pushed in place of a result, or, for `swap$` alone, what was taken is put back.
@@ -35,9 +35,9 @@ pub fn operands_of(function: BuiltIn) -> &'static [Operand]
         | BuiltIn::Type => &[],
         BuiltIn::Duplicate | BuiltIn::Pop | BuiltIn::Top => &[Operand::Any],
         BuiltIn::Equals | BuiltIn::Swap => &[Operand::Any, Operand::Any],
-        BuiltIn::Assign => &[Operand::Of(Wanted::Function), Operand::Any],
-        BuiltIn::IntToChr | BuiltIn::IntToStr => &[Operand::Of(Wanted::Integer)],
-        BuiltIn::Empty | BuiltIn::Missing => &[Operand::Of(Wanted::TextOrMissing)],
+        BuiltIn::Assign => &[Operand::Of(OperandKind::Function), Operand::Any],
+        BuiltIn::IntToChr | BuiltIn::IntToStr => &[Operand::Of(OperandKind::Integer)],
+        BuiltIn::Empty | BuiltIn::Missing => &[Operand::Of(OperandKind::TextOrMissing)],
         BuiltIn::AddPeriod
         | BuiltIn::ChrToInt
         | BuiltIn::NumNames
@@ -45,29 +45,41 @@ pub fn operands_of(function: BuiltIn) -> &'static [Operand]
         | BuiltIn::TextLength
         | BuiltIn::Warning
         | BuiltIn::Width
-        | BuiltIn::Write => &[Operand::Of(Wanted::Text)],
+        | BuiltIn::Write => &[Operand::Of(OperandKind::Text)],
         BuiltIn::Greater | BuiltIn::Less | BuiltIn::Plus | BuiltIn::Minus => {
-            &[Operand::Of(Wanted::Integer), Operand::Of(Wanted::Integer)]
+            &[
+                Operand::Of(OperandKind::Integer),
+                Operand::Of(OperandKind::Integer),
+            ]
         }
         BuiltIn::Concatenate | BuiltIn::ChangeCase => {
-            &[Operand::Of(Wanted::Text), Operand::Of(Wanted::Text)]
+            &[
+                Operand::Of(OperandKind::Text),
+                Operand::Of(OperandKind::Text),
+            ]
         }
-        BuiltIn::TextPrefix => &[Operand::Of(Wanted::Integer), Operand::Of(Wanted::Text)],
-        BuiltIn::While => &[Operand::Of(Wanted::Function), Operand::Of(Wanted::Function)],
+        BuiltIn::TextPrefix => &[
+            Operand::Of(OperandKind::Integer),
+            Operand::Of(OperandKind::Text),
+        ],
+        BuiltIn::While => &[
+            Operand::Of(OperandKind::Function),
+            Operand::Of(OperandKind::Function),
+        ],
         BuiltIn::FormatName => &[
-            Operand::Of(Wanted::Text),
-            Operand::Of(Wanted::Integer),
-            Operand::Of(Wanted::Text),
+            Operand::Of(OperandKind::Text),
+            Operand::Of(OperandKind::Integer),
+            Operand::Of(OperandKind::Text),
         ],
         BuiltIn::If => &[
-            Operand::Of(Wanted::Function),
-            Operand::Of(Wanted::Function),
-            Operand::Of(Wanted::Integer),
+            Operand::Of(OperandKind::Function),
+            Operand::Of(OperandKind::Function),
+            Operand::Of(OperandKind::Integer),
         ],
         BuiltIn::Substring => &[
-            Operand::Of(Wanted::Integer),
-            Operand::Of(Wanted::Integer),
-            Operand::Of(Wanted::Text),
+            Operand::Of(OperandKind::Integer),
+            Operand::Of(OperandKind::Integer),
+            Operand::Of(OperandKind::Text),
         ],
     }
 }

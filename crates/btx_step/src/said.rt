@@ -2,7 +2,7 @@
 ghost use Rattle.std.specs.Prelude.{◌≡◌, [], ◌∷◌, ◌++◌, OnOk, IfOk, replicate};
 ghost use Rattle.btx_step.specs.declared.said.Note.TheVariants as note;
 
-use crate::literal::{Literal, Wanted};
+use crate::literal::{Literal, OperandKind};
 use btx_bst::Callee;
 use btx_text::Text;
 use std::alloc::{AllocError, Global};
@@ -14,7 +14,7 @@ pub enum Note<'a> {
     /// The literal stack was empty.
     EmptyStack,
     /// A literal of another kind was wanted.
-    WrongKind(Literal<'a>, Wanted),
+    WrongKind(Literal<'a>, OperandKind),
     /// Two literals can't be compared.
     Incomparable,
     /// A result is out of range.

@@ -3,10 +3,10 @@ use Rattle.std.proofs.Common.{◌≡◌, ℕ, zero, suc, ◌<◌, false, List, [
 use Rattle.btx_bib.specs.declared.grammar.byte_sets.Delimiter.{Delimiter}
 use Rattle.btx_bib.specs.declared.grammar.commands.Command.{Command}
 use Rattle.btx_bib.specs.declared.grammar.commands.Command.TheVariants as command
-use Rattle.btx_bib.specs.declared.grammar.commands.Wanted.{Wanted}
-use Rattle.btx_bib.specs.declared.grammar.commands.Wanted.TheVariants as wanted
-use Rattle.btx_bib.specs.declared.grammar.slip.Slip.{Slip}
-use Rattle.btx_bib.specs.declared.grammar.slip.Slip.TheVariants.{NoEquals, NoClosing}
+use Rattle.btx_bib.specs.declared.grammar.commands.Expected.{Expected}
+use Rattle.btx_bib.specs.declared.grammar.commands.Expected.TheVariants as wanted
+use Rattle.btx_bib.specs.declared.grammar.slip.SyntaxError.{SyntaxError}
+use Rattle.btx_bib.specs.declared.grammar.slip.SyntaxError.TheVariants.{NoEquals, NoClosing}
 use Rattle.btx_bib.specs.language.Grammar.Tokens.{Parsed, followed_by, name_at, open_at, sign_at, key_at, closing_delimiter}
 use Rattle.btx_bib.specs.language.Grammar.Values.{Part, value_at}
 use Rattle.btx_bib.specs.language.Grammar.Fields.{Field}
@@ -21,10 +21,10 @@ use Rattle.btx_bib.specs.laws.Grammar.Fields.{more_at}
 
 -- ---- one step
 
-abbrev step_to : Event → Wanted → List ℕ → Step
+abbrev step_to : Event → Expected → List ℕ → Step
 step_to event next rest = record { event = event; wanted = next; rest = rest }
 
-events-step : {S : Type 0} (keeping : Keeping S) (state : S) (w : Wanted) (s : List ℕ) (event : Event) (next : Wanted) (rest : List ℕ)
+events-step : {S : Type 0} (keeping : Keeping S) (state : S) (w : Expected) (s : List ℕ) (event : Event) (next : Expected) (rest : List ℕ)
     → expected_step w s ≡ Some (step_to event next rest) → is_repeated (keeping.is_stored state) event ≡ false →
     bare_events (events_from keeping state w s) ≡ event ∷ bare_events (events_from keeping (keeping.after state event) next rest)
 events-step keeping state w s event next rest e new =
@@ -36,19 +36,19 @@ abbrev with_event : Event → Parsed (List Event) → Parsed (List Event)
 with_event event (Ok got) = Ok (event ∷ got.0, got.1)
 with_event event (Err wrong) = Err wrong
 
-gives-more : {S : Type 0} (keeping : Keeping S) (state : S) (w : Wanted) (s : List ℕ) (event : Event) (next : Wanted) (rest : List ℕ) (r : Parsed (List Event))
+gives-more : {S : Type 0} (keeping : Keeping S) (state : S) (w : Expected) (s : List ℕ) (event : Event) (next : Expected) (rest : List ℕ) (r : Parsed (List Event))
     → expected_step w s ≡ Some (step_to event next rest) → is_repeated (keeping.is_stored state) event ≡ false →
     GivesEvents keeping (keeping.after state event) next rest r → GivesEvents keeping state w s (with_event event r)
 gives-more keeping state w s event next rest (Ok got) e new h = events-step keeping state w s event next rest e new ∙ ap (λ xs. event ∷ xs) h
 gives-more keeping state w s event next rest (Err wrong) e new h =
     (event ∷ h.0, events-step keeping state w s event next rest e new ∙ ap (λ xs. event ∷ xs) h.1)
 
-gives-one : {S : Type 0} (keeping : Keeping S) (state : S) (w : Wanted) (s : List ℕ) (event : Event) (rest : List ℕ)
+gives-one : {S : Type 0} (keeping : Keeping S) (state : S) (w : Expected) (s : List ℕ) (event : Event) (rest : List ℕ)
     → expected_step w s ≡ Some (step_to event wanted.Item rest) → is_repeated (keeping.is_stored state) event ≡ false →
     GivesEvents keeping state w s (Ok (event ∷ [], rest))
 gives-one keeping state w s event rest e new = events-step keeping state w s event wanted.Item rest e new
 
-gives-wrong : {S : Type 0} (keeping : Keeping S) (state : S) (w : Wanted) (s : List ℕ) (wrong : Slip × List ℕ)
+gives-wrong : {S : Type 0} (keeping : Keeping S) (state : S) (w : Expected) (s : List ℕ) (wrong : SyntaxError × List ℕ)
     → expected_step w s ≡ Some (step_to (Wrong wrong.0) wanted.Item wrong.1) → GivesEvents keeping state w s (Err wrong)
 gives-wrong keeping state w s wrong e = ([], events-step keeping state w s (Wrong wrong.0) wanted.Item wrong.1 e refl)
 
@@ -106,7 +106,7 @@ fields-gives keeping state d s = fields-within keeping (suc (length s)) state d 
 -- ---- items
 
 -- what is read first is wrong, and so is the whole
-abbrev StepIs : List ℕ → Parsed (Event × Wanted) → Type 0
+abbrev StepIs : List ℕ → Parsed (Event × Expected) → Type 0
 StepIs s r = expected_step wanted.Item s ≡ Some (step_by r)
 
 preamble-value : {S : Type 0} (keeping : Keeping S) (state : S) (s : List ℕ) (d : Delimiter) (r : Parsed (List Part))

@@ -9,10 +9,10 @@ use Rattle.btx_bib.specs.declared.grammar.byte_sets.Enclosure.{Enclosure}
 use Rattle.btx_bib.specs.declared.grammar.byte_sets.Enclosure.TheVariants.{Group, Quotes}
 use Rattle.btx_bib.specs.declared.grammar.commands.Command.{Command}
 use Rattle.btx_bib.specs.declared.grammar.commands.Command.TheVariants as command
-use Rattle.btx_bib.specs.declared.grammar.commands.Wanted.{Wanted}
-use Rattle.btx_bib.specs.declared.grammar.commands.Wanted.TheVariants.{Item, Closing, Fields}
-use Rattle.btx_bib.specs.declared.grammar.slip.Slip.{Slip}
-use Rattle.btx_bib.specs.declared.grammar.slip.Slip.TheVariants.{NoEquals, NoClosing, Repeated}
+use Rattle.btx_bib.specs.declared.grammar.commands.Expected.{Expected}
+use Rattle.btx_bib.specs.declared.grammar.commands.Expected.TheVariants.{Item, Closing, Fields}
+use Rattle.btx_bib.specs.declared.grammar.slip.SyntaxError.{SyntaxError}
+use Rattle.btx_bib.specs.declared.grammar.slip.SyntaxError.TheVariants.{NoEquals, NoClosing, Repeated}
 use Rattle.btx_bib.specs.language.Grammar.ByteSets.{begins, past, enclosed_len}
 use Rattle.btx_bib.specs.language.Grammar.Tokens.{Parsed, followed_by, name_here, name_at, open_in, open_at, sign_in, sign_at, key_here, key_at}
 use Rattle.btx_bib.specs.language.Grammar.Tokens.{closing_delimiter}
@@ -67,11 +67,11 @@ open_in-stays s =
 open-stays : (s : List ℕ) (n : ℕ) → length s ≤ n → Stays n (open_at s)
 open-stays s n le = stays-more (open_at s) (length (past Gap s)) n (omega (arith, past-le Gap s)) (open_in-stays (past Gap s))
 
-sign_in-stays : (sign : ℕ) (slip : Slip) (s : List ℕ) → Stays (length s) (sign_in sign slip s)
+sign_in-stays : (sign : ℕ) (slip : SyntaxError) (s : List ℕ) → Stays (length s) (sign_in sign slip s)
 unfolding sign_in
 sign_in-stays sign slip s = stays-if (begins (λ b. eqb b sign) s) _ _ (length s) (drop-le 1 s) (omega arith)
 
-sign-stays : (sign : ℕ) (slip : Slip) (s : List ℕ) (n : ℕ) → length s ≤ n → Stays n (sign_at sign slip s)
+sign-stays : (sign : ℕ) (slip : SyntaxError) (s : List ℕ) (n : ℕ) → length s ≤ n → Stays n (sign_at sign slip s)
 sign-stays sign slip s n le = stays-more (sign_at sign slip s) (length (past Gap s)) n (omega (arith, past-le Gap s)) (sign_in-stays sign slip (past Gap s))
 
 key_in-stays : (delimiter : Delimiter) (s : List ℕ) → Stays (length s) (key_here delimiter s)
@@ -141,12 +141,12 @@ after_comma-stays delimiter s n le =
 
 -- ---- what is read at a place: less is left, or as much and an item is wanted
 
-left-le : (wanted : Wanted) (n : ℕ) → left wanted n ≤ 2 * n + 1
+left-le : (wanted : Expected) (n : ℕ) → left wanted n ≤ 2 * n + 1
 left-le Item n = omega arith
 left-le (Closing delimiter) n = omega arith
 left-le (Fields delimiter) n = omega arith
 
-begun : (r : Parsed (Event × Wanted)) (n : ℕ) → Stays n r → left (step_by r).wanted (length (step_by r).rest) < 2 * suc n
+begun : (r : Parsed (Event × Expected)) (n : ℕ) → Stays n r → left (step_by r).wanted (length (step_by r).rest) < 2 * suc n
 begun (Ok got) n h = let le = left-le got.0.1 (length got.1) in omega arith
 begun (Err wrong) n h = omega arith
 
@@ -234,7 +234,7 @@ item-steps s (Some t) e =
     let h = begun (head_at t) (length t) (head-stays t (length t) (omega arith)) in
     omega arith
 
-pub step-leaves : (wanted : Wanted) (s : List ℕ) → StepsTo (left wanted (length s)) (expected_step wanted s)
+pub step-leaves : (wanted : Expected) (s : List ℕ) → StepsTo (left wanted (length s)) (expected_step wanted s)
 unfolding expected_step
 step-leaves Item s = item-steps s (behind_at s) refl
 step-leaves (Closing delimiter) s = ended-left (sign_at (closing_delimiter delimiter) (NoClosing delimiter) s) (length s)
@@ -246,9 +246,9 @@ step-leaves (Fields delimiter) s =
 -- ---- the events, one at a time
 
 -- where an entry is repeated, no more is left to read
-known-left : (is_stored : List ℕ → Bool) (event : Event) (wanted : Wanted) (n : ℕ) → left (as_known is_stored (event, wanted)).1 n ≤ left wanted n
+known-left : (is_stored : List ℕ → Bool) (event : Event) (wanted : Expected) (n : ℕ) → left (as_known is_stored (event, wanted)).1 n ≤ left wanted n
 known-left is_stored event wanted n = at (is_repeated is_stored event) wanted where
-  at : (t : Bool) (w : Wanted) → let got : Event × Wanted = cond t (Wrong Repeated, Item) (event, w) in left got.1 n ≤ left w n
+  at : (t : Bool) (w : Expected) → let got : Event × Expected = cond t (Wrong Repeated, Item) (event, w) in left got.1 n ≤ left w n
   at true Item = omega arith
   at true (Closing delimiter) = omega arith
   at true (Fields delimiter) = omega arith
@@ -258,15 +258,15 @@ known-steps : (is_stored : List ℕ → Bool) (n : ℕ) (o : Option Step) → St
 known-steps is_stored n None h = tt
 known-steps is_stored n (Some step) h = let le = known-left is_stored step.event step.wanted (length step.rest) in omega arith
 
-pub next-leaves : (is_stored : List ℕ → Bool) (wanted : Wanted) (s : List ℕ) → StepsTo (left wanted (length s)) (next_step is_stored wanted s)
+pub next-leaves : (is_stored : List ℕ → Bool) (wanted : Expected) (s : List ℕ) → StepsTo (left wanted (length s)) (next_step is_stored wanted s)
 next-leaves is_stored wanted s = known-steps is_stored (left wanted (length s)) (expected_step wanted s) (step-leaves wanted s)
 
-by-enough : {S : Type 0} (keeping : Keeping S) (f g : S → Wanted → List ℕ → List Placed) (n : ℕ) (state : S) (o : Option Step) → StepsTo n o →
-    ((q : S) (w : Wanted) (s : List ℕ) → left w (length s) < n → f q w s ≡ g q w s) → events_by keeping f state o ≡ events_by keeping g state o
+by-enough : {S : Type 0} (keeping : Keeping S) (f g : S → Expected → List ℕ → List Placed) (n : ℕ) (state : S) (o : Option Step) → StepsTo n o →
+    ((q : S) (w : Expected) (s : List ℕ) → left w (length s) < n → f q w s ≡ g q w s) → events_by keeping f state o ≡ events_by keeping g state o
 by-enough keeping f g n state None h same = refl
 by-enough keeping f g n state (Some step) h same = rw (same (keeping.after state step.event) step.wanted step.rest h) refl
 
-within-enough : {S : Type 0} (keeping : Keeping S) (n m : ℕ) (state : S) (w : Wanted) (s : List ℕ) → left w (length s) < n → left w (length s) < m →
+within-enough : {S : Type 0} (keeping : Keeping S) (n m : ℕ) (state : S) (w : Expected) (s : List ℕ) → left w (length s) < n → left w (length s) < m →
     events_within keeping n state w s ≡ events_within keeping m state w s
 unfolding events_within
 within-enough keeping zero m state w s h k = absurd (omega arith)
@@ -276,7 +276,7 @@ within-enough keeping (suc n) (suc m) state w s h k =
     (next-leaves (keeping.is_stored state) w s)
     (λ q v t lt. within-enough keeping n m q v t (omega arith) (omega arith))
 
-pub events_from-step : {S : Type 0} (keeping : Keeping S) (state : S) (w : Wanted) (s : List ℕ) →
+pub events_from-step : {S : Type 0} (keeping : Keeping S) (state : S) (w : Expected) (s : List ℕ) →
     events_from keeping state w s ≡ events_by keeping (events_from keeping) state (next_step (keeping.is_stored state) w s)
 unfolding events_from events_within
 events_from-step keeping state w s =
@@ -286,16 +286,16 @@ events_from-step keeping state w s =
     (let le = left-le v (length t) in omega arith))
 
 -- at the end of the text
-pub events-none : {S : Type 0} (keeping : Keeping S) (state : S) (w : Wanted) (s : List ℕ) → next_step (keeping.is_stored state) w s ≡ None
+pub events-none : {S : Type 0} (keeping : Keeping S) (state : S) (w : Expected) (s : List ℕ) → next_step (keeping.is_stored state) w s ≡ None
     → events_from keeping state w s ≡ []
 events-none keeping state w s e = events_from-step keeping state w s ∙ ap (events_by keeping (events_from keeping) state) e
 
 -- the reader's next event, and the others
-pub events-some : {S : Type 0} (keeping : Keeping S) (state : S) (w : Wanted) (s : List ℕ) (step : Step) → next_step (keeping.is_stored state) w s ≡ Some step →
+pub events-some : {S : Type 0} (keeping : Keeping S) (state : S) (w : Expected) (s : List ℕ) (step : Step) → next_step (keeping.is_stored state) w s ≡ Some step →
     events_from keeping state w s ≡ record { event = step.event; rest = step.rest } ∷ events_from keeping (keeping.after state step.event) step.wanted step.rest
 events-some keeping state w s step e = events_from-step keeping state w s ∙ ap (events_by keeping (events_from keeping) state) e
 
 -- each event leaves less to read: the measure of a loop that reads to the end
-pub events-less : (is_stored : List ℕ → Bool) (w : Wanted) (s : List ℕ) (step : Step) → next_step is_stored w s ≡ Some step
+pub events-less : (is_stored : List ℕ → Bool) (w : Expected) (s : List ℕ) (step : Step) → next_step is_stored w s ≡ Some step
     → left step.wanted (length step.rest) < left w (length s)
 events-less is_stored w s step e = let lt : StepsTo (left w (length s)) (Some step) = rw e at (next-leaves is_stored w s) in lt

@@ -9,10 +9,10 @@ use Rattle.btx_bib.specs.declared.grammar.byte_sets.Delimiter.{Delimiter}
 use Rattle.btx_bib.specs.declared.grammar.byte_sets.Delimiter.TheVariants.{Braces, Parens}
 use Rattle.btx_bib.specs.declared.grammar.commands.Command.{Command}
 use Rattle.btx_bib.specs.declared.grammar.commands.Command.TheVariants as command
-use Rattle.btx_bib.specs.declared.grammar.commands.Wanted.{Wanted}
-use Rattle.btx_bib.specs.declared.grammar.commands.Wanted.TheVariants.{Item, Closing, Fields}
-use Rattle.btx_bib.specs.declared.grammar.slip.Slip.{Slip}
-use Rattle.btx_bib.specs.declared.grammar.slip.Slip.TheVariants.{NoName, NoDelimiter, NoComma, NoEquals, NoClosing, NoValue, Unbalanced, EndOfFile, Repeated}
+use Rattle.btx_bib.specs.declared.grammar.commands.Expected.{Expected}
+use Rattle.btx_bib.specs.declared.grammar.commands.Expected.TheVariants.{Item, Closing, Fields}
+use Rattle.btx_bib.specs.declared.grammar.slip.SyntaxError.{SyntaxError}
+use Rattle.btx_bib.specs.declared.grammar.slip.SyntaxError.TheVariants.{NoName, NoDelimiter, NoComma, NoEquals, NoClosing, NoValue, Unbalanced, EndOfFile, Repeated}
 use Rattle.btx_bib.specs.language.Grammar.ByteSets.{is_gap, is_in, begins}
 use Rattle.btx_bib.specs.language.Grammar.Tokens.{slip_at, closing_delimiter}
 use Rattle.btx_bib.specs.language.Grammar.Values.{Part, Braced, Quoted, Digits, Named}
@@ -77,16 +77,16 @@ module _ (more : List ℕ) where
   begins-on test [] h = absurd h
   begins-on test (b ∷ bs) h = refl
 
-  slip-on : (slip : Slip) (rest : List ℕ) → Left rest → slip_at slip rest ≡ slip_at slip (rest ++ more)
+  slip-on : (slip : SyntaxError) (rest : List ℕ) → Left rest → slip_at slip rest ≡ slip_at slip (rest ++ more)
   slip-on slip [] h = absurd h
   slip-on slip (b ∷ bs) h = refl
 
-  abbrev outcome_on : {A : Type 0} → (A → A) → Result A Slip → Result A Slip
+  abbrev outcome_on : {A : Type 0} → (A → A) → Result A SyntaxError → Result A SyntaxError
   outcome_on on (Ok a) = Ok (on a)
   outcome_on on (Err slip) = Err slip
 
   -- something is left, and where this was spelled also what is asked of it
-  abbrev If : {A : Type 0} → (A → List ℕ → Type 0) → Result A Slip → List ℕ → Type 0
+  abbrev If : {A : Type 0} → (A → List ℕ → Type 0) → Result A SyntaxError → List ℕ → Type 0
   If P (Ok a) rest = Left rest × P a rest
   If P (Err slip) rest = Left rest
 
@@ -96,13 +96,13 @@ module _ (more : List ℕ) where
   abbrev Seen : {A : Type 0} → A → List ℕ → Type 0
   Seen a rest = NotWhite rest
 
-  if-left : {A : Type 0} (P : A → List ℕ → Type 0) (o : Result A Slip) (rest : List ℕ) → If P o rest → Left rest
+  if-left : {A : Type 0} (P : A → List ℕ → Type 0) (o : Result A SyntaxError) (rest : List ℕ) → If P o rest → Left rest
   if-left P (Ok a) rest h = h.0
   if-left P (Err slip) rest h = h
 
   -- what is spelled stays so, and so does what is wrong
   abbrev Goes : {A : Type 0} → (A → List ℕ → Type 0) → (A → A) → Grammar A → Grammar A → Type 0
-  Goes {A} P on R S = (o : Result A Slip) (front rest : List ℕ) → If P o rest → R o front rest → S (outcome_on on o) front (rest ++ more)
+  Goes {A} P on R S = (o : Result A SyntaxError) (front rest : List ℕ) → If P o rest → R o front rest → S (outcome_on on o) front (rest ++ more)
 
   abbrev same : {A : Type 0} → A → A
   same a = a
@@ -117,7 +117,7 @@ module _ (more : List ℕ) where
 
   both-goes : {A B : Type 0} (P : B → List ℕ → Type 0) (on : A → A) (on_next : B → B) (R S : Grammar A) (next others : A → Grammar B)
       → Goes Any on R S → ((a : A) → Goes P on_next (next a) (others (on a)))
-      → (o : Result B Slip) (front rest : List ℕ) → If P o rest → Both R next o front rest → Both S others (outcome_on on_next o) front (rest ++ more)
+      → (o : Result B SyntaxError) (front rest : List ℕ) → If P o rest → Both R next o front rest → Both S others (outcome_on on_next o) front (rest ++ more)
   both-goes P on on_next R S next others D E o front rest h r =
       let first = subst (λ t. S (Ok (on r.0)) r.1 t) (append_assoc r.2 rest more)
       (D (Ok r.0) r.1 (r.2 ++ rest) (left-append r.2 rest (if-left P o rest h), tt) r.4) in
@@ -165,14 +165,14 @@ module _ (more : List ℕ) where
     run = record { all = r.run.all; longest = begins-on (is_in set) rest h ∙ r.run.longest };
   }
 
-  wrong-goes : (slip met : Slip) (front rest : List ℕ) → Left rest → IsWrongHere slip met front rest → IsWrongHere slip met front (rest ++ more)
+  wrong-goes : (slip met : SyntaxError) (front rest : List ℕ) → Left rest → IsWrongHere slip met front rest → IsWrongHere slip met front (rest ++ more)
   wrong-goes slip met front rest h r = record { nothing = r.nothing; slip_is = r.slip_is ∙ slip-on slip rest h }
 
   name-goes : Goes Any same NameHere NameHere
   name-goes (Ok name) front rest h r = word-goes NameByte begins_name name front rest h.0 r
   name-goes (Err slip) front rest h r = (begins-on begins_name rest h ∙ r.0, wrong-goes NoName slip front rest h r.1)
 
-  sign-goes : (sign : ℕ) (wrong : Slip) → Goes Any same (SignHere sign wrong) (SignHere sign wrong)
+  sign-goes : (sign : ℕ) (wrong : SyntaxError) → Goes Any same (SignHere sign wrong) (SignHere sign wrong)
   sign-goes sign wrong (Ok none) front rest h r = r
   sign-goes sign wrong (Err slip) front rest h r = (begins-on (λ b. eqb b sign) rest h ∙ r.0, wrong-goes wrong slip front rest h r.1)
 
@@ -183,7 +183,7 @@ module _ (more : List ℕ) where
       let there = left-append front rest (if-left P o rest h) in
       inr (ap (begins (λ b. eqb b sign)) (sym (append_assoc front rest more)) ∙ begins-on (λ b. eqb b sign) (front ++ rest) there ∙ other, E o front rest h r)
 
-  wrong_here-goes : {A : Type 0} (P : A → List ℕ → Type 0) (on : A → A) (slip : Slip) → Goes P on (WrongHere slip) (WrongHere slip)
+  wrong_here-goes : {A : Type 0} (P : A → List ℕ → Type 0) (on : A → A) (slip : SyntaxError) → Goes P on (WrongHere slip) (WrongHere slip)
   wrong_here-goes P on slip (Ok a) front rest h r = absurd r
   wrong_here-goes P on slip (Err met) front rest h r = wrong-goes slip met front rest h r
 
@@ -213,7 +213,7 @@ module _ (more : List ℕ) where
   abbrev pub parts_on : List Part → List Part
   parts_on parts = map part_on parts
 
-  wrong_part-goes : (slip : Slip) (front rest : List ℕ) → Left rest → IsWrongPart slip front rest → IsWrongPart slip front (rest ++ more)
+  wrong_part-goes : (slip : SyntaxError) (front rest : List ℕ) → Left rest → IsWrongPart slip front rest → IsWrongPart slip front (rest ++ more)
   wrong_part-goes NoValue front rest h (nothing, b, bs, is, other) = (nothing, b, bs ++ more, ap (λ t. t ++ more) is, other)
   wrong_part-goes Unbalanced front rest h (text, bs, is, behind, enclosed) = (text, bs ++ more, is, ap (λ t. t ++ more) behind, enclosed)
   wrong_part-goes EndOfFile front rest h (none, others) = absurd (subst Left none h)
@@ -310,16 +310,16 @@ module _ (more : List ℕ) where
   event_on End = End
   event_on (Wrong slip) = Wrong slip
 
-  abbrev head_on : Event × Wanted → Event × Wanted
+  abbrev head_on : Event × Expected → Event × Expected
   head_on got = (event_on got.0, got.1)
 
   -- where something is wanted of the item, something stands that isn't whitespace
-  abbrev After : Wanted → List ℕ → Type 0
+  abbrev After : Expected → List ℕ → Type 0
   After Item rest = Unit {0}
   After (Closing d) rest = NotWhite rest
   After (Fields d) rest = NotWhite rest
 
-  abbrev behind_event : Event → Wanted → List ℕ → Type 0
+  abbrev behind_event : Event → Expected → List ℕ → Type 0
   behind_event Comment next rest = After next rest
   behind_event (Preamble value) next rest = After next rest
   behind_event (Definition name value) next rest = After next rest
@@ -328,7 +328,7 @@ module _ (more : List ℕ) where
   behind_event End next rest = After next rest
   behind_event (Wrong slip) next rest = After next rest
 
-  abbrev Behind : Event × Wanted → List ℕ → Type 0
+  abbrev Behind : Event × Expected → List ℕ → Type 0
   Behind got rest = behind_event got.0 got.1 rest
 
   head_of-goes : (c : Command) (name : List ℕ) → Goes Behind head_on (HeadOf c name) (HeadOf c name)
@@ -360,7 +360,7 @@ module _ (more : List ℕ) where
   more_event-behind d None front rest h = tt
   more_event-behind d (Some field) front rest h = white-append front rest h
 
-  stands-goes : (next : Wanted) → Goes Behind head_on (Stands next) (Stands next)
+  stands-goes : (next : Expected) → Goes Behind head_on (Stands next) (Stands next)
   stands-goes Item o front rest h (ignored, behind, is, none, r) = (ignored, behind, is, none, head-goes o behind rest h r)
   stands-goes (Closing d) o front rest h r =
       then-same Behind head_on (Spaced (SignHere (closing_delimiter d) (NoClosing d))) _
@@ -383,13 +383,13 @@ module _ (more : List ℕ) where
   IsNoComment _ = Unit {0}
 
   -- what is read so is an event of this kind
-  abbrev Begins : (Event → Type 0) → Grammar (Event × Wanted) → Type 0
-  Begins P R = (got : Event × Wanted) (front rest : List ℕ) → R (Ok got) front rest → P got.0
+  abbrev Begins : (Event → Type 0) → Grammar (Event × Expected) → Type 0
+  Begins P R = (got : Event × Expected) (front rest : List ℕ) → R (Ok got) front rest → P got.0
 
-  gives-begins : (P : Event → Type 0) (a : Event × Wanted) → P a.0 → Begins P (Gives a)
-  gives-begins P a h got front rest r = subst (λ (x : Event × Wanted). P x.0) (sym r.1) h
+  gives-begins : (P : Event → Type 0) (a : Event × Expected) → P a.0 → Begins P (Gives a)
+  gives-begins P a h got front rest r = subst (λ (x : Event × Expected). P x.0) (sym r.1) h
 
-  then-begins : {A : Type 0} (P : Event → Type 0) (R : Grammar A) (next : A → Grammar (Event × Wanted)) → ((a : A) → Begins P (next a)) → Begins P (Then R next)
+  then-begins : {A : Type 0} (P : Event → Type 0) (R : Grammar A) (next : A → Grammar (Event × Expected)) → ((a : A) → Begins P (next a)) → Begins P (Then R next)
   then-begins P R next E got front rest (inl r) = absurd r
   then-begins P R next E got front rest (inr r) = E r.0 got r.2 rest r.5
 
@@ -439,7 +439,7 @@ module _ (more : List ℕ) where
         there.1,
       )
 
-  sign-free : (sign : ℕ) (wrong : Slip) (none : Unit {0}) (rest inner : List ℕ) → SignHere sign wrong (Ok none) inner rest
+  sign-free : (sign : ℕ) (wrong : SyntaxError) (none : Unit {0}) (rest inner : List ℕ) → SignHere sign wrong (Ok none) inner rest
       → Left inner × SignHere sign wrong (Ok none) inner (rest ++ more)
   sign-free sign wrong none rest inner r = (subst Left (sym r) tt, r)
 
@@ -469,7 +469,7 @@ module _ (more : List ℕ) where
   no-end : (event : Event) → IsNoEnd event → event ≡ End → ⊥
   no-end event h is = subst IsNoEnd is h
 
-  end-goes : (next : Wanted) (got : Event × Wanted) (front rest : List ℕ) → got.0 ≡ End → Stands next (Ok got) front rest
+  end-goes : (next : Expected) (got : Event × Expected) (front rest : List ℕ) → got.0 ≡ End → Stands next (Ok got) front rest
       → Stands next (Ok (head_on got)) front (rest ++ more)
   end-goes Item got front rest end (ignored, behind, is, none, r) = absurd (no-end got.0 (head-begins got behind rest r) end)
   end-goes (Closing d) got front rest end (inl r) = absurd r
@@ -490,7 +490,7 @@ module _ (more : List ℕ) where
       let there = spaced-free (MoreHere d) None first (second ++ rest) (more-free d (second ++ rest)) r in
       inr (None, first, second, whole, subst (λ t. Spaced (MoreHere d) (Ok None) first t) (append_assoc second rest more) there, (g.0, ap head_on g.1))
   end-goes (Fields d) got front rest end (inr (Some field, first, second, whole, r, g)) =
-      absurd (no-end (FieldOf field) tt (sym (ap (λ (x : Event × Wanted). x.0) g.1) ∙ end))
+      absurd (no-end (FieldOf field) tt (sym (ap (λ (x : Event × Expected). x.0) g.1) ∙ end))
 
   -- ---- a comment at the end of a text
 
@@ -517,14 +517,14 @@ module _ (more : List ℕ) where
   no-comment : (event : Event) → IsNoComment event → event ≡ Comment → ⊥
   no-comment event h is = subst IsNoComment is h
 
-  comment_of-goes : (c : Command) (name : List ℕ) (next : Wanted) (front rest : List ℕ) → HeadOf c name (Ok (Comment, next)) front rest
+  comment_of-goes : (c : Command) (name : List ℕ) (next : Expected) (front rest : List ℕ) → HeadOf c name (Ok (Comment, next)) front rest
       → HeadOf c name (Ok (Comment, next)) front (rest ++ more)
   comment_of-goes command.Comment name next front rest r = r
   comment_of-goes command.Preamble name next front rest r = absurd (preamble-begins IsNoComment (λ value. tt) name (Comment, next) front rest r)
   comment_of-goes command.Definition name next front rest r = absurd (definition-begins IsNoComment (λ string value. tt) name (Comment, next) front rest r)
   comment_of-goes command.Entry name next front rest r = absurd (entry-begins IsNoComment (λ kind key. tt) name (Comment, next) front rest r)
 
-  comment-goes : begins (is_in NameByte) more ≡ false → (next : Wanted) (front rest : List ℕ) → Head (Ok (Comment, next)) front rest
+  comment-goes : begins (is_in NameByte) more ≡ false → (next : Expected) (front rest : List ℕ) → Head (Ok (Comment, next)) front rest
       → Head (Ok (Comment, next)) front (rest ++ more)
   comment-goes stops next front rest (inl r) = absurd r
   comment-goes stops next front rest (inr (name, first, second, whole, r, h)) =
@@ -538,25 +538,25 @@ module _ (more : List ℕ) where
         comment_of-goes (command_of name) name next second rest h,
       )
 
-  comment-stands : begins (is_in NameByte) more ≡ false → (first next : Wanted) (front rest : List ℕ) → Stands first (Ok (Comment, next)) front rest
+  comment-stands : begins (is_in NameByte) more ≡ false → (first next : Expected) (front rest : List ℕ) → Stands first (Ok (Comment, next)) front rest
       → Stands first (Ok (Comment, next)) front (rest ++ more)
   comment-stands stops Item next front rest (ignored, behind, is, none, r) = (ignored, behind, is, none, comment-goes stops next behind rest r)
   comment-stands stops (Closing d) next front rest (inl r) = absurd r
   comment-stands stops (Closing d) next front rest (inr (none, first, second, whole, r, g)) =
-      absurd (no-comment End tt (sym (ap (λ (x : Event × Wanted). x.0) g.1)))
+      absurd (no-comment End tt (sym (ap (λ (x : Event × Expected). x.0) g.1)))
   comment-stands stops (Fields d) next front rest (inl r) = absurd r
   comment-stands stops (Fields d) next front rest (inr (None, first, second, whole, r, g)) =
-      absurd (no-comment End tt (sym (ap (λ (x : Event × Wanted). x.0) g.1)))
+      absurd (no-comment End tt (sym (ap (λ (x : Event × Expected). x.0) g.1)))
   comment-stands stops (Fields d) next front rest (inr (Some field, first, second, whole, r, g)) =
-      absurd (no-comment (FieldOf field) tt (sym (ap (λ (x : Event × Wanted). x.0) g.1)))
+      absurd (no-comment (FieldOf field) tt (sym (ap (λ (x : Event × Expected). x.0) g.1)))
 
   -- ---- what stands at the place of an event
 
-  abbrev ErrLeft : {A : Type 0} → Result A Slip → List ℕ → Type 0
+  abbrev ErrLeft : {A : Type 0} → Result A SyntaxError → List ℕ → Type 0
   ErrLeft (Ok a) rest = Unit {0}
   ErrLeft (Err slip) rest = Left rest
 
-  spaced-white : {A : Type 0} (R : Grammar A) (o : Result A Slip) (front rest : List ℕ) → ((inner : List ℕ) → R o inner rest → Left (inner ++ rest))
+  spaced-white : {A : Type 0} (R : Grammar A) (o : Result A SyntaxError) (front rest : List ℕ) → ((inner : List ℕ) → R o inner rest → Left (inner ++ rest))
       → Spaced R o front rest → NotWhite (front ++ rest)
   spaced-white R (Ok a) front rest there (inl r) = absurd r
   spaced-white R (Err slip) front rest there (inl r) = absurd r
@@ -564,8 +564,8 @@ module _ (more : List ℕ) where
       subst NotWhite (sym (ap (λ t. t ++ rest) whole ∙ append_assoc gap inner rest))
       (white-append gap (inner ++ rest) (begins-white (inner ++ rest) (there inner r) white.longest))
 
-  last-white : {A : Type 0} (R : Grammar A) (give : A → Event × Wanted) → ((a : A) (front rest : List ℕ) → R (Ok a) front rest → Left front)
-      → (o : Result (Event × Wanted) Slip) (front rest : List ℕ) → ErrLeft o rest → Then (Spaced R) (λ a. Gives (give a)) o front rest
+  last-white : {A : Type 0} (R : Grammar A) (give : A → Event × Expected) → ((a : A) (front rest : List ℕ) → R (Ok a) front rest → Left front)
+      → (o : Result (Event × Expected) SyntaxError) (front rest : List ℕ) → ErrLeft o rest → Then (Spaced R) (λ a. Gives (give a)) o front rest
       → NotWhite (front ++ rest)
   last-white R give some (Ok got) front rest h (inl r) = absurd r
   last-white R give some (Err slip) front rest h (inl r) = spaced-white R (Err slip) front rest (λ inner r. left-append inner rest h) r
@@ -574,7 +574,7 @@ module _ (more : List ℕ) where
       subst NotWhite (sym (ap (λ t. t ++ rest) whole ∙ append_assoc first second rest))
       (spaced-white R (Ok a) first (second ++ rest) (λ inner r. left-front inner (second ++ rest) (some a inner (second ++ rest) r)) r)
 
-  sign-some : (sign : ℕ) (wrong : Slip) (none : Unit {0}) (front rest : List ℕ) → SignHere sign wrong (Ok none) front rest → Left front
+  sign-some : (sign : ℕ) (wrong : SyntaxError) (none : Unit {0}) (front rest : List ℕ) → SignHere sign wrong (Ok none) front rest → Left front
   sign-some sign wrong none front rest r = subst Left (sym r) tt
 
   more-some : (d : Delimiter) (m : Option Field) (front rest : List ℕ) → MoreHere d (Ok m) front rest → Left front
@@ -592,7 +592,7 @@ module _ (more : List ℕ) where
     item-left p events state text (o, next, front, whole, outcome, (ignored, behind, is, none, r), others) =
         subst Left whole (left-front front p.rest (subst Left (sym is) (left-append ignored (64 ∷ behind) tt)))
 
-    err-left : (p : Placed) (events : List Placed) (state : S) (o : Result (Event × Wanted) Slip) (next : Wanted) → EndsOutside (p ∷ events) more
+    err-left : (p : Placed) (events : List Placed) (state : S) (o : Result (Event × Expected) SyntaxError) (next : Expected) → EndsOutside (p ∷ events) more
         → IsOutcome keeping state p.event next o
         → IsReading keeping (keeping.after state p.event) next p.rest events → ErrLeft o p.rest
     err-left p events state (Ok got) next ends outcome others = tt
@@ -604,7 +604,7 @@ module _ (more : List ℕ) where
         (subst (λ n. IsReading keeping (keeping.after state p.event) n p.rest (q ∷ events)) outcome.1 others)
 
     -- where an event stands something is left, and what isn't whitespace where something of an item is wanted
-    there : (p : Placed) (events : List Placed) (state : S) (next : Wanted) (text : List ℕ) → EndsOutside (p ∷ events) more
+    there : (p : Placed) (events : List Placed) (state : S) (next : Expected) (text : List ℕ) → EndsOutside (p ∷ events) more
         → IsReading keeping state next text (p ∷ events) → Left text × After next text
     there p events state Item text ends h = (item-left p events state text h, tt)
     there p events state (Closing d) text ends (o, next, front, whole, outcome, r, others) =
@@ -616,7 +616,7 @@ module _ (more : List ℕ) where
         (err-left p events state o next ends outcome others) r) in
         (white-left text white, white)
 
-    behind-known : (is_stored : List ℕ → Bool) (event : Event) (first next : Wanted) (rest : List ℕ) → next ≡ (as_known is_stored (event, first)).1
+    behind-known : (is_stored : List ℕ → Bool) (event : Event) (first next : Expected) (rest : List ℕ) → next ≡ (as_known is_stored (event, first)).1
         → After next rest → behind_event event first rest
     behind-known is_stored Comment first next rest is h = subst (λ n. After n rest) is h
     behind-known is_stored (Preamble value) first next rest is h = subst (λ n. After n rest) is h
@@ -626,16 +626,16 @@ module _ (more : List ℕ) where
     behind-known is_stored End first next rest is h = subst (λ n. After n rest) is h
     behind-known is_stored (Wrong slip) first next rest is h = subst (λ n. After n rest) is h
 
-    if-known : (state : S) (event : Event) (next : Wanted) (o : Result (Event × Wanted) Slip) (rest : List ℕ) → IsOutcome keeping state event next o → Left rest
+    if-known : (state : S) (event : Event) (next : Expected) (o : Result (Event × Expected) SyntaxError) (rest : List ℕ) → IsOutcome keeping state event next o → Left rest
         → After next rest → If Behind o rest
     if-known state event next (Ok (got, first)) rest outcome left h = (left, behind-known (keeping.is_stored state) got first next rest outcome.1 h)
     if-known state event next (Err slip) rest outcome left h = left
 
     -- what is known to be something else than a repeated entry was read as that
-    known-read : (other : Event) → (Wrong Repeated ≡ other → ⊥) → (is_stored : List ℕ → Bool) (event : Event) (first : Wanted)
+    known-read : (other : Event) → (Wrong Repeated ≡ other → ⊥) → (is_stored : List ℕ → Bool) (event : Event) (first : Expected)
         → (as_known is_stored (event, first)).0 ≡ other → event ≡ other
     known-read other differs is_stored (Entry kind key) first is = by_test (is_stored key) is where
-      by_test : (b : Bool) → (let got : Event × Wanted = if b then (Wrong Repeated, Item) else (Entry kind key, first) in got.0 ≡ other)
+      by_test : (b : Bool) → (let got : Event × Expected = if b then (Wrong Repeated, Item) else (Entry kind key, first) in got.0 ≡ other)
           → Entry kind key ≡ other
       by_test true e = absurd (differs e)
       by_test false e = e
@@ -646,13 +646,13 @@ module _ (more : List ℕ) where
     known-read other differs is_stored End first is = is
     known-read other differs is_stored (Wrong slip) first is = is
 
-    ended-on : (state : S) (p : Placed) (next first : Wanted) (o : Result (Event × Wanted) Slip) (front : List ℕ) → p.event ≡ End
+    ended-on : (state : S) (p : Placed) (next first : Expected) (o : Result (Event × Expected) SyntaxError) (front : List ℕ) → p.event ≡ End
         → IsOutcome keeping state p.event next o → Stands first o front p.rest → Stands first (outcome_on head_on o) front (p.rest ++ more)
     ended-on state p next first (Err slip) front end outcome r = absurd (no-end (Wrong slip) tt (sym outcome.0 ∙ end))
     ended-on state p next first (Ok (event, wanted)) front end outcome r =
         end-goes first (event, wanted) front p.rest (known-read End (no-end (Wrong Repeated) tt) (keeping.is_stored state) event wanted (sym outcome.0 ∙ end)) r
 
-    comment-on : (state : S) (p : Placed) (next first : Wanted) (o : Result (Event × Wanted) Slip) (front : List ℕ) → p.event ≡ Comment
+    comment-on : (state : S) (p : Placed) (next first : Expected) (o : Result (Event × Expected) SyntaxError) (front : List ℕ) → p.event ≡ Comment
         → begins (is_in NameByte) more ≡ false → IsOutcome keeping state p.event next o
         → Stands first o front p.rest → Stands first (outcome_on head_on o) front (p.rest ++ more)
     comment-on state p next first (Err slip) front comment stops outcome r = absurd (no-comment (Wrong slip) tt (sym outcome.0 ∙ comment))
@@ -661,7 +661,7 @@ module _ (more : List ℕ) where
         subst (λ (x : Event). Stands first (Ok (event_on x, wanted)) front (p.rest ++ more)) (sym is)
         (comment-stands stops first wanted front p.rest (subst (λ (x : Event). Stands first (Ok (x, wanted)) front p.rest) is r))
 
-    stands-on : (p : Placed) (events : List Placed) (state : S) (o : Result (Event × Wanted) Slip) (next first : Wanted) (front : List ℕ)
+    stands-on : (p : Placed) (events : List Placed) (state : S) (o : Result (Event × Expected) SyntaxError) (next first : Expected) (front : List ℕ)
         → EndsOutside (p ∷ events) more → IsOutcome keeping state p.event next o → Stands first o front p.rest
         → IsReading keeping (keeping.after state p.event) next p.rest events → Stands first (outcome_on head_on o) front (p.rest ++ more)
     stands-on p [] state o next first front (inl end) outcome r others = ended-on state p next first o front end outcome r
@@ -673,10 +673,10 @@ module _ (more : List ℕ) where
         let h = there q events (keeping.after state p.event) next p.rest ends others in
         stands-goes first o front p.rest (if-known state p.event next o p.rest outcome h.0 h.1) r
 
-    known-on : (is_stored : List ℕ → Bool) (event : Event) (first : Wanted) → as_known is_stored (event_on event, first)
+    known-on : (is_stored : List ℕ → Bool) (event : Event) (first : Expected) → as_known is_stored (event_on event, first)
         ≡ head_on (as_known is_stored (event, first))
     known-on is_stored (Entry kind key) first = by_test (is_stored key) where
-      by_test : (b : Bool) → ◌≡◌ {A = Event × Wanted} (if b then (Wrong Repeated, Item) else (Entry kind key, first))
+      by_test : (b : Bool) → ◌≡◌ {A = Event × Expected} (if b then (Wrong Repeated, Item) else (Entry kind key, first))
           (head_on (if b then (Wrong Repeated, Item) else (Entry kind key, first)))
       by_test true = refl
       by_test false = refl
@@ -687,12 +687,12 @@ module _ (more : List ℕ) where
     known-on is_stored End first = refl
     known-on is_stored (Wrong slip) first = refl
 
-    outcome-on : (state : S) (event : Event) (next : Wanted) (o : Result (Event × Wanted) Slip) → IsOutcome keeping state event next o
+    outcome-on : (state : S) (event : Event) (next : Expected) (o : Result (Event × Expected) SyntaxError) → IsOutcome keeping state event next o
         → IsOutcome keeping state (event_on event) next (outcome_on head_on o)
     outcome-on state event next (Err slip) h = (ap event_on h.0, h.1)
     outcome-on state event next (Ok (got, first)) h =
         let same_known = sym (known-on (keeping.is_stored state) got first) in
-        (ap event_on h.0 ∙ ap (λ (g : Event × Wanted). g.0) same_known, h.1 ∙ ap (λ (g : Event × Wanted). g.1) same_known)
+        (ap event_on h.0 ∙ ap (λ (g : Event × Expected). g.0) same_known, h.1 ∙ ap (λ (g : Event × Expected). g.1) same_known)
 
     no_at-append : (text behind : List ℕ) → HasNoAt text → HasNoAt behind → HasNoAt (text ++ behind)
     no_at-append [] behind h k = k
@@ -720,7 +720,7 @@ module _ (more : List ℕ) where
     after_events state events = fold (λ (s : S) (p : Placed). keeping.after s p.event) state events
 
     -- a text that ends outside any item, and more behind it, are read one after the other
-    pub reading-on : (events behind : List Placed) (state : S) (first : Wanted) (text : List ℕ) → EndsOutside events more
+    pub reading-on : (events behind : List Placed) (state : S) (first : Expected) (text : List ℕ) → EndsOutside events more
         → IsReading keeping state first text events → IsReading keeping (after_events state events) Item more behind
         → IsReading keeping state first (text ++ more) (map placed_on events ++ behind)
     reading-on [] behind state first text ends h rest =

@@ -2,7 +2,7 @@
 use Rattle.std.proofs.Common.{◌≡◌, ℕ, ◌<◌, Bool, true, false, eqb, List, ◌∷◌, length, take, drop, Ok, Some, refl, sym, ◌∙◌, ap}
 use Rattle.std.proofs.lemmas.Bool.{eqb-true, true≢false}
 use Rattle.btx_bib.specs.declared.grammar.byte_sets.ByteSet.TheVariants.{Gap, NameByte}
-use Rattle.btx_bib.specs.declared.grammar.commands.Wanted.{Wanted}
+use Rattle.btx_bib.specs.declared.grammar.commands.Expected.{Expected}
 use Rattle.btx_bib.specs.declared.grammar.plain_fields.PlainField.{PlainField}
 use Rattle.btx_bib.specs.declared.grammar.byte_sets.Delimiter.{Delimiter}
 use Rattle.btx_bib.specs.declared.grammar.byte_sets.Delimiter.TheVariants.{Braces, Parens}
@@ -67,13 +67,13 @@ plain-stands text behind_comma next name back behind_sign rest value b bs count 
     rw named (plain-more b bs behind_sign rest value begins (ap (past Gap) (sym left) ∙ signed) valued delimiter text behind_comma comma (sym is ∙ begun))
 
 -- the reader reads it, whatever keys are stored
-pub plain-next : (is_stored : List ℕ → Bool) (wanted : Wanted) (text : List ℕ) (field : PlainField) → expected_step wanted text ≡ Some (plain_step wanted field)
+pub plain-next : (is_stored : List ℕ → Bool) (wanted : Expected) (text : List ℕ) (field : PlainField) → expected_step wanted text ≡ Some (plain_step wanted field)
     →
     next_step is_stored wanted text ≡ Some (plain_step wanted field)
 plain-next is_stored wanted text field e = ap (known_step is_stored) e
 
 -- and leaves less
-pub plain-shorter : (is_stored : List ℕ → Bool) (wanted : Wanted) (text : List ℕ) (field : PlainField) → expected_step wanted text
+pub plain-shorter : (is_stored : List ℕ → Bool) (wanted : Expected) (text : List ℕ) (field : PlainField) → expected_step wanted text
     ≡ Some (plain_step wanted field) →
     left wanted (length field.value.rest.now) < left wanted (length text)
 plain-shorter is_stored wanted text field e = events-less is_stored wanted text (plain_step wanted field) (plain-next is_stored wanted text field e)

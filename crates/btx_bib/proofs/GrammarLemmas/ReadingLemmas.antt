@@ -9,10 +9,10 @@ use Rattle.btx_bib.specs.declared.grammar.byte_sets.Delimiter.TheVariants.{Brace
 use Rattle.btx_bib.specs.declared.grammar.byte_sets.ByteSet.TheVariants.{KeyByte, Gap}
 use Rattle.btx_bib.specs.declared.grammar.commands.Command.{Command}
 use Rattle.btx_bib.specs.declared.grammar.commands.Command.TheVariants as command
-use Rattle.btx_bib.specs.declared.grammar.commands.Wanted.{Wanted}
-use Rattle.btx_bib.specs.declared.grammar.commands.Wanted.TheVariants.{Item, Closing, Fields}
-use Rattle.btx_bib.specs.declared.grammar.slip.Slip.{Slip}
-use Rattle.btx_bib.specs.declared.grammar.slip.Slip.TheVariants.{NoDelimiter, NoComma, NoEquals, NoClosing}
+use Rattle.btx_bib.specs.declared.grammar.commands.Expected.{Expected}
+use Rattle.btx_bib.specs.declared.grammar.commands.Expected.TheVariants.{Item, Closing, Fields}
+use Rattle.btx_bib.specs.declared.grammar.slip.SyntaxError.{SyntaxError}
+use Rattle.btx_bib.specs.declared.grammar.slip.SyntaxError.TheVariants.{NoDelimiter, NoComma, NoEquals, NoClosing}
 use Rattle.btx_bib.specs.language.Grammar.ByteSets.{begins, longest_run_len, longest_run, past}
 use Rattle.btx_bib.specs.language.Grammar.Tokens.{Parsed, followed_by, wrong_at, name_at, open_in, open_at, sign_at, key_here, key_at, closing_delimiter}
 use Rattle.btx_bib.specs.language.Grammar.Values.{value_at}
@@ -65,9 +65,9 @@ on-decides sign R S read other D E = record {
   only = on-only sign R S read other D.only E.only;
 }
 
-wrong-decides : {A : Type 0} (slip : Slip) → Decides {A = A} (wrong_at slip) (WrongHere slip)
+wrong-decides : {A : Type 0} (slip : SyntaxError) → Decides {A = A} (wrong_at slip) (WrongHere slip)
 wrong-decides {A} slip = record { total = λ s. ([], refl, record { nothing = refl; slip_is = refl }); only = only } where
-  only : (o : Result A Slip) (front rest : List ℕ) → WrongHere slip o front rest → wrong_at slip (front ++ rest) ≡ read_as o rest
+  only : (o : Result A SyntaxError) (front rest : List ℕ) → WrongHere slip o front rest → wrong_at slip (front ++ rest) ≡ read_as o rest
   only (Ok a) front rest h = absurd h
   only (Err met) front rest h = rw (h.nothing, h.slip_is) refl
 
@@ -200,19 +200,19 @@ at-of (b ∷ bs) t h = rw h.0 (at-of bs t h.1)
 -- ---- one step
 
 -- a step is an outcome whose front may stand here
-abbrev pub IsStep : Event → Wanted → Result (Event × Wanted) Slip → Type 0
+abbrev pub IsStep : Event → Expected → Result (Event × Expected) SyntaxError → Type 0
 IsStep event next (Ok got) = (event ≡ got.0) × (next ≡ got.1)
 IsStep event next (Err slip) = (event ≡ Wrong slip) × (next ≡ Item)
 
-abbrev pub StepStands : Wanted → List ℕ → Step → Type 0
-StepStands w s step = (o : Result (Event × Wanted) Slip) × (front : List ℕ) × (front ++ step.rest ≡ s) × IsStep step.event step.wanted o
+abbrev pub StepStands : Expected → List ℕ → Step → Type 0
+StepStands w s step = (o : Result (Event × Expected) SyntaxError) × (front : List ℕ) × (front ++ step.rest ≡ s) × IsStep step.event step.wanted o
     × Stands w o front step.rest
 
-read-stands : (w : Wanted) (s : List ℕ) (r : Parsed (Event × Wanted)) → Splits (Stands w) s r → StepStands w s (step_by r)
+read-stands : (w : Expected) (s : List ℕ) (r : Parsed (Event × Expected)) → Splits (Stands w) s r → StepStands w s (step_by r)
 read-stands w s (Ok got) h = (Ok got.0, h.0, h.1, (refl, refl), h.2)
 read-stands w s (Err wrong) h = (Err wrong.0, h.0, h.1, (refl, refl), h.2)
 
-item-splits : (s t : List ℕ) (r : Parsed (Event × Wanted)) → behind_at s ≡ Some t → Splits Head t r → Splits (Stands Item) s r
+item-splits : (s t : List ℕ) (r : Parsed (Event × Expected)) → behind_at s ≡ Some t → Splits Head t r → Splits (Stands Item) s r
 item-splits s t (Ok got) e h =
     let at = at-splits s t e in
     (at.0 ++ 64 ∷ h.0, append_assoc at.0 (64 ∷ h.0) got.1 ∙ ap (λ x. at.0 ++ 64 ∷ x) h.1 ∙ sym at.1, (at.0, h.0, refl, at.2, h.2))
@@ -220,7 +220,7 @@ item-splits s t (Err wrong) e h =
     let at = at-splits s t e in
     (at.0 ++ 64 ∷ h.0, append_assoc at.0 (64 ∷ h.0) wrong.1 ∙ ap (λ x. at.0 ++ 64 ∷ x) h.1 ∙ sym at.1, (at.0, h.0, refl, at.2, h.2))
 
-abbrev pub OptionStands : Wanted → List ℕ → Option Step → Type 0
+abbrev pub OptionStands : Expected → List ℕ → Option Step → Type 0
 OptionStands w s None = (w ≡ Item) × HasNoAt s
 OptionStands w s (Some step) = StepStands w s step
 
@@ -228,13 +228,13 @@ item-step : (s : List ℕ) (o : Option (List ℕ)) → behind_at s ≡ o → Opt
 item-step s None e = (refl, at-none s e)
 item-step s (Some t) e = read-stands Item s (head_at t) (item-splits s t (head_at t) e (head-decides.total t))
 
-pub step-stands : (w : Wanted) (s : List ℕ) → OptionStands w s (expected_step w s)
+pub step-stands : (w : Expected) (s : List ℕ) → OptionStands w s (expected_step w s)
 unfolding expected_step
 step-stands Item s = item-step s (behind_at s) refl
 step-stands (Closing d) s = read-stands (Closing d) s (item_end (sign_at (closing_delimiter d) (NoClosing d) s)) ((end-decides d).total s)
 step-stands (Fields d) s = read-stands (Fields d) s (field_event d (more_at d s)) ((fields-decides d).total s)
 
-pub stands-step : (w : Wanted) (o : Result (Event × Wanted) Slip) (front rest : List ℕ) → Stands w o front rest → expected_step w (front ++ rest)
+pub stands-step : (w : Expected) (o : Result (Event × Expected) SyntaxError) (front rest : List ℕ) → Stands w o front rest → expected_step w (front ++ rest)
     ≡ Some (step_by (read_as o rest))
 unfolding expected_step
 stands-step Item o front rest h =
@@ -245,13 +245,13 @@ stands-step (Closing d) o front rest h = ap (λ r. Some (step_by r)) ((end-decid
 stands-step (Fields d) o front rest h = ap (λ r. Some (step_by r)) ((fields-decides d).only o front rest h)
 
 -- what is known of a step is known of its outcome
-pub known-outcome : {S : Type 0} (keeping : Keeping S) (state : S) (event : Event) (next : Wanted) (o : Result (Event × Wanted) Slip) → IsStep event next o →
+pub known-outcome : {S : Type 0} (keeping : Keeping S) (state : S) (event : Event) (next : Expected) (o : Result (Event × Expected) SyntaxError) → IsStep event next o →
     let got = as_known (keeping.is_stored state) (event, next) in IsOutcome keeping state got.0 got.1 o
 known-outcome keeping state event next (Ok got) h = rw (h.0, h.1) (refl, refl)
 known-outcome keeping state event next (Err slip) h = rw (h.0, h.1) (refl, refl)
 
-outcome-events : {S : Type 0} (keeping : Keeping S) (others : S → Wanted → List ℕ → List Placed) (state : S) (event : Event) (next : Wanted) (rest : List ℕ)
-    (o : Result (Event × Wanted) Slip) →
+outcome-events : {S : Type 0} (keeping : Keeping S) (others : S → Expected → List ℕ → List Placed) (state : S) (event : Event) (next : Expected) (rest : List ℕ)
+    (o : Result (Event × Expected) SyntaxError) →
     IsOutcome keeping state event next o → events_by keeping others state (known_step (keeping.is_stored state) (Some (step_by (read_as o rest))))
     ≡ record { event = event; rest = rest } ∷ others (keeping.after state event) next rest
 outcome-events keeping others state event next rest (Ok got) h = rw (h.0, h.1) refl
@@ -259,16 +259,16 @@ outcome-events keeping others state event next rest (Err slip) h = rw (h.0, h.1)
 
 -- ---- the whole reading
 
-reading-by : {S : Type 0} (keeping : Keeping S) (state : S) (w : Wanted) (s : List ℕ) (o : Option Step) → OptionStands w s o
+reading-by : {S : Type 0} (keeping : Keeping S) (state : S) (w : Expected) (s : List ℕ) (o : Option Step) → OptionStands w s o
     → StepsTo (left w (length s)) (known_step (keeping.is_stored state) o) →
-    ((q : S) (v : Wanted) (t : List ℕ) → left v (length t) < left w (length s) → IsReading keeping q v t (events_from keeping q v t)) →
+    ((q : S) (v : Expected) (t : List ℕ) → left v (length t) < left w (length s) → IsReading keeping q v t (events_from keeping q v t)) →
     IsReading keeping state w s (events_by keeping (events_from keeping) state (known_step (keeping.is_stored state) o))
 reading-by keeping state w s None h less others = h
 reading-by keeping state w s (Some step) h less others =
     let got = as_known (keeping.is_stored state) (step.event, step.wanted) in
     (h.0, got.1, h.1, h.2, known-outcome keeping state step.event step.wanted h.0 h.3, h.4, others (keeping.after state got.0) got.1 step.rest less)
 
-reading-total : {S : Type 0} (keeping : Keeping S) (m : ℕ) (state : S) (w : Wanted) (s : List ℕ) → left w (length s) < m
+reading-total : {S : Type 0} (keeping : Keeping S) (m : ℕ) (state : S) (w : Expected) (s : List ℕ) → left w (length s) < m
     → IsReading keeping state w s (events_from keeping state w s)
 reading-total keeping zero state w s lt = absurd (omega arith)
 reading-total keeping (suc m) state w s lt =
@@ -276,14 +276,14 @@ reading-total keeping (suc m) state w s lt =
     (reading-by keeping state w s (expected_step w s) (step-stands w s) (next-leaves (keeping.is_stored state) w s)
     (λ q v t less. reading-total keeping m q v t (omega arith)))
 
-pub is_reading : {S : Type 0} (keeping : Keeping S) (state : S) (w : Wanted) (s : List ℕ) → IsReading keeping state w s (events_from keeping state w s)
+pub is_reading : {S : Type 0} (keeping : Keeping S) (state : S) (w : Expected) (s : List ℕ) → IsReading keeping state w s (events_from keeping state w s)
 is_reading keeping state w s = reading-total keeping (suc (left w (length s))) state w s (omega arith)
 
-pub nothing-step : (w : Wanted) (s : List ℕ) → w ≡ Item → HasNoAt s → expected_step w s ≡ None
+pub nothing-step : (w : Expected) (s : List ℕ) → w ≡ Item → HasNoAt s → expected_step w s ≡ None
 unfolding expected_step
 nothing-step w s is h = rw (is, none-at s h) refl
 
-pub one_reading : {S : Type 0} (keeping : Keeping S) (events : List Placed) (state : S) (w : Wanted) (s : List ℕ) → IsReading keeping state w s events
+pub one_reading : {S : Type 0} (keeping : Keeping S) (events : List Placed) (state : S) (w : Expected) (s : List ℕ) → IsReading keeping state w s events
     → events ≡ events_from keeping state w s
 one_reading keeping [] state w s h = sym (events-none keeping state w s (ap (known_step (keeping.is_stored state)) (nothing-step w s h.0 h.1)))
 one_reading keeping (p ∷ ps) state w s (o, next, front, text, outcome, stands, others) =

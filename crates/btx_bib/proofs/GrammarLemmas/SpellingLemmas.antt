@@ -9,8 +9,8 @@ use Rattle.btx_bib.specs.declared.grammar.byte_sets.ByteSet.{ByteSet}
 use Rattle.btx_bib.specs.declared.grammar.byte_sets.ByteSet.TheVariants.{Gap, NameByte, Digit}
 use Rattle.btx_bib.specs.declared.grammar.byte_sets.Enclosure.{Enclosure}
 use Rattle.btx_bib.specs.declared.grammar.byte_sets.Enclosure.TheVariants.{Group, Quotes}
-use Rattle.btx_bib.specs.declared.grammar.slip.Slip.{Slip}
-use Rattle.btx_bib.specs.declared.grammar.slip.Slip.TheVariants.{NoName, NoDelimiter, NoComma, NoEquals, NoClosing, NoValue, Unbalanced, EndOfFile, Repeated}
+use Rattle.btx_bib.specs.declared.grammar.slip.SyntaxError.{SyntaxError}
+use Rattle.btx_bib.specs.declared.grammar.slip.SyntaxError.TheVariants.{NoName, NoDelimiter, NoComma, NoEquals, NoClosing, NoValue, Unbalanced, EndOfFile, Repeated}
 use Rattle.btx_bib.specs.language.Grammar.ByteSets.{is_in, begins, ends_enclosed, longest_run_len, longest_run, past, enclosed_len}
 use Rattle.btx_bib.specs.language.Grammar.Tokens.{Parsed, followed_by, wrong_at, name_here, name_at, sign_in, sign_at}
 use Rattle.btx_bib.specs.language.Grammar.Values.{Part, Braced, Quoted, Digits, Named, closed_part, enclosed_in, part_in, part_at, behind_hash, next_part}
@@ -25,7 +25,7 @@ use Rattle.btx_bib.specs.refinement.Grammar.Values.{joined}
 -- a function reads as a grammar says: what it reads is spelled, and what is spelled it reads
 pub record Decides {A : Type 0} (read : List ℕ → Parsed A) (R : Grammar A) : Type 0 where
   pub total : (s : List ℕ) → Splits R s (read s)
-  pub only : (o : Result A Slip) (front rest : List ℕ) → R o front rest → read (front ++ rest) ≡ read_as o rest
+  pub only : (o : Result A SyntaxError) (front rest : List ℕ) → R o front rest → read (front ++ rest) ≡ read_as o rest
 
 -- ---- one after the other
 
@@ -47,11 +47,11 @@ then-total R next read D s (Err wrong) h = (h.0, h.1, inl h.2)
 
 -- what is spelled is read
 abbrev pub Only : {A : Type 0} → (List ℕ → Parsed A) → Grammar A → Type 0
-Only {A} read R = (o : Result A Slip) (front rest : List ℕ) → R o front rest → read (front ++ rest) ≡ read_as o rest
+Only {A} read R = (o : Result A SyntaxError) (front rest : List ℕ) → R o front rest → read (front ++ rest) ≡ read_as o rest
 
 pub then-only : {A B : Type 0} (R : Grammar A) (next : A → Grammar B) (first : List ℕ → Parsed A) (read : A → List ℕ → Parsed B) → Only first R
     → ((a : A) → Only (read a) (next a)) →
-    (o : Result B Slip) (front rest : List ℕ) → Then R next o front rest → followed_by (first (front ++ rest)) read ≡ read_as o rest
+    (o : Result B SyntaxError) (front rest : List ℕ) → Then R next o front rest → followed_by (first (front ++ rest)) read ≡ read_as o rest
 then-only R next first read D E (Ok b) front rest (inl h) = absurd h
 then-only R next first read D E (Err slip) front rest (inl h) = rw (D (Err slip) front rest h) refl
 then-only R next first read D E o front rest (inr h) =
@@ -66,7 +66,7 @@ then-decides R next first read D E =
 
 pub gives-decides : {A : Type 0} (a : A) → Decides (λ s. Ok (a, s)) (Gives a)
 gives-decides {A} a = record { total = λ s. ([], refl, (refl, refl)); only = only } where
-  only : (o : Result A Slip) (front rest : List ℕ) → Gives a o front rest → ◌≡◌ {A = Parsed A} (Ok (a, front ++ rest)) (read_as o rest)
+  only : (o : Result A SyntaxError) (front rest : List ℕ) → Gives a o front rest → ◌≡◌ {A = Parsed A} (Ok (a, front ++ rest)) (read_as o rest)
   only (Ok b) front rest h = rw (h.0, h.1) refl
   only (Err slip) front rest h = absurd h
 
@@ -106,7 +106,7 @@ past-of set w rest h = drop_at w rest (longest_run_len set (w ++ rest)) (sym (ru
 
 white-decides : Decides (λ s. Ok (tt, past Gap s)) White
 white-decides = record { total = λ s. (longest_run Gap s, take-append-drop (longest_run_len Gap s) s, is_run Gap s); only = only } where
-  only : (o : Result (Unit {0}) Slip) (front rest : List ℕ) → White o front rest
+  only : (o : Result (Unit {0}) SyntaxError) (front rest : List ℕ) → White o front rest
       → ◌≡◌ {A = Parsed (Unit {0})} (Ok (tt, past Gap (front ++ rest))) (read_as o rest)
   only (Ok none) front rest h = rw (past-of Gap front rest h) refl
   only (Err slip) front rest h = absurd h
@@ -136,7 +136,7 @@ name_here-total s true e =
     (front, joined_again, record { spelled = refl; begins_well = starts s e; run = is_run NameByte s })
 name_here-total s false e = ([], refl, (e, record { nothing = refl; slip_is = refl }))
 
-name_here-only : (o : Result (List ℕ) Slip) (front rest : List ℕ) → NameHere o front rest → name_here (front ++ rest) ≡ read_as o rest
+name_here-only : (o : Result (List ℕ) SyntaxError) (front rest : List ℕ) → NameHere o front rest → name_here (front ++ rest) ≡ read_as o rest
 unfolding name_here
 name_here-only (Ok name) front rest h =
     rw (h.spelled, begins-append begins_name name rest h.begins_well, run-of NameByte name rest h.run, past-of NameByte name rest h.run) refl
@@ -146,19 +146,19 @@ name_here-decides : Decides name_here NameHere
 unfolding name_here
 name_here-decides = record { total = λ s. name_here-total s (begins begins_name s) refl; only = name_here-only }
 
-sign_here-total : (sign : ℕ) (wrong : Slip) (s : List ℕ) (t : Bool) → begins (λ b. eqb b sign) s ≡ t
+sign_here-total : (sign : ℕ) (wrong : SyntaxError) (s : List ℕ) (t : Bool) → begins (λ b. eqb b sign) s ≡ t
     → Splits (SignHere sign wrong) s (cond t (Ok (tt, drop 1 s)) (wrong_at wrong s))
 sign_here-total sign wrong [] true e = cc
 sign_here-total sign wrong (b ∷ bs) true e = let is : b ≡ sign = eqb-true b sign e in (sign ∷ [], rw is refl, refl)
 sign_here-total sign wrong s false e = ([], refl, (e, record { nothing = refl; slip_is = refl }))
 
-sign_here-only : (sign : ℕ) (wrong : Slip) (o : Result (Unit {0}) Slip) (front rest : List ℕ) → SignHere sign wrong o front rest
+sign_here-only : (sign : ℕ) (wrong : SyntaxError) (o : Result (Unit {0}) SyntaxError) (front rest : List ℕ) → SignHere sign wrong o front rest
     → sign_in sign wrong (front ++ rest) ≡ read_as o rest
 unfolding sign_in
 sign_here-only sign wrong (Ok none) front rest h = rw (h, eq-eqb sign sign refl) refl
 sign_here-only sign wrong (Err slip) front rest h = rw (h.1.nothing, h.0, h.1.slip_is) refl
 
-sign_here-decides : (sign : ℕ) (wrong : Slip) → Decides (sign_in sign wrong) (SignHere sign wrong)
+sign_here-decides : (sign : ℕ) (wrong : SyntaxError) → Decides (sign_in sign wrong) (SignHere sign wrong)
 unfolding sign_in
 sign_here-decides sign wrong = record { total = λ s. sign_here-total sign wrong s (begins (λ b. eqb b sign) s) refl; only = sign_here-only sign wrong }
 
@@ -296,7 +296,7 @@ or_parts : (x y : Bool) → (x || y) ≡ false → (x ≡ false) × (y ≡ false
 or_parts true y h = absurd (true≢false h)
 or_parts false y h = (refl, h)
 
-part_in-wrong : (slip : Slip) (front rest : List ℕ) → IsWrongPart slip front rest → part_in (front ++ rest) ≡ Err (slip, rest)
+part_in-wrong : (slip : SyntaxError) (front rest : List ℕ) → IsWrongPart slip front rest → part_in (front ++ rest) ≡ Err (slip, rest)
 unfolding part_in
 part_in-wrong NoValue front rest (nothing, b, bs, is, none) =
     let name = or_parts (eqb b 123 || eqb b 34 || is_ascii_digit b) (begins_name b) none in
@@ -314,7 +314,7 @@ part_in-wrong NoEquals front rest h = absurd h
 part_in-wrong (NoClosing d) front rest h = absurd h
 part_in-wrong Repeated front rest h = absurd h
 
-part_here-only : (o : Result Part Slip) (front rest : List ℕ) → PartHere o front rest → part_in (front ++ rest) ≡ read_as o rest
+part_here-only : (o : Result Part SyntaxError) (front rest : List ℕ) → PartHere o front rest → part_in (front ++ rest) ≡ read_as o rest
 unfolding part_in
 part_here-only (Ok (Braced text)) front rest h = rw (h.0, append_assoc text (125 ∷ []) rest, enclosed_in-of Group text (125 ∷ rest) h.1.0 (h.1.1, refl)) refl
 part_here-only (Ok (Quoted text)) front rest h = rw (h.0, append_assoc text (34 ∷ []) rest, enclosed_in-of Quotes text (34 ∷ rest) h.1.0 (h.1.1, refl)) refl
@@ -466,7 +466,7 @@ value-decides = record {
 pub name-decides : Decides name_at (Spaced NameHere)
 name-decides = spaced-decides NameHere name_here name_here-decides
 
-pub sign-decides : (sign : ℕ) (wrong : Slip) → Decides (sign_at sign wrong) (Spaced (SignHere sign wrong))
+pub sign-decides : (sign : ℕ) (wrong : SyntaxError) → Decides (sign_at sign wrong) (Spaced (SignHere sign wrong))
 sign-decides sign wrong = spaced-decides (SignHere sign wrong) (sign_in sign wrong) (sign_here-decides sign wrong)
 
 field-of : List ℕ → List Part → Field

@@ -12,8 +12,8 @@ use Rattle.btx_bib.specs.declared.grammar.byte_sets.ByteSet.TheVariants.{Gap, Na
 use Rattle.btx_bib.specs.declared.grammar.byte_sets.Enclosure.{Enclosure}
 use Rattle.btx_bib.specs.declared.grammar.byte_sets.Enclosure.TheVariants.{Group, Quotes}
 use Rattle.btx_bib.specs.language.Grammar.ByteSets.{is_in, longest_run_len, longest_run, past, enclosed_len}
-use Rattle.btx_bib.specs.declared.grammar.slip.Slip.{Slip}
-use Rattle.btx_bib.specs.declared.grammar.slip.Slip.TheVariants.{NoValue, Unbalanced}
+use Rattle.btx_bib.specs.declared.grammar.slip.SyntaxError.{SyntaxError}
+use Rattle.btx_bib.specs.declared.grammar.slip.SyntaxError.TheVariants.{NoValue, Unbalanced}
 use Rattle.btx_bib.specs.language.Grammar.Tokens.{Parsed, followed_by}
 use Rattle.btx_bib.specs.refinement.Grammar.Tokens.{seen}
 use Rattle.btx_bib.specs.language.Grammar.Values.{Part, Quoted, Digits, Named, closed_part, enclosed_in, part_in, part_at, behind_hash, next_part, value_within}
@@ -73,7 +73,7 @@ less (Err wrong) n m le h = tt
 pub part_at-leaves : (text : List ℕ) → Leaves (length text) (part_at text)
 part_at-leaves text = less (part_at text) (length (past Gap text)) (length text) (past-le Gap text) (part_in-leaves (past Gap text))
 
-pub part-shorter : (r : Result (CodePart × Bor (List ℕ)) (Slip × Bor (List ℕ))) (text : List ℕ) → seen part_view r ≡ part_at text
+pub part-shorter : (r : Result (CodePart × Bor (List ℕ)) (SyntaxError × Bor (List ℕ))) (text : List ℕ) → seen part_view r ≡ part_at text
     → IfOk r (λ got. length got.1.now < length text)
 part-shorter (Ok got) text e = subst (Leaves (length text)) (sym e) (part_at-leaves text)
 part-shorter (Err wrong) text e = tt
@@ -120,7 +120,7 @@ value_at-step text =
     step-enough (value_within (length text)) value_at (length text) (part_at text) (part_at-leaves text)
     (λ t lt. value_within-enough (length text) (suc (length t)) t lt (omega arith))
 
-pub value-wrong : (text : List ℕ) (wrong : Slip × List ℕ) → part_at text ≡ Err wrong → value_end (value_at text) ≡ Err wrong
+pub value-wrong : (text : List ℕ) (wrong : SyntaxError × List ℕ) → part_at text ≡ Err wrong → value_end (value_at text) ≡ Err wrong
 value-wrong text wrong e = rw (value_at-step text, e) refl
 
 pub value-ends : (text rest : List ℕ) (part : Part) → part_at text ≡ Ok (part, rest) → next_part rest ≡ None → value_end (value_at text) ≡ Ok (tt, rest)
@@ -144,7 +144,7 @@ whole_from (Ok got) rest e = let is : got.1 ≡ rest = at got.1 e in rw (← is)
   at xs e = ap (λ (r : Parsed (Unit {0})). rest_of r) e
 whole_from (Err wrong) rest e = cc
 
-pub wrong_from : (r : Parsed (List Part)) (wrong : Slip × List ℕ) → value_end r ≡ Err wrong → r ≡ Err wrong
+pub wrong_from : (r : Parsed (List Part)) (wrong : SyntaxError × List ℕ) → value_end r ≡ Err wrong → r ≡ Err wrong
 wrong_from (Ok got) wrong e = cc
 wrong_from (Err w) wrong e = cc
 
@@ -161,12 +161,12 @@ pub value-more : (text rest next end : List ℕ) (part : Part) → part_at text 
     value_at text ≡ Ok (part ∷ parts_read (value_at next), end)
 value-more text rest next end part e n w = rw (value_at-step text, e, n, whole_from (value_at next) end w) refl
 
-pub value-more-wrong : (text rest next : List ℕ) (part : Part) (wrong : Slip × List ℕ) → part_at text ≡ Ok (part, rest) → next_part rest ≡ Some next
+pub value-more-wrong : (text rest next : List ℕ) (part : Part) (wrong : SyntaxError × List ℕ) → part_at text ≡ Ok (part, rest) → next_part rest ≡ Some next
     → value_end (value_at next) ≡ Err wrong →
     value_at text ≡ Err wrong
 value-more-wrong text rest next part wrong e n w = rw (value_at-step text, e, n, wrong_from (value_at next) wrong w) refl
 
-pub value-none : (text : List ℕ) (wrong : Slip × List ℕ) → part_at text ≡ Err wrong → value_at text ≡ Err wrong
+pub value-none : (text : List ℕ) (wrong : SyntaxError × List ℕ) → part_at text ≡ Err wrong → value_at text ≡ Err wrong
 value-none text wrong e = rw (value_at-step text, e) refl
 
 pub ruleset value_parts = (value-one, value-more, value-more-wrong, value-none)

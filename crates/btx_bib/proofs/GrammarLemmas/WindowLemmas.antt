@@ -15,8 +15,8 @@ use Rattle.btx_text.specs.language.Class.{begins_name, is_name_byte}
 use Rattle.btx_bib.specs.declared.grammar.byte_sets.ByteSet.{ByteSet}
 use Rattle.btx_bib.specs.declared.grammar.byte_sets.ByteSet.TheVariants.{Gap, NameByte}
 use Rattle.btx_bib.specs.declared.grammar.byte_sets.Delimiter.{Delimiter}
-use Rattle.btx_bib.specs.declared.grammar.commands.Wanted.{Wanted}
-use Rattle.btx_bib.specs.declared.grammar.commands.Wanted.TheVariants.{Fields}
+use Rattle.btx_bib.specs.declared.grammar.commands.Expected.{Expected}
+use Rattle.btx_bib.specs.declared.grammar.commands.Expected.TheVariants.{Fields}
 use Rattle.btx_bib.specs.language.Grammar.Items.{expected_step}
 use Rattle.btx_bib.specs.language.Grammar.ByteSets.{is_gap, is_in, longest_run_len, past}
 use Rattle.btx_bib.specs.language.Grammar.Values.{behind_hash, next_part, part_in}
@@ -244,9 +244,9 @@ comma-last [] h = refl
 comma-last (b ∷ bs) h = ap behind_hash (comma-past (b ∷ bs) bs (ap (λ c. c ∷ bs) (eqb-true b 44 h)))
 
 -- the reader reads it, where it wants fields
-pub field-next : (place : Wanted × List ℕ) (wanted : Wanted) (delimiter : Delimiter) (text rest : List ℕ) → place ≡ (wanted, text) → wanted ≡ Fields delimiter
+pub field-next : (place : Expected × List ℕ) (wanted : Expected) (delimiter : Delimiter) (text rest : List ℕ) → place ≡ (wanted, text) → wanted ≡ Fields delimiter
     → IsField text rest → IsFieldNext place rest
 unfolding expected_step
 field-next place wanted delimiter text rest is there field =
-    let stands : place ≡ (Fields delimiter, text) = is ∙ ap (λ (w : Wanted). (w, text)) there in
+    let stands : place ≡ (Fields delimiter, text) = is ∙ ap (λ (w : Expected). (w, text)) there in
     rw stands (record { field = field.field; stands = rw (field.stands delimiter) refl })

@@ -3,12 +3,12 @@ use Rattle.std.specs.Prelude.{ℕ, List, [], ◌++◌, fold, None, not, if◌the
 use Rattle.btx_text.specs.language.Limits.{is_too_long}
 use Rattle.btx_bib.specs.declared.end.End.{End}
 use Rattle.btx_bib.specs.declared.end.End.TheVariants as end
-use Rattle.btx_bib.specs.declared.grammar.commands.Wanted.TheVariants.{Item}
+use Rattle.btx_bib.specs.declared.grammar.commands.Expected.TheVariants.{Item}
 use Rattle.btx_bib.specs.declared.message.Message.{Message}
 use Rattle.btx_bib.specs.language.Grammar.Items.{events_from}
 use Rattle.btx_bib.specs.language.Grammar.ValueTexts.{squeezed}
 use Rattle.btx_bib.specs.language.Library.{Library}
-use Rattle.btx_bib.specs.language.Wanted.{Request}
+use Rattle.btx_bib.specs.language.Request.{Request}
 use Rattle.btx_bib.specs.language.Strings.{defined}
 use Rattle.btx_bib.specs.language.Listing.{slots_of}
 use Rattle.btx_bib.specs.language.Passes.{entries_of, reference_messages}

@@ -9,7 +9,7 @@ use Rattle.btx_bib.specs.declared.grammar.value_ends.Ends.TheVariants.{Kept, Tri
 use Rattle.btx_bib.specs.language.Grammar.Fields.{Field}
 use Rattle.btx_bib.specs.language.Grammar.Items.{Event, Comment, Preamble, Definition, Entry, FieldOf, End as Close, Wrong, Keeping}
 use Rattle.btx_bib.specs.language.Grammar.ValueTexts.{value_text}
-use Rattle.btx_bib.specs.language.Wanted.{Request}
+use Rattle.btx_bib.specs.language.Request.{Request}
 use Rattle.btx_bib.specs.language.Strings.{string_value, other_value, defined}
 use Rattle.btx_bib.specs.language.Entries.{Given, field_values}
 use Rattle.btx_bib.specs.language.Stored.{entry_with_key, is_wanted}

@@ -4,7 +4,7 @@ use Rattle.std.specs.Prelude.{ℕ, nat_le, ◌||◌, Bool, List, [], ◌++◌, m
 use Rattle.std.specs.Option.{option_or, option_map, unwrap_or}
 use Rattle.btx_aux.specs.language.Names.{is_same_key, listed_as, with_key}
 use Rattle.btx_bib.specs.declared.slots.Body.{Body}
-use Rattle.btx_bib.specs.language.Wanted.{Request}
+use Rattle.btx_bib.specs.language.Request.{Request}
 use Rattle.btx_bib.specs.language.Entries.{Given, body_of}
 use Rattle.btx_bib.specs.language.Stored.{entry_with_key, parents_in, references}
 

@@ -5,8 +5,8 @@ use Rattle.btx_text.specs.declared.log_line.LineKind.{LineKind}
 use Rattle.btx_text.specs.declared.log_line.LineKind.TheVariants as line
 use Rattle.btx_text.specs.language.LogLines.{Line, mark_of, place_text}
 use Rattle.btx_bib.specs.declared.grammar.byte_sets.Delimiter.TheVariants.{Braces, Parens}
-use Rattle.btx_bib.specs.declared.grammar.slip.Slip.{Slip}
-use Rattle.btx_bib.specs.declared.grammar.slip.Slip.TheVariants.{NoName, NoDelimiter, NoComma, NoEquals, NoClosing, NoValue, Unbalanced, EndOfFile, Repeated}
+use Rattle.btx_bib.specs.declared.grammar.slip.SyntaxError.{SyntaxError}
+use Rattle.btx_bib.specs.declared.grammar.slip.SyntaxError.TheVariants.{NoName, NoDelimiter, NoComma, NoEquals, NoClosing, NoValue, Unbalanced, EndOfFile, Repeated}
 use Rattle.btx_bib.specs.declared.message.Message.{Message}
 use Rattle.btx_bib.specs.declared.message.Message.TheVariants.{Wrong, UnknownKind, ExtraField, UndefinedString, OwnString, BadReference, NestedReference}
 use Rattle.btx_bib.specs.declared.message.Message.TheVariants.{NoEntry}
@@ -14,7 +14,7 @@ use Rattle.btx_bib.specs.declared.message.Spot.{Spot}
 use Rattle.std.specs.Option.{option_map_or}
 
 -- what is wrong at a place of a database, in words
-unfoldable pub slip_text : Slip → List ℕ
+unfoldable pub slip_text : SyntaxError → List ℕ
 slip_text NoName = codes "I was expecting a name"
 slip_text NoDelimiter = codes "I was expecting a { or a ("
 slip_text (NoComma Braces) = codes "I was expecting a , or a }"

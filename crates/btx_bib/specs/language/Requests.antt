@@ -2,7 +2,7 @@
 use Rattle.std.specs.Prelude.{ℕ, length, is_some, if◌then◌else◌}
 use Rattle.btx_aux.specs.language.Job.{AuxJob}
 use Rattle.btx_bst.specs.language.Style.{Style, field_of, type_of}
-use Rattle.btx_bib.specs.language.Wanted.{Request}
+use Rattle.btx_bib.specs.language.Request.{Request}
 
 -- what a job and its style ask. An uncited parent stays in the list if at least `fewest` stored entries name it: `least`, which is `--min-crossrefs`, or
 -- 0 if `*` is cited

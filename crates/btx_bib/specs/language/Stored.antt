@@ -3,7 +3,7 @@
 use Rattle.std.specs.Prelude.{ℕ, ◌||◌, Bool, List, [], ◌++◌, Option, is_some, option_to_list, if◌then◌else◌}
 use Rattle.std.specs.List.{find, list_any, flat_map}
 use Rattle.btx_aux.specs.language.Names.{is_same_key}
-use Rattle.btx_bib.specs.language.Wanted.{Request}
+use Rattle.btx_bib.specs.language.Request.{Request}
 use Rattle.btx_bib.specs.language.Entries.{Given, parent_in, field_values}
 
 -- the first of some entries whose key equals `key` without case

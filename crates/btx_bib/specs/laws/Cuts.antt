@@ -3,7 +3,7 @@ use Rattle.std.specs.Prelude.{◌≡◌, ◌<◌, ◌⊎◌, ℕ, false, List, [
 use Rattle.btx_text.specs.language.Class.{is_name_byte}
 use Rattle.btx_bib.specs.language.Grammar.ByteSets.{begins}
 use Rattle.btx_bib.specs.language.Grammar.Items.{Comment, End, Placed}
-use Rattle.btx_bib.specs.language.Wanted.{Request}
+use Rattle.btx_bib.specs.language.Request.{Request}
 use Rattle.btx_bib.specs.language.Library.{Library}
 use Rattle.btx_bib.specs.language.Known.{Known}
 use Rattle.btx_bib.specs.language.Messages.{Database}

@@ -1,9 +1,9 @@
 -- The events of a database, of which laws speak.
 use Rattle.std.specs.Prelude.{◌≡◌, true, false, List, [], ◌∷◌, ◌++◌, None, ℕ, fold}
 use Rattle.btx_text.specs.language.Limits.{is_too_long}
-use Rattle.btx_bib.specs.declared.grammar.commands.Wanted.TheVariants.{Item}
+use Rattle.btx_bib.specs.declared.grammar.commands.Expected.TheVariants.{Item}
 use Rattle.btx_bib.specs.language.Grammar.Items.{Placed, events_from}
-use Rattle.btx_bib.specs.language.Wanted.{Request}
+use Rattle.btx_bib.specs.language.Request.{Request}
 use Rattle.btx_bib.specs.language.Known.{Known, goes_on, keeping}
 use Rattle.btx_bib.specs.language.Messages.{Database, Reading}
 use Rattle.btx_bib.specs.declared.end.End.TheVariants as end

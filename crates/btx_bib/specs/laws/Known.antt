@@ -1,7 +1,7 @@
 -- What is known after some events of a database.
 use Rattle.std.specs.Prelude.{List, fold}
 use Rattle.btx_bib.specs.language.Grammar.Items.{Placed}
-use Rattle.btx_bib.specs.language.Wanted.{Request}
+use Rattle.btx_bib.specs.language.Request.{Request}
 use Rattle.btx_bib.specs.language.Known.{Known, known_after}
 
 -- what is known after these events, one after another

@@ -11,7 +11,7 @@ use Rattle.btx_bib.specs.language.Stored.{entry_with_key, parents_in}
 use Rattle.btx_bib.specs.language.Listing.{list_keys}
 use Rattle.btx_bib.specs.language.Library.{Library}
 use Rattle.btx_bib.specs.language.Requests.{asked}
-use Rattle.btx_bib.specs.language.Wanted.{Request}
+use Rattle.btx_bib.specs.language.Request.{Request}
 use Rattle.btx_bib.specs.language.Messages.{Database}
 use Rattle.btx_bib.specs.language.Databases.{library_of}
 use Rattle.btx_bib.specs.laws.Listing.{spelled, stays}

@@ -2,7 +2,7 @@
 use Rattle.std.specs.Prelude.{ℕ, List, nat_le, ◌||◌, Bool, count_by, is_some}
 use Rattle.std.specs.Option.{option_or, option_map, unwrap_or}
 use Rattle.btx_aux.specs.language.Names.{listed_as, is_same_key}
-use Rattle.btx_bib.specs.language.Wanted.{Request}
+use Rattle.btx_bib.specs.language.Request.{Request}
 use Rattle.btx_bib.specs.language.Entries.{Given}
 use Rattle.btx_bib.specs.language.Stored.{entry_with_key, references}
 

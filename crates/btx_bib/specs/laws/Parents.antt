@@ -7,7 +7,7 @@ use Rattle.btx_bib.specs.language.Entries.{parent_in}
 use Rattle.btx_bib.specs.language.Stored.{entry_with_key, parents_in}
 use Rattle.btx_bib.specs.language.Listing.{Slot, slots_of}
 use Rattle.btx_bib.specs.language.Passes.{body_values, slot_at, after_first}
-use Rattle.btx_bib.specs.language.Wanted.{Request}
+use Rattle.btx_bib.specs.language.Request.{Request}
 use Rattle.btx_bib.specs.language.Messages.{Database}
 use Rattle.btx_bib.specs.language.Databases.{library_of}
 use Rattle.btx_bib.specs.laws.Laws.{list_of, stored_by}

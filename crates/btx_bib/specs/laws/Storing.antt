@@ -3,12 +3,12 @@ use Rattle.std.specs.Prelude.{◌≡◌, ℕ, nat_lt, ◌||◌, ◌&&◌, not, B
 use Rattle.std.specs.List.{list_any}
 use Rattle.btx_text.specs.language.Limits.{greatest_string}
 use Rattle.btx_aux.specs.language.Names.{is_same_key}
-use Rattle.btx_bib.specs.declared.grammar.commands.Wanted.{Wanted as Next}
+use Rattle.btx_bib.specs.declared.grammar.commands.Expected.{Expected as Next}
 use Rattle.btx_bib.specs.declared.grammar.value_ends.Ends.TheVariants.{Kept}
 use Rattle.btx_bib.specs.language.Grammar.Items.{Event, Definition, Entry, Placed, as_known}
 use Rattle.btx_bib.specs.language.Grammar.Values.{Part}
 use Rattle.btx_bib.specs.language.Grammar.ValueTexts.{squeezed, value_text}
-use Rattle.btx_bib.specs.language.Wanted.{Request}
+use Rattle.btx_bib.specs.language.Request.{Request}
 use Rattle.btx_bib.specs.language.Strings.{string_value, other_value}
 use Rattle.btx_bib.specs.language.Entries.{Given}
 use Rattle.btx_bib.specs.language.Stored.{parents_in}

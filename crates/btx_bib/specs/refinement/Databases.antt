@@ -1,8 +1,8 @@
 -- Names of parts of what databases give.
 use Rattle.std.specs.Prelude.{fold}
-use Rattle.btx_bib.specs.declared.grammar.commands.Wanted.TheVariants.{Item}
+use Rattle.btx_bib.specs.declared.grammar.commands.Expected.TheVariants.{Item}
 use Rattle.btx_bib.specs.language.Grammar.Items.{events_from}
-use Rattle.btx_bib.specs.language.Wanted.{Request}
+use Rattle.btx_bib.specs.language.Request.{Request}
 use Rattle.btx_bib.specs.language.Known.{with_current_stored, keeping}
 use Rattle.btx_bib.specs.language.Messages.{Database, Reading, read_next}
 

@@ -6,12 +6,12 @@ use Rattle.btx_text.specs.language.Keys.{folded}
 use Rattle.btx_aux.specs.language.Names.{listed_as}
 use Rattle.btx_bib.specs.declared.draft.Draft.{Draft}
 use Rattle.btx_bib.specs.declared.draft.Standing.{Standing}
-use Rattle.btx_bib.specs.declared.draft.Standing.TheVariants.{Unwanted, Repeated, Wanted}
+use Rattle.btx_bib.specs.declared.draft.Standing.TheVariants.{Unwanted, Repeated, Expected}
 use Rattle.btx_bib.specs.declared.slots.Body.{Body}
 use Rattle.btx_bib.specs.declared.slots.Slot.{Slot as CodeSlot}
 use Rattle.btx_bib.specs.language.Listing.{Slot}
 use Rattle.btx_bib.specs.refinement.Finding.{first_place, changed_at}
-use Rattle.btx_bib.specs.language.Wanted.{Request}
+use Rattle.btx_bib.specs.language.Request.{Request}
 use Rattle.btx_bib.specs.language.Entries.{parent_in}
 
 -- the place of a key
@@ -57,11 +57,11 @@ has_entry draft (Some place) = has_body (slice_get draft.slots place)
 -- how an entry stands whose key isn't in the list, and whose key has this place
 abbrev pub new_standing : Option ℕ → Standing
 new_standing None = Unwanted
-new_standing (Some place) = Wanted
+new_standing (Some place) = Expected
 
 abbrev pub standing_at : Request → Draft → Option ℕ → Standing
 standing_at request draft None = new_standing request.all
-standing_at request draft (Some place) = if has_body (slice_get draft.slots place) then Repeated else Wanted
+standing_at request draft (Some place) = if has_body (slice_get draft.slots place) then Repeated else Expected
 
 -- the list after a reference to a key, which has this place
 abbrev pub referred_at : Request → List ℕ → Draft → Option ℕ → Draft

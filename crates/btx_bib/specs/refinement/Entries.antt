@@ -1,7 +1,7 @@
 -- Names of parts of an entry.
 use Rattle.std.specs.Prelude.{ℕ, Option, List, nat_eq, Bool, false}
 use Rattle.btx_text.specs.language.Keys.{folded}
-use Rattle.btx_bib.specs.language.Wanted.{Request}
+use Rattle.btx_bib.specs.language.Request.{Request}
 use Rattle.btx_bib.specs.language.Entries.{KeptField, Given, field_values, parent_in}
 use Rattle.std.specs.Option.{option_map_or}
 

@@ -8,7 +8,7 @@ use Rattle.btx_bib.specs.declared.draft.Standing.TheVariants as standing
 use Rattle.btx_bib.specs.declared.end.End.TheVariants.{StringLimit}
 use Rattle.btx_bib.specs.declared.gathering.Gathering.{Gathering}
 use Rattle.btx_bib.specs.declared.gathering.Pending.{Pending}
-use Rattle.btx_bib.specs.declared.grammar.commands.Wanted.{Wanted as Next}
+use Rattle.btx_bib.specs.declared.grammar.commands.Expected.{Expected as Next}
 use Rattle.btx_bib.specs.declared.grammar.value_ends.Ends.TheVariants.{Kept, Trimmed}
 use Rattle.btx_bib.specs.declared.message.Message.{Message}
 use Rattle.btx_bib.specs.declared.message.Message.TheVariants as message
@@ -22,7 +22,7 @@ use Rattle.btx_bib.specs.refinement.Filling.{blanks}
 use Rattle.btx_bib.specs.refinement.Finding.{changed_at}
 use Rattle.btx_bib.specs.refinement.Grammar.Reads.{left}
 use Rattle.btx_bib.specs.language.Values.{field_value}
-use Rattle.btx_bib.specs.language.Wanted.{Request}
+use Rattle.btx_bib.specs.language.Request.{Request}
 use Rattle.btx_bib.specs.language.Strings.{defined, other_value, string_value}
 use Rattle.btx_bib.specs.language.Known.{goes_on}
 use Rattle.btx_bib.specs.language.Messages.{Database, spot_at, spot_before, value_messages}
@@ -83,7 +83,7 @@ begun wanted kept kind key = record kept { current = Some (record { key = key; b
 abbrev pub begun_by : Request → Gathering → List ℕ → List ℕ → Standing → Gathering
 begun_by wanted kept kind key standing.Unwanted = kept
 begun_by wanted kept kind key standing.Repeated = kept
-begun_by wanted kept kind key standing.Wanted = begun wanted kept (wanted.kind (folded kind)) key
+begun_by wanted kept kind key standing.Expected = begun wanted kept (wanted.kind (folded kind)) key
 
 -- what is kept after a field
 abbrev pub ended_if : Bool → Gathering → Gathering
@@ -113,7 +113,7 @@ entered wanted kept kind key = let before = closed wanted kept in begun_by wante
 abbrev pub messages_of_standing : Request → Database → List ℕ → List ℕ → List ℕ → Standing → List Message
 messages_of_standing wanted database kind key rest standing.Unwanted = []
 messages_of_standing wanted database kind key rest standing.Repeated = []
-messages_of_standing wanted database kind key rest standing.Wanted = type_messages key (wanted.kind (folded kind)) (spot_at database rest)
+messages_of_standing wanted database kind key rest standing.Expected = type_messages key (wanted.kind (folded kind)) (spot_at database rest)
 
 abbrev pub messages_of_entry : Request → Database → Gathering → List ℕ → List ℕ → List ℕ → List Message
 messages_of_entry wanted database kept kind key rest =

@@ -1,7 +1,7 @@
 -- What becomes of a field and of a key, as proofs name it.
 use Rattle.std.specs.Prelude.{ℕ, not, ◌&&◌, Bool, List, is_some, [], Some, if◌then◌else◌, ◌∷◌, ◌++◌}
 use Rattle.btx_text.specs.language.Keys.{folded}
-use Rattle.btx_bib.specs.language.Wanted.{Request}
+use Rattle.btx_bib.specs.language.Request.{Request}
 use Rattle.btx_bib.specs.language.Entries.{Given}
 use Rattle.btx_bib.specs.language.Known.{has_value, Known}
 use Rattle.btx_bib.specs.language.Stored.{is_wanted}

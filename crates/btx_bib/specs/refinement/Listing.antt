@@ -1,7 +1,7 @@
 -- Names of parts of the list of keys.
 use Rattle.std.specs.Prelude.{ℕ, List, [], ◌++◌, fold}
 use Rattle.btx_aux.specs.language.Names.{with_key}
-use Rattle.btx_bib.specs.language.Wanted.{Request}
+use Rattle.btx_bib.specs.language.Request.{Request}
 use Rattle.btx_bib.specs.language.Entries.{Given}
 use Rattle.btx_bib.specs.language.Listing.{first_cited, added}
 

@@ -2,7 +2,7 @@
 use Rattle.std.specs.Prelude.{List, [], if◌then◌else◌, ℕ, ◌∷◌, Option, Bool, false, is_none}
 use Rattle.btx_bib.specs.declared.message.Message.{Message}
 use Rattle.btx_bib.specs.language.Grammar.Items.{Placed}
-use Rattle.btx_bib.specs.language.Wanted.{Request}
+use Rattle.btx_bib.specs.language.Request.{Request}
 use Rattle.btx_bib.specs.language.Known.{Known, goes_on}
 use Rattle.btx_bib.specs.language.Messages.{Database, event_messages}
 use Rattle.btx_bib.specs.declared.message.Message.TheVariants as message

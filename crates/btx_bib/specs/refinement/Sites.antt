@@ -4,7 +4,7 @@ use Rattle.btx_bib.specs.declared.message.Message.{Message}
 use Rattle.btx_bib.specs.declared.reading.Reading.{Reading}
 use Rattle.btx_bib.specs.declared.site.Site.{Site}
 use Rattle.btx_bib.specs.language.Messages.{Database}
-use Rattle.btx_bib.specs.language.Wanted.{Request}
+use Rattle.btx_bib.specs.language.Request.{Request}
 use Rattle.btx_bib.specs.refinement.Requests.{wanted}
 
 -- the database of a place

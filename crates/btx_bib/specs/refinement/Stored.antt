@@ -1,6 +1,6 @@
 -- Parts of definitions by their names.
 use Rattle.std.specs.Prelude.{ℕ, List, [], Option, is_some, if◌then◌else◌}
-use Rattle.btx_bib.specs.language.Wanted.{Request}
+use Rattle.btx_bib.specs.language.Request.{Request}
 use Rattle.btx_bib.specs.language.Entries.{Given}
 use Rattle.btx_bib.specs.language.Stored.{parents_in}
 

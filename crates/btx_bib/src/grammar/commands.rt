@@ -16,7 +16,7 @@ pub enum Command {
 
 /// What is wanted at a place.
 #[derive(Clone, Copy, Debug, PartialEq, Eq)]
-pub enum Wanted {
+pub enum Expected {
     /// The next `@`.
     Item,
     /// The closing delimiter.

@@ -1,6 +1,6 @@
 //! What is read of a database.
 use crate::grammar::fields::Field;
-use crate::grammar::slip::Slip;
+use crate::grammar::slip::SyntaxError;
 use crate::grammar::values::Value;
 
 /// What is read.
@@ -19,7 +19,7 @@ pub enum Event<'a> {
     /// The end of the item.
     End,
     /// What is wrong.
-    Wrong(Slip),
+    Wrong(SyntaxError),
 }
 
 /// What is read, and the text from its end on.

@@ -7,7 +7,7 @@ ghost use Rattle.btx_bib.specs.refinement.Grammar.Tokens.{seen};
 
 use crate::grammar::byte_sets::{ByteSet, Delimiter};
 use crate::grammar::fields::Field;
-use crate::grammar::slip::Slip;
+use crate::grammar::slip::SyntaxError;
 use crate::grammar::tokens::{Read, closing, name, past, sign, slip_at};
 use crate::grammar::values::read_value;
 
@@ -18,7 +18,7 @@ fn read_field(text: &[u8]) -> Read<'_, Field<'_>>
     ensures { seen field_view result ≡ spec.field_at text.now }
 {
     let (name, rest) = name(text)?;
-    let (_, rest) = sign(b'=', Slip::NoEquals, rest)?;
+    let (_, rest) = sign(b'=', SyntaxError::NoEquals, rest)?;
     let (value, rest) = read_value(rest)?;
     Ok((Field { name, value }, rest))
 }
@@ -46,6 +46,6 @@ pub fn read_more(delimiter: Delimiter, text: &[u8]) -> Read<'_, Option<Field<'_>
     match rest.split_first() {
         Some((&byte, after)) if byte == closing(delimiter) => Ok((None, after)),
         Some((&b',', after)) => after_comma(delimiter, past(ByteSet::Gap, after)),
-        _ => Err((slip_at(Slip::NoComma(delimiter), rest), rest)),
+        _ => Err((slip_at(SyntaxError::NoComma(delimiter), rest), rest)),
     }
 }

@@ -11,10 +11,10 @@ ghost use Rattle.btx_bib.specs.refinement.Grammar.Tokens.{seen};
 ghost use Rattle.btx_bib.specs.laws.Grammar.Fields.{more_at};
 
 use crate::grammar::byte_sets::{ByteSet, Delimiter};
-use crate::grammar::commands::{Command, Wanted};
+use crate::grammar::commands::{Command, Expected};
 use crate::grammar::events::Event;
 use crate::grammar::field_readers::read_more;
-use crate::grammar::slip::Slip;
+use crate::grammar::slip::SyntaxError;
 use crate::grammar::tokens::{Read, closing, key, name, open, past, sign};
 use crate::grammar::values::read_value;
 use btx_text::same_key;
@@ -61,7 +61,7 @@ pub struct EntryHead<'a> {
 #[tactic(auto, unfolding(crate::specs::language::Grammar::Items::head_at, crate::specs::language::Grammar::Items::head_of))]
 #[inline(always)]
 pub fn entry_head(text: &[u8]) -> Option<EntryHead<'_>>
-    ensures { IfSome result (λ head. spec.head_at text.now ≡ Ok ((spec.Entry head.kind.now head.key.now, Wanted.Fields head.delimiter), head.rest.now)) }
+    ensures { IfSome result (λ head. spec.head_at text.now ≡ Ok ((spec.Entry head.kind.now head.key.now, Expected.Fields head.delimiter), head.rest.now)) }
 {
     let (kind, rest) = name(text).ok()?;
     let Command::Entry = command(kind) else {
@@ -99,47 +99,50 @@ pub fn entry_end(delimiter: Delimiter, text: &[u8]) -> Option<&[u8]>
 
 // The value of a preamble.
 #[tactic(auto, unfolding(crate::specs::language::Grammar::Items::head_of))]
-fn preamble<'a>(name: &'a [u8], text: &'a [u8]) -> Read<'a, (Event<'a>, Wanted)>
+fn preamble<'a>(name: &'a [u8], text: &'a [u8]) -> Read<'a, (Event<'a>, Expected)>
     ensures { seen head_view result ≡ spec.head_of Command.Preamble name.now text.now }
 {
     let (delimiter, rest) = open(text)?;
     let (value, rest) = read_value(rest)?;
-    Ok(((Event::Preamble(value), Wanted::Closing(delimiter)), rest))
+    Ok(((Event::Preamble(value), Expected::Closing(delimiter)), rest))
 }
 
 // The name and the value of a string.
 #[tactic(auto, unfolding(crate::specs::language::Grammar::Items::head_of))]
-fn definition<'a>(name: &'a [u8], text: &'a [u8]) -> Read<'a, (Event<'a>, Wanted)>
+fn definition<'a>(name: &'a [u8], text: &'a [u8]) -> Read<'a, (Event<'a>, Expected)>
     ensures { seen head_view result ≡ spec.head_of Command.Definition name.now text.now }
 {
     let (delimiter, rest) = open(text)?;
     let (string, rest) = crate::grammar::tokens::name(rest)?;
-    let (_, rest) = sign(b'=', Slip::NoEquals, rest)?;
+    let (_, rest) = sign(b'=', SyntaxError::NoEquals, rest)?;
     let (value, rest) = read_value(rest)?;
     Ok((
-        (Event::Definition(string, value), Wanted::Closing(delimiter)),
+        (
+            Event::Definition(string, value),
+            Expected::Closing(delimiter),
+        ),
         rest,
     ))
 }
 
 // The type and the key of an entry.
 #[tactic(auto, unfolding(crate::specs::language::Grammar::Items::head_of))]
-fn entry<'a>(name: &'a [u8], text: &'a [u8]) -> Read<'a, (Event<'a>, Wanted)>
+fn entry<'a>(name: &'a [u8], text: &'a [u8]) -> Read<'a, (Event<'a>, Expected)>
     ensures { seen head_view result ≡ spec.head_of Command.Entry name.now text.now }
 {
     let (delimiter, rest) = open(text)?;
     let (key, rest) = key(delimiter, rest)?;
-    Ok(((Event::Entry(name, key), Wanted::Fields(delimiter)), rest))
+    Ok(((Event::Entry(name, key), Expected::Fields(delimiter)), rest))
 }
 
 /// What follows an `@`.
 #[tactic(auto, unfolding(crate::specs::language::Grammar::Items::head_at, crate::specs::language::Grammar::Items::head_of))]
-pub fn read_head(text: &[u8]) -> Read<'_, (Event<'_>, Wanted)>
+pub fn read_head(text: &[u8]) -> Read<'_, (Event<'_>, Expected)>
     ensures { seen head_view result ≡ spec.head_at text.now }
 {
     let (name, rest) = name(text)?;
     match command(name) {
-        Command::Comment => Ok(((Event::Comment, Wanted::Item), rest)),
+        Command::Comment => Ok(((Event::Comment, Expected::Item), rest)),
         Command::Preamble => preamble(name, rest),
         Command::Definition => definition(name, rest),
         Command::Entry => entry(name, rest),
@@ -147,21 +150,21 @@ pub fn read_head(text: &[u8]) -> Read<'_, (Event<'_>, Wanted)>
 }
 
 /// The end of an item.
-pub fn read_end(delimiter: Delimiter, text: &[u8]) -> Read<'_, (Event<'_>, Wanted)>
-    ensures { seen head_view result ≡ refined.item_end (sign_at (closing_delimiter delimiter) (Slip.NoClosing delimiter) text.now) }
+pub fn read_end(delimiter: Delimiter, text: &[u8]) -> Read<'_, (Event<'_>, Expected)>
+    ensures { seen head_view result ≡ refined.item_end (sign_at (closing_delimiter delimiter) (SyntaxError.NoClosing delimiter) text.now) }
 {
-    let (_, rest) = sign(closing(delimiter), Slip::NoClosing(delimiter), text)?;
-    Ok(((Event::End, Wanted::Item), rest))
+    let (_, rest) = sign(closing(delimiter), SyntaxError::NoClosing(delimiter), text)?;
+    Ok(((Event::End, Expected::Item), rest))
 }
 
 /// One more field of an entry, or its end.
-pub fn read_field_or_end(delimiter: Delimiter, text: &[u8]) -> Read<'_, (Event<'_>, Wanted)>
+pub fn read_field_or_end(delimiter: Delimiter, text: &[u8]) -> Read<'_, (Event<'_>, Expected)>
     ensures { seen head_view result ≡ spec.field_event delimiter (more_at delimiter text.now) }
 {
     let (more, rest) = read_more(delimiter, text)?;
     match more {
-        Some(field) => Ok(((Event::Field(field), Wanted::Fields(delimiter)), rest)),
-        None => Ok(((Event::End, Wanted::Item), rest)),
+        Some(field) => Ok(((Event::Field(field), Expected::Fields(delimiter)), rest)),
+        None => Ok(((Event::End, Expected::Item), rest)),
     }
 }
 

@@ -1,34 +1,34 @@
 //! Laws over the definitions, each the contract of a function that does nothing.
 ghost use Rattle.std.specs.Prelude.{◌≡◌, ◌++◌, ℕ, [], Bool, false, List, Result};
-ghost use Rattle.btx_bib.specs.declared.grammar.slip.Slip.{Slip};
+ghost use Rattle.btx_bib.specs.declared.grammar.slip.SyntaxError.{SyntaxError};
 ghost use Rattle.btx_bib.specs.language.Grammar.Fields.{Field, field_at};
 ghost use Rattle.btx_bib.specs.laws.Grammar.Spelling.{FieldSpelling, Splits, ValueSpelling, read_as};
 ghost use Rattle.btx_bib.specs.laws.Grammar.ItemEvents.{IsNew, GivesEvents, read_events};
 ghost use Rattle.btx_bib.specs.language.Grammar.Items.{Event, Placed, behind_at, events_from, head_at};
 ghost use Rattle.btx_bib.specs.laws.Grammar.Items.{by_history};
 ghost use Rattle.btx_bib.specs.laws.Grammar.Reading.{IsReading};
-ghost use Rattle.btx_bib.specs.declared.grammar.commands.Wanted.TheVariants as wanted;
+ghost use Rattle.btx_bib.specs.declared.grammar.commands.Expected.TheVariants as wanted;
 ghost use Rattle.btx_bib.specs.language.Grammar.Values.{Part, value_at};
 ghost use Rattle.btx_bib.specs.laws.Grammar.WholeItems.{WholeItem, ItemHere, whole_item_at};
 
 /// Each text has exactly one front that spells a value, or at whose end a value is wrong.
 pub fn one_value()
     ensures spells { (text : List ℕ) → Splits ValueSpelling text (value_at text) }
-    ensures only { (outcome : Result (List Part) Slip) (front rest : List ℕ) →
+    ensures only { (outcome : Result (List Part) SyntaxError) (front rest : List ℕ) →
         ValueSpelling outcome front rest → value_at (front ++ rest) ≡ read_as outcome rest }
 {}
 
 /// Each text has exactly one front that spells a field, or at whose end a field is wrong.
 pub fn one_field()
     ensures spells { (text : List ℕ) → Splits FieldSpelling text (field_at text) }
-    ensures only { (outcome : Result Field Slip) (front rest : List ℕ) →
+    ensures only { (outcome : Result Field SyntaxError) (front rest : List ℕ) →
         FieldSpelling outcome front rest → field_at (front ++ rest) ≡ read_as outcome rest }
 {}
 
 /// Behind each `@` exactly one item is spelled by exactly one front of the text, or exactly one thing is wrong at exactly one place.
 pub fn one_item()
     ensures spells { (text : List ℕ) → Splits ItemHere text (whole_item_at text) }
-    ensures only { (outcome : Result WholeItem Slip) (front rest : List ℕ) →
+    ensures only { (outcome : Result WholeItem SyntaxError) (front rest : List ℕ) →
         ItemHere outcome front rest → whole_item_at (front ++ rest) ≡ read_as outcome rest }
 {}
 

@@ -6,7 +6,7 @@ ghost use Rattle.btx_bib.specs.refinement.Grammar.Tokens.{seen};
 ghost use Rattle.btx_bib.specs.language.Grammar.Values as spec;
 
 use crate::grammar::byte_sets::{ByteSet, Enclosure, begins_name, enclosed_len, run_len};
-use crate::grammar::slip::Slip;
+use crate::grammar::slip::SyntaxError;
 use crate::grammar::tokens::{Read, past};
 
 /// The name of a string in a value, and the text from its end on, which is its place.
@@ -37,7 +37,7 @@ fn enclosed(enclosure: Enclosure, rest: &[u8]) -> Read<'_, Part<'_>>
 {
     let (text, after) = rest.split_at(enclosed_len(enclosure, rest));
     let Some((&byte, behind)) = after.split_first() else {
-        return Err((Slip::EndOfFile, after));
+        return Err((SyntaxError::EndOfFile, after));
     };
     match enclosure {
         Enclosure::Group => Ok((Part::Braced(text), behind)),
@@ -45,7 +45,7 @@ fn enclosed(enclosure: Enclosure, rest: &[u8]) -> Read<'_, Part<'_>>
             if byte == b'"' {
                 Ok((Part::Quoted(text), behind))
             } else {
-                Err((Slip::Unbalanced, after))
+                Err((SyntaxError::Unbalanced, after))
             }
         }
     }
@@ -57,7 +57,7 @@ fn part_in(rest: &[u8]) -> Read<'_, Part<'_>>
     ensures { seen part_view result ≡ spec.part_in rest.now }
 {
     let Some((&byte, behind)) = rest.split_first() else {
-        return Err((Slip::EndOfFile, rest));
+        return Err((SyntaxError::EndOfFile, rest));
     };
     if byte == b'{' {
         return enclosed(Enclosure::Group, behind);
@@ -73,7 +73,7 @@ fn part_in(rest: &[u8]) -> Read<'_, Part<'_>>
         let (name, after) = rest.split_at(run_len(ByteSet::NameByte, rest));
         return Ok((Part::Named(StringName { name, rest: after }), after));
     }
-    Err((Slip::NoValue, rest))
+    Err((SyntaxError::NoValue, rest))
 }
 
 /// A part of a value.

@@ -7,14 +7,14 @@ ghost use Rattle.btx_bib.specs.refinement.Grammar.PlainFields.{IsLeft, IsPlainPa
 ghost use Rattle.btx_bib.specs.refinement.Grammar.PassedFields.{IsFieldNext};
 ghost use Rattle.btx_bib.specs.refinement.Grammar.Reads.{IsRead};
 
-use crate::grammar::commands::Wanted;
+use crate::grammar::commands::Expected;
 use crate::grammar::events::{Event, Placed};
 use crate::grammar::item_readers::{
     EntryHead, behind_at, entry_end, entry_head, read_end, read_field_or_end, read_head,
 };
 use crate::grammar::passed_fields::behind_field;
 use crate::grammar::plain_fields::{PlainField, Purpose, plain_field};
-use crate::grammar::slip::Slip;
+use crate::grammar::slip::SyntaxError;
 use std::alloc::{AllocError, Global};
 use std::marker::Model;
 
@@ -32,13 +32,13 @@ pub trait StoredKeys {
 /// A database that is read event by event: what is wanted next, and the text that is left. It takes no memory.
 #[derive(Drop)]
 pub struct Reader<'a> {
-    wanted: Wanted,
+    wanted: Expected,
     rest: &'a [u8],
 }
 
 impl<'a> Model for Reader<'a> {
     ghost use Rattle.std.specs.Prelude.{List, ℕ};
-    ghost use Rattle.btx_bib.specs.declared.grammar.commands.Wanted.{Wanted as WantedNext};
+    ghost use Rattle.btx_bib.specs.declared.grammar.commands.Expected.{Expected as WantedNext};
 
     ghost Value = { WantedNext × List ℕ };
 
@@ -48,10 +48,10 @@ impl<'a> Model for Reader<'a> {
 impl<'a> Reader<'a> {
     /// The reader of a text.
     pub fn of(text: &'a [u8]) -> Self
-        ensures { result ≡ (Wanted.Item, text.now) }
+        ensures { result ≡ (Expected.Item, text.now) }
     {
         Reader {
-            wanted: Wanted::Item,
+            wanted: Expected::Item,
             rest: text,
         }
     }
@@ -83,8 +83,8 @@ impl<'a> Reader<'a> {
         ensures plain { IfSome result (λ field. IsPlainPart (part_in_view field.value)) }
     {
         match self.wanted {
-            Wanted::Fields(_) => plain_field(Purpose::Taking, self.rest),
-            Wanted::Item | Wanted::Closing(_) => None,
+            Expected::Fields(_) => plain_field(Purpose::Taking, self.rest),
+            Expected::Item | Expected::Closing(_) => None,
         }
     }
 
@@ -94,8 +94,8 @@ impl<'a> Reader<'a> {
         ensures { IfSome result (λ rest. IsFieldNext self.now rest.now) }
     {
         match self.wanted {
-            Wanted::Fields(_) => behind_field(self.rest),
-            Wanted::Item | Wanted::Closing(_) => None,
+            Expected::Fields(_) => behind_field(self.rest),
+            Expected::Item | Expected::Closing(_) => None,
         }
     }
 
@@ -106,17 +106,17 @@ impl<'a> Reader<'a> {
         ensures { IfSome result (λ head. spec.expected_step self.now.0 self.now.1 ≡ Some (entry_step head)) }
     {
         match self.wanted {
-            Wanted::Item => entry_head(behind_at(self.rest)?),
-            Wanted::Fields(_) | Wanted::Closing(_) => None,
+            Expected::Item => entry_head(behind_at(self.rest)?),
+            Expected::Fields(_) | Expected::Closing(_) => None,
         }
     }
 
     /// Goes on behind the type and the key of an entry.
     #[inline(always)]
     pub(crate) fn enter(&mut self, head: &EntryHead<'a>)
-        ensures { self.new ≡ (Wanted.Fields head.now.delimiter, head.now.rest.now) }
+        ensures { self.new ≡ (Expected.Fields head.now.delimiter, head.now.rest.now) }
     {
-        self.wanted = Wanted::Fields(head.delimiter);
+        self.wanted = Expected::Fields(head.delimiter);
         self.rest = head.rest;
     }
 
@@ -126,13 +126,13 @@ impl<'a> Reader<'a> {
     pub(crate) fn leave(&mut self) -> bool
         ensures { IsLeft result self.old self.new }
     {
-        let Wanted::Fields(delimiter) = self.wanted else {
+        let Expected::Fields(delimiter) = self.wanted else {
             return false;
         };
         let Some(rest) = entry_end(delimiter, self.rest) else {
             return false;
         };
-        self.wanted = Wanted::Item;
+        self.wanted = Expected::Item;
         self.rest = rest;
         true
     }
@@ -165,28 +165,28 @@ fn known<'a, K: StoredKeys>(
     alloc: Global,
     stored: &K,
     event: Event<'a>,
-    wanted: Wanted,
-) -> Result<(Event<'a>, Wanted), AllocError>
+    wanted: Expected,
+) -> Result<(Event<'a>, Expected), AllocError>
     ensures { IfOk result (λ got. head_view got ≡ spec.as_known (K.is_stored stored.now) (event_view event.entry, wanted)) }
 {
     if is_repeated(alloc, stored, &event)? {
-        return Ok((Event::Wrong(Slip::Repeated), Wanted::Item));
+        return Ok((Event::Wrong(SyntaxError::Repeated), Expected::Item));
     }
     Ok((event, wanted))
 }
 
 // What is read at a place, what is wanted next, and the text from there on.
 #[tactic(auto, unfolding(crate::specs::language::Grammar::Items::expected_step))]
-fn step<'a>(wanted: Wanted, text: &'a [u8]) -> Option<(Event<'a>, Wanted, &'a [u8])>
+fn step<'a>(wanted: Expected, text: &'a [u8]) -> Option<(Event<'a>, Expected, &'a [u8])>
     ensures { option_map step_view result ≡ spec.expected_step wanted text.now }
 {
     let read = match wanted {
-        Wanted::Item => read_head(behind_at(text)?),
-        Wanted::Closing(delimiter) => read_end(delimiter, text),
-        Wanted::Fields(delimiter) => read_field_or_end(delimiter, text),
+        Expected::Item => read_head(behind_at(text)?),
+        Expected::Closing(delimiter) => read_end(delimiter, text),
+        Expected::Fields(delimiter) => read_field_or_end(delimiter, text),
     };
     match read {
         Ok(((event, next), rest)) => Some((event, next, rest)),
-        Err((slip, rest)) => Some((Event::Wrong(slip), Wanted::Item, rest)),
+        Err((slip, rest)) => Some((Event::Wrong(slip), Expected::Item, rest)),
     }
 }

@@ -3,7 +3,7 @@ use crate::grammar::byte_sets::Delimiter;
 
 /// What is wrong at a place of a database.
 #[derive(Clone, Copy, Debug, PartialEq, Eq)]
-pub enum Slip {
+pub enum SyntaxError {
     /// A name was expected.
     NoName,
     /// A `{` or a `(` was expected.

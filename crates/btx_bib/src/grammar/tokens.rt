@@ -6,10 +6,10 @@ ghost use Rattle.btx_bib.specs.refinement.Grammar.Tokens as refined;
 
 use crate::grammar::byte_sets::{ByteSet, Delimiter, begins_name, run_len};
 use crate::grammar::plain::name_len;
-use crate::grammar::slip::Slip;
+use crate::grammar::slip::SyntaxError;
 
 /// What was read and the text after it, or what is wrong and the text from its place on.
-pub type Read<'a, T> = Result<(T, &'a [u8]), (Slip, &'a [u8])>;
+pub type Read<'a, T> = Result<(T, &'a [u8]), (SyntaxError, &'a [u8])>;
 
 /// What follows the longest run of a set.
 #[inline(always)]
@@ -20,11 +20,11 @@ pub fn past(set: ByteSet, text: &[u8]) -> &[u8]
 }
 
 /// What is wrong where something is wanted that doesn't stand here.
-pub fn slip_at(slip: Slip, rest: &[u8]) -> Slip
+pub fn slip_at(slip: SyntaxError, rest: &[u8]) -> SyntaxError
     ensures { result ≡ spec.slip_at slip rest.now }
 {
     if rest.is_empty() {
-        Slip::EndOfFile
+        SyntaxError::EndOfFile
     } else {
         slip
     }
@@ -39,7 +39,7 @@ pub fn name(text: &[u8]) -> Read<'_, &[u8]>
     let rest = past(ByteSet::Gap, text);
     match rest.split_first() {
         Some((&byte, _)) if begins_name(byte) => Ok(rest.split_at(name_len(rest))),
-        _ => Err((slip_at(Slip::NoName, rest), rest)),
+        _ => Err((slip_at(SyntaxError::NoName, rest), rest)),
     }
 }
 
@@ -52,7 +52,7 @@ pub fn open(text: &[u8]) -> Read<'_, Delimiter>
     match rest.split_first() {
         Some((&b'{', after)) => Ok((Delimiter::Braces, after)),
         Some((&b'(', after)) => Ok((Delimiter::Parens, after)),
-        _ => Err((slip_at(Slip::NoDelimiter, rest), rest)),
+        _ => Err((slip_at(SyntaxError::NoDelimiter, rest), rest)),
     }
 }
 
@@ -69,7 +69,7 @@ pub fn closing(delimiter: Delimiter) -> u8
 /// A sign.
 #[tactic(auto, unfolding(crate::specs::language::Grammar::Tokens::sign_in))]
 #[inline(always)]
-pub fn sign(sign: u8, slip: Slip, text: &[u8]) -> Read<'_, ()>
+pub fn sign(sign: u8, slip: SyntaxError, text: &[u8]) -> Read<'_, ()>
     ensures { refined.seen (λ none. none) result ≡ spec.sign_at sign slip text.now }
 {
     let rest = past(ByteSet::Gap, text);
@@ -86,7 +86,7 @@ pub fn key(delimiter: Delimiter, text: &[u8]) -> Read<'_, &[u8]>
 {
     let rest = past(ByteSet::Gap, text);
     if rest.is_empty() {
-        return Err((Slip::EndOfFile, rest));
+        return Err((SyntaxError::EndOfFile, rest));
     }
     Ok(rest.split_at(run_len(ByteSet::KeyByte(delimiter), rest)))
 }

@@ -3,7 +3,7 @@ use super::limits::{MOST, with_letters};
 use btx_bib::grammar::events::Event;
 use btx_bib::grammar::line_counter::LineCounter;
 use btx_bib::grammar::reader::{Reader, StoredKeys};
-use btx_bib::grammar::slip::Slip;
+use btx_bib::grammar::slip::SyntaxError;
 use btx_bib::grammar::value_ends::Ends;
 use btx_bib::grammar::value_texts::{Strings, value_text};
 use btx_bib::grammar::values::Value;
@@ -61,17 +61,17 @@ impl StoredKeys for KeyK {
 }
 
 // What is wrong, as a word.
-fn slip_word(slip: Slip) -> &'static [u8] {
+fn slip_word(slip: SyntaxError) -> &'static [u8] {
     match slip {
-        Slip::NoName => b"no name",
-        Slip::NoDelimiter => b"no delimiter",
-        Slip::NoComma(_) => b"no comma",
-        Slip::NoEquals => b"no equals",
-        Slip::NoClosing(_) => b"no closing",
-        Slip::NoValue => b"no value",
-        Slip::Unbalanced => b"unbalanced",
-        Slip::EndOfFile => b"end",
-        Slip::Repeated => b"repeated",
+        SyntaxError::NoName => b"no name",
+        SyntaxError::NoDelimiter => b"no delimiter",
+        SyntaxError::NoComma(_) => b"no comma",
+        SyntaxError::NoEquals => b"no equals",
+        SyntaxError::NoClosing(_) => b"no closing",
+        SyntaxError::NoValue => b"no value",
+        SyntaxError::Unbalanced => b"unbalanced",
+        SyntaxError::EndOfFile => b"end",
+        SyntaxError::Repeated => b"repeated",
     }
 }
 

@@ -58,17 +58,17 @@ push_truth true s = push (Integer (pos 1)) s
 push_truth false s = push (Integer (pos 0)) s
 
 -- what is pushed in place of a result; nothing by a function that has none
-abbrev pub push_instead : Option Literal → State → Effect
-push_instead None s = Leaves s
-push_instead (Some x) s = push x s
+abbrev pub push_default : Option Literal → State → Effect
+push_default None s = Leaves s
+push_default (Some x) s = push x s
 
 -- 0, in place of a result that is an integer
-abbrev pub zero_instead : Option Literal
-zero_instead = Some (Integer (pos 0))
+abbrev pub zero_default : Option Literal
+zero_default = Some (Integer (pos 0))
 
 -- the empty string, in place of a result that is a string
-abbrev pub empty_instead : Option Literal
-empty_instead = Some (Text [])
+abbrev pub empty_default : Option Literal
+empty_default = Some (Text [])
 
 -- the current entry does it; without one that is an error
 abbrev pub in_entry : (Entry → State → Effect) → State → Effect
@@ -103,68 +103,68 @@ value_as AField Missing = Some None
 value_as operand x = None
 
 -- the error about a literal that isn't what is asked for
-abbrev pub not_what_was_asked : Operand → Literal → List ℕ
-not_what_was_asked AnyLiteral x = []
-not_what_was_asked AnInteger x = shown x ++ codes " is not an integer"
-not_what_was_asked AString x = shown x ++ codes " is not a string"
-not_what_was_asked AFunction x = shown x ++ codes " is not a function"
-not_what_was_asked AField x = shown x ++ codes " is not a string or missing field"
+abbrev pub wrong_operand_text : Operand → Literal → List ℕ
+wrong_operand_text AnyLiteral x = []
+wrong_operand_text AnInteger x = shown x ++ codes " is not an integer"
+wrong_operand_text AString x = shown x ++ codes " is not a string"
+wrong_operand_text AFunction x = shown x ++ codes " is not a function"
+wrong_operand_text AField x = shown x ++ codes " is not a string or missing field"
 
 -- what a function does on its operands, the top one first
 abbrev pub Does : List Operand → Type 0
 Does [] = State → Effect
 Does (operand ∷ more) = Value operand → Does more
 
--- the function on the literals on top; or the error about the first that isn't what is asked for. (Where there are fewer literals than operands, `by_rule` has
+-- the function on the literals on top; or the error about the first that isn't what is asked for. (Where there are fewer literals than operands, `with_operands_checked` has
 -- the error)
 abbrev pub on_literals : (operands : List Operand) → Does operands → List Literal → Result (State → Effect) (List ℕ)
 on_literals [] does xs = Ok does
 on_literals (operand ∷ more) does [] = Err []
 on_literals (operand ∷ more) does (x ∷ xs) =
-    option_map_or (λ value. on_literals more (does value) xs) (value_as operand x) (Err (not_what_was_asked operand x))
+    option_map_or (λ value. on_literals more (does value) xs) (value_as operand x) (Err (wrong_operand_text operand x))
 
 -- a row of the table: what a built-in function takes, the top operand first; what is pushed in place of a result; and what the function does
 pub record Row : Type 0 where
   pub operands : List Operand
-  pub instead : Option Literal
+  pub default : Option Literal
   pub does : Does operands
 
 -- a row, of its three parts
 abbrev pub takes : (operands : List Operand) → Option Literal → Does operands → Row
-takes operands instead does = record { operands = operands; instead = instead; does = does }
+takes operands default does = record { operands = operands; default = default; does = does }
 
 -- the function on its operands, which are off the stack in `s`; or an error, and what is pushed in place of a result
-abbrev pub or_instead : Result (State → Effect) (List ℕ) → Option Literal → State → Effect
-or_instead (Ok does) instead s = does s
-or_instead (Err text) instead s = push_instead instead (error text s)
+abbrev pub or_else_default : Result (State → Effect) (List ℕ) → Option Literal → State → Effect
+or_else_default (Ok does) default s = does s
+or_else_default (Err text) default s = push_default default (error text s)
 
 -- The rule of operands: all are taken off the stack. Where some aren't there, that is an error for each of them; else, where one isn't what is asked for,
 -- the first of these is an error. Then the function isn't done, and what the table says is pushed in place of a result. (The original leaves a marker in place
 -- of an operand that isn't there, which later functions take in silence.)
-abbrev pub by_rule : Row → State → Effect
-by_rule row s =
+abbrev pub with_operands_checked : Row → State → Effect
+with_operands_checked row s =
     let count = length row.operands in
     let taken = record s { literals = drop count s.literals } in
-    if nat_lt (length s.literals) count then push_instead row.instead (errors (replicate (count - length s.literals) empty_stack) taken)
-    else or_instead (on_literals row.operands row.does s.literals) row.instead taken
+    if nat_lt (length s.literals) count then push_default row.default (errors (replicate (count - length s.literals) empty_stack) taken)
+    else or_else_default (on_literals row.operands row.does s.literals) row.default taken
 
 -- ---- variables
 
 -- `:=` of a value to a function: a variable takes a literal of its kind, a string no further than it keeps
 abbrev pub assigns : Job → Function → Literal → State → Effect
 assigns job (Declared kind.GlobalInteger name) (Integer n) s = Leaves (record s { integers = set name n s.integers })
-assigns job (Declared kind.GlobalInteger name) x s = Leaves (error (not_what_was_asked AnInteger x) s)
+assigns job (Declared kind.GlobalInteger name) x s = Leaves (error (wrong_operand_text AnInteger x) s)
 assigns job (Declared kind.GlobalString name) (Text text) s =
     Leaves (cut_to job.global_max text (record s { strings = set name (take job.global_max text) s.strings }))
-assigns job (Declared kind.GlobalString name) x s = Leaves (error (not_what_was_asked AString x) s)
+assigns job (Declared kind.GlobalString name) x s = Leaves (error (wrong_operand_text AString x) s)
 assigns job (Declared kind.EntryInteger name) (Integer n) s = in_entry (λ entry s. Leaves (record s {
   entry_integers = set entry.key (set name n (s.entry_integers entry.key)) s.entry_integers;
 })) s
-assigns job (Declared kind.EntryInteger name) x s = in_entry (λ entry s. Leaves (error (not_what_was_asked AnInteger x) s)) s
+assigns job (Declared kind.EntryInteger name) x s = in_entry (λ entry s. Leaves (error (wrong_operand_text AnInteger x) s)) s
 assigns job (Declared kind.EntryString name) (Text text) s = in_entry (λ entry s. Leaves (cut_to job.entry_max text (record s {
   entry_strings = set entry.key (set name (take job.entry_max text) (s.entry_strings entry.key)) s.entry_strings;
 }))) s
-assigns job (Declared kind.EntryString name) x s = in_entry (λ entry s. Leaves (error (not_what_was_asked AString x) s)) s
+assigns job (Declared kind.EntryString name) x s = in_entry (λ entry s. Leaves (error (wrong_operand_text AString x) s)) s
 assigns job f x s = Leaves (error (codes "You can't assign to " ++ name_of f) s)
 
 -- a field or a variable that is run pushes its value
@@ -181,7 +181,7 @@ value_of kind.GlobalString name s = push (Text (s.strings name)) s
 abbrev pub equals : Literal → Literal → State → Effect
 equals (Integer b) (Integer a) s = push_truth (int_eq a b) s
 equals (Text b) (Text a) s = push_truth (bytes_eq a b) s
-equals x y s = push_instead zero_instead (error (codes "= needs two integers or two strings") s)
+equals x y s = push_default zero_default (error (codes "= needs two integers or two strings") s)
 
 -- an integer above 0
 abbrev pub is_positive : ℤ → Bool
@@ -189,17 +189,17 @@ is_positive n = int_lt (pos 0) n
 
 -- a sum or a difference, which has to be an integer of 32 bits: else 0, with an error (the original wraps)
 abbrev pub push_result : ℤ → State → Effect
-push_result n s = if fits n then push (Integer n) s else push_instead zero_instead (error (codes "Integer overflow") s)
+push_result n s = if fits n then push (Integer n) s else push_default zero_default (error (codes "Integer overflow") s)
 
 -- `chr.to.int$`: the code of a string of one byte, where text is UTF-8 too
 abbrev pub code_of : List ℕ → State → Effect
 code_of (b ∷ []) s = push (Integer (pos b)) s
-code_of text s = push_instead zero_instead (error (codes "\"" ++ text ++ codes "\" isn't a single character") s)
+code_of text s = push_default zero_default (error (codes "\"" ++ text ++ codes "\" isn't a single character") s)
 
 -- `int.to.chr$`: the character of an ASCII code
 abbrev pub character_of : ℤ → State → Effect
-character_of (pos n) s = if nat_lt n 128 then push (Text (n ∷ [])) s else push_instead empty_instead (error (not_ascii (pos n)) s)
-character_of (negsuc n) s = push_instead empty_instead (error (not_ascii (negsuc n)) s)
+character_of (pos n) s = if nat_lt n 128 then push (Text (n ∷ [])) s else push_default empty_default (error (not_ascii (pos n)) s)
+character_of (negsuc n) s = push_default empty_default (error (not_ascii (negsuc n)) s)
 
 -- a missing field, or a string of whitespace alone, as the empty one. Byte 10, which `int.to.chr$` can make, is no whitespace
 abbrev pub is_empty_field : Option (List ℕ) → Bool
@@ -227,42 +227,42 @@ module _ (the : Divisions) (job : Job) where
   -- difference, `b` stands on top, and so does `last` in `*`. In `if$` the function for a positive integer stands below the other one, and in `while$` the
   -- test below the body. `swap$` alone puts back what it finds, and `missing$` without an entry takes its operand whatever it is: see `built_in_effect`.
   abbrev pub row : BuiltIn → Row
-  row built_in.Equals = takes (AnyLiteral ∷ AnyLiteral ∷ []) zero_instead equals
-  row built_in.Greater = takes (AnInteger ∷ AnInteger ∷ []) zero_instead (λ b a. push_truth (int_lt b a))
-  row built_in.Less = takes (AnInteger ∷ AnInteger ∷ []) zero_instead (λ b a. push_truth (int_lt a b))
-  row built_in.Plus = takes (AnInteger ∷ AnInteger ∷ []) zero_instead (λ b a. push_result (a +ℤ b))
-  row built_in.Minus = takes (AnInteger ∷ AnInteger ∷ []) zero_instead (λ b a. push_result (a -ℤ b))
-  row built_in.Concatenate = takes (AString ∷ AString ∷ []) empty_instead (λ last first. push_text (first ++ last))
+  row built_in.Equals = takes (AnyLiteral ∷ AnyLiteral ∷ []) zero_default equals
+  row built_in.Greater = takes (AnInteger ∷ AnInteger ∷ []) zero_default (λ b a. push_truth (int_lt b a))
+  row built_in.Less = takes (AnInteger ∷ AnInteger ∷ []) zero_default (λ b a. push_truth (int_lt a b))
+  row built_in.Plus = takes (AnInteger ∷ AnInteger ∷ []) zero_default (λ b a. push_result (a +ℤ b))
+  row built_in.Minus = takes (AnInteger ∷ AnInteger ∷ []) zero_default (λ b a. push_result (a -ℤ b))
+  row built_in.Concatenate = takes (AString ∷ AString ∷ []) empty_default (λ last first. push_text (first ++ last))
   row built_in.Assign = takes (AFunction ∷ AnyLiteral ∷ []) None (assigns job)
-  row built_in.AddPeriod = takes (AString ∷ []) empty_instead (λ text. push_text (add_period_of text))
+  row built_in.AddPeriod = takes (AString ∷ []) empty_default (λ text. push_text (add_period_of text))
   row built_in.CallType = takes [] None (in_entry calls_type)
-  row built_in.ChangeCase = takes (AString ∷ AString ∷ []) empty_instead changes_case
-  row built_in.ChrToInt = takes (AString ∷ []) zero_instead code_of
+  row built_in.ChangeCase = takes (AString ∷ AString ∷ []) empty_default changes_case
+  row built_in.ChrToInt = takes (AString ∷ []) zero_default code_of
   row built_in.Cite = takes [] None (in_entry (λ entry. push_text entry.key))
   row built_in.Duplicate = takes (AnyLiteral ∷ []) None (λ x s. push x (record s { literals = x ∷ s.literals }))
-  row built_in.Empty = takes (AField ∷ []) zero_instead (λ field. push_truth (is_empty_field field))
-  row built_in.FormatName = takes (AString ∷ AnInteger ∷ AString ∷ []) empty_instead formats_name
+  row built_in.Empty = takes (AField ∷ []) zero_default (λ field. push_truth (is_empty_field field))
+  row built_in.FormatName = takes (AString ∷ AnInteger ∷ AString ∷ []) empty_default formats_name
   row built_in.If = takes (AFunction ∷ AFunction ∷ AnInteger ∷ []) None (λ otherwise positive n. Runs (if is_positive n then positive else otherwise))
-  row built_in.IntToChr = takes (AnInteger ∷ []) empty_instead character_of
-  row built_in.IntToStr = takes (AnInteger ∷ []) empty_instead (λ n. push (Text (signed_decimal n)))
-  row built_in.Missing = takes (AField ∷ []) zero_instead (λ field. push_truth (is_none field))
+  row built_in.IntToChr = takes (AnInteger ∷ []) empty_default character_of
+  row built_in.IntToStr = takes (AnInteger ∷ []) empty_default (λ n. push (Text (signed_decimal n)))
+  row built_in.Missing = takes (AField ∷ []) zero_default (λ field. push_truth (is_none field))
   row built_in.NewLine = takes [] None (λ s. Leaves (record s { lines = s.lines ++ s.pending ∷ []; pending = [] }))
-  row built_in.NumNames = takes (AString ∷ []) zero_instead (λ text. push (Integer (pos (length (the.names text)))))
+  row built_in.NumNames = takes (AString ∷ []) zero_default (λ text. push (Integer (pos (length (the.names text)))))
   row built_in.Pop = takes (AnyLiteral ∷ []) None (λ x. Leaves)
   row built_in.Preamble = takes [] None (push (Text job.library.preamble))
-  row built_in.Purify = takes (AString ∷ []) empty_instead (λ text. push_text (purified the text))
+  row built_in.Purify = takes (AString ∷ []) empty_default (λ text. push_text (purified the text))
   row built_in.Quote = takes [] None (push (Text (codes "\"")))
   row built_in.Skip = takes [] None Leaves
   row built_in.Stack = takes [] None (λ s. Leaves (record (shows s.literals s) { literals = [] }))
-  row built_in.Substring = takes (AnInteger ∷ AnInteger ∷ AString ∷ []) empty_instead (λ size start text. push_text (substring_of text start size))
+  row built_in.Substring = takes (AnInteger ∷ AnInteger ∷ AString ∷ []) empty_default (λ size start text. push_text (substring_of text start size))
   row built_in.Swap = takes (AnyLiteral ∷ AnyLiteral ∷ []) None (λ x y s. Leaves (record s { literals = y ∷ x ∷ s.literals }))
-  row built_in.TextLength = takes (AString ∷ []) zero_instead (λ text. push (Integer (pos (text_length the job.mode text))))
-  row built_in.TextPrefix = takes (AnInteger ∷ AString ∷ []) empty_instead (λ count text. push_text (text_prefix the job.mode text count))
+  row built_in.TextLength = takes (AString ∷ []) zero_default (λ text. push (Integer (pos (text_length the job.mode text))))
+  row built_in.TextPrefix = takes (AnInteger ∷ AString ∷ []) empty_default (λ count text. push_text (text_prefix the job.mode text count))
   row built_in.Top = takes (AnyLiteral ∷ []) None (λ x s. Leaves (shows (x ∷ []) s))
   row built_in.Type = takes [] None (in_entry (λ entry. push_text (option_map_or name_of entry.kind [])))
   row built_in.Warning = takes (AString ∷ []) None (λ text s. Leaves (logs line.Warning text s))
   row built_in.While = takes (AFunction ∷ AFunction ∷ []) None (λ body test. Loops test body)
-  row built_in.Width = takes (AString ∷ []) zero_instead (λ text. push (Integer (pos (width the text))))
+  row built_in.Width = takes (AString ∷ []) zero_default (λ text. push (Integer (pos (width the text))))
   row built_in.Write = takes (AString ∷ []) None (λ text s. Leaves (record s { pending = s.pending ++ text }))
 
   -- `missing$` without an entry: its operand is taken, whatever it is, and nothing is pushed; where there is no operand, that is an error, and then comes the
@@ -276,13 +276,13 @@ module _ (the : Divisions) (job : Job) where
   abbrev pub swaps : State → Effect
   swaps s =
       if nat_lt (length s.literals) 2 then Leaves (errors (replicate (2 - length s.literals) empty_stack) s)
-      else by_rule (row built_in.Swap) s
+      else with_operands_checked (row built_in.Swap) s
 
   -- what a built-in function does
   abbrev pub built_in_effect : BuiltIn → State → Effect
-  built_in_effect built_in.Missing s = option_map_or (λ (entry : Entry). by_rule (row built_in.Missing) s) s.entry (missing_without_entry s)
+  built_in_effect built_in.Missing s = option_map_or (λ (entry : Entry). with_operands_checked (row built_in.Missing) s) s.entry (missing_without_entry s)
   built_in_effect built_in.Swap s = swaps s
-  built_in_effect f s = by_rule (row f) s
+  built_in_effect f s = with_operands_checked (row f) s
 
   -- what a function does
   abbrev pub function_effect : Function → State → Effect
@@ -300,7 +300,7 @@ module _ (the : Divisions) (job : Job) where
 abbrev pub tested : List Literal → State → Bool × State
 tested [] s = (false, error empty_stack s)
 tested (Integer n ∷ xs) s = (is_positive n, record s { literals = xs })
-tested (x ∷ xs) s = (false, error (not_what_was_asked AnInteger x) (record s { literals = xs }))
+tested (x ∷ xs) s = (false, error (wrong_operand_text AnInteger x) (record s { literals = xs }))
 
 -- after the test of a `while$`: whether the body is run, and the state then. A message about the test is one of `while$`
 abbrev pub test_of : State → Bool × State

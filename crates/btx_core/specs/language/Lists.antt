@@ -1,7 +1,7 @@
 -- 10. The list, and cross-references (btxdoc, section 2, at `\nocite{*}`, and section 3.2 at `crossref`).
 use Rattle.btx_aux.specs.language.Names.{is_same_key, listed_as, with_key}
 use Rattle.btx_bib.specs.language.Messages.{Database}
-use Rattle.btx_core.specs.language.Databases.{AreRead, Known, Request, Stored, parents_named, stored_with, with_macros}
+use Rattle.btx_core.specs.language.Databases.{AreRead, DatabaseState, Request, Stored, parents_named, stored_with, with_macros}
 use Rattle.btx_core.specs.language.Styles.{Entry, Function, Library, set}
 use Rattle.btx_text.specs.declared.limits.Limit.{Limit}
 use Rattle.btx_text.specs.declared.log_line.LineKind.TheVariants.{Error, Warning}
@@ -17,9 +17,9 @@ use Rattle.std.specs.Prelude.{nat_lt, not, option_and_then, position, slice_get,
 
 -- each key once: the cited keys, and then the parents that stored entries name; with `*` the keys cited before it, all stored ones, and the other cited ones
 abbrev pub listed_keys : Request → List Stored → List (List ℕ)
-listed_keys wanted stored = fold with_key [] (option_map_or
-    (λ (place : ℕ). take place wanted.cited ++ map (λ (entry : Stored). entry.key) stored ++ drop place wanted.cited)
-    wanted.all (wanted.cited ++ parents_named stored))
+listed_keys request stored = fold with_key [] (option_map_or
+    (λ (place : ℕ). take place request.cited ++ map (λ (entry : Stored). entry.key) stored ++ drop place request.cited)
+    request.all (request.cited ++ parents_named stored))
 
 -- a place of the list: the key as it was cited, else as its entry has it, else as it was named; whether it stays, as a cited key does, and one that at
 -- least `fewest` stored entries name; and its entry, if one is stored
@@ -30,18 +30,18 @@ pub record Slot : Type 0 where
 
 -- the place of a key in the list
 abbrev pub slot_of : Request → List Stored → List ℕ → Slot
-slot_of wanted stored key =
-    let listed = listed_as wanted.cited key in
+slot_of request stored key =
+    let listed = listed_as request.cited key in
     let entry = stored_with stored key in
     record {
       key = unwrap_or (option_or listed (option_map (λ (entry : Stored). entry.key) entry)) key;
-      stays = is_some listed || nat_le wanted.fewest (count_by (is_same_key key) (parents_named stored));
+      stays = is_some listed || nat_le request.fewest (count_by (is_same_key key) (parents_named stored));
       entry = entry;
     }
 
 -- all places of the list, in order
 abbrev pub slots_of : Request → List Stored → List Slot
-slots_of wanted stored = map (slot_of wanted stored) (listed_keys wanted stored)
+slots_of request stored = map (slot_of request stored) (listed_keys request stored)
 
 -- ---- who the parent is, and what it gives
 
@@ -123,12 +123,12 @@ abbrev pub no_entry_line : List ℕ → Line
 no_entry_line key = message Warning (codes "I didn't find a database entry for \"" ++ key ++ codes "\"")
 
 -- what the databases give, from what is known at their end; where a limit was met only the log until then
-abbrev pub IsGathered : Option Limit → Request → Known → Library → Type 0
-IsGathered (Some limit) asked known library = library ≡ record { entries = []; preamble = []; log = known.log; limit = Some limit }
-IsGathered None asked known library =
-    (slots : List Slot) × (slots ≡ slots_of asked known.stored) × (value : ℕ → List ℕ → Option (List ℕ)) × IsInherited slots value
+abbrev pub IsLibraryAtEnd : Option Limit → Request → DatabaseState → Library → Type 0
+IsLibraryAtEnd (Some limit) request known library = library ≡ record { entries = []; preamble = []; log = known.log; limit = Some limit }
+IsLibraryAtEnd None request known library =
+    (slots : List Slot) × (slots ≡ slots_of request known.stored) × (value : ℕ → List ℕ → Option (List ℕ)) × IsInherited slots value
     × (library ≡ record {
-      entries = flat_map (λ i. option_map_or (entry_at slots asked.types value i) (slice_get slots i) []) (places slots);
+      entries = flat_map (λ i. option_map_or (entry_at slots request.types value i) (slice_get slots i) []) (places slots);
       preamble = known.preamble;
       log = known.log ++ flat_map (parent_messages slots) (places slots)
           ++ flat_map (λ (slot : Slot). only_if (is_none slot.entry) (no_entry_line slot.key)) slots;
@@ -137,5 +137,5 @@ IsGathered None asked known library =
 
 -- the library that databases give to a job, whose style has these macros
 abbrev pub IsLibrary : Request → List (List ℕ × List ℕ) → List Database → Library → Type 0
-IsLibrary asked macros databases library =
-    (known : Known) × AreRead asked (with_macros macros) databases known × IsGathered known.limit asked known library
+IsLibrary request macros databases library =
+    (known : DatabaseState) × AreRead request (with_macros macros) databases known × IsLibraryAtEnd known.limit request known library

@@ -2,8 +2,8 @@
 use Rattle.btx_bib.specs.language.Grammar.ByteSets.{begins}
 use Rattle.btx_core.specs.language.Divisions.{Divisions}
 use Rattle.btx_core.specs.language.Strings.{text_length}
-use Rattle.btx_names.specs.declared.name_tokens.Joint.{Joint}
-use Rattle.btx_names.specs.declared.name_tokens.Joint.TheVariants.{Hyphen, Space, Tie}
+use Rattle.btx_names.specs.declared.name_tokens.TokenSeparator.{TokenSeparator}
+use Rattle.btx_names.specs.declared.name_tokens.TokenSeparator.TheVariants.{Hyphen, Space, Tie}
 use Rattle.btx_names.specs.language.Answered.{names_before}
 use Rattle.btx_names.specs.language.Formats.{FormatItem, FormatPiece, Illegal, Literal, Name, Plain}
 use Rattle.btx_names.specs.language.FormattedNames.{begins_initial, ends_in_tie, first_text, period_of, tokens_of_part, without_last_byte}
@@ -11,7 +11,7 @@ use Rattle.btx_names.specs.language.NameParts.{NameParts, One, Sections, Three, 
 use Rattle.btx_names.specs.language.Runs.{is_break}
 use Rattle.btx_names.specs.language.Tokens.{NameToken, joint_of}
 use Rattle.btx_names.specs.language.VonTokens.{first_is_lower}
-use Rattle.btx_names.specs.laws.Gaps.{and_gap, pieces_between}
+use Rattle.btx_names.specs.laws.Gaps.{and_word_range, pieces_between}
 use Rattle.btx_names.specs.laws.NameLists.{separators_of}
 use Rattle.btx_names.specs.laws.WrittenFormats.{IsFormatOf, are_items}
 use Rattle.btx_strings.specs.laws.Controls.{AreGlyphs}
@@ -30,7 +30,7 @@ use Rattle.std.specs.Str.{byte}
 -- ---- what stands up to a byte
 
 -- `front` goes up to the first byte at depth 0 that passes the test, with which `rest` begins, or to the end of the text
-pub record IsFront (test : ℕ → Bool) (front rest : List ℕ) : Type 0 where
+pub record IsUpTo (test : ℕ → Bool) (front rest : List ℕ) : Type 0 where
   pub none : (before behind : List ℕ) (b : ℕ) → front ≡ before ++ b ∷ behind → depth_of before ≡ 0 → test b ≡ false
   pub ends : (rest ≡ []) ⊎ ((depth_of front ≡ 0) × (begins test rest ≡ true))
 
@@ -39,21 +39,21 @@ pub record IsFront (test : ℕ → Bool) (front rest : List ℕ) : Type 0 where
 -- the names are what stands between the separators: an `and` at depth 0, in any case, between two bytes of whitespace. The empty string has none
 abbrev pub AreNames : List ℕ → List (List ℕ) → Type 0
 AreNames [] names = names ≡ []
-AreNames (b ∷ bs) names = names ≡ pieces_between 0 (map and_gap (separators_of (b ∷ bs))) (b ∷ bs)
+AreNames (b ∷ bs) names = names ≡ pieces_between 0 (map and_word_range (separators_of (b ∷ bs))) (b ∷ bs)
 
 -- the tokens are what stands between whitespace, `~`, `-` and commas at depth 0; what joins a token to the next is the byte behind it
 abbrev pub AreTokens : List ℕ → List NameToken → Type 0
 AreTokens text [] = list_all is_break text ≡ true
 AreTokens text (token ∷ tokens) =
     (breaks rest : List ℕ) × (text ≡ breaks ++ (token.text ++ rest)) × (list_all is_break breaks ≡ true) × (0 < length token.text)
-    × IsFront is_break token.text rest × (token.joint ≡ joint_of rest) × AreTokens rest tokens
+    × IsUpTo is_break token.text rest × (token.joint ≡ joint_of rest) × AreTokens rest tokens
 
 -- ---- First, von, Last and Jr
 
 -- the first comma of a name stands between `front` and `rest`, and counts: a token follows it
 pub record CutsAt (name front rest : List ℕ) : Type 0 where
   pub joined : name ≡ front ++ byte "," ∷ rest
-  pub first : IsFront (λ b. b == byte ",") front (byte "," ∷ rest)
+  pub first : IsUpTo (λ b. b == byte ",") front (byte "," ∷ rest)
   pub counts : list_all is_break rest ≡ false
 
 -- a name is cut at its first comma, if that counts
@@ -129,17 +129,17 @@ module _ (the : Divisions) (mode : TextMode) where
 
   -- the byte between two tokens: the `~` or `-` of the name; else a `~` before the last token, and while the piece so far, with what stands before its letter
   -- and with this token and its period, has fewer than three characters; else a space
-  abbrev pub tie : List ℕ → Joint → Bool → ℕ
-  tie so_far Tie is_last = byte "~"
-  tie so_far Hyphen is_last = byte "-"
-  tie so_far Space is_last = if is_last || is_short so_far then byte "~" else byte " "
+  abbrev pub separator_between : List ℕ → TokenSeparator → Bool → ℕ
+  separator_between so_far Tie is_last = byte "~"
+  separator_between so_far Hyphen is_last = byte "-"
+  separator_between so_far Space is_last = if is_last || is_short so_far then byte "~" else byte " "
 
   -- what stands behind a token of a piece, which this number of tokens follows: the piece's own string; else a period behind an abbreviation, and the byte
   -- between. Nothing behind the last
-  abbrev pub behind_token : FormatPiece → List ℕ → Joint → ℕ → List ℕ
+  abbrev pub behind_token : FormatPiece → List ℕ → TokenSeparator → ℕ → List ℕ
   behind_token piece so_far joint zero = []
   behind_token piece so_far joint (suc left) =
-      unwrap_or piece.between (period_of piece.is_full ++ tie (so_far ++ period_of piece.is_full) joint (left == 0) ∷ [])
+      unwrap_or piece.between (period_of piece.is_full ++ separator_between (so_far ++ period_of piece.is_full) joint (left == 0) ∷ [])
 
   -- the text of a piece so far, and then its tokens
   abbrev pub and_tokens : FormatPiece → List ℕ → List NameToken → List ℕ
@@ -149,8 +149,8 @@ module _ (the : Divisions) (mode : TextMode) where
       and_tokens piece (next ++ behind_token piece next token.joint (length tokens)) tokens
 
   -- of a final `~~` one `~` is removed; a single final `~` becomes a space, unless the text before it is short
-  abbrev pub ended : List ℕ → List ℕ
-  ended text =
+  abbrev pub with_final_tie_resolved : List ℕ → List ℕ
+  with_final_tie_resolved text =
       if not (ends_in_tie text) then text
       else if ends_in_tie (without_last_byte text) then without_last_byte text
       else if is_short (without_last_byte text) then text else without_last_byte text ++ byte " " ∷ []
@@ -158,12 +158,12 @@ module _ (the : Divisions) (mode : TextMode) where
   -- a piece with the tokens of its part; nothing where the part has none
   abbrev pub piece : FormatPiece → List NameToken → List ℕ
   piece form [] = []
-  piece form (token ∷ tokens) = ended (and_tokens form form.before (token ∷ tokens) ++ form.after)
+  piece form (token ∷ tokens) = with_final_tie_resolved (and_tokens form form.before (token ∷ tokens) ++ form.after)
 
   -- an item of a format, for the parts of a name
   abbrev pub item : NameParts → FormatItem → List ℕ
   item parts (Literal text) = text
-  item parts (Plain text) = ended text
+  item parts (Plain text) = with_final_tie_resolved text
   item parts (Name form) = piece form (tokens_of_part form.part parts)
   item parts Illegal = []
 

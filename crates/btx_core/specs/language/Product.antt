@@ -1,10 +1,10 @@
 -- 0. The whole: what BibTeX writes for a job. Read this first, and then `Styles` (1) to `Lists` (10) downwards.
 use Rattle.btx_aux.specs.language.Files.{Files}
 use Rattle.btx_aux.specs.language.Names.{with_ending}
-use Rattle.btx_core.specs.language.AuxFiles.{AuxSaid, IsSaid}
+use Rattle.btx_core.specs.language.AuxFiles.{AuxContents, AreAuxContents}
 use Rattle.btx_core.specs.language.Databases.{Request}
 use Rattle.btx_core.specs.language.Divisions.{Divisions}
-use Rattle.btx_core.specs.language.Lines.{IsSure, IsWrapped}
+use Rattle.btx_core.specs.language.Lines.{IsCommitted, IsWrapped}
 use Rattle.btx_core.specs.language.Lists.{IsLibrary}
 use Rattle.btx_core.specs.language.Meanings.{Done, IsMeaning, Limited, Meaning, Outcome, Stopped}
 use Rattle.btx_core.specs.language.Names.{AreDivisions}
@@ -45,12 +45,12 @@ line_at_end wrapped [] = []
 line_at_end wrapped (b ∷ bs) = wrapped (b ∷ bs)
 
 -- what an outcome comes to, with a budget: a run that is stopped took all its steps; one that doesn't finish leaves what is sure of a pending line
-abbrev pub comes_to : (wrapped sure : List ℕ → List ℕ) → ℕ → Outcome → Product
-comes_to wrapped sure budget (Done s left) =
+abbrev pub comes_to : (wrapped committed : List ℕ → List ℕ) → ℕ → Outcome → Product
+comes_to wrapped committed budget (Done s left) =
     ends_with ended.Finished (budget - left) s.deepest (flat_map wrapped s.lines ++ line_at_end wrapped s.pending) s.log
-comes_to wrapped sure budget (Stopped s) = ends_with ended.Stopped budget s.deepest (flat_map wrapped s.lines ++ sure s.pending) s.log
-comes_to wrapped sure budget (Limited limit s left) =
-    ends_with (ended.Limit limit) (budget - left) s.deepest (flat_map wrapped s.lines ++ sure s.pending) s.log
+comes_to wrapped committed budget (Stopped s) = ends_with ended.Stopped budget s.deepest (flat_map wrapped s.lines ++ committed s.pending) s.log
+comes_to wrapped committed budget (Limited limit s left) =
+    ends_with (ended.Limit limit) (budget - left) s.deepest (flat_map wrapped s.lines ++ committed s.pending) s.log
 
 -- ---- the execution of a style
 
@@ -63,16 +63,16 @@ pub record IsExecuted (job : Job) (log : List Line) (options : Options) (product
   pub meant : IsMeaning the job means
   pub wrapped : List ℕ → List ℕ
   pub are_wrapped : IsWrapped options.line wrapped
-  pub sure : List ℕ → List ℕ
-  pub are_sure : IsSure options.line sure
+  pub committed : List ℕ → List ℕ
+  pub are_committed : IsCommitted options.line committed
   pub outcome : Outcome
   pub come : CommandsCome means job.library job.style.commands [] options.budget (first_state job log) outcome
-  pub product_is : product ≡ comes_to wrapped sure options.budget outcome
+  pub product_is : product ≡ comes_to wrapped committed options.budget outcome
 
 -- ---- the files of a job
 
 -- what a job and its style ask of the databases
-abbrev pub asked_by : AuxSaid → Style → Options → Request
+abbrev pub asked_by : AuxContents → Style → Options → Request
 asked_by job style options = record {
   cited = job.keys;
   all = job.all;
@@ -82,7 +82,7 @@ asked_by job style options = record {
 }
 
 -- a style was found: its text is read, the databases that are there are read, and the style is executed. A style that is too long ends the run
-pub record IsStyled (files : Files) (job : AuxSaid) (name text : List ℕ) (log : List Line) (options : Options) (product : Product) : Type 0 where
+pub record IsExecutionOfStyle (files : Files) (job : AuxContents) (name text : List ℕ) (log : List Line) (options : Options) (product : Product) : Type 0 where
   pub style : Style
   pub styled : IsStyle name text style
   pub library : Library
@@ -93,32 +93,32 @@ pub record IsStyled (files : Files) (job : AuxSaid) (name text : List ℕ) (log 
       (log ++ databases_logged files [] job.databases) options product
 
 -- what follows, by whether the style is too long
-abbrev pub IsFound : Bool → Files → AuxSaid → List ℕ → List ℕ → List Line → Options → Product → Type 0
-IsFound true files job name text log options product = product ≡ ends_with (ended.Limit limit.File) 0 0 [] log
-IsFound false files job name text log options product = IsStyled files job name text log options product
+abbrev pub FollowsStyleSize : Bool → Files → AuxContents → List ℕ → List ℕ → List Line → Options → Product → Type 0
+FollowsStyleSize true files job name text log options product = product ≡ ends_with (ended.Limit limit.File) 0 0 [] log
+FollowsStyleSize false files job name text log options product = IsExecutionOfStyle files job name text log options product
 
 -- what follows the name of a style, by whether its file is there
-abbrev pub IsNamed : Option (List ℕ) → Files → AuxSaid → List ℕ → Options → Product → Type 0
-IsNamed None files job name options product = product ≡ ends_with ended.Finished 0 0 [] (job.log ++ no_style_line name ∷ [])
-IsNamed (Some text) files job name options product = IsFound (is_too_long text) files job name text (job.log ++ style_line name ∷ []) options product
+abbrev pub FollowsStyleFile : Option (List ℕ) → Files → AuxContents → List ℕ → Options → Product → Type 0
+FollowsStyleFile None files job name options product = product ≡ ends_with ended.Finished 0 0 [] (job.log ++ no_style_line name ∷ [])
+FollowsStyleFile (Some text) files job name options product = FollowsStyleSize (is_too_long text) files job name text (job.log ++ style_line name ∷ []) options product
 
 -- what follows the `.aux` files, where they were read to their ends, by whether they name a style
-abbrev pub IsAsked : Option (List ℕ) → Files → AuxSaid → Options → Product → Type 0
-IsAsked None files job options product = product ≡ ends_with ended.Finished 0 0 [] job.log
-IsAsked (Some name) files job options product = IsNamed (files name) files job name options product
+abbrev pub FollowsStyleName : Option (List ℕ) → Files → AuxContents → Options → Product → Type 0
+FollowsStyleName None files job options product = product ≡ ends_with ended.Finished 0 0 [] job.log
+FollowsStyleName (Some name) files job options product = FollowsStyleFile (files name) files job name options product
 
 -- what follows them, by how their reading ended
-abbrev pub IsBehind : AuxEnd → Files → AuxSaid → Options → Product → Type 0
-IsBehind aux.Whole files job options product = IsAsked job.style files job options product
-IsBehind aux.TooManyOpen files job options product = product ≡ ends_with (ended.Limit limit.Files) 0 0 [] job.log
-IsBehind aux.TopMissing files job options product = product ≡ ends_with ended.NoTopFile 0 0 [] job.log
-IsBehind aux.FileLimit files job options product = product ≡ ends_with (ended.Limit limit.File) 0 0 [] job.log
+abbrev pub FollowsAuxFiles : AuxEnd → Files → AuxContents → Options → Product → Type 0
+FollowsAuxFiles aux.Whole files job options product = FollowsStyleName job.style files job options product
+FollowsAuxFiles aux.TooManyOpen files job options product = product ≡ ends_with (ended.Limit limit.Files) 0 0 [] job.log
+FollowsAuxFiles aux.TopMissing files job options product = product ≡ ends_with ended.NoTopFile 0 0 [] job.log
+FollowsAuxFiles aux.FileLimit files job options product = product ≡ ends_with (ended.Limit limit.File) 0 0 [] job.log
 
 -- THE PRODUCT OF A JOB: what its `.aux` files say, and what follows from that
 pub record IsProduct (files : Files) (name : List ℕ) (options : Options) (product : Product) : Type 0 where
-  pub job : AuxSaid
-  pub said : IsSaid files (with_ending (codes ".aux") name) job
-  pub behind : IsBehind job.ending files job options product
+  pub job : AuxContents
+  pub said : AreAuxContents files (with_ending (codes ".aux") name) job
+  pub behind : FollowsAuxFiles job.ending files job options product
 
 -- THE ONE PRODUCT OF A JOB: it stands in the relation, and nothing else does
 pub record IsTheOne (files : Files) (name : List ℕ) (options : Options) (product : Product) : Type 0 where

@@ -43,9 +43,9 @@ visits means command f entry left s =
     then_do (means.word (Run f) 0 0 left (record s { entry = entry })) (λ left t. Done (cleared command t) left)
 
 -- executes the function of a command for one entry after another
-abbrev pub visits_all : Meaning → List ℕ → Function → List Entry → ℕ → State → Outcome
-visits_all means command f [] left s = Done s left
-visits_all means command f (entry ∷ entries) left s = then_do (visits means command f (Some entry) left s) (visits_all means command f entries)
+abbrev pub execute_for_each : Meaning → List ℕ → Function → List Entry → ℕ → State → Outcome
+execute_for_each means command f [] left s = Done s left
+execute_for_each means command f (entry ∷ entries) left s = then_do (visits means command f (Some entry) left s) (execute_for_each means command f entries)
 
 -- what a command does, where the list of entries is `list`: ITERATE goes along it from first to last, REVERSE from last to first. READ logs what the databases
 -- gave, and a limit that their reading met ends the run there. READ and SORT take no step
@@ -55,15 +55,15 @@ command_does means library list Read left s =
     let read = record s { log = s.log ++ library.log } in
     option_map_or (λ (limit : Limit). Limited limit read left) library.limit (Done read left)
 command_does means library list (Execute f) left s = visits means (codes "EXECUTE") f None left s
-command_does means library list (Iterate f) left s = visits_all means (codes "ITERATE") f list left s
-command_does means library list (Reverse f) left s = visits_all means (codes "REVERSE") f (reverse list) left s
+command_does means library list (Iterate f) left s = execute_for_each means (codes "ITERATE") f list left s
+command_does means library list (Reverse f) left s = execute_for_each means (codes "REVERSE") f (reverse list) left s
 command_does means library list Sort left s = Done s left
 
 -- the list behind a command: READ makes all entries known, in the order of the library, and SORT puts them into the order of their keys
-abbrev pub IsListBehind : Library → Command → List Entry → State → List Entry → Type 0
-IsListBehind library Read list s next = next ≡ library.entries
-IsListBehind library Sort list s next = IsInOrder (sort_key s) list next
-IsListBehind library _ list s next = next ≡ list
+abbrev pub IsListAfter : Library → Command → List Entry → State → List Entry → Type 0
+IsListAfter library Read list s next = next ≡ library.entries
+IsListAfter library Sort list s next = IsInOrder (sort_key s) list next
+IsListAfter library _ list s next = next ≡ list
 
 -- behind the first outcome the next follows as `Next` says, if the first is done; else it is the last
 abbrev pub GoesOn : Outcome → (ℕ → State → Outcome → Type 0) → Outcome → Type 0
@@ -75,5 +75,5 @@ GoesOn (Limited limit s left) Next outcome = outcome ≡ Limited limit s left
 abbrev pub CommandsCome : Meaning → Library → List Command → List Entry → ℕ → State → Outcome → Type 0
 CommandsCome means library [] list left s outcome = outcome ≡ Done s left
 CommandsCome means library (command ∷ commands) list left s outcome =
-    (next : List Entry) × IsListBehind library command list s next
+    (next : List Entry) × IsListAfter library command list s next
     × GoesOn (command_does means library list command left s) (CommandsCome means library commands next) outcome

@@ -10,7 +10,7 @@ use Rattle.btx_bib.specs.language.Library.{Library}
 use Rattle.btx_bib.specs.language.MessageTexts.{message_line}
 use Rattle.btx_bib.specs.language.Messages.{Database, Reading, read_next}
 use Rattle.btx_bib.specs.language.Requests.{asked}
-use Rattle.btx_bib.specs.language.Wanted.{Request}
+use Rattle.btx_bib.specs.language.Request.{Request}
 use Rattle.btx_bib.specs.laws.Databases.{with_macros}
 use Rattle.btx_bib.specs.laws.Grammar.Reading.{IsReading}
 use Rattle.btx_bst.specs.declared.callee.Callee.{Callee}
@@ -57,7 +57,7 @@ use Rattle.btx_bst.specs.language.Items as item
 use Rattle.btx_machine.specs.declared.command.Command.TheVariants as command
 use Rattle.btx_text.specs.declared.limits.Limit.{Limit as Kind}
 use Rattle.btx_bib.specs.declared.end.End.TheVariants as end
-use Rattle.btx_bib.specs.declared.grammar.commands.Wanted.TheVariants as wants
+use Rattle.btx_bib.specs.declared.grammar.commands.Expected.TheVariants as wants
 use Rattle.std.specs.Prelude.{◌↔◌}
 
 -- ---- commands
@@ -79,10 +79,10 @@ item_by means job list (item.Reverse f) left s = in_order (λ entry. visit_by me
 item_by means job list _ left s = Done s left
 
 -- the list behind an item: SORT puts it into the order of the keys
-abbrev pub IsListBehind : Job → Item → List ℕ → Store → List ℕ → Type 0
-IsListBehind job item.Read list store next = next ≡ range_with_len 0 (length job.library.entries)
-IsListBehind job item.Sort list store next = IsInOrder (λ (entry : ℕ). string_of store.entries entry 0) list next
-IsListBehind job _ list store next = next ≡ list
+abbrev pub IsListAfter : Job → Item → List ℕ → Store → List ℕ → Type 0
+IsListAfter job item.Read list store next = next ≡ range_with_len 0 (length job.library.entries)
+IsListAfter job item.Sort list store next = IsInOrder (λ (entry : ℕ). string_of store.entries entry 0) list next
+IsListAfter job _ list store next = next ≡ list
 
 -- behind the first outcome the next follows as `Next` says, if the first is done; else it is the last
 abbrev pub GoesOn : Outcome → (ℕ → State → Outcome → Type 0) → Outcome → Type 0
@@ -94,7 +94,7 @@ GoesOn (Limit kind s left) Next outcome = outcome ≡ Limit kind s left
 abbrev pub ItemsCome : (Token → Action) → Job → List Item → List ℕ → ℕ → State → Outcome → Type 0
 ItemsCome means job [] list left s outcome = outcome ≡ Done s left
 ItemsCome means job (x ∷ xs) list left s outcome =
-    (next : List ℕ) × IsListBehind job x list s.store next × GoesOn (item_by means job list x left s) (ItemsCome means job xs next) outcome
+    (next : List ℕ) × IsListAfter job x list s.store next × GoesOn (item_by means job list x left s) (ItemsCome means job xs next) outcome
 
 -- ---- a style
 

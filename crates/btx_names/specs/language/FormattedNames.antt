@@ -5,8 +5,8 @@ use Rattle.btx_text.specs.declared.element_kind.TextMode.{TextMode}
 use Rattle.btx_text.specs.language.Class.{is_alpha}
 use Rattle.btx_text.specs.language.Elements.{Element, elements_of}
 use Rattle.btx_strings.specs.language.Lengths.{text_length_of}
-use Rattle.btx_names.specs.declared.name_tokens.Joint.{Joint}
-use Rattle.btx_names.specs.declared.name_tokens.Joint.TheVariants.{Space, Tie, Hyphen}
+use Rattle.btx_names.specs.declared.name_tokens.TokenSeparator.{TokenSeparator}
+use Rattle.btx_names.specs.declared.name_tokens.TokenSeparator.TheVariants.{Space, Tie, Hyphen}
 use Rattle.btx_names.specs.declared.format_items.PartName.{PartName}
 use Rattle.btx_names.specs.declared.format_items.PartName.TheVariants.{First, Von, Last, Jr}
 use Rattle.btx_names.specs.language.Tokens.{NameToken}
@@ -38,7 +38,7 @@ is_short mode text = nat_lt (text_length_of mode text) 3
 
 -- the byte between two tokens: the `~` or `-` of the name; else a `~` before the last token of the part, and while the piece's text is shorter
 -- than three characters; else a space
-abbrev pub tie_of : TextMode → List ℕ → Joint → Bool → ℕ
+abbrev pub tie_of : TextMode → List ℕ → TokenSeparator → Bool → ℕ
 tie_of mode so_far Tie is_last = byte "~"
 tie_of mode so_far Hyphen is_last = byte "-"
 tie_of mode so_far Space is_last = if is_last || is_short mode so_far then byte "~" else byte " "
@@ -49,7 +49,7 @@ period_of is_full = if is_full then [] else byte "." ∷ []
 
 -- the text after a token, if `left` tokens of the part follow it. After the last token that is nothing. Else it is the piece's own text between tokens,
 -- if it has one. Without one it is a period, if the token is abbreviated, and then a `~`, a `-` or a space
-unfoldable pub between_text : TextMode → FormatPiece → List ℕ → Joint → ℕ → List ℕ
+unfoldable pub between_text : TextMode → FormatPiece → List ℕ → TokenSeparator → ℕ → List ℕ
 between_text mode piece so_far joint left =
     if left == 0 then []
     else unwrap_or piece.between

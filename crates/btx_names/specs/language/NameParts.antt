@@ -6,8 +6,8 @@ use Rattle.std.specs.Option.{option_map_or, is_some}
 use Rattle.std.specs.Str.{byte}
 use Rattle.btx_text.specs.language.Class.{is_white, is_sep}
 use Rattle.btx_text.specs.language.Elements.{depth_of}
-use Rattle.btx_names.specs.declared.name_tokens.Joint.{Joint}
-use Rattle.btx_names.specs.declared.name_tokens.Joint.TheVariants.{Hyphen}
+use Rattle.btx_names.specs.declared.name_tokens.TokenSeparator.{TokenSeparator}
+use Rattle.btx_names.specs.declared.name_tokens.TokenSeparator.TheVariants.{Hyphen}
 use Rattle.btx_names.specs.declared.runs.Stop.TheVariants.{Comma}
 use Rattle.btx_names.specs.language.Runs.{is_break, run_len}
 use Rattle.btx_names.specs.language.Tokens.{NameToken, tokens_of}
@@ -75,7 +75,7 @@ before_first passes [] = 0
 before_first passes (token ∷ tokens) = if passes token then 0 else suc (before_first passes tokens)
 
 -- the token is joined to the next one by a `-`
-abbrev pub is_hyphen : Joint → Bool
+abbrev pub is_hyphen : TokenSeparator → Bool
 is_hyphen Hyphen = true
 is_hyphen _ = false
 

@@ -11,8 +11,8 @@ pieces_between from [] string = drop from string ∷ []
 pieces_between from (gap ∷ gaps) string = slice_range string from gap.0 ∷ pieces_between gap.1 gaps string
 
 -- the letters of a separator of names, which stand behind the whitespace byte at a place
-abbrev pub and_gap : ℕ → NameGap
-and_gap place = (place + 1, place + 4)
+abbrev pub and_word_range : ℕ → NameGap
+and_word_range place = (place + 1, place + 4)
 
 -- the gap of one byte, at a place
 abbrev pub byte_gap : ℕ → NameGap

@@ -126,9 +126,9 @@ abbrev pub wrap : ℕ → List ℕ → List ℕ
 wrap line_length text = flat_map written_line (cut_of line_length text).heads ++ written_last (cut_of line_length text).last
 
 -- what is written of a logical line before it has ended: only what no further byte can change
-abbrev pub sure : ℕ → List ℕ → List ℕ
-sure line_length text = flat_map written_line (cut_of line_length text).heads ++ sure_last (cut_of line_length text).last
+abbrev pub committed : ℕ → List ℕ → List ℕ
+committed line_length text = flat_map written_line (cut_of line_length text).heads ++ sure_last (cut_of line_length text).last
 
 -- what has been written of logical lines that have ended, one after another, and of one that is pending
 abbrev pub written_of : ℕ → List (List ℕ) → List ℕ → List ℕ
-written_of line_length ended_lines pending = flat_map (wrap line_length) ended_lines ++ sure line_length pending
+written_of line_length ended_lines pending = flat_map (wrap line_length) ended_lines ++ committed line_length pending

@@ -2,7 +2,7 @@
 use Rattle.std.specs.Prelude.{◌≡◌, ℕ, Bool, true, false, List, [], ◌++◌, Option, None, Some}
 use Rattle.std.specs.Io.KnownBytes.{Appends}
 use Rattle.btx_out.specs.language.Pieces.{AppendsPrefix}
-use Rattle.btx_out.specs.language.Breaking.{sure, wrap}
+use Rattle.btx_out.specs.language.Breaking.{committed, wrap}
 use Rattle.btx_out.specs.laws.Breaking.{Left, Collecting, left}
 use Rattle.btx_out.specs.language.Breakers.{written_at_end}
 
@@ -36,23 +36,23 @@ pub record AppendsPartOfRest (old new : Option (List ℕ)) (done whole : List �
 abbrev pub Puts : Held → Held → List ℕ → Option (List ℕ) → Option (List ℕ) → Type 0
 Puts old new bytes before after = (text : List ℕ) → old.pending ≡ Some (left old.line_length text) →
     (new ≡ holding old.line_length (left old.line_length (text ++ bytes)))
-    × AppendsRest before after (sure old.line_length text) (sure old.line_length (text ++ bytes))
+    × AppendsRest before after (committed old.line_length text) (committed old.line_length (text ++ bytes))
 
 -- At a failure a prefix of those bytes was written.
 abbrev pub PutsPart : Held → List ℕ → Option (List ℕ) → Option (List ℕ) → Type 0
 PutsPart old bytes before after = (text : List ℕ) → old.pending ≡ Some (left old.line_length text) →
-    AppendsPartOfRest before after (sure old.line_length text) (sure old.line_length (text ++ bytes))
+    AppendsPartOfRest before after (committed old.line_length text) (committed old.line_length (text ++ bytes))
 
 -- What comes of a pending line that ends in these lines: for every text of which the breaker holds what is left, the lines of that text
 -- were written, what of them was sure before and the rest now.
 abbrev pub EndsAs : (ℕ → List ℕ → List ℕ) → Held → Option (List ℕ) → Option (List ℕ) → Type 0
 EndsAs lines_of old before after = (text : List ℕ) → old.pending ≡ Some (left old.line_length text) →
-    AppendsRest before after (sure old.line_length text) (lines_of old.line_length text)
+    AppendsRest before after (committed old.line_length text) (lines_of old.line_length text)
 
 -- At a failure a prefix of that was written.
 abbrev pub EndsPartAs : (ℕ → List ℕ → List ℕ) → Held → Option (List ℕ) → Option (List ℕ) → Type 0
 EndsPartAs lines_of old before after = (text : List ℕ) → old.pending ≡ Some (left old.line_length text) →
-    AppendsPartOfRest before after (sure old.line_length text) (lines_of old.line_length text)
+    AppendsPartOfRest before after (committed old.line_length text) (lines_of old.line_length text)
 
 -- a line that ends
 abbrev pub Ends : Held → Option (List ℕ) → Option (List ℕ) → Type 0

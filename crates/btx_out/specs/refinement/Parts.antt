@@ -23,5 +23,5 @@ held_of line_length None kept = failed line_length
 pub record Advances (line_length : ℕ) (state : Left) (bytes : List ℕ) (state' : Left) (bytes' : List ℕ) (before after : Option (List ℕ)) : Type 0 where
   pub written : List ℕ
   pub lefts : left_after line_length state bytes ≡ left_after line_length state' bytes'
-  pub sures : sure_after line_length state bytes ≡ written ++ sure_after line_length state' bytes'
+  pub committed_lines : sure_after line_length state bytes ≡ written ++ sure_after line_length state' bytes'
   pub received : Appends before after written

@@ -5,8 +5,8 @@ use Rattle.btx_bst.specs.declared.built_in.BuiltIn.{BuiltIn}
 use Rattle.btx_bst.specs.declared.built_in.BuiltIn.TheVariants as built_in
 use Rattle.btx_stack.specs.declared.literal.Literal.{Literal}
 use Rattle.btx_stack.specs.declared.literal.Literal.TheVariants as literal
-use Rattle.btx_step.specs.declared.literal.Wanted.{Wanted}
-use Rattle.btx_step.specs.declared.literal.Wanted.TheVariants as wanted
+use Rattle.btx_step.specs.declared.literal.OperandKind.{OperandKind}
+use Rattle.btx_step.specs.declared.literal.OperandKind.TheVariants as wanted
 use Rattle.btx_step.specs.declared.said.Note.{Note}
 use Rattle.btx_step.specs.declared.said.Note.TheVariants as note
 use Rattle.btx_step.specs.language.Jobs.{Job}
@@ -66,7 +66,7 @@ pub record AreMissing (operands : List Operand) (xs : List Literal) (notes : Lis
 -- all operands are on the stack, and the one at `place` is of a wrong kind while those above it fit; the one note is about it
 pub record IsWrong (operands : List Operand) (xs : List Literal) (notes : List Note) : Type 0 where
   pub place : ℕ
-  pub kind : Wanted
+  pub kind : OperandKind
   pub x : Literal
   pub there : length operands ≤ length xs
   pub asked : slice_get operands place ≡ Some (Of kind)

@@ -6,8 +6,8 @@ use Rattle.btx_step.specs.language.Stores.{Store}
 use Rattle.btx_step.specs.language.Table.{row}
 use Rattle.btx_stack.specs.declared.literal.Literal.TheVariants as literal
 use Rattle.btx_stack.specs.refinement.Stacks.{below_top, has_function, has_text, integer_on}
-use Rattle.btx_step.specs.declared.literal.Wanted.{Wanted}
-use Rattle.btx_step.specs.declared.literal.Wanted.TheVariants as wanted
+use Rattle.btx_step.specs.declared.literal.OperandKind.{OperandKind}
+use Rattle.btx_step.specs.declared.literal.OperandKind.TheVariants as wanted
 use Rattle.btx_step.specs.declared.operands.Operand.TheVariants.{Any, Of}
 use Rattle.btx_step.specs.declared.said.Note.{Note}
 use Rattle.btx_step.specs.declared.said.Note.TheVariants as note
@@ -30,7 +30,7 @@ has_text_or_missing (literal.Missing ∷ xs) = true
 has_text_or_missing xs = false
 
 -- the top literal is there and of a kind
-abbrev pub stands : Wanted → List Literal → Bool
+abbrev pub stands : OperandKind → List Literal → Bool
 stands wanted.Integer xs = is_some (integer_on xs)
 stands wanted.Text xs = has_text xs
 stands wanted.Function xs = has_function xs
@@ -51,6 +51,6 @@ abbrev pub Fit : BuiltIn → Store → Type 0
 Fit f s = Fitting (row f).operands s.literals
 
 -- the operand at a place is of the first wrong kind: what is logged of it
-abbrev pub WrongAt : ℕ → Wanted → List Operand → List Literal → Type 0
+abbrev pub WrongAt : ℕ → OperandKind → List Operand → List Literal → Type 0
 WrongAt place kind operands xs = (place < length operands)
     × ((x : Literal) (ys : List Literal) → drop place xs ≡ x ∷ ys → wrong operands xs ≡ note.WrongKind x kind ∷ [])

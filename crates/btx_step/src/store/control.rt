@@ -8,7 +8,7 @@ ghost use Rattle.btx_step.specs.refinement.Control as kept_spec;
 ghost use Rattle.btx_step.specs.refinement.Operands.{Fit};
 
 use super::Store;
-use crate::literal::{Literal, Wanted};
+use crate::literal::{Literal, OperandKind};
 use crate::next::Next;
 use crate::outcome::{Outcome, Stepped};
 use crate::said::{Note, Notes, Said};
@@ -43,7 +43,7 @@ impl<'a> Store<'a> {
     {
         let note = match self.literals.pop(self.alloc)? {
             Some(Literal::Integer(n)) => return Ok((is_positive(n), Said::Nothing)),
-            Some(other) => Note::WrongKind(other, Wanted::Integer),
+            Some(other) => Note::WrongKind(other, OperandKind::Integer),
             None => Note::EmptyStack,
         };
         Ok((false, Said::Noted(Notes::one(self.alloc, note)?)))

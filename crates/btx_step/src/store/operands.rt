@@ -10,7 +10,7 @@ ghost use Rattle.btx_step.specs.refinement.Answers.{gives};
 ghost use Rattle.btx_step.specs.refinement.Operands.{Fit, WrongAt, has_text_or_missing, stands};
 
 use super::Store;
-use crate::literal::{Literal, Wanted};
+use crate::literal::{Literal, OperandKind};
 use crate::next::Next;
 use crate::operands::{Default, Operand, default_of, operands_of};
 use crate::outcome::Outcome;
@@ -48,7 +48,7 @@ impl<'a> Store<'a> {
 
     // Finds the first operand of a wrong kind, from the top: its place, and what was wanted there. All operands are on the stack.
     #[tactic(auto, using(crate::proofs::OperandLemmas::wrong_steps))]
-    fn first_wrong(&self, operands: &[Operand]) -> Option<(usize, Wanted)>
+    fn first_wrong(&self, operands: &[Operand]) -> Option<(usize, OperandKind)>
         requires { length operands.now ≤ length self.now.literals }
         ensures none { IfNone result (wrong operands.now self.now.literals ≡ []) }
         ensures some { IfSome result (λ r. WrongAt r.0 r.1 operands.now self.now.literals) }
@@ -64,14 +64,14 @@ impl<'a> Store<'a> {
 
     // Whether a literal of the kind `wanted` stands `place` below the top one.
     #[tactic(auto, using(crate::proofs::OperandLemmas::text_or_missing))]
-    fn is(&self, place: usize, wanted: Wanted) -> bool
+    fn is(&self, place: usize, wanted: OperandKind) -> bool
         ensures { result ≡ stands wanted (drop place self.now.literals) }
     {
         match wanted {
-            Wanted::Integer => self.literals.integer_at(place).is_some(),
-            Wanted::Text => self.literals.text_at(place).is_some(),
-            Wanted::Function => self.literals.function_at(place).is_some(),
-            Wanted::TextOrMissing => {
+            OperandKind::Integer => self.literals.integer_at(place).is_some(),
+            OperandKind::Text => self.literals.text_at(place).is_some(),
+            OperandKind::Function => self.literals.function_at(place).is_some(),
+            OperandKind::TextOrMissing => {
                 self.literals.missing_at(place) || self.literals.text_at(place).is_some()
             }
         }

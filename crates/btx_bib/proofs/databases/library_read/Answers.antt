@@ -2,7 +2,7 @@ use Rattle.std.proofs.Common.{◌∙◌, ap}
 use Rattle.std.proofs.lemmas.Result.{IfOk-weaker}
 use Rattle.std.specs.Prelude.{List, ℕ}
 use Rattle.btx_bib.specs.language.Databases.{library_of}
-use Rattle.btx_bib.specs.language.Wanted.{Request}
+use Rattle.btx_bib.specs.language.Request.{Request}
 use Rattle.btx_bib.specs.refinement.Requests.{wanted}
 use Rattle.btx_bib.specs.refinement.Pairs.{databases_of_pairs}
 use Rattle.btx_bib.proofs.databases.library_read.Goals as goal

@@ -3,7 +3,7 @@ use Rattle.std.specs.Prelude.{ℕ, ◌==◌, List, drop, Option, None, Some, Ok,
 use Rattle.std.specs.Str.{byte}
 use Rattle.btx_bib.specs.declared.grammar.byte_sets.Delimiter.{Delimiter}
 use Rattle.btx_bib.specs.declared.grammar.byte_sets.ByteSet.TheVariants.{Gap}
-use Rattle.btx_bib.specs.declared.grammar.slip.Slip.TheVariants.{NoComma, NoEquals}
+use Rattle.btx_bib.specs.declared.grammar.slip.SyntaxError.TheVariants.{NoComma, NoEquals}
 use Rattle.btx_bib.specs.language.Grammar.ByteSets.{begins, past}
 use Rattle.btx_bib.specs.language.Grammar.Tokens.{Parsed, followed_by, wrong_at, name_at, sign_at, closing_delimiter}
 use Rattle.btx_bib.specs.language.Grammar.Values.{Part, value_at}

@@ -6,10 +6,10 @@ use Rattle.btx_text.specs.language.Keys.{folded}
 use Rattle.btx_bib.specs.declared.grammar.byte_sets.Delimiter.{Delimiter}
 use Rattle.btx_bib.specs.declared.grammar.commands.Command.{Command}
 use Rattle.btx_bib.specs.declared.grammar.commands.Command.TheVariants as command
-use Rattle.btx_bib.specs.declared.grammar.commands.Wanted.{Wanted}
-use Rattle.btx_bib.specs.declared.grammar.commands.Wanted.TheVariants.{Item, Closing, Fields}
-use Rattle.btx_bib.specs.declared.grammar.slip.Slip.{Slip}
-use Rattle.btx_bib.specs.declared.grammar.slip.Slip.TheVariants.{NoEquals, NoClosing, Repeated}
+use Rattle.btx_bib.specs.declared.grammar.commands.Expected.{Expected}
+use Rattle.btx_bib.specs.declared.grammar.commands.Expected.TheVariants.{Item, Closing, Fields}
+use Rattle.btx_bib.specs.declared.grammar.slip.SyntaxError.{SyntaxError}
+use Rattle.btx_bib.specs.declared.grammar.slip.SyntaxError.TheVariants.{NoEquals, NoClosing, Repeated}
 use Rattle.btx_bib.specs.language.Grammar.Tokens.{Parsed, followed_by, name_at, open_at, sign_at, key_at, closing_delimiter}
 use Rattle.btx_bib.specs.language.Grammar.Values.{Part, value_at}
 use Rattle.btx_bib.specs.language.Grammar.Fields.{Field, more_in}
@@ -25,7 +25,7 @@ pub data Event : Type 0 where
   Entry : (kind key : List ℕ) → Event
   FieldOf : (field : Field) → Event
   End : Event
-  Wrong : (slip : Slip) → Event
+  Wrong : (slip : SyntaxError) → Event
 
 -- the command of a name, whose case is ignored: any other name is an entry's type
 unfoldable pub command_of : List ℕ → Command
@@ -35,7 +35,7 @@ command_of name =
     else if bytes_eq (folded name) (codes "string") then command.Definition else command.Entry
 
 -- reads the first part of an item, given its command: the event, and what is expected next
-unfoldable pub head_of : Command → List ℕ → List ℕ → Parsed (Event × Wanted)
+unfoldable pub head_of : Command → List ℕ → List ℕ → Parsed (Event × Expected)
 head_of command.Comment name text = Ok ((Comment, Item), text)
 head_of command.Preamble name text =
     followed_by (open_at text) (λ delimiter behind_open.
@@ -50,11 +50,11 @@ head_of command.Entry name text =
     followed_by (key_at delimiter behind_open) (λ key rest. Ok ((Entry name key, Fields delimiter), rest)))
 
 -- what follows an `@`, read up to the first event of the item: the event, and what is wanted next; or what is wrong
-unfoldable pub head_at : List ℕ → Parsed (Event × Wanted)
+unfoldable pub head_at : List ℕ → Parsed (Event × Expected)
 head_at text = followed_by (name_at text) (λ name rest. head_of (command_of name) name rest)
 
 -- a field as an event, after which the entry goes on; or the end of the entry, after which an item is expected
-abbrev pub field_event : Delimiter → Parsed (Option Field) → Parsed (Event × Wanted)
+abbrev pub field_event : Delimiter → Parsed (Option Field) → Parsed (Event × Expected)
 field_event delimiter (Ok (None, rest)) = Ok ((End, Item), rest)
 field_event delimiter (Ok (Some field, rest)) = Ok ((FieldOf field, Fields delimiter), rest)
 field_event delimiter (Err wrong) = Err wrong
@@ -62,11 +62,11 @@ field_event delimiter (Err wrong) = Err wrong
 -- what is read at a place, what is wanted next, and the text from there on
 pub record Step : Type 0 where
   pub event : Event
-  pub wanted : Wanted
+  pub wanted : Expected
   pub rest : List ℕ
 
 -- a reading as one step; after an error an item is expected
-abbrev pub step_by : Parsed (Event × Wanted) → Step
+abbrev pub step_by : Parsed (Event × Expected) → Step
 step_by (Ok got) = record { event = got.0.0; wanted = got.0.1; rest = got.1 }
 step_by (Err wrong) = record { event = Wrong wrong.0; wanted = Item; rest = wrong.1 }
 
@@ -77,7 +77,7 @@ behind_at (b ∷ bs) = if b == byte "@" then Some bs else behind_at bs
 
 -- the next event of a text, given what is expected there; none if an item is expected and no `@` is left. Inside an item whitespace is
 -- passed over first
-unfoldable pub expected_step : Wanted → List ℕ → Option Step
+unfoldable pub expected_step : Expected → List ℕ → Option Step
 expected_step Item text = option_map (λ rest. step_by (head_at rest)) (behind_at text)
 expected_step (Closing delimiter) text =
     Some (step_by (followed_by (sign_at (closing_delimiter delimiter) (NoClosing delimiter) text) (λ _ rest. Ok ((End, Item), rest))))
@@ -96,11 +96,11 @@ is_repeated is_stored (Entry kind key) = is_stored key
 is_repeated is_stored _ = false
 
 -- an event, given which keys are stored: the key of a stored entry is the error `Repeated entry`, after which an item is expected
-abbrev pub as_known : (List ℕ → Bool) → Event × Wanted → Event × Wanted
+abbrev pub as_known : (List ℕ → Bool) → Event × Expected → Event × Expected
 as_known is_stored got = if is_repeated is_stored got.0 then (Wrong Repeated, Item) else got
 
 -- the next event of a text, given what is expected there and which keys are stored: an entry that repeats one of these is an error
-abbrev pub next_step : (List ℕ → Bool) → Wanted → List ℕ → Option Step
+abbrev pub next_step : (List ℕ → Bool) → Expected → List ℕ → Option Step
 next_step is_stored wanted text =
     option_map
     (λ (step : Step).
@@ -118,7 +118,7 @@ pub record Keeping (S : Type 0) : Type 0 where
 
 -- at most `turns` events of a text: the event of the next step, if there is one, and then those of the rest. The bound is that of `events_from`, and
 -- is never reached
-unfoldable pub events_within : {S : Type 0} → Keeping S → ℕ → S → Wanted → List ℕ → List Placed
+unfoldable pub events_within : {S : Type 0} → Keeping S → ℕ → S → Expected → List ℕ → List Placed
 events_within keeping zero state wanted text = []
 events_within keeping (suc turns) state wanted text =
     option_map_or
@@ -129,5 +129,5 @@ events_within keeping (suc turns) state wanted text =
 
 -- the events of a text, given what is known before it and what is expected first. The bound on their number is never reached, since each takes a
 -- byte or ends an item
-unfoldable pub events_from : {S : Type 0} → Keeping S → S → Wanted → List ℕ → List Placed
+unfoldable pub events_from : {S : Type 0} → Keeping S → S → Expected → List ℕ → List Placed
 events_from keeping state wanted text = events_within keeping (suc (2 * length text + 1)) state wanted text

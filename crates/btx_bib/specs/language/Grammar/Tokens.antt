@@ -5,13 +5,13 @@ use Rattle.btx_text.specs.language.Class.{begins_name}
 use Rattle.btx_bib.specs.declared.grammar.byte_sets.Delimiter.{Delimiter}
 use Rattle.btx_bib.specs.declared.grammar.byte_sets.Delimiter.TheVariants.{Braces, Parens}
 use Rattle.btx_bib.specs.declared.grammar.byte_sets.ByteSet.TheVariants.{Gap, NameByte, KeyByte}
-use Rattle.btx_bib.specs.declared.grammar.slip.Slip.{Slip}
-use Rattle.btx_bib.specs.declared.grammar.slip.Slip.TheVariants.{NoName, NoDelimiter, EndOfFile}
+use Rattle.btx_bib.specs.declared.grammar.slip.SyntaxError.{SyntaxError}
+use Rattle.btx_bib.specs.declared.grammar.slip.SyntaxError.TheVariants.{NoName, NoDelimiter, EndOfFile}
 use Rattle.btx_bib.specs.language.Grammar.ByteSets.{begins, longest_run, past}
 
 -- what was read and the text after it, or what is wrong and the text from its place on
 abbrev pub Parsed : Type 0 → Type 0
-Parsed A = Result (A × List ℕ) (Slip × List ℕ)
+Parsed A = Result (A × List ℕ) (SyntaxError × List ℕ)
 
 -- reads one thing and then another; an error of the first is the error of both
 abbrev pub followed_by : {A B : Type 0} → Parsed A → (A → List ℕ → Parsed B) → Parsed B
@@ -19,12 +19,12 @@ followed_by (Ok got) next = next got.0 got.1
 followed_by (Err wrong) next = Err wrong
 
 -- the error if something expected isn't here; at the end of the file it is that the file ends
-abbrev pub slip_at : Slip → List ℕ → Slip
+abbrev pub slip_at : SyntaxError → List ℕ → SyntaxError
 slip_at slip [] = EndOfFile
 slip_at slip (b ∷ bs) = slip
 
 -- the result if something expected isn't here: the error, and the text from here on
-abbrev pub wrong_at : {A : Type 0} → Slip → List ℕ → Parsed A
+abbrev pub wrong_at : {A : Type 0} → SyntaxError → List ℕ → Parsed A
 wrong_at slip text = Err (slip_at slip text, text)
 
 -- the name that a text begins with, or what is wrong where it begins with none
@@ -53,11 +53,11 @@ closing_delimiter Braces = byte "}"
 closing_delimiter Parens = byte ")"
 
 -- the sign that a text begins with, or what is wrong where it begins with another byte
-unfoldable pub sign_in : ℕ → Slip → List ℕ → Parsed (Unit {0})
+unfoldable pub sign_in : ℕ → SyntaxError → List ℕ → Parsed (Unit {0})
 sign_in sign slip rest = if begins (λ b. b == sign) rest then Ok (tt, drop 1 rest) else wrong_at slip rest
 
 -- the sign that stands next, behind whitespace
-abbrev pub sign_at : ℕ → Slip → List ℕ → Parsed (Unit {0})
+abbrev pub sign_at : ℕ → SyntaxError → List ℕ → Parsed (Unit {0})
 sign_at sign slip text = sign_in sign slip (past Gap text)
 
 -- reads a key, which may be empty; at the end of the file it is an error

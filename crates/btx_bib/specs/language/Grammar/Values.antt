@@ -4,7 +4,7 @@ use Rattle.btx_text.specs.language.Class.{begins_name}
 use Rattle.btx_bib.specs.declared.grammar.byte_sets.ByteSet.TheVariants.{Gap, NameByte, Digit}
 use Rattle.btx_bib.specs.declared.grammar.byte_sets.Enclosure.{Enclosure}
 use Rattle.btx_bib.specs.declared.grammar.byte_sets.Enclosure.TheVariants.{Group, Quotes}
-use Rattle.btx_bib.specs.declared.grammar.slip.Slip.TheVariants.{NoValue, Unbalanced, EndOfFile}
+use Rattle.btx_bib.specs.declared.grammar.slip.SyntaxError.TheVariants.{NoValue, Unbalanced, EndOfFile}
 use Rattle.btx_bib.specs.language.Grammar.ByteSets.{longest_run, past, enclosed_len}
 use Rattle.btx_bib.specs.language.Grammar.Tokens.{Parsed, followed_by}
 use Rattle.std.specs.Char.{is_ascii_digit}

@@ -1,7 +1,7 @@
 -- The events that an item comes to.
 use Rattle.std.specs.Prelude.{◌≡◌, ℕ, Bool, false, List, [], ◌∷◌, ◌++◌, map, fold, Ok, Err}
-use Rattle.btx_bib.specs.declared.grammar.commands.Wanted.{Wanted}
-use Rattle.btx_bib.specs.declared.grammar.commands.Wanted.TheVariants as wanted
+use Rattle.btx_bib.specs.declared.grammar.commands.Expected.{Expected}
+use Rattle.btx_bib.specs.declared.grammar.commands.Expected.TheVariants as wanted
 use Rattle.btx_bib.specs.language.Grammar.Tokens.{Parsed}
 use Rattle.btx_bib.specs.language.Grammar.Items.{Event, Comment, Preamble, Definition, Entry, FieldOf, End, Wrong, Placed, Keeping, events_from}
 use Rattle.btx_bib.specs.laws.Grammar.WholeItems.{WholeItem, CommentItem, PreambleItem, StringItem, EntryItem}
@@ -24,7 +24,7 @@ bare_events events = map (λ placed. placed.event) events
 
 -- the events of a text are the events that were read and then those of the rest; or, if an error was met, the events of what was right before it,
 -- the error, and the events from its place on
-abbrev pub GivesEvents : {S : Type 0} → Keeping S → S → Wanted → List ℕ → Parsed (List Event) → Type 0
+abbrev pub GivesEvents : {S : Type 0} → Keeping S → S → Expected → List ℕ → Parsed (List Event) → Type 0
 GivesEvents keeping state next text (Ok got) =
     bare_events (events_from keeping state next text) ≡ got.0 ++ bare_events (events_from keeping (fold keeping.after state got.0) wanted.Item got.1)
 GivesEvents keeping state next text (Err wrong) = (begun : List Event) ×
@@ -32,5 +32,5 @@ GivesEvents keeping state next text (Err wrong) = (begun : List Event) ×
     begun ++ Wrong wrong.0 ∷ bare_events (events_from keeping (fold keeping.after state (begun ++ Wrong wrong.0 ∷ [])) wanted.Item wrong.1))
 
 -- if an entry was read, its key isn't stored yet
-abbrev pub IsNew : (List ℕ → Bool) → Parsed (Event × Wanted) → Type 0
-IsNew is_stored read = (kind key rest : List ℕ) (next : Wanted) → read ≡ Ok ((Entry kind key, next), rest) → is_stored key ≡ false
+abbrev pub IsNew : (List ℕ → Bool) → Parsed (Event × Expected) → Type 0
+IsNew is_stored read = (kind key rest : List ℕ) (next : Expected) → read ≡ Ok ((Entry kind key, next), rest) → is_stored key ≡ false

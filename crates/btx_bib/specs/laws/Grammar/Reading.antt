@@ -5,10 +5,10 @@ use Rattle.btx_bib.specs.declared.grammar.byte_sets.Delimiter.TheVariants.{Brace
 use Rattle.btx_bib.specs.declared.grammar.byte_sets.ByteSet.TheVariants.{KeyByte}
 use Rattle.btx_bib.specs.declared.grammar.commands.Command.{Command}
 use Rattle.btx_bib.specs.declared.grammar.commands.Command.TheVariants as command
-use Rattle.btx_bib.specs.declared.grammar.commands.Wanted.{Wanted}
-use Rattle.btx_bib.specs.declared.grammar.commands.Wanted.TheVariants.{Item, Closing, Fields}
-use Rattle.btx_bib.specs.declared.grammar.slip.Slip.{Slip}
-use Rattle.btx_bib.specs.declared.grammar.slip.Slip.TheVariants.{NoDelimiter, NoComma, NoEquals, NoClosing, EndOfFile}
+use Rattle.btx_bib.specs.declared.grammar.commands.Expected.{Expected}
+use Rattle.btx_bib.specs.declared.grammar.commands.Expected.TheVariants.{Item, Closing, Fields}
+use Rattle.btx_bib.specs.declared.grammar.slip.SyntaxError.{SyntaxError}
+use Rattle.btx_bib.specs.declared.grammar.slip.SyntaxError.TheVariants.{NoDelimiter, NoComma, NoEquals, NoClosing, EndOfFile}
 use Rattle.btx_bib.specs.language.Grammar.ByteSets.{begins}
 use Rattle.btx_bib.specs.language.Grammar.Tokens.{closing_delimiter}
 use Rattle.btx_bib.specs.language.Grammar.Fields.{Field}
@@ -22,7 +22,7 @@ OnSign sign R S o front rest =
     ((behind : List ℕ) × (front ≡ sign ∷ behind) × R o behind rest) ⊎ ((begins (λ b. b == sign) (front ++ rest) ≡ false) × S o front rest)
 
 -- the error `slip`, whatever stands here
-abbrev pub WrongHere : {A : Type 0} → Slip → Grammar A
+abbrev pub WrongHere : {A : Type 0} → SyntaxError → Grammar A
 WrongHere slip (Ok a) front rest = ⊥
 WrongHere slip (Err met) front rest = IsWrongHere slip met front rest
 
@@ -44,7 +44,7 @@ abbrev pub MoreHere : Delimiter → Grammar (Option Field)
 MoreHere delimiter = OnSign (closing_delimiter delimiter) (Gives None) (OnSign comma (Spaced (AfterComma delimiter)) (WrongHere (NoComma delimiter)))
 
 -- what follows the name behind an `@`, by the command that the name is: the event that it comes to, and what is wanted after it
-abbrev pub HeadOf : Command → List ℕ → Grammar (Event × Wanted)
+abbrev pub HeadOf : Command → List ℕ → Grammar (Event × Expected)
 HeadOf command.Comment name = Gives (Comment, Item)
 HeadOf command.Preamble name =
     Then (Spaced OpenHere) (λ delimiter. Then ValueSpelling (λ value. Gives (Preamble value, Closing delimiter)))
@@ -55,11 +55,11 @@ HeadOf command.Entry name =
     Then (Spaced OpenHere) (λ delimiter. Then (Spaced (KeyHere delimiter)) (λ key. Gives (Entry name key, Fields delimiter)))
 
 -- what follows an `@`: a name, and then what its command has, up to the first event of the item
-abbrev pub Head : Grammar (Event × Wanted)
+abbrev pub Head : Grammar (Event × Expected)
 Head = Then (Spaced NameHere) (λ name. HeadOf (command_of name) name)
 
 -- the event of a field, after which the entry goes on; or, without a field, of the entry's end, after which an item is wanted
-abbrev pub more_event : Delimiter → Option Field → Event × Wanted
+abbrev pub more_event : Delimiter → Option Field → Event × Expected
 more_event delimiter None = (End, Item)
 more_event delimiter (Some field) = (FieldOf field, Fields delimiter)
 
@@ -68,23 +68,23 @@ abbrev pub HasNoAt : List ℕ → Type 0
 HasNoAt [] = Unit {0}
 HasNoAt (b ∷ bs) = ((b == at_sign) ≡ false) × HasNoAt bs
 
--- what may stand at a place: the next item behind its `@`, an item's closing delimiter, or a field of an entry or its end, as `Wanted` says
-abbrev pub Stands : Wanted → Grammar (Event × Wanted)
+-- what may stand at a place: the next item behind its `@`, an item's closing delimiter, or a field of an entry or its end, as `Expected` says
+abbrev pub Stands : Expected → Grammar (Event × Expected)
 Stands Item o front rest = (ignored : List ℕ) × (behind : List ℕ) × (front ≡ ignored ++ at_sign ∷ behind) × HasNoAt ignored × Head o behind rest
 Stands (Closing delimiter) o front rest = Then (Spaced (SignHere (closing_delimiter delimiter) (NoClosing delimiter))) (λ sign. Gives (End, Item)) o front rest
 Stands (Fields delimiter) o front rest = Then (Spaced (MoreHere delimiter)) (λ more. Gives (more_event delimiter more)) o front rest
 
 -- an event and what is wanted after it are what was read: the key of an entry that is stored already counts as the error `Repeated`; after an error
 -- an item is wanted
-abbrev pub IsOutcome : {S : Type 0} → Keeping S → S → Event → Wanted → Result (Event × Wanted) Slip → Type 0
+abbrev pub IsOutcome : {S : Type 0} → Keeping S → S → Event → Expected → Result (Event × Expected) SyntaxError → Type 0
 IsOutcome keeping state event next (Ok got) = (event ≡ (as_known (keeping.is_stored state) got).0) × (next ≡ (as_known (keeping.is_stored state) got).1)
 IsOutcome keeping state event next (Err slip) = (event ≡ Wrong slip) × (next ≡ Item)
 
 -- these are the events of a text, if `state` is what is known before it and `wanted` what is wanted first: each is what its front spells, or what is
 -- wrong at its end; and behind the last one no `@` is left
-abbrev pub IsReading : {S : Type 0} → Keeping S → S → Wanted → List ℕ → List Placed → Type 0
+abbrev pub IsReading : {S : Type 0} → Keeping S → S → Expected → List ℕ → List Placed → Type 0
 IsReading keeping state wanted text [] = (wanted ≡ Item) × HasNoAt text
 IsReading keeping state wanted text (placed ∷ others) =
-    (o : Result (Event × Wanted) Slip) × (next : Wanted) × (front : List ℕ) × (front ++ placed.rest ≡ text) ×
+    (o : Result (Event × Expected) SyntaxError) × (next : Expected) × (front : List ℕ) × (front ++ placed.rest ≡ text) ×
     IsOutcome keeping state placed.event next o × Stands wanted o front placed.rest ×
     IsReading keeping (keeping.after state placed.event) next placed.rest others

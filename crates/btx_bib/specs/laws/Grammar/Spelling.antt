@@ -7,8 +7,8 @@ use Rattle.btx_bib.specs.declared.grammar.byte_sets.ByteSet.{ByteSet}
 use Rattle.btx_bib.specs.declared.grammar.byte_sets.ByteSet.TheVariants.{Gap, NameByte, Digit}
 use Rattle.btx_bib.specs.declared.grammar.byte_sets.Enclosure.{Enclosure}
 use Rattle.btx_bib.specs.declared.grammar.byte_sets.Enclosure.TheVariants.{Group, Quotes}
-use Rattle.btx_bib.specs.declared.grammar.slip.Slip.{Slip}
-use Rattle.btx_bib.specs.declared.grammar.slip.Slip.TheVariants.{NoName, NoEquals, NoValue, Unbalanced, EndOfFile}
+use Rattle.btx_bib.specs.declared.grammar.slip.SyntaxError.{SyntaxError}
+use Rattle.btx_bib.specs.declared.grammar.slip.SyntaxError.TheVariants.{NoName, NoEquals, NoValue, Unbalanced, EndOfFile}
 use Rattle.btx_bib.specs.language.Grammar.ByteSets.{is_in, begins, ends_enclosed}
 use Rattle.btx_bib.specs.language.Grammar.Tokens.{Parsed, slip_at}
 use Rattle.btx_bib.specs.language.Grammar.Values.{Part, Braced, Quoted, Digits, Named}
@@ -19,7 +19,7 @@ use Rattle.btx_text.specs.laws.Bytes.{close_brace, double_quote, equals_sign, ha
 -- how something is spelled: a relation between what was read or is wrong, a front of a text, and the rest. The front spells the first, or it is
 -- wrong where the rest begins
 abbrev pub Grammar : Type 0 → Type 1
-Grammar A = Result A Slip → List ℕ → List ℕ → Type 0
+Grammar A = Result A SyntaxError → List ℕ → List ℕ → Type 0
 
 -- ---- how grammars are made
 
@@ -70,7 +70,7 @@ pub record IsWord (set : ByteSet) (first : ℕ → Bool) (word front rest : List
   pub run : IsRun set word rest
 
 -- `slip` is what is wrong where nothing has been read; at the end of the text it is that the file ends
-pub record IsWrongHere (slip met : Slip) (front rest : List ℕ) : Type 0 where
+pub record IsWrongHere (slip met : SyntaxError) (front rest : List ℕ) : Type 0 where
   pub nothing : front ≡ []
   pub slip_is : met ≡ slip_at slip rest
 
@@ -80,7 +80,7 @@ NameHere (Ok name) front rest = IsWord NameByte begins_name name front rest
 NameHere (Err slip) front rest = (begins begins_name rest ≡ false) × IsWrongHere NoName slip front rest
 
 -- the byte `sign`, or the error `wrong` where another byte stands; a sign has no value of its own, so `none` is `tt`
-abbrev pub SignHere : ℕ → Slip → Grammar (Unit {0})
+abbrev pub SignHere : ℕ → SyntaxError → Grammar (Unit {0})
 SignHere sign wrong (Ok none) front rest = front ≡ sign ∷ []
 SignHere sign wrong (Err slip) front rest = (begins (λ b. b == sign) rest ≡ false) × IsWrongHere wrong slip front rest
 
@@ -100,7 +100,7 @@ abbrev pub begins_part : ℕ → Bool
 begins_part b = b == open_brace || b == double_quote || is_ascii_digit b || begins_name b
 
 -- what is wrong where a part of a value is wanted: no part begins with the next byte, a `}` in quotes closes nothing, or the file ends
-abbrev pub IsWrongPart : Slip → List ℕ → List ℕ → Type 0
+abbrev pub IsWrongPart : SyntaxError → List ℕ → List ℕ → Type 0
 IsWrongPart NoValue front rest = (front ≡ []) × (b : ℕ) × (bs : List ℕ) × (rest ≡ b ∷ bs) × (begins_part b ≡ false)
 IsWrongPart Unbalanced front rest = (text : List ℕ) × (bs : List ℕ) × (front ≡ double_quote ∷ text) × (rest ≡ close_brace ∷ bs) × IsEnclosed Quotes text
 IsWrongPart EndOfFile front rest = (rest ≡ []) ×
@@ -154,6 +154,6 @@ Splits R text (Ok got) = (front : List ℕ) × (front ++ got.1 ≡ text) × R (O
 Splits R text (Err wrong) = (front : List ℕ) × (front ++ wrong.1 ≡ text) × R (Err wrong.0) front wrong.1
 
 -- what was read, or what is wrong, together with the rest of the text
-abbrev pub read_as : {A : Type 0} → Result A Slip → List ℕ → Parsed A
+abbrev pub read_as : {A : Type 0} → Result A SyntaxError → List ℕ → Parsed A
 read_as (Ok a) rest = Ok (a, rest)
 read_as (Err slip) rest = Err (slip, rest)

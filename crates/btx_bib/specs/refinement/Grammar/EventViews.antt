@@ -3,7 +3,7 @@ use Rattle.std.specs.Prelude.{ℕ, List}
 use Rattle.std.specs.Borrow.{Bor}
 use Rattle.btx_bib.specs.language.Grammar.Items as spec
 use Rattle.btx_bib.specs.refinement.Grammar.FieldViews.{field_view}
-use Rattle.btx_bib.specs.declared.grammar.commands.Wanted.{Wanted}
+use Rattle.btx_bib.specs.declared.grammar.commands.Expected.{Expected}
 use Rattle.btx_bib.specs.declared.grammar.events.Event.{Event}
 use Rattle.btx_bib.specs.declared.grammar.events.Event.TheVariants.{Comment, Preamble, Definition, Entry, Field, End, Wrong}
 use Rattle.btx_bib.specs.declared.grammar.events.Placed.{Placed}
@@ -18,11 +18,11 @@ event_view (Field field) = spec.FieldOf (field_view field)
 event_view End = spec.End
 event_view (Wrong slip) = spec.Wrong slip
 
-abbrev pub head_view : Event × Wanted → spec.Event × Wanted
+abbrev pub head_view : Event × Expected → spec.Event × Expected
 head_view head = (event_view head.0, head.1)
 
 abbrev pub placed_view : Placed → spec.Placed
 placed_view placed = record { event = event_view placed.event; rest = placed.rest.now }
 
-abbrev pub step_view : Event × Wanted × Bor (List ℕ) → spec.Step
+abbrev pub step_view : Event × Expected × Bor (List ℕ) → spec.Step
 step_view step = record { event = event_view step.0; wanted = step.1; rest = step.2.now }

@@ -3,7 +3,7 @@ use Rattle.std.specs.Prelude.{◌≡◌, ◌+◌, ◌/◌, ◌^◌, not, ℕ, Li
 use Rattle.std.specs.Int.{is_in_range}
 use Rattle.std.specs.Simd.Lanes.{mask_l}
 use Rattle.btx_bib.specs.declared.grammar.byte_sets.Delimiter.{Delimiter}
-use Rattle.btx_bib.specs.declared.grammar.commands.Wanted.{Wanted}
+use Rattle.btx_bib.specs.declared.grammar.commands.Expected.{Expected}
 use Rattle.btx_bib.specs.language.Grammar.ByteSets.{is_gap}
 use Rattle.btx_bib.specs.language.Grammar.Fields.{Field}
 use Rattle.btx_bib.specs.language.Grammar.Items.{FieldOf, expected_step}
@@ -45,6 +45,6 @@ pub record IsField (text rest : List ℕ) : Type 0 where
   pub stands : (delimiter : Delimiter) → more_at delimiter text ≡ Ok (Some field, rest)
 
 -- where the reader stands, it reads a field, behind which it wants the same as before it
-pub record IsFieldNext (place : Wanted × List ℕ) (rest : List ℕ) : Type 0 where
+pub record IsFieldNext (place : Expected × List ℕ) (rest : List ℕ) : Type 0 where
   pub field : Field
   pub stands : expected_step place.0 place.1 ≡ Some (record { event = FieldOf field; wanted = place.0; rest = rest })

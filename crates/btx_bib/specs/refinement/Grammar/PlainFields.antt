@@ -10,9 +10,9 @@ use Rattle.btx_bib.specs.declared.grammar.plain_fields.PlainValue.{PlainValue}
 use Rattle.btx_bib.specs.declared.grammar.plain_fields.Purpose.{Purpose}
 use Rattle.btx_bib.specs.declared.grammar.plain_fields.Purpose.TheVariants as purpose
 use Rattle.btx_bib.specs.declared.grammar.item_readers.EntryHead.{EntryHead}
-use Rattle.btx_bib.specs.declared.grammar.commands.Wanted.TheVariants.{Item, Fields}
+use Rattle.btx_bib.specs.declared.grammar.commands.Expected.TheVariants.{Item, Fields}
 use Rattle.btx_bib.specs.declared.grammar.value_ends.Ends.TheVariants.{Trimmed}
-use Rattle.btx_bib.specs.declared.grammar.commands.Wanted.{Wanted}
+use Rattle.btx_bib.specs.declared.grammar.commands.Expected.{Expected}
 use Rattle.btx_bib.specs.language.Grammar.Fields.{Field}
 use Rattle.btx_bib.specs.language.Grammar.Items.{Entry, End, FieldOf, Step, expected_step}
 use Rattle.btx_bib.specs.refinement.Grammar.Squeezing.{stands}
@@ -63,7 +63,7 @@ abbrev pub StandsNext : List ℕ → PlainField → Type 0
 StandsNext text field = (delimiter : Delimiter) → more_at delimiter text ≡ Ok (Some (plain_field_view field), field.value.rest.now)
 
 -- what the reader reads there: the field, behind which the same is wanted as before it
-abbrev pub plain_step : Wanted → PlainField → Step
+abbrev pub plain_step : Expected → PlainField → Step
 plain_step wanted field = record { event = FieldOf (plain_field_view field); wanted = wanted; rest = field.value.rest.now }
 
 -- what the reader reads where an entry's type and key stand
@@ -71,7 +71,7 @@ abbrev pub entry_step : EntryHead → Step
 entry_step head = record { event = Entry head.kind.now head.key.now; wanted = Fields head.delimiter; rest = head.rest.now }
 
 -- the end of an entry stands next, behind which this text is left; or it doesn't, and the reader stays where it is
-abbrev pub IsLeft : Bool → Wanted × List ℕ → Wanted × List ℕ → Type 0
+abbrev pub IsLeft : Bool → Expected × List ℕ → Expected × List ℕ → Type 0
 IsLeft true old new = (expected_step old.0 old.1 ≡ Some (record { event = End; wanted = Item; rest = new.1 })) × (new.0 ≡ Item)
 IsLeft false old new = new ≡ old
 

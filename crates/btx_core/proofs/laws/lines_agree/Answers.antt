@@ -1,5 +1,5 @@
-use Rattle.btx_core.proofs.SamePartLemmas.{lines, sures}
+use Rattle.btx_core.proofs.SamePartLemmas.{lines, committed_lines}
 use Rattle.btx_core.proofs.laws.lines_agree.Goals as goal
 
 pub returns : goal.returns
-returns c = record { ended = lines; pending = sures }
+returns c = record { ended = lines; pending = committed_lines }

@@ -13,4 +13,4 @@ returns-clause-goes_on c =
     let full = rw c.unwrap-2.ensures at c.try_extend_from_slice-2.ensures.ok in
     let room : length c.split_at.result.0.now ≡ c.args.line_length + 1 - length c.args.line.now.items = omega arith in
     goes_full c.args.line_length _ _ c.args.bytes.now _ _ _ _ _ c.requires.kept c.split_at.ensures.by_index.0 room full c.break_full-state.ensures.state
-    c.break_full-state.ensures.sure
+    c.break_full-state.ensures.committed

@@ -1,5 +1,5 @@
 use Rattle.std.proofs.Common.{◌∙◌, ◌++◌, List, ℕ, length, ap, sym, arith}
-use Rattle.btx_bib.specs.declared.grammar.commands.Wanted.{Wanted as Next}
+use Rattle.btx_bib.specs.declared.grammar.commands.Expected.{Expected as Next}
 use Rattle.btx_bib.specs.declared.message.Message.{Message}
 use Rattle.btx_bib.specs.refinement.Gatherings.{all_kept, all_messages, is_kept}
 use Rattle.btx_bib.specs.refinement.Grammar.PlainFields.{plain_step}

@@ -1,6 +1,6 @@
 use Rattle.std.proofs.Common.{[]}
 use Rattle.btx_bib.specs.laws.Grammar.Items.{by_history}
-use Rattle.btx_bib.specs.declared.grammar.commands.Wanted.TheVariants.{Item}
+use Rattle.btx_bib.specs.declared.grammar.commands.Expected.TheVariants.{Item}
 use Rattle.btx_bib.proofs.GrammarLemmas.ReadingLemmas.{is_reading, one_reading}
 use Rattle.btx_bib.proofs.grammar.laws.one_reading.Goals as goal
 
