@@ -176,7 +176,7 @@ module _ (events : List AuxEvent) (event : AuxEvent) where
       log-push
       (end_of-push events event whole))
 
--- ---- all events, where nothing counts behind the first that ends the reading
+-- ---- all events, where nothing counts after the first that ends the reading
 
 abbrev known : List AuxEvent → Draft
 known events = fold after blank events

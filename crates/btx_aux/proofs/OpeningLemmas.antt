@@ -269,12 +269,12 @@ Silent events = (name : List ℕ) → opened_first events name ≡ None
 silent-event : (event : AuxEvent) (events : List AuxEvent) → levels_by event.word ≡ [] → Silent (event ∷ events)
 silent-event event events none = λ name. ap (λ (levels : List ℕ). lookup (bytes_eq name) (map (λ (level : ℕ). (event.file, level)) levels)) none
 
--- what follows an event, which stands behind the earlier ones and before the later ones
+-- what follows an event, which comes after the earlier ones and before the later ones
 abbrev Fate : Files → List AuxEvent → AuxEvent → List AuxEvent → Type 0
 Fate files earlier event later = (name : List ℕ)
     → opened_first later name ≡ (if opens files earlier event name then Some (files_open_at earlier event.file) else None)
 
--- what follows each of some events, with these behind all
+-- what follows each of some events, with these after all
 abbrev Each : Files → List AuxEvent → List AuxEvent → List AuxEvent → Type 0
 Each files earlier [] behind = Unit {0}
 Each files earlier (event ∷ events) behind = Fate files earlier event (events ++ behind) × Each files (earlier ++ event ∷ []) events behind

@@ -39,7 +39,7 @@ error_at line complaint = Wrong complaint line (codes "job.aux")
 abbrev alone : List ℕ → Shown
 alone line = shown (job_events (files_of_pairs ((top, line ++ codes "\n\\bibdata{d}\n\\bibstyle{s}\n") ∷ [])) top)
 
--- what a job comes to whose database is `d` and whose style is `s`: these keys, this number of keys before `*`, and in the log these lines behind
+-- what a job comes to whose database is `d` and whose style is `s`: these keys, this number of keys before `*`, and in the log these lines after
 -- that of the top file
 abbrev base_with : List (List ℕ) → Option ℕ → List AuxNote → Shown
 base_with keys all notes = (keys, all, codes "d.bib" ∷ [], Some (codes "s.bst"), found_top ∷ notes, end.Whole)

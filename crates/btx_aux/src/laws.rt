@@ -11,7 +11,7 @@ pub fn no_file_twice()
     ensures { NoFileTwice }
 {}
 
-/// The top file is opened first if it is there. Another file is opened directly behind an `\@input` line of its name, and exactly if
+/// The top file is opened first if it is there. Another file is opened directly after an `\@input` line of its name, and exactly if
 /// the name ends in `.aux`, nothing earlier names the file, it is there, and fewer than 20 files are open.
 pub fn opened_by_conditions()
     ensures top { TopOpensFirst }

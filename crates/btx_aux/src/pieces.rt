@@ -63,7 +63,7 @@ pub fn only_piece(text: &[u8]) -> Result<&[u8], Slip>
     piece
 }
 
-// The first piece of an argument, and what stands behind its comma.
+// The first piece of an argument, and what comes after its comma.
 #[tactic(auto, using(crate::proofs::PieceLemmas::piece_steps))]
 fn first_piece(text: &[u8], is_list: bool) -> (Result<&[u8], Slip>, Option<&[u8]>)
     ensures { pieces_of is_list text.now ≡ piece_from result.0 ∷ pieces_behind is_list result.1 }

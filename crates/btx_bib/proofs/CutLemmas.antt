@@ -193,7 +193,7 @@ known-none is_stored (Some step) h = by_test (is_repeated is_stored step.event) 
   by_test true = tt
   by_test false = h
 
--- the events behind one that isn't a field
+-- the events after one that isn't a field
 alone-first : (event : Event) (next : Next) (others : List Event) → BeginsNone event next → (WantsNone next → NoFieldFirst others)
     → NoFieldFirst (event_alone event ∷ others)
 alone-first Comment next others h rest = rest h
@@ -294,7 +294,7 @@ alike wanted (event ∷ events) none known = by_end (goes_on known.ending) refl 
   by_end true on rest = alike-first wanted event events none rest known on
   by_end false over rest = alike-stuck wanted known (event ∷ events) over
 
--- ---- with more behind it
+-- ---- with more after it
 
 alone-part : (more : List ℕ) (part : Part) → part_alone (part_on more part) ≡ part_alone part
 alone-part more (Braced text) = refl

@@ -33,7 +33,7 @@ use Rattle.btx_bib.proofs.HeirLemmas.{first-grows, first-inherits, first-takes}
 use Rattle.btx_bib.specs.laws.Databases.{read_all}
 use Rattle.btx_bib.specs.refinement.Passes.{checked_by, entry_by, with_field_values}
 
--- ---- the second pass leaves the fields behind `crossref` alone
+-- ---- the second pass leaves the fields after `crossref` alone
 
 abbrev shown_as : List ℕ → Option (List ℕ) → List ℕ × Option (List ℕ)
 shown_as key value = (key, value)

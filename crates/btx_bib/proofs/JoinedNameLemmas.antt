@@ -1,4 +1,4 @@
--- Names of two lists, one behind the other: where a name stands, and what the first names of a list are.
+-- Names of two lists, one after the other: where a name stands, and what the first names of a list are.
 use Rattle.std.proofs.Common.{◌≡◌, ℕ, zero, suc, arith, ◌+◌, Bool, true, false, ◌||◌, if◌then◌else◌, List, [], ◌∷◌, ◌++◌, length, take, Option, None}
 use Rattle.std.proofs.Common.{Some, refl, sym, ap, ◌∙◌, nat_lt}
 use Rattle.std.specs.Option.{option_map, option_or}
@@ -59,7 +59,7 @@ module _ {T : Type 0} (test : T → Bool) where
   behind_next n None None = refl
   behind_next n None (Some p) = let same : suc (n + p) ≡ suc n + p = omega arith in ap Some same
 
-  -- where the first stands that passes, in one list behind another
+  -- where the first stands that passes, in one list after another
   pub first_place-append : (xs ys : List T) → first_place test (xs ++ ys)
       ≡ option_or (first_place test xs) (option_map (λ (p : ℕ). length xs + p) (first_place test ys))
   first_place-append [] ys = behind_none 0 (first_place test ys) refl
@@ -70,7 +70,7 @@ module _ {T : Type 0} (test : T → Bool) where
     by_test true rest = refl
     by_test false rest = ap (option_map suc) rest ∙ behind_next (length xs) (first_place test xs) (first_place test ys)
 
-  -- the same, of a list that is one behind another, by the places in these
+  -- the same, of a list that is one after another, by the places in these
   pub place-append : (xs ys names : List T) → xs ++ ys ≡ names → (found more : Option ℕ) → found ≡ first_place test xs → more ≡ first_place test ys
       → option_or found (option_map (λ (p : ℕ). length xs + p) more) ≡ first_place test names
   place-append xs ys names is found more first second =

@@ -28,7 +28,7 @@ same_key_equiv = record {
 pub folded-same : (key other : List ℕ) → is_same_key key other ≡ true → folded key ≡ folded other
 folded-same key other same = (bytes_eq-Decides (folded key) (folded other)).0 same
 
--- what a search by its key finds has that key, if what is found behind the first one has it
+-- what a search by its key finds has that key, if what is found after the first one has it
 pub found-first : {T : Type 0} (key_in : T → List ℕ) (key : List ℕ) (y x : T) (later : Option T) (b : Bool) → is_same_key key (key_in y) ≡ b
     → cond b (Some y) later ≡ Some x → (later ≡ Some x → is_same_key key (key_in x) ≡ true) → is_same_key key (key_in x) ≡ true
 found-first {T} key_in key y x later true same h behind = let is : y ≡ x = cc in subst (λ (z : T). is_same_key key (key_in z) ≡ true) is same

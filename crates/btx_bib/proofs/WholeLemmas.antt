@@ -1,4 +1,4 @@
--- What is kept before the first database and behind the last one, and the library of it.
+-- What is kept before the first database and after the last one, and the library of it.
 use Rattle.std.proofs.Common.{◌≡◌, ℕ, zero, suc, Bool, true, false, if◌then◌else◌, List, [], ◌∷◌, ◌++◌, drop, fold, length, None, Some, refl, sym, ap, subst}
 use Rattle.std.proofs.Common.{◌∙◌}
 use Rattle.std.specs.Prelude.{nat_lt, slice_get}

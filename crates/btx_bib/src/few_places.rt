@@ -8,7 +8,7 @@ const FEW: usize = 30;
 /// The places of at most 30 fields, in a byte each: they take no memory of their own.
 #[derive(Drop)]
 pub struct FewPlaces {
-    // Those behind the last field are missing.
+    // Those after the last field are missing.
     codes: [ShortPlace; FEW],
     // The number of fields.
     count: u8,

@@ -282,7 +282,7 @@ impl<'a> Gathering<'a> {
         }
     }
 
-    // Something that was read, with the text behind it.
+    // Something that was read, with the text after it.
     fn take(
         &mut self,
         event: &Event<'a>,

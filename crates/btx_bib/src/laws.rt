@@ -47,7 +47,7 @@ pub fn inherits_from_parent()
 {}
 
 /// A database that is no longer than a file may be gives the same entries, preamble and end where it is cut in two and no item is open there:
-/// the last that was read before is the end of an item, or something stands behind it, or it is an `@comment` whose name doesn't go on.
+/// the last that was read before is the end of an item, or something comes after it, or it is an `@comment` whose name doesn't go on.
 pub fn cut_gives_the_same()
     ensures { CutGivesTheSame }
 {}

@@ -111,7 +111,7 @@ impl<'a> Texts<'a> {
     }
 }
 
-// The number of the value behind the first `count`; want of memory where it doesn't fit 32 bits.
+// The number of the value after the first `count`; want of memory where it doesn't fit 32 bits.
 #[inline(always)]
 fn number_of(count: usize) -> Result<u32, AllocError>
     ensures { IfOk result (λ number. number ≡ count) }

@@ -144,7 +144,7 @@ end_no_minus b h = at (b == 45) refl where
   at true e = let g : false ≡ true = ap ends_word (sym (eqb-true b 45 e)) ∙ h in absurd (cc)
   at false e = refl
 
--- what is read of a line behind a sign
+-- what is read of a line after a sign
 abbrev ReadBehind : Bool → List ℕ → List ℕ → Type 0
 ReadBehind minus line bs = integer_at line ≡ integer_front line minus bs (digits_len bs)
 
@@ -243,7 +243,7 @@ integer_none (b ∷ bs) line rest w never = at (b == 45) refl where
       (read_behind true line (bs ++ rest) (w.joined ∙ ap (λ (n : ℕ). n ∷ (bs ++ rest)) f) (λ g. absurd (cc))) never
   at false e = none_read false (b ∷ bs) (b ∷ bs) line rest w refl (read_behind false line (b ∷ (bs ++ rest)) w.joined (λ g h. absurd (cc))) never
 
--- ---- what a word behind a `#` is
+-- ---- what a word after a `#` is
 
 abbrev Unsigned : Bool → List ℕ → Type 0
 Unsigned minus u = minus ≡ false → Begins (λ b. b == 45) u → ⊥

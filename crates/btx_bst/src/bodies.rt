@@ -9,7 +9,7 @@ use std::marker::Model;
 pub struct Range {
     /// The index of the first.
     pub from: usize,
-    /// The index behind the last.
+    /// The index after the last.
     pub to: usize,
 }
 

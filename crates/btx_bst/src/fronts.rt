@@ -120,7 +120,7 @@ pub fn is_word_end(line: &[u8]) -> bool
     }
 }
 
-// The string that begins behind a quote, and what is left behind it.
+// The string that begins after a quote, and what is left after it.
 fn string_at(line: &[u8]) -> (Word<'_>, &[u8])
     ensures word { word_view result.0 ≡ (words.string_at line.now).word }
     ensures rest { result.1.now ≡ (words.string_at line.now).rest }
@@ -138,7 +138,7 @@ fn string_at(line: &[u8]) -> (Word<'_>, &[u8])
     }
 }
 
-/// The word that a line begins with, and what is left behind it.
+/// The word that a line begins with, and what is left after it.
 #[tactic(auto, unfolding(crate::specs::language::Words::word_front))]
 pub fn word_front<'a>(first: u8, after: &'a [u8], line: &'a [u8]) -> (Word<'a>, &'a [u8])
     requires line { line.now ≡ first ∷ after.now }

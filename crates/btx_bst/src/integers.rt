@@ -34,7 +34,7 @@ fn signed(minus: bool, value: u64) -> Option<i32>
     Some((0 - value as i64) as i32)
 }
 
-/// The integer that begins behind a `#`, and what is left behind it.
+/// The integer that begins after a `#`, and what is left after it.
 #[tactic(auto, unfolding(crate::specs::language::Words::integer_at))]
 pub fn integer_at(line: &[u8]) -> (Word<'_>, &[u8])
     ensures word { word_view result.0 ≡ (spec.integer_at line.now).word }
@@ -47,14 +47,14 @@ pub fn integer_at(line: &[u8]) -> (Word<'_>, &[u8])
     }
 }
 
-// A line behind the word that it begins with.
+// A line after the word that it begins with.
 fn behind_word(line: &[u8]) -> &[u8]
     ensures { result.now ≡ drop (fronts.word_len line.now) line.now }
 {
     &line[word_len(line)..]
 }
 
-// An integer, and what stands behind its digits.
+// An integer, and what comes after its digits.
 fn integer_before<'a>(line: &'a [u8], rest: &'a [u8], value: Option<i32>) -> (Word<'a>, &'a [u8])
     ensures word { word_view result.0 ≡ (spec.integer_before line.now rest.now value).word }
     ensures rest { result.1.now ≡ (spec.integer_before line.now rest.now value).rest }

@@ -16,7 +16,7 @@ ghost use Rattle.btx_bst.specs.laws.WorkedStyles as worked;
 ghost use Rattle.btx_bst.specs.laws.Written.{FaultlessLaw, WrittenLaw};
 
 /// Each token refers to strings, fields and variables of the style and to functions before its own alone; what each command defines or
-/// executes is a function, built in or of the style; and a function of the style is executed only behind the FUNCTION that defines it.
+/// executes is a function, built in or of the style; and a function of the style is executed only after the FUNCTION that defines it.
 #[tactic(auto, using(crate::proofs::ReferenceLemmas::reference_laws, crate::proofs::ExecutedLemmas::executed_laws))]
 pub fn references_are_earlier()
     ensures bodies { ReferencesLaw }
@@ -76,7 +76,7 @@ pub fn bodies_are_spelled()
     ensures divided { DividedLaw }
 {}
 
-/// A style is read as its commands give it, whole ones and those with a fault; every text is such commands and its end; and what stands behind
+/// A style is read as its commands give it, whole ones and those with a fault; every text is such commands and its end; and what comes after
 /// a fault up to the next empty line changes nothing.
 pub fn styles_are_spelled()
     ensures given { GivenLaw }
@@ -112,7 +112,7 @@ pub fn worked_styles_are_read_so()
 {}
 
 /// Nothing of a text is read twice, and nothing is left out: the text at a place is the whitespace before a command, the command's own, what is
-/// skipped behind its fault, and the text at the place behind it; and the number of a line counts the lines before.
+/// skipped after its fault, and the text at the place after it; and the number of a line counts the lines before.
 #[tactic(auto, using(crate::proofs::PassageLemmas::passage_laws))]
 pub fn all_of_a_text_is_read()
     ensures white { InkLaw }
@@ -120,7 +120,7 @@ pub fn all_of_a_text_is_read()
     ensures skipped { SkipLaw }
 {}
 
-/// A place is counted: what is left of a line stands in the text behind as many bytes as its spot says, and behind as many line feeds as lines came before.
+/// A place is counted: what is left of a line stands in the text after as many bytes as its spot says, and after as many line feeds as lines came before.
 pub fn places_are_counted()
     ensures { SpotLaw }
 {}

@@ -12,7 +12,7 @@ pub enum Word<'a> {
     String(&'a [u8]),
     /// An integer.
     Integer(i32),
-    /// A name behind a `'`.
+    /// A name after a `'`.
     Quoted(&'a [u8]),
     /// A name.
     Name(&'a [u8]),

@@ -50,7 +50,7 @@ module _ (lines : List Line) (line : Line) (before after : Events) (are : AreOf 
         are_theirs = subst (λ (items : List BtxEvent). map mark items ≡ take (length items) (marks (lines ++ line ∷ []))) (sym same) old;
       }
 
-  -- a line whose event is kept behind those of all before
+  -- a line whose event is kept after those of all before
   pub kept : (event : BtxEvent) → length before.first.items ≡ before.count → after.first.items ≡ before.first.items ++ event ∷ []
       → mark event ≡ mark_at before.next line → AreOf (lines ++ line ∷ []) after
   kept event all same is =

@@ -48,7 +48,7 @@ module _ (files : Files) (name : List ℕ) (options : Options) (line : IsLineLen
   keeps_step zero whole = inl (whole_begins report before after (make 0) whole)
   keeps_step (suc n) whole = inr (last_step n (suc n) (omega arith) whole)
 
-  -- so it is as one that broke off behind its last byte
+  -- so it is as one that broke off after its last byte
   pub whole_at_fault : Completes report before after (product files name options) → AtFault before after (product_with files name options) options.budget
   whole_at_fault whole = record {
     prefixes = whole_begins report before after (make options.budget) whole;

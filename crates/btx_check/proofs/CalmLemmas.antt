@@ -19,7 +19,7 @@ use Rattle.btx_check.specs.CalmLaws.{emptied, PopIsSeen, PopInBodyIsSeen, LaterP
 use Rattle.btx_check.specs.CalmLaws.{LaterTurnIsSeen, PopInReverseIsSeen, LaterEntryIsAsked, LackOfEntryIsSeen, WrongKindIsSeen, IncomparableIsSeen}
 use Rattle.btx_check.specs.CalmLaws.{LackOfVariableIsSeen, LimitsAreSeen, StepsArePromised}
 
--- the body of a function, behind the step that opens it
+-- the body of a function, after the step that opens it
 abbrev InBody : Job → ℕ → State → List Token → Type 0
 InBody job left s body = CalmInTurn (act job (suc left)) (CalmAct job (suc left)) body 1 0 left
     (record s { store = record s.store { deepest = max s.store.deepest 1 } })

@@ -234,7 +234,7 @@ module _ (a : Abstract) (i : ℕ) (below : List ℕ) (m : Mask) (to : List Abstr
       ((row built_in.NumNames).does job)) (sym st)
       (λ t e o. counted job left h.0 s t e (subst (λ (c : Value). Is left c (Text t)) di o)))
 
--- ---- `*`: of which class a string is that stands behind another
+-- ---- `*`: of which class a string is that comes after another
 
 followed_tests : (m n : Mask) (c d : Bool) → allows m (cond c White Full) ≡ true → allows n (cond d White Full) ≡ true
     → allows (followed m n) (cond (c && d) White Full) ≡ true

@@ -27,12 +27,12 @@ skip = Run (BuiltIn built_in.Skip)
 abbrev pop : Token
 pop = Run (BuiltIn built_in.Pop)
 
--- a command whose function pops an empty stack has a fault, whatever items are behind it
+-- a command whose function pops an empty stack has a fault, whatever items are after it
 abbrev pub PopIsSeen : Type 0
 PopIsSeen = (job : Job) (items : List Item) (list : List ℕ) (left : ℕ) (s : State)
     → CalmItems job (item.Execute (BuiltIn built_in.Pop) ∷ items) list (suc left) (emptied s) → ⊥
 
--- so has one that is executed for an entry, whose function's body is `skip$ pop$`: what is behind a token without a fault is asked too
+-- so has one that is executed for an entry, whose function's body is `skip$ pop$`: what is after a token without a fault is asked too
 abbrev pub PopInBodyIsSeen : Type 0
 PopInBodyIsSeen = (job : Job) (items : List Item) (entry left function : ℕ) (s : State) → slice_index_or job.style.bodies function [] ≡ skip ∷ pop ∷ []
     → CalmItems job (item.Iterate (User function) ∷ items) (entry ∷ []) (suc (suc (suc left))) (emptied s) → ⊥
@@ -42,7 +42,7 @@ abbrev pub LaterPopIsSeen : Type 0
 LaterPopIsSeen = (job : Job) (items : List Item) (list : List ℕ) (left : ℕ) (s : State)
     → CalmItems job (item.Execute (BuiltIn built_in.Skip) ∷ item.Execute (BuiltIn built_in.Pop) ∷ items) list (suc (suc left)) (emptied s) → ⊥
 
--- so has a loop whose test leaves nothing: `while$` behind `'skip$ 'skip$`
+-- so has a loop whose test leaves nothing: `while$` after `'skip$ 'skip$`
 abbrev pub LackOfTestIsSeen : Type 0
 LackOfTestIsSeen = (job : Job) (items : List Item) (list : List ℕ) (left function : ℕ) (s : State)
     → slice_index_or job.style.bodies function [] ≡ Quote (BuiltIn built_in.Skip) ∷ Quote (BuiltIn built_in.Skip) ∷ Run (BuiltIn built_in.While) ∷ []

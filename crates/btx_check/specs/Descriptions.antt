@@ -92,7 +92,7 @@ nothing m = record { missing = false; empty = m.empty; white = false; full = fal
 abbrev pub something : Mask → Mask
 something m = record { missing = false; empty = false; white = m.white; full = m.full }
 
--- the mask of a string and another one behind it
+-- the mask of a string and another one after it
 abbrev pub followed : Mask → Mask → Mask
 followed m n = record {
   missing = false;

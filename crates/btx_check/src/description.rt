@@ -126,7 +126,7 @@ impl Mask {
         }
     }
 
-    /// Such a string, and behind it one of the other mask.
+    /// Such a string, and after it one of the other mask.
     pub fn followed(self, other: Mask) -> Mask
         ensures { result ≡ followed self other }
     {

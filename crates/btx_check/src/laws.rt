@@ -1,7 +1,7 @@
 //! Laws over what is promised of a clean style, each the contract of a function that does nothing.
 ghost use Rattle.btx_check.specs.CalmLaws as law;
 
-/// A fault is seen: where a command's function pops an empty stack, behind other tokens, commands and turns, in what is chosen, in the test and the body of a
+/// A fault is seen: where a command's function pops an empty stack, after other tokens, commands and turns, in what is chosen, in the test and the body of a
 /// loop, for each entry; and each of the faults.
 pub fn faults_are_seen()
     ensures pop { law.PopIsSeen }

@@ -40,7 +40,7 @@ fn is_same(a: u64, b: u64) -> bool {
     a == b || a == 0 || b == 0
 }
 
-/// A mark, and behind it another one.
+/// A mark, and after it another one.
 pub fn mixed(mark: u64, other: u64) -> u64 {
     mark.wrapping_mul(0x9E37_79B9_7F4A_7C15).wrapping_add(other)
 }
@@ -71,7 +71,7 @@ pub(crate) fn mark_of_kind(value: Value) -> u64 {
     }
 }
 
-/// A mark, and behind it those of the numbers of names.
+/// A mark, and after it those of the numbers of names.
 pub(crate) fn mixed_names(mark: u64, numbers: &[Option<usize>]) -> u64 {
     let mut mark = mark;
     for number in numbers {

@@ -12,7 +12,7 @@ modes = record {
   now = record { ref_ptr = (0, 0); now = codes "bytes" } ∷ record { ref_ptr = (0, 0); now = codes "utf8" } ∷ [];
 }
 
--- what the command is given by the words behind its name
+-- what the command is given by the words after its name
 abbrev given : List Text → List Row
 given words = matches_of (bibtex_command modes) (codes "bibtex" ∷ words)
 

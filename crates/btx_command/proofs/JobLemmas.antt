@@ -130,7 +130,7 @@ does_with here there given given' state settings first last first' last' at_firs
 
 -- ---- the report
 
--- what holds of the report of a run holds of the one that is answered behind what followed it
+-- what holds of the report of a run holds of the one that is answered after what followed it
 ok_before : (P : Report → Type 0) (ran : Result Report RunFault) (followed : Result (Unit {0}) RunFault) (answer : Result Report RunFault)
     → answer ≡ first_fault ran followed → IfOk ran P → IfOk answer P
 ok_before P (Err fault) followed answer is h = subst (λ a. IfOk a P) (sym is) tt

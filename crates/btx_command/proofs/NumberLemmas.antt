@@ -36,7 +36,7 @@ both false b e = cc
 
 -- ---- the command's rules
 
--- the rule at a place, and JOB's behind the last
+-- the rule at a place, and JOB's after the last
 abbrev rule_at : Modes → ℕ → Rule
 rule_at modes k = slice_index_or (rules_with modes) k job_rule
 

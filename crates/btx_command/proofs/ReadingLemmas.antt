@@ -9,7 +9,7 @@ use Rattle.std.specs.Io.KnownBytes.{Consumes, IsAtEnd, ReadConsumes}
 use Rattle.std.proofs.KnownBytes.{Consumes-nil, Consumes-trans}
 use Rattle.btx_command.specs.FolderFiles.{most_read}
 
--- of a file that had `all` left and has `rest` left now, what was read stands behind `before`, and as many bytes as `left` may still be read
+-- of a file that had `all` left and has `rest` left now, what was read comes after `before`, and as many bytes as `left` may still be read
 pub record IsFront (all rest : Option (List ℕ)) (before after : List ℕ) (left : ℕ) : Type 0 where
   pub got : List ℕ
   pub appends : after ≡ before ++ got
@@ -41,7 +41,7 @@ pub piece_appended : (done : Bool) (before piece rest : List ℕ) (count : ℕ) 
 piece_appended true before piece rest count is fits = ap (λ (it : List ℕ). before ++ it) (take-append-le count piece rest fits)
 piece_appended false before piece rest count is fits = absurd (true≢false (sym is))
 
--- a file of which nothing was left behind a reading had nothing left before it, if it gave nothing
+-- a file of which nothing was left after a reading had nothing left before it, if it gave nothing
 ended_before : (rest later : Option (List ℕ)) → Consumes rest later [] → IsAtEnd later → IsAtEnd rest
 ended_before None later consumes ends = tt
 ended_before (Some xs) None consumes ends = absurd consumes

@@ -21,7 +21,7 @@ pub data Act (W : Type 0) : Type 0 where
   StoredLog : (path log : List ℕ) (kept : Failures) (stored : Result (Unit {0}) RunFault) → Act W
   -- a text was printed to standard output, or that failed
   Printed : (text : List ℕ) (printed : Result (Unit {0}) RunFault) → Act W
-  -- a text and a hint behind it, which may be empty, were reported on standard error
+  -- a text and a hint after it, which may be empty, were reported on standard error
   ReportedText : (text hint : List ℕ) → Act W
   -- a fault was reported on standard error
   ReportedFault : (fault : RunFault) → Act W
@@ -30,7 +30,7 @@ pub data Act (W : Type 0) : Type 0 where
 abbrev pub Done : Type 0 → Type 0
 Done W = List (Act W)
 
--- these acts were done, in order, behind what was done before
+-- these acts were done, in order, after what was done before
 abbrev pub WereDone : {W : Type 0} → Done W → Done W → List (Act W) → Type 0
 WereDone before after acts = after ≡ before ++ acts
 

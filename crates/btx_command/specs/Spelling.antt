@@ -13,7 +13,7 @@ abbrev pub spells_as_original : {A : Type 0} → List (String A) → Bool
 spells_as_original words =
     list_any (λ word. is_of_original (string_bytes word)) (take_while (λ word. not (bytes_eq (string_bytes word) (codes "--"))) words)
 
--- what is reported behind a mistake of these words: a line where one is spelt so, and else nothing
+-- what is reported after a mistake of these words: a line where one is spelt so, and else nothing
 abbrev pub hint_of : {A : Type 0} → List (String A) → List ℕ
 hint_of words = if spells_as_original words
     then codes "bibtex: options have two hyphens here, as in '--min-crossrefs'; the script bibtex-search takes the original's\n"

@@ -44,7 +44,7 @@ pub trait Outputs {
     fn print(&mut self, text: &[u8]) -> Result<(), RunFault>
         ensures { WereDone (acts self.old) (acts self.new) (Printed text.now result ∷ []) };
 
-    /// Prints a text on standard error, and a hint behind it. Where that can't be done, nothing is said.
+    /// Prints a text on standard error, and a hint after it. Where that can't be done, nothing is said.
     fn report_text(&mut self, text: &str, hint: &str)
         ensures { WereDone (acts self.old) (acts self.new) (ReportedText text.now hint.now ∷ []) };
 

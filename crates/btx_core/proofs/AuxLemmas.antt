@@ -233,7 +233,7 @@ module _ (file : List ℕ) (line : ℕ) where
 
 -- ---- what a line says
 
--- what is known behind a line, and what is to be read, before the file that it asks for is read
+-- what is known after a line, and what is to be read, before the file that it asks for is read
 abbrev go_on : Files → reads.Opening → List ℕ → ℕ → AuxContents × Option (List ℕ) → List AuxEvent → Draft
 go_on files op file line said rest = run files op (asked_for files op (as_draft said.0) file line said.1) rest
 
@@ -395,7 +395,7 @@ module _ (file : List ℕ) (line : ℕ) where
     by None = refl
     by (Some place) = command_whole s (take place text) (drop (place + 1) text)
 
-  -- so it goes on behind a line
+  -- so it goes on after a line
   still_whole : (s next : AuxContents) (text : List ℕ) (asked : Option (List ℕ)) → is_whole s.ending ≡ true → line_says file line s text ≡ (next, asked)
       → is_whole next.ending ≡ true
   still_whole s next text asked w e =
@@ -432,7 +432,7 @@ module _ (files : Files) where
   opening_is : (r level : ℕ) → suc r + level ≡ MOST_OPEN → level ≡ 19 - r
   opening_is r level e = omega (arith, e)
 
-  -- a file behind its opening
+  -- a file after its opening
   opened_at : (r level : ℕ) (s : AuxContents) (name text : List ℕ) → suc r + level ≡ MOST_OPEN → is_whole s.ending ≡ true → IsKnown level s name
       → within (is_too_long text) files (opened_by files r) (as_draft (opening level name s)) name text ≡ opened_by files (suc r) (as_draft s) name text
   unfolding opened_by
@@ -537,7 +537,7 @@ module _ (files : Files) where
   top_known : (top : List ℕ) → IsKnown 0 (start top) top
   top_known top z = ap (λ b. b || false) ((bytes_eq-Decides top top).1 refl)
 
-  -- what is known behind it
+  -- what is known after it
   abbrev last_of : List ℕ → List ℕ → AuxContents
   last_of top text = of_draft (opened_by files MOST_OPEN (as_draft (start top)) top text)
 

@@ -200,7 +200,7 @@ module _ (the other : Divisions) (alike : (t : NameToken) → is_von the t ≡ i
     by (inr (inl c)) = absurd (first_ends the other alike p.first q.first p.von p.last c.0 c.1 (q.von ++ q.last) c.2 c.3 h.some h.begins k.none)
     by (inr (inr c)) = absurd (first_ends other the swapped q.first p.first q.von q.last c.0 c.1 (p.von ++ p.last) c.2 c.3 k.some k.begins h.none)
 
-  -- Last begins behind the last token that isn't joined
+  -- Last begins after the last token that isn't joined
   joined_ends : (first first' last last' tokens : List NameToken) (x : NameToken) (m : List NameToken) → first' ≡ first ++ x ∷ m → last ≡ x ∷ m ++ last'
       → tokens ≡ first ++ last
       → ((left right : List NameToken) (t next : NameToken) → last ≡ left ++ t ∷ next ∷ right → t.joint ≡ Hyphen)

@@ -140,7 +140,7 @@ tokens_there text = tokens_at zero text
 
 -- ---- commas
 
--- what stands behind the front: nothing, or a byte that ends it
+-- what comes after the front: nothing, or a byte that ends it
 cut_there_by : (name front rest : List ℕ) → name ≡ front ++ rest → IsUpTo (λ b. b == byte ",") front rest → (t : Bool) → list_all is_break (drop 1 rest) ≡ t
     → IsCut name (if t then None else Some (front, drop 1 rest))
 cut_there_by name front rest e h true k = λ f r c. cut_false name front rest e h k f r c where

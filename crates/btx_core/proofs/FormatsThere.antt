@@ -35,7 +35,7 @@ record IsBalanced (text : List ℕ) : Type 0 where
 depth_join : (a b : List ℕ) → depth_of (a ++ b) ≡ fold depth_after (depth_of a) b
 depth_join a b = fold-append depth_after 0 a b
 
--- behind a text at depth 0 the depth is that of the rest
+-- after a text at depth 0 the depth is that of the rest
 behind_level : (a b : List ℕ) → depth_of a ≡ 0 → depth_of (a ++ b) ≡ depth_of b
 behind_level a b z = depth_join a b ∙ ap (λ d. fold depth_after d b) z
 
@@ -96,9 +96,9 @@ closing_front text h = ap (λ n. take n text) (full_run Closing 0 text h.none) �
 keeps : (part : PartName) (b depth : ℕ) → to_ascii_lowercase b ≡ letter_of part → depth_after depth b ≡ depth
 keeps part b depth e = letter_keeps part b depth (eq-eqb _ _ e)
 
--- ---- what stands behind the letters of a piece
+-- ---- what comes after the letters of a piece
 
--- a balanced text behind letters: perhaps a braced string, and the rest
+-- a balanced text after letters: perhaps a braced string, and the rest
 record IsTail (behind : List ℕ) (between : Option (List ℕ)) (after : List ℕ) : Type 0 where
   joined : behind ≡ text_of_between between ++ after
   can : can_be_between between after ≡ true

@@ -26,7 +26,7 @@ use Rattle.std.specs.Option.{option_map_or}
 use Rattle.std.specs.Prelude.{slice_get, is_none}
 use Rattle.btx_text.specs.language.Lists.{only_if}
 
--- the event of a step, and what is wanted behind it, where the keys of stored entries are known
+-- the event of a step, and what is wanted after it, where the keys of stored entries are known
 abbrev known_pair : DatabaseState → Step → Event × Expected
 known_pair known step = as_known (keeping.is_stored known) (step.event, step.wanted)
 

@@ -70,7 +70,7 @@ both_items items first second xs ys e f =
       mapped [] = refl
       mapped (z ∷ zs) = ap (λ (is : List Item). item_of z ∷ is) (mapped zs)
 
--- the messages of a word, and those of what stands behind it
+-- the messages of a word, and those of what comes after it
 word_before : (a : Numbers) (names : Names) (means : List ℕ → Option Function) → MeanSame a names means → (line : ℕ) (w : BodyWord) (m : Made)
     (behind : List Message) (last : List Item)
     → last ≡ (made_word names line w m).items ++ map item_of behind → last ≡ m.items ++ map item_of (wrong_in_word means line w ++ behind)
@@ -83,7 +83,7 @@ group_before : (means : List ℕ → Option Function) (inside : Parts) (m made :
     → last ≡ m.items ++ map item_of (wrong_in means inside ++ behind)
 group_before means inside m made behind last = both_items m.items made.items last (wrong_in means inside) behind
 
--- the messages of a body, behind the items before it
+-- the messages of a body, after the items before it
 pub parts_items : (a : Numbers) (names : Names) (means : List ℕ → Option Function) → MeanSame a names means → (parts : Parts) (m : Made)
     → (made_by names parts m).items ≡ m.items ++ map item_of (wrong_in means parts)
 unfolding made_by
@@ -183,7 +183,7 @@ word_adds names means functions line words.Ended m h = adds_nothing names means 
 
 -- ---- bodies
 
--- what a body comes to: its tokens behind those before, which are its words, and the functions, with the nameless ones in it
+-- what a body comes to: its tokens after those before, which are its words, and the functions, with the nameless ones in it
 pub record Comes (names : Names) (functions : List Function) (m next : Made) (body : Body) : Type 0 where
   pub all : List Function
   pub kept : Kept functions all
@@ -194,7 +194,7 @@ pub record Comes (names : Names) (functions : List Function) (m next : Made) (bo
   pub after : next.tokens ≡ m.tokens ++ tokens
   pub is_body : IsBodyOf (numbers_at names next all) tokens body
 
--- a number behind all names is that of a nameless function
+-- a number after all names is that of a nameless function
 past_names : (names : List (Option (List ℕ))) (n : ℕ) → length names ≤ n → slice_index_or names n None ≡ None
 past_names [] n h = refl
 past_names (x ∷ names) zero h = absurd (omega (arith, h))

@@ -67,7 +67,7 @@ SameTypes numbers names (Some count) types =
     (known : List ℕ → Option Function) × (types ≡ Some known)
     × ((name : List ℕ) → IsMeant numbers (option_map callee.User (type_number (Some count) (named_lower names name))) (known name))
 
--- READ stands behind as many functions at most as there are
+-- READ comes after as many functions at most as there are
 abbrev pub IsAfter : ℕ → Option ℕ → Type 0
 IsAfter most None = Unit {0}
 IsAfter most (Some count) = count ≤ most
@@ -261,7 +261,7 @@ apart_further names name f none h m g e = by (bytes_eq m name) refl where
       let d : None ≡ Some g = sym none ∙ ap built_in_of (sym is) ∙ e in
       absurd (cc)
 
--- a further name is that of no type: it is no function, or it stands behind READ
+-- a further name is that of no type: it is no function, or it comes after READ
 types_further : (a b : Numbers) (old new : named.Names) (name : List ℕ) (c : Callee) (before : Option ℕ) (types : Option (List ℕ → Option Function))
     → Extends a b → IsFurther old new name c → named_lower old name ≡ None
     → ((count : ℕ) → before ≡ Some count → type_number (Some count) (Some c) ≡ None) → SameTypes a old before types → SameTypes b new before types
@@ -289,7 +289,7 @@ Further k names name = (c : Callee) × IsFurther names (with_name k name names) 
     ≡ Some (Declared k name))
     × ((count : ℕ) → type_number (Some count) (Some c) ≡ None)
 
--- it is that of the name's place, behind the others of its kind
+-- it is that of the name's place, after the others of its kind
 further_by : (k : Kind) (names : named.Names) (name : List ℕ) (others : List (List ℕ)) (c : Callee) → IsFurther names (with_name k name names) name c
     → ((texts : List (List ℕ)) (functions : List Function) → stands_for (record { names = with_name k name names; texts = texts; functions = functions }) c
     ≡ option_map (Declared k) (slice_get (others ++ name ∷ []) (length others)))
@@ -364,7 +364,7 @@ declares k name s t h e =
       behind = h.behind;
     }
 
--- behind a list: the rest, or nothing where the list has a fault
+-- after a list: the rest, or nothing where the list has a fault
 abbrev After : Option Complaint → named.Names → Place → numbered.Rule → NumberedStyle → CommandOutcome → Type 0
 After None names to rest s o = rest (record s { names = names }) to o
 After (Some wrong) names to rest s o = o ≡ outcome (Some wrong) (record s { names = names }) to

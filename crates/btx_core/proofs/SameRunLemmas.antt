@@ -94,7 +94,7 @@ taken make (Some x) b i one apart e = ap Some (one x i (same_Some (make x) (make
 named_at : (n : List ℕ) (xs : List (List ℕ)) (i : ℕ) → position (bytes_eq n) xs ≡ Some i → slice_index_or xs i [] ≡ n
 named_at n xs i e = sym ((bytes_eq-Decides n (slice_index_or xs i [])).0 (position-Some (bytes_eq n) xs i [] e).1)
 
--- what is no built-in function, no function of the style, no field and no integer of each entry is named behind these
+-- what is no built-in function, no function of the style, no field and no integer of each entry is named after these
 behind_entry_integers : (names : Names) (n : List ℕ) (c : Callee) → ((x : BuiltIn) → callee.BuiltIn x ≡ c → ⊥) → ((x : ℕ) → callee.User x ≡ c → ⊥)
     → ((x : ℕ) → callee.Field x ≡ c → ⊥) → ((x : ℕ) → callee.EntryInteger x ≡ c → ⊥) → named_lower names n ≡ Some c
     → option_or (option_map callee.EntryString (position (bytes_eq n) names.entry_strings))

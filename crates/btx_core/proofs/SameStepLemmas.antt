@@ -81,7 +81,7 @@ counted_more : (t : Bool) (n : ℕ) → counted_if t (min n (2 ^ 64 - 1)) ≡ mi
 counted_more true n = omega arith
 counted_more false n = refl
 
--- what was written and logged is the same, behind the lines that were logged before
+-- what was written and logged is the same, after the lines that were logged before
 pub record SameWritten (before : List Line) (out : Out) (lines_ : List (List ℕ)) (pending_ : List ℕ) (log_ : List Line) : Type 0 where
   pub lines : lines_ ≡ out.lines
   pub pending : pending_ ≡ out.pending
@@ -327,7 +327,7 @@ module _ (job : NumberedJob) (style : Style) (library : Library) (h : SameJob jo
         current = w.current;
       })
 
-  -- the state behind a step that assigns nothing
+  -- the state after a step that assigns nothing
   pub behind : (S : Store) (out : Out) (frame : State) (executed : List ℕ) (a : Answer) → with_literals [] a.store ≡ with_literals [] S → Fine job h.refers a
       → Whole S → frame.executed ≡ executed → SameOut before out frame
       → SameState (state a.store (said_on job executed a.store.current a.said out)) (stacked (saying a.said a.store.current (vars frame S)) a.store)
@@ -349,7 +349,7 @@ module _ (job : NumberedJob) (style : Style) (library : Library) (h : SameJob jo
             ≡ state_of (state_of (saying words current frame) s) s
         again words current frame s = refl
 
-  -- a store in names, behind an answer
+  -- a store in names, after an answer
   abbrev now : State → Answer → Effect
   now frame a = follows a.next (stacked (saying a.said a.store.current (vars frame a.store)) a.store)
 

@@ -80,7 +80,7 @@ command_agree s t here o h g (inr k) = (
       (record { wrong = refl; style = h; place = refl }),
 )
 
--- how far the reading has come behind a command
+-- how far the reading has come after a command
 abbrev Behind : Option Complaint → CommandEnd → StyleState → Type 0
 Behind wrong e next = (t : SoFar) × (p : Place) × FollowsOn e wrong t p × SameSoFar next.style t × (p ≡ next.place)
 

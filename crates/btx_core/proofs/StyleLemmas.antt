@@ -53,7 +53,7 @@ slip_place a b p q e = cc
 took_slip : {A : Type 0} (a : A) (b : Complaint) (p q : Place) → Took a p ≡ Slip b q → ⊥
 took_slip a b p q e = absurd (cc)
 
--- what a grammar reads behind whitespace is one thing
+-- what a grammar reads after whitespace is one thing
 one_read : {A : Type 0} (R : StyleGrammar A) (r : Place → Read A) → Agrees R r → (p : Place) (x y : Read A) → BehindGap R p x → BehindGap R p y → x ≡ y
 one_read R r h p x y k l = sym ((spaced R r h).one p x k) ∙ (spaced R r h).one p y l
 

@@ -140,7 +140,7 @@ impl Search {
         Ok(())
     }
 
-    /// The numbers of what was found behind the first `before` notes, each once.
+    /// The numbers of what was found after the first `before` notes, each once.
     pub fn noted_from(&mut self, before: usize) -> Result<Vec<usize>, AllocError> {
         let mut found: Vec<usize> = Vec::new(self.work.alloc);
         if self.noted.len() <= before {

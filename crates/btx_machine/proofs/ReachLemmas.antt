@@ -84,7 +84,7 @@ module _ (whole rest next : Doing) (go : ℕ → State → Outcome) (s t : State
 module _ (whole rest next : Doing) (go : ℕ → State → Outcome) (old mid new : Work) (k taken k' : ℕ) (e : k' ≡ k + taken)
     (split : (n : ℕ) (out : Out) → rest n (state mid.store out) ≡ then_do (next n (state mid.store out)) go) (lasts : Lasts 1 next) (grows : Grows next)
     (first : Comes old mid (Reached whole rest k)) where
-  -- what holds behind the first part and of the second one holds of both
+  -- what holds after the first part and of the second one holds of both
   joined : (second both : State → State → Type 0)
       → ((s u : State) (out : Out) → Reached whole rest k s (state mid.store out) → second (state mid.store out) u → both s u)
       → Comes mid new second → Comes old new both

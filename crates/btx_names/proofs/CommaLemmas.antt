@@ -14,7 +14,7 @@ use Rattle.btx_names.specs.laws.Commas.{is_comma_at, counts_at, commas_of, comma
 use Rattle.btx_names.proofs.SeparatorLemmas.{depth_push}
 use Rattle.btx_names.specs.laws.NameParts.{is_all_breaks}
 
--- ---- a place, by what stands before and behind it
+-- ---- a place, by what stands before and after it
 
 pub comma_here : (string before : List ℕ) (b : ℕ) (bs : List ℕ) → string ≡ before ++ b ∷ bs → is_comma_at string (length before)
     ≡ (eqb (depth_of before) 0 && eqb b 44)
@@ -53,7 +53,7 @@ count_places string before (b ∷ bs) is =
 
 -- ---- the first comma
 
--- without a token behind it no comma counts
+-- without a token after it no comma counts
 pub none_counts : (depth : ℕ) (s : List ℕ) → is_all_breaks s ≡ true → commas_from depth s ≡ 0
 unfolding commas_from
 none_counts depth [] all = refl

@@ -43,7 +43,7 @@ pieces_some zero depth (b ∷ bs) = at (eqb depth 0 && is_separator (b ∷ bs)) 
   at false [] = omega arith
   at false (piece ∷ pieces) = omega arith
 
--- a slice that ends behind one byte more
+-- a slice that ends after one byte more
 slice_more : (before cur bs string : List ℕ) (b : ℕ) → string ≡ before ++ (cur ++ b ∷ bs) →
     slice_range string (length before) (length (before ++ cur) + 1) ≡ cur ++ b ∷ []
 slice_more before cur bs string b is =

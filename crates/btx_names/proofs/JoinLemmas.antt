@@ -20,7 +20,7 @@ tokens_joined mode piece between token tokens is = ap (λ text. finished mode (t
 
 -- ---- without a string between
 
--- what stands behind a token with others left is a period, if the token is abbreviated, and a tie
+-- what comes after a token with others left is a period, if the token is abbreviated, and a tie
 behind_token : (mode : TextMode) (piece : FormatPiece) (so_far : List ℕ) (joint : TokenSeparator) (left : ℕ) (is_last : Bool) → piece.between ≡ None → 0 < left
     → eqb left 1 ≡ is_last →
     between_text mode piece so_far joint left ≡ period_of piece.is_full ++ tie_of mode (so_far ++ period_of piece.is_full) joint is_last ∷ []

@@ -46,7 +46,7 @@ name_at names from = at (first_piece 0 (drop from names)) where
   at (inl h) = ([], rw (h.0, take_all (length (drop from names)) (drop from names) (omega arith)) h.1)
   at (inr h) = (pieces_from 0 0 (drop (suc (suc (suc (first_name_len 0 (drop from names))))) (drop from names)), h.1)
 
--- the names behind it
+-- the names after it
 pub names_behind : (names : List ℕ) (start len next : ℕ) → start ≤ length names → len ≡ first_name_len 0 (drop start names)
     → 3 ≤ length (drop start names) - len →
     next ≡ start + len + 3 → (next ≤ length names) × (drop 1 (names_from names start) ≡ names_from names next)
@@ -61,7 +61,7 @@ names_behind names start len next le is long to =
           ∙ ap (λ n. drop n names) e),
     )
 
--- there are none behind the last
+-- there are none after the last
 pub none_behind : (names : List ℕ) (start len : ℕ) → len ≡ first_name_len 0 (drop start names) → length (drop start names) - len < 3
     → drop 1 (names_from names start) ≡ []
 none_behind names start len is short =

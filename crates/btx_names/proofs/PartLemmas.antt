@@ -95,7 +95,7 @@ counted_first tokens place counted some le =
     let e : place - 1 + 1 ≡ place = omega arith in
     drop-set tokens (place - 1) counted (omega arith) ∙ ap (λ n. counted ∷ drop n tokens) e
 
--- one token more is counted behind
+-- one token more is counted after
 pub one_counted : (tokens : List NameToken) (place bare : ℕ) (counted : NameToken) → 0 < place → place ≤ length tokens → counted.bare_behind ≡ bare →
     lettered_of_bare (drop place tokens) ≡ 0 → lettered_in (take bare (drop place tokens)) ≡ 0 →
     lettered_of_bare (drop (place - 1) (set tokens (place - 1) counted)) ≡ 0

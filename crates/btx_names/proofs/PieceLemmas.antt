@@ -40,7 +40,7 @@ with_tokens_grows mode piece so_far (token ∷ tokens) =
 
 -- ---- a string between
 
--- what stands behind a token with others left is the string between
+-- what comes after a token with others left is the string between
 between_some : (mode : TextMode) (piece : FormatPiece) (between so_far : List ℕ) (joint : TokenSeparator) (left : ℕ) → piece.between ≡ Some between → 0 < left →
     between_text mode piece so_far joint left ≡ between
 unfolding between_text
@@ -49,7 +49,7 @@ between_some mode piece between so_far joint left is some = at (eqb left 0) refl
   at true none = let zero_left : left ≡ 0 = eqb-true left 0 none in absurd (omega arith)
   at false none = rw is refl
 
--- behind the last token stands nothing
+-- after the last token stands nothing
 between_none : (mode : TextMode) (piece : FormatPiece) (so_far : List ℕ) (joint : TokenSeparator) → between_text mode piece so_far joint 0 ≡ []
 unfolding between_text
 between_none mode piece so_far joint = refl
@@ -77,7 +77,7 @@ joined mode piece between so_far (token ∷ next ∷ tokens) is =
 
 -- ---- token by token
 
--- one turn: a token is added, and what stands behind it
+-- one turn: a token is added, and what comes after it
 pub one_token_more : (mode : TextMode) (piece : FormatPiece) (start : ℕ) (old mid new before : List ℕ) (token : NameToken) (tokens all : List NameToken) →
     start ≤ length old → take start old ≡ before → mid ≡ old ++ shown mode piece.is_full token.text →
     new ≡ mid ++ between_text mode piece (drop start mid) token.joint (length tokens) → all ≡ token ∷ tokens →
@@ -94,7 +94,7 @@ one_token_more mode piece start old mid new before token tokens all le front fir
       rw (rest', is) (sym (with_tokens_cons mode piece (drop start old) token tokens)),
     )
 
--- what a piece comes to is at least as long as its text so far, with one more token and what stands behind it
+-- what a piece comes to is at least as long as its text so far, with one more token and what comes after it
 pub grows_by_token : (mode : TextMode) (piece : FormatPiece) (start : ℕ) (text before : List ℕ) (token : NameToken) (tokens all : List NameToken)
     → start ≤ length text → take start text ≡ before →
     all ≡ token ∷ tokens →
@@ -181,7 +181,7 @@ unfolding piece_text
 piece_of_some mode piece [] some = absurd (omega arith)
 piece_of_some mode piece (token ∷ tokens) some = refl
 
--- a text behind another one
+-- a text after another one
 behind : (old more : List ℕ) (start : ℕ) → start ≡ length old → (take start (old ++ more) ≡ old) × (drop start (old ++ more) ≡ more)
 behind old more start is = (take_at old more start (sym is), drop_at old more start (sym is))
 

@@ -346,7 +346,7 @@ places_second name rest zero first second some h = absurd (omega (arith, some))
 places_second name rest (suc zero) first second some h = absurd (omega (arith, some))
 places_second name rest (suc (suc n)) first second some h = h.1
 
--- behind a comma there are no more tokens
+-- after a comma there are no more tokens
 behind_le : (s : List ℕ) → length (tokens_of (behind_comma s)) ≤ length (tokens_of s)
 behind_le s = at (cases_lt (run_len Comma 0 s) (length s)) where
   at : (run_len Comma 0 s < length s) ⊎ (length s ≤ run_len Comma 0 s) → length (tokens_of (behind_comma s)) ≤ length (tokens_of s)
@@ -386,7 +386,7 @@ pub record AreSections (sections : Sections) (all : List NameToken) (followed fi
   pub surname : cond (ltb 0 followed) first (length all) ≡ length (tokens_of (surname_of sections))
   pub jr : cond (ltb 1 followed) (second - first) 0 ≡ length (tokens_of (jr_of sections))
 
--- a cut is behind the first comma
+-- a cut is after the first comma
 cut_behind : (s : List ℕ) (cut : List ℕ × List ℕ) → split_at_comma s ≡ Some cut → cut.1 ≡ behind_comma s
 unfolding split_at_comma
 cut_behind s cut is = at (is_all_breaks (drop (size + 1) s)) is where

@@ -23,7 +23,7 @@ further_at [] h i lt = absurd (omega arith)
 further_at (b ∷ bs) h zero lt = further_high b (and_parts _ _ h).0
 further_at (b ∷ bs) h (suc i) lt = further_at bs (and_parts _ _ h).1 i (omega arith)
 
--- behind the first byte of a sequence no byte is below 128
+-- after the first byte of a sequence no byte is below 128
 sequence_at : (t : List ℕ) → is_sequence t ≡ true → (i : ℕ) → 0 < i → i < length t → 128 ≤ get_or t i 0
 unfolding is_sequence
 sequence_at [] h i some lt = absurd (omega arith)
@@ -231,7 +231,7 @@ long_behind_space mode start text new more joint is_last tie le is space added =
     let long : is_short mode (drop start text) ≡ false = space_is_long mode (drop start text) joint is_last (sym is ∙ space) in
     rw (added, drop-append-le start text (tie ∷ []) le, append_assoc (drop start text) (tie ∷ []) more) (stays_long mode (drop start text) tie more low long)
 
--- a text that stays long does so with more behind it
+-- a text that stays long does so with more after it
 pub still_long : (mode : TextMode) (start : ℕ) (old word new : List ℕ) → start ≤ length old → new ≡ old ++ word →
     ((more : List ℕ) → is_short mode (drop start old ++ more) ≡ false) → (more : List ℕ) → is_short mode (drop start new ++ more) ≡ false
 still_long mode start old word new le is long more =

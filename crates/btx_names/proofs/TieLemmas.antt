@@ -8,7 +8,7 @@ use Rattle.btx_names.specs.language.FormattedNames.{ends_in_tie, without_last_by
 
 pub ruleset short_steps = (lt-ltb, le-ltb)
 
--- a list without its last element, behind a beginning
+-- a list without its last element, after a beginning
 front_cut : (text : List ℕ) (start : ℕ) → start < length text → take (length text - 1) text ≡ take start text ++ without_last_byte (drop start text)
 front_cut text start lt =
     let len = length-drop start text in

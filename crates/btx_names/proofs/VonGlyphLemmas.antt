@@ -39,7 +39,7 @@ no_letter b bs none = at (is_alpha b) refl where
   at true is = let more : length (take_while is_alpha (b ∷ bs)) ≡ suc (length (take_while is_alpha bs)) =
       ap length (take_while-cons is_alpha b bs) ∙ rw is refl in absurd (omega (arith, none, more))
 
--- a sequence of one byte that is no letter isn't foreign, and the first letter stands behind it
+-- a sequence of one byte that is no letter isn't foreign, and the first letter comes after it
 one_byte : (b : ℕ) (bs : List ℕ) → is_alpha b ≡ false → says (b ∷ []) (b ∷ bs) ≡ begins_lower (b ∷ bs)
 unfolding letters_of
 one_byte b bs other =

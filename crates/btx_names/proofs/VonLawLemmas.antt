@@ -99,7 +99,7 @@ last_passes test (first ∷ tokens) front final is =
           let rest : take (suc n) tokens ≡ front ++ final ∷ [] = cc in
           more front (rw count rest)
 
--- those behind it fail
+-- those after it fail
 rest_fails : (test : TokenTest) (tokens : List NameToken) → list_all (λ token. not (passes test token)) (drop (up_to_last (passes test) tokens) tokens) ≡ true
 unfolding up_to_last
 rest_fails test [] = refl

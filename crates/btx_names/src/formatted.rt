@@ -97,7 +97,7 @@ fn write_legal(writer: &mut Writer, name: &KeptName, format: &[u8]) -> Result<bo
     }
 }
 
-// Writes a name in a format, which is read once; false where an illegal item is met, which may stand behind too long a text.
+// Writes a name in a format, which is read once; false where an illegal item is met, which may come after too long a text.
 fn write_until_illegal(writer: &mut Writer, name: &KeptName, format: &[u8]) -> Result<bool, Fault>
     requires { writer.old.text.items ≡ [] }
     ensures { WritesUntilIllegal greatest_string (is_legal format.now) result writer.new.text.items

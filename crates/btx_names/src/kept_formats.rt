@@ -53,7 +53,7 @@ pub struct KeptFormats {
     // How many are kept at most.
     most: usize,
     formats: Vec<KeptFormat>,
-    // The index behind the format that was found last.
+    // The index after the format that was found last.
     next: usize,
 }
 
@@ -77,7 +77,7 @@ impl KeptFormats {
         Some(&self.formats[at])
     }
 
-    // The index of a format, if it is kept. The one behind the format that was found last is looked at first: a style mostly asks for a name in
+    // The index of a format, if it is kept. The one after the format that was found last is looked at first: a style mostly asks for a name in
     // several formats, always in the same order.
     fn position(&self, format: &[u8]) -> Option<usize>
         ensures { IfSome result (λ at. IsSomeAnd (slice_get self.now.formats.items at) (λ kept. kept.text.items ≡ format.now)) }

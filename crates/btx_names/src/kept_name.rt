@@ -220,7 +220,7 @@ fn name_start(names: &[u8], from: usize, left: usize) -> Option<usize>
     Some(start)
 }
 
-// Where the name behind the one that begins at a place begins, if there is one.
+// Where the name after the one that begins at a place begins, if there is one.
 fn next_start(names: &[u8], start: usize) -> Option<usize>
     requires { start ≤ length names.now }
     ensures { MatchOption result (drop 1 (names_from names.now start) ≡ [])
@@ -230,7 +230,7 @@ fn next_start(names: &[u8], start: usize) -> Option<usize>
     start_behind(names, Place { from: start, len })
 }
 
-// Where the name behind the one of a place begins, if there is one.
+// Where the name after the one of a place begins, if there is one.
 fn start_behind(names: &[u8], place: Place) -> Option<usize>
     requires inside { place.from ≤ length names.now }
     requires measured { place.len ≡ first_name_len 0 (drop place.from names.now) }

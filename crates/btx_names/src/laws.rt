@@ -77,7 +77,7 @@ pub fn hyphens_join_to_last()
 {}
 
 /// What a special character says of von is its first control sequence's, as its glyphs show: a foreign letter by its own case, any other by
-/// the first letter behind it.
+/// the first letter after it.
 #[tactic(auto, using(crate::proofs::VonGlyphLemmas::special_by_glyphs))]
 pub fn first_control_sequence_decides()
     ensures { (token : List ℕ) (left : List Element) (special : Element) (right : List Element) →

@@ -12,6 +12,6 @@ pub struct NameToken {
     pub joint: TokenSeparator,
     /// Its bytes from where its abbreviation begins; none, where it has none.
     pub lettered: Place,
-    /// How many tokens directly behind it have no abbreviation.
+    /// How many tokens directly after it have no abbreviation.
     pub bare_behind: usize,
 }

@@ -117,7 +117,7 @@ fn push_shown(
     writer.push(initial_of(bytes, token, writer.mode()))
 }
 
-// Adds what stands behind a token, with how many are left.
+// Adds what comes after a token, with how many are left.
 #[tactic(auto, unfolding(crate::specs::language::FormattedNames::between_text))]
 fn push_between(
     writer: &mut Writer,

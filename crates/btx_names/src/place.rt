@@ -12,7 +12,7 @@ pub struct Place {
 }
 
 impl Place {
-    /// The bytes at this place. What of it lies behind the end has none.
+    /// The bytes at this place. What of it lies after the end has none.
     #[tactic(auto, using(crate::proofs::PlaceLemmas::place_steps))]
     pub fn of(self, bytes: &[u8]) -> &[u8]
         ensures { result.now ≡ bytes_at bytes.now self }

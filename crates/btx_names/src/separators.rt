@@ -8,7 +8,7 @@ ghost use Rattle.std.specs.Int.{is_in_range};
 use btx_text::classify::is_white;
 use btx_text::depths::depth_after;
 
-// Whether `and` in any case stands behind the first byte of a text.
+// Whether `and` in any case comes after the first byte of a text.
 fn has_and(text: &[u8]) -> bool
     requires { 4 ≤ length text.now }
     ensures { result ≡ (part.is_letter 97 (slice_index text.now 1) && part.is_letter 110 (slice_index text.now 2)

@@ -50,7 +50,7 @@ impl TokenList {
     }
 }
 
-// Counts behind each token those that have no abbreviation.
+// Counts after each token those that have no abbreviation.
 fn count_bare(tokens: &mut [NameToken])
     ensures tokens { (bytes : List ℕ) → tokens_in bytes tokens.new ≡ tokens_in bytes tokens.old }
     ensures held { (bytes : List ℕ) → All (Hold bytes) tokens.old → All (Hold bytes) tokens.new }

@@ -68,7 +68,7 @@ impl Writer {
         self.start = self.text.len();
     }
 
-    /// Adds bytes, unless the text would grow too long. Most pieces have none before their tokens, and none behind them.
+    /// Adds bytes, unless the text would grow too long. Most pieces have none before their tokens, and none after them.
     pub fn push(&mut self, bytes: &[u8]) -> Result<(), Fault>
         ensures text { Becomes (greatest_string + 1) result self.new.text.items (self.old.text.items ++ bytes.now) }
         ensures start { self.new.start ≡ self.old.start }
@@ -99,7 +99,7 @@ impl Writer {
         Ok(())
     }
 
-    // What joins a token to the next, behind the piece so far.
+    // What joins a token to the next, after the piece so far.
     fn tie_of(&self, joint: TokenSeparator, is_last: bool) -> u8
         ensures { result ≡ spec.tie_of self.now.mode (drop self.now.start self.now.text.items) joint is_last }
     {

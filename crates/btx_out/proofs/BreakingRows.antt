@@ -5,7 +5,7 @@ use Rattle.btx_out.specs.language.Breakers.{written_at_end}
 use Rattle.btx_out.specs.language.Breaking.{wrap, committed, skip_white, till_white, from_white, last_white, break_of, cut_within, cut_of}
 use Rattle.btx_out.specs.laws.Breaking.{left, Collecting, Passing, Swallowing}
 
--- the whitespace behind a full line breaks it
+-- the whitespace after a full line breaks it
 broken_at_limit : wrap 79 (replicate 79 97 ++ codes " b") ≡ replicate 79 97 ++ 10 ∷ codes "  b" ++ 10 ∷ []
 unfolding trimmed skip_white till_white from_white last_white break_of cut_within cut_of
 broken_at_limit = refl

@@ -85,7 +85,7 @@ kept_line text kept at inside is either =
     (λ some. let some' : length (trimmed (take at text)) ≡ 0 → ⊥ = rw is at some in
     rw is (sym (line_kept (take at text) (λ none. some' (let le = front.0 in omega arith)) some'))) either)
 
--- what stands behind the index stays
+-- what comes after the index stays
 pub kept_rest : (text kept : List ℕ) (at : ℕ) → at < length text → kept ≡ trimmed (take at text) → drop (at + 1) (set text (length kept) 10)
     ≡ drop (at + 1) text
 kept_rest text kept at inside is = let within = kept_within text kept at inside is in drop-set-lt (at + 1) text (length kept) 10 (omega arith)
@@ -98,7 +98,7 @@ kept_none text kept at inside is none some =
 
 -- ---- what goes on after a break
 
--- two spaces before what stands behind an index
+-- two spaces before what comes after an index
 spaced : (text : List ℕ) (start : ℕ) → start + 1 < length text → drop start (set (set text start 32) (start + 1) 32) ≡ indented (drop (start + 2) text)
 spaced text start inside =
     let first = drop-set text start 32 (omega arith) in

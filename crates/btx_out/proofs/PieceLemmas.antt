@@ -13,7 +13,7 @@ Appends-kept (Some x) None c bs p q = absurd p
 Appends-kept (Some x) (Some y) None bs p q = absurd q
 Appends-kept (Some x) (Some y) (Some z) bs p q = q ∙ p
 
--- the first `at` bytes, and then n of the slice behind them, `&bs[at..]`
+-- the first `at` bytes, and then n of the slice after them, `&bs[at..]`
 pub Appends-take_more : (a b c : Option (List ℕ)) (at n : ℕ) (bs : List ℕ) → Appends a b (take at bs)
     → Appends b c (take n (take (length bs - at) (drop at bs))) → Appends a c (take (at + n) bs)
 Appends-take_more a b c at n bs p q =

@@ -24,7 +24,7 @@ use btx_text::classify::is_white;
 use btx_text::trimming::without_trailing_white;
 use std::marker::Model;
 
-// The bytes of a line that may still be broken. The longest line is one byte shorter: byte 10 stands behind it when it is written.
+// The bytes of a line that may still be broken. The longest line is one byte shorter: byte 10 comes after it when it is written.
 type Kept = ArrayVec<u8, 1001>;
 
 // The lines that become sure by one call, gathered so that one write takes them. There is room for the longest line.
@@ -51,7 +51,7 @@ struct Next<'a> {
     rest: &'a [u8],
 }
 
-// Puts byte 10 behind the line that stands before an index, where the byte is no longer needed, and answers the length of both, or 0 for
+// Puts byte 10 after the line that stands before an index, where the byte is no longer needed, and answers the length of both, or 0 for
 // a line of whitespace alone.
 fn end_line(text: &mut [u8], at: usize) -> usize
     requires { at < length text.old }
@@ -67,7 +67,7 @@ fn end_line(text: &mut [u8], at: usize) -> usize
     kept + 1
 }
 
-// Moves what stands after an index to the front, behind two spaces, and answers the length of both.
+// Moves what stands after an index to the front, after two spaces, and answers the length of both.
 fn carry_over(text: &mut [u8], at: usize) -> usize
     requires inside { at < length text.old }
     requires room { 0 < at }
@@ -146,7 +146,7 @@ fn white_len(bytes: &[u8]) -> usize
     bytes.iter().take_while(|byte| is_white(**byte)).count()
 }
 
-// What stands behind the whitespace at the front.
+// What comes after the whitespace at the front.
 fn after_white(bytes: &[u8]) -> &[u8]
     ensures { result.now ≡ skip_white bytes.now }
 {
@@ -275,7 +275,7 @@ fn pass<'a, W: Sink>(bytes: &'a [u8], sink: &mut W) -> Result<Next<'a>, Fault>
     })
 }
 
-// Drops the whitespace at the front. What follows it goes on behind two spaces. Answers what is done with the bytes that are left.
+// Drops the whitespace at the front. What follows it goes on after two spaces. Answers what is done with the bytes that are left.
 fn swallow<'a>(line: &mut Kept, bytes: &'a [u8]) -> Next<'a>
     requires some { 0 < length bytes.now }
     ensures goes_on { (line_length : ℕ) (received : Option (List ℕ)) →

@@ -27,7 +27,7 @@ pub fn table()
         break_of line_length t ≡ Broken is_past head [] →
         (wrap line_length t ≡ written_line head) × (committed line_length t ≡ written_line head)
         × (left line_length t ≡ (if is_past then Swallowing else Collecting (indented []))) }
-    // A longer one that goes on after its break, behind two spaces.
+    // A longer one that goes on after its break, after two spaces.
     ensures goes_on { (line_length : ℕ) (t head rest : List ℕ) (b : ℕ) (is_past : Bool) → IsLineLength line_length → line_length < length t →
         break_of line_length t ≡ Broken is_past head (b ∷ rest) →
         let more = indented (b ∷ rest) in

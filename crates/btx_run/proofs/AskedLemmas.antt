@@ -46,7 +46,7 @@ pub among-one : (name : List ℕ) (names : Names) → names ≡ name ∷ [] → 
 unfolding AreAmong
 among-one name names is = subst (λ (names : Names). AreAmong names (name ∷ [])) (sym is) (inl (refl, tt))
 
--- a name that was asked for, and some of those behind it
+-- a name that was asked for, and some of those after it
 pub among-first : (name : List ℕ) (all : Names) (xs ys : Names) → xs ≡ name ∷ [] → AreAmong ys all → AreAmong (xs ++ ys) (name ∷ all)
 among-first name all xs ys is among = among-both xs ys (name ∷ []) all (among-one name xs is) among
 

@@ -122,7 +122,7 @@ fails_early b l m answered report budget is part = record { prefixes = begins; l
     begins : BothBegin (b, l) (b, m) (product_early report)
     begins = record { bbl_begins = prefix-none_same b []; log_begins = subst (λ report. AppendsPrefix l m (ended_line (last_line report))) is part }
 
--- ---- behind the lines that were logged before
+-- ---- after the lines that were logged before
 
 module _ (lines : List Line) (b c l m n : Option (List ℕ)) (lines_logged : Appends l m (bytes_of_lines lines)) where
   pub completes_behind : (report : Report) (whole : Product) → Completes report (b, m) (c, n) whole → Completes report (b, l) (c, n) (logged_before lines whole)
@@ -180,7 +180,7 @@ fails_in_lines lines b l m make budget part = record { prefixes = begins budget;
     begins : (steps : ℕ) → BothBegin (b, l) (b, m) (logged_before lines (make steps))
     begins steps = record { bbl_begins = prefix-none_same b _; log_begins = prefix-longer l m _ _ (prefix-longer l m _ _ part) }
 
--- ---- behind the reading of the files
+-- ---- after the reading of the files
 
 -- what was logged, by the counts of its lines
 pub counts_of_lines : (warnings errors : ℕ) (first counts : LogCounts) (log : Received) (lines : List Line)
@@ -217,7 +217,7 @@ module _ (job : AuxJob) (options : Options) (read : FilesRead) (given : LogCount
 pub behind_ends : {A : Type 0} (P : A → A → Type 0) (l l' n n' : A) → l ≡ l' → n ≡ n' → P l n → P l' n'
 behind_ends P l l' n n' begins ends p = subst (P l') ends (subst (λ l. P l n) begins p)
 
--- ---- behind the `.aux` files
+-- ---- after the `.aux` files
 
 module _ (name : List ℕ) (options : Options) (a z : Received) (job : AuxJob) where
   pub completes_named : (report : Report) (files : Files) → job ≡ job_named files name

@@ -254,7 +254,7 @@ pub fn run<F: Finder, W: Sink, L: Sink>(
     ensures direct { IfOk result (λ report. IfSome (F.content finder.old) (λ files.
         WhereDirect (reading_of files name.now).gives (λ functions. StaysWithin functions report))) }
 
-    // After a fault both outputs are prefixes of the product's, and keep step; the log's last line is begun only behind the whole list.
+    // After a fault both outputs are prefixes of the product's, and keep step; the log's last line is begun only after the whole list.
     // The device's fault is answered exactly where one of the three counts of failures rose, by one, and the call that failed is then the last of its device.
     ensures fault { OnErr result (IfSome (F.content finder.old) (λ files.
         AtFault (W.received bbl.old, L.received log.old) (W.received bbl.new, L.received log.new)
@@ -315,7 +315,7 @@ pub fn run_noted<F: Finder, W: Sink, L: Sink, N: Notebook>(
     ensures direct { IfOk result (λ report. IfSome (F.content finder.old) (λ files.
         WhereDirect (reading_of files name.now).gives (λ functions. StaysWithin functions report))) }
 
-    // After a fault both outputs are prefixes of the product's, and keep step; the log's last line is begun only behind the whole list.
+    // After a fault both outputs are prefixes of the product's, and keep step; the log's last line is begun only after the whole list.
     // The device's fault is answered exactly where one of the three counts of failures rose, by one, and the call that failed is then the last of its device.
     ensures fault { OnErr result (IfSome (F.content finder.old) (λ files.
         AtFault (W.received bbl.old, L.received log.old) (W.received bbl.new, L.received log.new)

@@ -229,7 +229,7 @@ const WARNING: &[u8] =
 const WARNED: &[u8] =
     b"The top-level auxiliary file: job.aux\nThe style file: s.bst\nDatabase file #1: d.bib\nWarning--w\n";
 
-// What the `.bbl` holds where the log broke off behind `log` bytes.
+// What the `.bbl` holds where the log broke off after `log` bytes.
 fn list_behind(log: usize) -> &'static [u8] {
     if log < FOUND.len() {
         b""
@@ -347,7 +347,7 @@ const FETCHING: [Fetching; 5] = [
     },
 ];
 
-// Whether a run ended so whose finder fails at one fetch, or behind the last: the list is begun behind the last fetch alone.
+// Whether a run ended so whose finder fails at one fetch, or after the last: the list is begun after the last fetch alone.
 fn is_fetched(tried: &Tried, row: &Fetching, fails_at: u64) -> bool {
     if fails_at < row.count {
         tried.answer == Err(RunFault::Device)

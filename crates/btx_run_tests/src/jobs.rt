@@ -177,7 +177,7 @@ fn last_line(alloc: Global, report: &Report) -> Result<String, AllocError> {
     format!(in alloc; "Ended: {words}, warnings {warnings}, errors {errors}, steps {steps}\n")
 }
 
-// What of a text is behind these pieces; None if it doesn't begin so.
+// What of a text is after these pieces; None if it doesn't begin so.
 fn behind<'a>(text: &'a [u8], pieces: &[&[u8]]) -> Option<&'a [u8]> {
     let mut rest = text;
     for piece in pieces {

@@ -86,7 +86,7 @@ fn takes_steps(rt: HostRuntime) -> Result<(), Fail> {
     bodies_end(&rt, &BODIES)
 }
 
-// A string that is written behind a front and ends its line, a budget, the `.bbl`, and how the run ends. The string and the `.bbl` are as `text_of` takes them.
+// A string that is written after a front and ends its line, a budget, the `.bbl`, and how the run ends. The string and the `.bbl` are as `text_of` takes them.
 #[derive(Clone, Copy)]
 struct Writing<'a> {
     front: &'a [u8],
@@ -265,7 +265,7 @@ fn takes_the_ending_of_a_job(rt: HostRuntime) -> Result<(), Fail> {
 // A top file, what the log has of what is wrong in it, and how many errors that is.
 type Wrong = (&'static [u8], &'static [u8], u64);
 
-// What such jobs have in common: the database, the list, what the log has behind what is wrong, and how many steps are taken, with how many bodies open at
+// What such jobs have in common: the database, the list, what the log has after what is wrong, and how many steps are taken, with how many bodies open at
 // once.
 #[derive(Clone, Copy)]
 struct Common {
@@ -386,7 +386,7 @@ fn ends_without_a_style(rt: HostRuntime) -> Result<(), Fail> {
     all_finish(&rt, &WITHOUT_STYLE, NOT_RUN)
 }
 
-// The base job's top file behind a line that inputs another file.
+// The base job's top file after a line that inputs another file.
 const THROUGH_A: &[u8] = b"\\@input{a.aux}\n\\citation{k}\n\\bibdata{d}\n\\bibstyle{s}\n";
 
 const THROUGH_F1: &[u8] = b"\\@input{f1.aux}\n\\citation{k}\n\\bibdata{d}\n\\bibstyle{s}\n";
@@ -434,7 +434,7 @@ const CHAIN: [File<'static>; 23] = [
     (b"f20.aux", b"\\@input{f21.aux}\n"),
 ];
 
-// The log's lines for the top file and the nineteen files behind it.
+// The log's lines for the top file and the nineteen files after it.
 const TWENTY_FOUND: &[u8] = b"The top-level auxiliary file: job.aux\n\
 A level-1 auxiliary file: f1.aux\n\
 A level-2 auxiliary file: f2.aux\n\

@@ -46,7 +46,7 @@ under (v ∷ below) (suc d) pool s =
           ∙ ap (contents_of (drop d below)) (take-take (end_of below d v.start) v.start pool w);
     }
 
--- an item and those behind it
+-- an item and those after it
 pub rest_is : {X : Type 0} (xs ys : List X) (x : X) (d : ℕ) → drop d xs ≡ x ∷ ys → drop d xs ≡ x ∷ drop (d + 1) xs
 rest_is xs ys x d e = e ∙ ap (λ zs. x ∷ zs) (sym (sym (drop-drop 1 d xs) ∙ ap (drop 1) e))
 

@@ -1,4 +1,4 @@
-//! The pool: the bytes of the strings that were made, one behind another, those of the top one at the end.
+//! The pool: the bytes of the strings that were made, one after another, those of the top one at the end.
 ghost use Rattle.std.specs.Prelude.{◌≡◌, ◌≤◌, ◌+◌, ◌++◌, if◌then◌else◌, take, drop, length, vec_len};
 ghost use Rattle.std.specs.Result.{is_ok};
 
@@ -16,7 +16,7 @@ pub fn put_before(pool: &mut Vec<u8>, start: usize, bytes: &[u8]) -> Result<(), 
     Ok(())
 }
 
-/// Appends `bytes`, and `more` behind them. Where memory is refused, nothing changes.
+/// Appends `bytes`, and `more` after them. Where memory is refused, nothing changes.
 pub fn append_two(pool: &mut Vec<u8>, bytes: &[u8], more: &[u8]) -> Result<(), AllocError>
     ensures { pool.new.items ≡ (if is_ok result then pool.old.items ++ (bytes.now ++ more.now) else pool.old.items) }
 {

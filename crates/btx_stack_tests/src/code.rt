@@ -19,7 +19,7 @@ fn begins(code: &Code, function: usize, first: Token, second: Token) -> bool {
     first_two(code, function) == (first, second)
 }
 
-// Whether the bodies of the style begin so, and each of the two places behind them is an end.
+// Whether the bodies of the style begin so, and each of the two places after them is an end.
 fn is_code(code: &Code) -> bool {
     let write = Token::Run(Callee::BuiltIn(BuiltIn::Write));
     let quoted = Token::Quote(Callee::User(0));

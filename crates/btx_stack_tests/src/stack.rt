@@ -87,7 +87,7 @@ fn call_all<'a>(alloc: Global, stack: &mut Literals<'a>, word: &[u8]) -> Result<
     Ok(())
 }
 
-// Shows a number behind these bytes.
+// Shows a number after these bytes.
 fn show_number(
     alloc: Global,
     shown: &mut Vec<u8>,

@@ -1,4 +1,4 @@
--- The variables of all entries, those of an entry behind those of the one before it.
+-- The variables of all entries, those of an entry after those of the one before it.
 use Rattle.std.proofs.Common.{◌≡◌, ℕ, zero, suc, ◌+◌, ◌-◌, ◌*◌, ◌<◌, ◌≤◌, ◌^◌, ◌⊎◌, inl, inr, List, [], ◌∷◌, length, take, drop, replicate, get_or, slice_get}
 use Rattle.std.proofs.Common.{slice_set, unwrap_or, ℤ, pos, FitsSigned, w32, to_z, of_z, refl, sym, ap, ◌∙◌, arith, suc-mul, zero-mul}
 use Rattle.std.proofs.lemmas.List.{drop-drop, drop-replicate, drop-set-add, drop-set-lt, get_or-drop, get_or-take, length-take, set-set, set_past}
@@ -98,7 +98,7 @@ string_nowhere n i s xs ts e j (inr le) = string-past n i s xs ts e j le
 -- ---- what is written
 
 module _ {X : Type 0} where
-  -- an element behind the first part is one of the rest
+  -- an element after the first part is one of the rest
   past-first : (k e j : ℕ) (xs : List X) (v : X) → drop k (slice_set xs (suc e * k + j) v) ≡ slice_set (drop k xs) (e * k + j) v
   past-first k e j xs v = let at : suc e * k + j ≡ k + (e * k + j) = omega (arith, suc-mul e k) in ap (λ n. drop k (slice_set xs n v)) at
       ∙ drop-set-add k xs (e * k + j) v

@@ -156,7 +156,7 @@ fn push_too_many_commas(text: &mut Vec<u8>, number: i32, names: &Text<'_>) -> Re
     push_numbered(text, number, b" of \"", names, b"\"")
 }
 
-// Appends a string behind a quotation mark, and a piece, which begins with the other mark.
+// Appends a string after a quotation mark, and a piece, which begins with the other mark.
 fn push_quoted(text: &mut Vec<u8>, shown: &Text<'_>, after: &[u8]) -> Result<(), AllocError>
     ensures { OnOk result (text.new.items ≡ text.old.items ++ (codes "\"" ++ shown.now ++ after.now)) }
 {

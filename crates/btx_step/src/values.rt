@@ -11,7 +11,7 @@ use std::alloc::{AllocError, Global};
 use std::marker::Model;
 use std::mem;
 
-/// The values of the variables of all entries, those of an entry behind those of the one before it.
+/// The values of the variables of all entries, those of an entry after those of the one before it.
 #[derive(Drop)]
 pub struct EntryValues<'a> {
     entries: usize,

@@ -31,7 +31,7 @@ plain_in_block s i room fits none all k from to =
     sym (ap (λ (t : Bool). t || is_case_plain (get_or s k 0)) clear) ∙ agree_below_at (λ b. top 7 (lane b) || is_case_plain b) (λ _. true) 256 (get_or s k 0)
     all (fits k).fits
 
--- blocks that are plain, and the run behind them
+-- blocks that are plain, and the run after them
 run_on : (s : List ℕ) (n : ℕ) → ArePlain s 0 n → n ≤ length s → n + prefix_len is_case_plain (drop n s) ≡ prefix_len is_case_plain s
 run_on s zero plain le = omega arith
 run_on [] (suc n) plain le = absurd (omega arith)

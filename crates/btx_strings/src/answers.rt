@@ -67,7 +67,7 @@ impl Answer {
         })
     }
 
-    // A text with a byte behind it, this number of times, without complaints, or [`Fault::StringLimit`] where that is too long.
+    // A text with a byte after it, this number of times, without complaints, or [`Fault::StringLimit`] where that is too long.
     pub(crate) fn extended(
         alloc: Global,
         text: &[u8],

@@ -16,7 +16,7 @@ pub enum Glyph<'a> {
     Plain(u8),
 }
 
-// The control sequences with which the whitespace directly behind them goes.
+// The control sequences with which the whitespace directly after them goes.
 #[derive(Clone, Copy)]
 pub(crate) enum Sequences {
     // All of them.
@@ -66,7 +66,7 @@ impl<'a> Glyphs<'a> {
 impl<'a> Glyph<'a> {
     ghost use Rattle.btx_strings.specs.refinement.Glyphs.{glyph_of, gone_after, is_of};
 
-    // Whether whitespace behind this glyph goes; `gone` says whether whitespace before it went. Behind a control sequence of `sequences` it goes.
+    // Whether whitespace after this glyph goes; `gone` says whether whitespace before it went. After a control sequence of `sequences` it goes.
     pub(crate) fn is_white_gone(self, gone: bool, sequences: Sequences) -> bool
         ensures { result ≡ gone_after (is_of sequences) gone (glyph_of self.entry) }
     {

@@ -27,7 +27,7 @@ pub fn title_beginnings()
         IsTrue (begins_title before) ↔ ((before ≡ []) ⊎ EndInColonAndWhite before) }
 {}
 
-/// What is left of each foreign control sequence, and of others, in a purified form, and their widths; whitespace behind a control sequence has none.
+/// What is left of each foreign control sequence, and of others, in a purified form, and their widths; whitespace after a control sequence has none.
 pub fn worked_specials_come_to_this()
     ensures { AreSpecials specials }
 {}

@@ -65,7 +65,7 @@ fn add_line(output: &mut Vec<u8>, line: &[u8]) -> Result<(), AllocError> {
     output.extend_from_slice(b"\n")
 }
 
-// Takes the first line off a text that is longer than a line, and adds it to what is sure: the rest behind two spaces, or nothing if no rest
+// Takes the first line off a text that is longer than a line, and adds it to what is sure: the rest after two spaces, or nothing if no rest
 // is left. A text that can't be broken is sure as a whole.
 fn take_line(
     alloc: Global,
@@ -109,7 +109,7 @@ struct Texts<'a> {
     lines: &'a [u8],
 }
 
-// What is asked of a breaker, or what has been written behind that.
+// What is asked of a breaker, or what has been written after that.
 #[derive(Clone, Copy)]
 enum Step<'a> {
     Put(&'a [u8]),
@@ -145,7 +145,7 @@ fn is_sure(alloc: Global, texts: &Texts<'_>, taken: usize, written: usize) -> bo
     }
 }
 
-// Whether what is sure stands there behind each piece.
+// Whether what is sure stands there after each piece.
 fn pieces_hold(
     alloc: Global,
     texts: &Texts<'_>,
@@ -378,7 +378,7 @@ fn do_steps(alloc: Global, line_length: u32, steps: &[Step<'_>], text: &[u8]) ->
 }
 
 // Lines of several pieces, and one that is finished: how much is written at the first `finish`, at the one that ends a line, at the
-// one behind it, and at one behind whitespace alone.
+// one after it, and at one after whitespace alone.
 const SEVERAL: [Step<'static>; 14] = [
     Step::Finish,
     Step::Bytes(0),

@@ -27,7 +27,7 @@ const ROWS: [Row; 14] = [
         log: b"The top-level auxiliary file: job.aux\n!Error--Case mismatch error between cite keys k and K--line 1 of file job.aux\n",
         counts: (2, 1, 1, End::Whole),
     },
-    // Keys with capital letters behind some without.
+    // Keys with capital letters after some without.
     Row {
         lines: b"\\citation{a,b,C,a,c,B,C,d}",
         keys: b"a;b;C;d;",
@@ -110,8 +110,8 @@ const ROWS: [Row; 14] = [
 
 const FOUND_TOP: &[u8] = b"The top-level auxiliary file: job.aux\n";
 
-// What a job is to say: keys, each with a semicolon; the log's lines, each with its end and an error behind a `!`; and databases, each with a
-// semicolon, with the style behind a colon.
+// What a job is to say: keys, each with a semicolon; the log's lines, each with its end and an error after a `!`; and databases, each with a
+// semicolon, with the style after a colon.
 #[derive(Clone, Copy)]
 enum Wanted<'a> {
     // Its keys, its log and its counts.
@@ -124,7 +124,7 @@ enum Wanted<'a> {
     Place(&'a [u8], Option<usize>),
 }
 
-// What of a text stands behind these names, each with a semicolon; None if it doesn't begin so.
+// What of a text comes after these names, each with a semicolon; None if it doesn't begin so.
 fn behind_names<'a>(text: &'a [u8], names: &[Vec<u8>]) -> Option<&'a [u8]> {
     let mut rest = text;
     for name in names {
@@ -133,7 +133,7 @@ fn behind_names<'a>(text: &'a [u8], names: &[Vec<u8>]) -> Option<&'a [u8]> {
     Some(rest)
 }
 
-// What of a text stands behind a line of a log, with its end; None if it doesn't begin so.
+// What of a text comes after a line of a log, with its end; None if it doesn't begin so.
 fn behind_line<'a>(text: &'a [u8], line: &LogLine) -> Option<&'a [u8]> {
     let mark = if line.kind() == LineKind::Error {
         b"!".as_slice()
@@ -145,7 +145,7 @@ fn behind_line<'a>(text: &'a [u8], line: &LogLine) -> Option<&'a [u8]> {
         .strip_prefix(b"\n")
 }
 
-// What of a text stands behind these lines of a log; None if it doesn't begin so.
+// What of a text comes after these lines of a log; None if it doesn't begin so.
 fn behind_lines<'a>(text: &'a [u8], lines: &[LogLine]) -> Option<&'a [u8]> {
     let mut rest = text;
     for line in lines {
@@ -397,7 +397,7 @@ fn numbered(alloc: Global, numbers: Range<u32>, text: &[u8]) -> Result<Vec<u8>, 
     Ok(whole)
 }
 
-// A log of the top file, the nineteen files behind it, and these lines.
+// A log of the top file, the nineteen files after it, and these lines.
 fn chain_log(alloc: Global, lines: &[u8]) -> Result<Vec<u8>, Fail> {
     let found = numbered(alloc, 1..20, b"A level-# auxiliary file: f#.aux\n")?;
     Ok(joined(alloc, &[FOUND_TOP, &found, lines])?)

@@ -426,7 +426,7 @@ fn elements(rt: HostRuntime) {
     assert!(rt; wide == Some(Kind::Wide));
 }
 
-// What of a text stands behind another one's lines, each of them behind a bar; None if it doesn't begin so.
+// What of a text comes after another one's lines, each of them after a bar; None if it doesn't begin so.
 fn behind_lines<'a>(wanted: &'a [u8], text: &[u8]) -> Option<&'a [u8]> {
     let mut rest = wanted;
     for line in lines(text) {

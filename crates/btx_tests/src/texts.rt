@@ -9,7 +9,7 @@ fn digit_of(byte: u8) -> Option<usize> {
     None
 }
 
-/// Makes the text that `short` stands for: a byte behind a decimal number stands there as often as that says, and any other once.
+/// Makes the text that `short` stands for: a byte after a decimal number stands there as often as that says, and any other once.
 pub fn text_of(alloc: Global, short: &[u8]) -> Result<Vec<u8>, AllocError> {
     let mut text = Vec::new(alloc);
     let mut count: usize = 0;
@@ -25,7 +25,7 @@ pub fn text_of(alloc: Global, short: &[u8]) -> Result<Vec<u8>, AllocError> {
     Ok(text)
 }
 
-/// Joins texts, one behind the other.
+/// Joins texts, one after the other.
 pub fn joined(alloc: Global, texts: &[&[u8]]) -> Result<Vec<u8>, AllocError> {
     let mut whole = Vec::new(alloc);
     for text in texts {

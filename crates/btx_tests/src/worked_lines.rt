@@ -5,11 +5,11 @@ pub type Row = (u32, &'static [u8], &'static [u8], &'static [u8]);
 
 /// The lines by hand from the rules.
 pub const ROWS: [Row; 19] = [
-    // Whitespace directly behind a full line breaks it.
+    // Whitespace directly after a full line breaks it.
     (79, b"79a b", b"79a\n", b"79a\n  b\n"),
-    // The whole run of whitespace behind a longer one goes.
+    // The whole run of whitespace after a longer one goes.
     (79, b"80a  b", b"80a\n", b"80a\n  b\n"),
-    // Of the whitespace behind a full line one byte goes.
+    // Of the whitespace after a full line one byte goes.
     (79, b"79a  b", b"79a\n", b"79a\n   b\n"),
     // A line that can't be broken is sure from its beginning.
     (79, b"aaa 80b", b"aaa\n  80b", b"aaa\n  80b\n"),

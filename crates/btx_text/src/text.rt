@@ -144,7 +144,7 @@ impl<'a> Text<'a> {
         Ok(Text { kept })
     }
 
-    /// This string with more bytes behind it. They are put behind those of a string that was computed and isn't shared.
+    /// This string with more bytes after it. They are put after those of a string that was computed and isn't shared.
     pub fn followed_by(self, alloc: Global, more: &[u8]) -> Result<Text<'a>, AllocError>
         requires { length self + length more.now ≤ greatest_string }
         ensures { IfOk result (λ text. text ≡ self.entry ++ more.now) }
@@ -177,7 +177,7 @@ impl<'a> Text<'a> {
     }
 }
 
-// A copy of the bytes, with room for this number of bytes behind them.
+// A copy of the bytes, with room for this number of bytes after them.
 fn copy_with_room(alloc: Global, bytes: &[u8], room: usize) -> Result<Vec<u8>, AllocError>
     requires { length bytes.now + room ≤ greatest_string }
     ensures { IfOk result (λ copy. copy.items ≡ bytes.now) }

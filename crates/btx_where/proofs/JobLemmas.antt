@@ -31,7 +31,7 @@ read_is job found options style library name bytes is_style is_name is_bytes is_
     ∙ ap (λ (style : Style). work_of style (of style) options)
     (is_style ∙ ap (λ name. style_of name bytes) is_name ∙ ap (style_of found.style.name) is_bytes)
 
--- what is known of the files, before and behind a call that keeps them
+-- what is known of the files, before and after a call that keeps them
 pub of_both : (content later : Option Files) (Q R P : Files → Type 0) → later ≡ content → IfSome content Q → IfSome later R
     → ((files : Files) → Q files → R files → P files) → IfSome content P
 of_both None later Q R P is q r p = tt

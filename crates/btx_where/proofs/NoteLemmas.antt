@@ -46,7 +46,7 @@ length_of_first zero xs le = refl
 length_of_first (suc n) [] le = absurd (omega (arith, le))
 length_of_first (suc n) (x ∷ xs) le = ap suc (length_of_first n xs (omega (arith, le)))
 
--- a list in two parts: as many of the first ones as there are, and those behind them
+-- a list in two parts: as many of the first ones as there are, and those after them
 pub two_parts : {A : Type 0} (near far : List A → List ℕ) (n k : ℕ) (xs : List A) (old mid new : List ℕ) → k ≡ min n (length xs)
     → mid ≡ old ++ near (take k xs) → new ≡ mid ++ far (take (length xs - k) (drop k xs)) → new ≡ old ++ (near (take n xs) ++ far (drop n xs))
 two_parts near far n k xs old mid new is first second =

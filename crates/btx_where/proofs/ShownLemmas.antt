@@ -14,7 +14,7 @@ module _ {A : Type 0} (x : A) (rest : List A) where
   tail [] = []
   tail (y ∷ ys) = ys
 
-  -- behind one more of them
+  -- after one more of them
   pub drop_more : (n : ℕ) (xs : List A) → drop n xs ≡ x ∷ rest → drop (suc n) xs ≡ rest
   unfolding tail
   drop_more zero [] e = absurd (no_more e)

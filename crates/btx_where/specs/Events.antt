@@ -22,7 +22,7 @@ use Rattle.btx_where.specs.declared.course.Word.TheVariants as kind
 use Rattle.btx_where.specs.declared.place.Place.{Place}
 use Rattle.btx_where.specs.declared.scene.Scene.{Scene}
 
--- behind how many steps the run stands that is shown for an event of this word: where the run was stopped, behind all of them; else before the last of them,
+-- after how many steps the run stands that is shown for an event of this word: where the run was stopped, after all of them; else before the last of them,
 -- which is the event's
 abbrev pub steps_before : Word → ℕ → ℕ
 steps_before kind.Stop steps = steps
@@ -53,7 +53,7 @@ AreNotesOf style job counts places [] text = text ≡ []
 AreNotesOf style job counts places (event ∷ events) text =
     (first : List ℕ) × (rest : List ℕ) × (text ≡ first ++ rest) × IsNoteOf style job counts places event first × AreNotesOf style job counts places events rest
 
--- behind the notes that there were stands a text of which this holds
+-- after the notes that there were stands a text of which this holds
 pub record GrowsBy (IsText : List ℕ → Type 0) (old new : List ℕ) : Type 0 where
   pub text : List ℕ
   pub behind : new ≡ old ++ text
@@ -66,7 +66,7 @@ pub record Explains (job : Job) (counts : LogCounts) (places : StylePlaces) (old
 
 -- ---- a job, by its files
 
--- of files that were read so, behind a log with these counts: if a style was found, the notes grew by those of some events of its run, with the
+-- of files that were read so, after a log with these counts: if a style was found, the notes grew by those of some events of its run, with the
 -- lines that its text has; else nothing is noted
 abbrev pub ExplainsFiles : AuxJob → FilesRead → Options → LogCounts → List ℕ → List ℕ → Type 0
 ExplainsFiles job (Ends end) options counts old new = new ≡ old

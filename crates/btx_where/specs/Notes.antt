@@ -51,7 +51,7 @@ first_named style otherwise (suc left) number =
 unfoldable pub owner_of : Style → ℕ → ℕ
 owner_of style function = first_named style function (length style.bodies - function) function
 
--- a token behind a word: whether it stands in a function with a name or in one in braces, its line, the numbers of its function and of the token, and the
+-- a token after a word: whether it stands in a function with a name or in one in braces, its line, the numbers of its function and of the token, and the
 -- name of the function, or of the one round it. `line_of` gives the lines of tokens
 unfoldable pub place_note : Style → (Place → ℕ) → List ℕ → Place → List ℕ
 place_note style line_of word place =
@@ -156,7 +156,7 @@ word_text kind.Left = codes "left"
 word_text kind.Stop = codes "stop"
 word_text kind.Limit = codes "limit"
 
--- what logged, its step, and the numbers in the log of its first error and of the one behind its last
+-- what logged, its step, and the numbers in the log of its first error and of the one after its last
 unfoldable pub event_note : List ℕ → ℕ → ℕ → ℕ → List ℕ
 event_note word steps errors behind =
     codes "event " ++ word ++ codes " " ++ decimal steps ++ codes " " ++ decimal errors ++ codes " " ++ decimal behind ++ codes "\n"

@@ -1,4 +1,4 @@
--- What a stopped run still does behind the function that it stands in: in the words of the definition of commands and items.
+-- What a stopped run still does after the function that it stands in: in the words of the definition of commands and items.
 use Rattle.std.specs.Prelude.{◌≡◌, ℕ, ◌+◌, List, [], Some, drop, slice_get}
 use Rattle.btx_bst.specs.declared.callee.Callee.{Callee}
 use Rattle.btx_bst.specs.language.Items.{Item}
@@ -33,21 +33,21 @@ IsCommandOf (item.Iterate function) m = Executes command.Iterate function m
 IsCommandOf (item.Reverse function) m = Executes command.Reverse function m
 IsCommandOf _ m = ⊥
 
--- behind its function: the stack is emptied, and the function is executed for the other entries
+-- after its function: the stack is emptied, and the function is executed for the other entries
 abbrev pub rest_of_command : Job → Midst → Doing
 rest_of_command job m left s = in_order (λ entry. visit job m.command m.function (Some entry)) m.entries left (cleared job m.command s)
 
--- a style in the midst of which a run stands: the command, the items behind it, and the order of the entries
+-- a style in the midst of which a run stands: the command, the items after it, and the order of the entries
 pub record MidstOfStyle : Type 0 where
   pub command : Midst
   pub items : List Item
   pub list : List ℕ
 
--- it is the midst of the style of these items, in the item of this number: the command is that item's, and the items behind it are the other ones
+-- it is the midst of the style of these items, in the item of this number: the command is that item's, and the items after it are the other ones
 abbrev pub IsMidstOf : List Item → ℕ → MidstOfStyle → Type 0
 IsMidstOf all number m = (this : Item) × (slice_get all number ≡ Some this) × (m.items ≡ drop (number + 1) all) × IsCommandOf this m.command
 
--- behind the function: the rest of the command, and then the other items
+-- after the function: the rest of the command, and then the other items
 abbrev pub rest_of_style : Job → MidstOfStyle → Doing
 rest_of_style job m left s = then_do (rest_of_command job m.command left s) (do_items job m.items m.list)
 
@@ -56,7 +56,7 @@ rest_of_style job m left s = then_do (rest_of_command job m.command left s) (do_
 abbrev pub Stands : Job → Coded → Position → List Open → Doing → Doing → ℕ → State → State → Type 0
 Stands job code at opens rest whole taken s t = (n : ℕ) → whole (n + taken) s ≡ then_do (execute_at job code at opens n t) rest
 
--- so it is in a function, behind which the stack is emptied
+-- so it is in a function, after which the stack is emptied
 abbrev pub StandsInFunction : Job → Command → Coded → Position → List Open → Doing → ℕ → State → State → Type 0
 StandsInFunction job command code at opens whole taken s t = Stands job code at opens (λ left u. Done (cleared job command u) left) whole taken s t
 

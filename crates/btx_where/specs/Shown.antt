@@ -9,11 +9,11 @@ use Rattle.btx_where.specs.declared.place.Place.{Place}
 use Rattle.btx_where.specs.declared.scene.Level.{Level}
 use Rattle.btx_where.specs.declared.scene.Level.TheVariants as level
 
--- the tokens behind a token, up to the end of its function
+-- the tokens after a token, up to the end of its function
 abbrev pub behind : Style → Place → List Token
 behind style place = drop (place.token + 1) (slice_index_or style.bodies place.function [])
 
--- what is still done of what is open: of a body the tokens behind the one where it stands; of a loop its test and its body, of which one runs
+-- what is still done of what is open: of a body the tokens after the one where it stands; of a loop its test and its body, of which one runs
 abbrev pub frame_of : Style → Level → Frame
 frame_of style (level.Body place) = frame.Body (behind style place)
 frame_of style (level.LoopTest test body) = frame.Loop test body running.Test

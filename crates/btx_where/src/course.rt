@@ -5,7 +5,7 @@ ghost use Rattle.btx_where.specs.Events.{steps_before};
 use btx_machine::LogCounts;
 use std::alloc::{AllocError, Global};
 
-/// What is noted of a run. An error was logged by a step; by the test of a loop that ended behind it; or by the end of a command that left literals on the
+/// What is noted of a run. An error was logged by a step; by the test of a loop that ended after it; or by the end of a command that left literals on the
 /// stack. Or it is where the run was stopped, or where it met a limit.
 #[derive(Clone, Copy, PartialEq, Eq, Debug)]
 pub enum Word {
@@ -17,7 +17,7 @@ pub enum Word {
 }
 
 impl Word {
-    /// Behind how many steps the run stands that is shown, for an event of this word whose step is the last of `steps`.
+    /// After how many steps the run stands that is shown, for an event of this word whose step is the last of `steps`.
     pub fn steps_before(self, steps: u64) -> u64
         ensures { result ≡ steps_before self steps }
     {
@@ -28,7 +28,7 @@ impl Word {
     }
 }
 
-/// The number of a step, and what the log has counted before it and behind it.
+/// The number of a step, and what the log has counted before it and after it.
 #[derive(Clone, Copy, PartialEq, Eq, Debug)]
 pub struct Moment {
     pub steps: u64,
@@ -36,8 +36,8 @@ pub struct Moment {
     pub after: LogCounts,
 }
 
-/// What is noted of a run: what it is, when; where in the style's items, in which visit of a function, and the place behind its token, 0 if there is none. Of
-/// literals that were left, for each, the uppermost first, the place behind the token since whose step the stack has been as high.
+/// What is noted of a run: what it is, when; where in the style's items, in which visit of a function, and the place after its token, 0 if there is none. Of
+/// literals that were left, for each, the uppermost first, the place after the token since whose step the stack has been as high.
 #[derive(Drop)]
 pub struct Event {
     pub word: Word,
@@ -58,7 +58,7 @@ pub struct Course {
     // The visits that are followed, in order, and how many of them are over.
     followed: Vec<u64>,
     over: usize,
-    // For each literal, the lowest first, the place behind the token since whose step the stack has been as high.
+    // For each literal, the lowest first, the place after the token since whose step the stack has been as high.
     since: Vec<usize>,
     // How many visits that logged errors, or events, are noted at most.
     most: usize,
@@ -135,7 +135,7 @@ impl Course {
         Ok(())
     }
 
-    /// The stack is as high as this behind a step of the token before a place.
+    /// The stack is as high as this after a step of the token before a place.
     pub fn follow(&mut self, depth: usize, place: usize) -> Result<(), AllocError> {
         self.since.truncate(depth);
         for _more in self.since.len()..depth {
@@ -144,7 +144,7 @@ impl Course {
         Ok(())
     }
 
-    /// The place behind the token since whose step the stack has been higher than `below`; 0 if there is none.
+    /// The place after the token since whose step the stack has been higher than `below`; 0 if there is none.
     pub fn since(&self, below: usize) -> usize {
         match self.since.get(below) {
             Some(place) => *place,

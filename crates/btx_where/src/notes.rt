@@ -139,7 +139,7 @@ impl<'s> Known<'s> {
         line_of_part(self.places.item(item))
     }
 
-    /// Notes a token behind a word: whether it stands in a function with a name or in one in braces, its line, the numbers of its function and of the token, and the
+    /// Notes a token after a word: whether it stands in a function with a name or in one in braces, its line, the numbers of its function and of the token, and the
     /// name of the function, or of the one round it.
     #[tactic(auto, using(btx_text::proofs::JoinLemmas::joins), unfolding(crate::specs::Notes::place_note))]
     pub fn note_place(
@@ -400,7 +400,7 @@ fn push_left_out(notes: &mut Vec<u8>, count: usize) -> Result<(), AllocError>
     notes.extend_from_slice(b"\n")
 }
 
-/// Where a scene stands: in the innermost body, at the token behind which that goes on.
+/// Where a scene stands: in the innermost body, at the token after which that goes on.
 pub fn standing(levels: &[Level]) -> Option<Place>
     ensures { result ≡ slice_get (spec.places_of levels.now) 0 }
 {
@@ -477,7 +477,7 @@ fn word_of(event: Word) -> &'static [u8]
     }
 }
 
-/// Notes an event: what logged, its step, and the numbers in the log of its first error and of the one behind its last.
+/// Notes an event: what logged, its step, and the numbers in the log of its first error and of the one after its last.
 #[tactic(auto, using(btx_text::proofs::JoinLemmas::joins), unfolding(crate::specs::Notes::event_note))]
 pub fn note_event(
     notes: &mut Vec<u8>,

@@ -3,7 +3,7 @@ use crate::place::Place;
 use btx_bst::{Callee, Token};
 use btx_stack::Literal;
 
-/// What is open: the body of a function, which goes on behind one of its tokens; or a loop, with its test and its body, of which one runs.
+/// What is open: the body of a function, which goes on after one of its tokens; or a loop, with its test and its body, of which one runs.
 #[derive(Clone, Copy, PartialEq, Eq, Debug)]
 pub enum Level {
     Body(Place),

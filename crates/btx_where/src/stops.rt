@@ -1,4 +1,4 @@
-//! Where a run stands that is stopped behind a number of steps.
+//! Where a run stands that is stopped after a number of steps.
 ghost use Rattle.std.specs.Prelude.{◌≡◌, [], length, take, IfOk, IfSome};
 ghost use Rattle.btx_out.specs.laws.Breaking.{Collecting};
 ghost use Rattle.btx_out.specs.laws.Lengths.{IsLineLength};

@@ -43,7 +43,7 @@ pub data AuxNote : Type 0 where
   NoBibdata : AuxNote
   NoBibstyle : AuxNote
 
--- the text of a note, as the log has it behind the word for an error
+-- the text of a note, as the log has it after the word for an error
 unfoldable pub aux_note_text : AuxNote → List ℕ
 aux_note_text (TopFile name) = codes "The top-level auxiliary file: " ++ name
 aux_note_text (LevelFile level name) = codes "A level-" ++ decimal level ++ codes " auxiliary file: " ++ name

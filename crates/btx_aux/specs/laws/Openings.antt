@@ -70,7 +70,7 @@ abbrev pub TopOpensFirst : Type 0
 TopOpensFirst = (files : Files) (top name : List ℕ) →
     opened_first (job_events files top) name ≡ (if bytes_eq name top && is_some (files top) then Some 0 else None)
 
--- behind any event a file is opened exactly if the event is an `\@input` of it and the four conditions hold, and at the level that
+-- after any event a file is opened exactly if the event is an `\@input` of it and the four conditions hold, and at the level that
 -- is the number of open files
 abbrev pub OpensByConditions : Type 0
 OpensByConditions = (files : Files) (top : List ℕ) (earlier later : List AuxEvent) (event : AuxEvent) (name : List ℕ) →

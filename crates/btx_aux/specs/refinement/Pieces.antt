@@ -9,7 +9,7 @@ abbrev pub piece_from : Result (Bor (List ℕ)) Slip → Piece
 piece_from (Ok text) = Taken text.now
 piece_from (Err slip) = Cut slip
 
--- the pieces behind a comma, or none
+-- the pieces after a comma, or none
 abbrev pub pieces_behind : Bool → Option (Bor (List ℕ)) → List Piece
 pieces_behind is_list None = []
 pieces_behind is_list (Some text) = pieces_of is_list text.now

@@ -1,4 +1,4 @@
--- What is spelled at the front of a text stays so where more stands behind the text.
+-- What is spelled at the front of a text stays so where more comes after the text.
 use Rattle.std.proofs.Common.{◌≡◌, ◌<◌, ℕ, zero, suc, Bool, true, false, if◌then◌else◌, eqb, List, [], ◌∷◌, ◌++◌, map, fold, length, ◌⊎◌, inl, inr, refl, sym}
 use Rattle.std.proofs.Common.{◌∙◌, ap, subst, arith, append_assoc, Result, Ok, Err, Some, None, Option}
 use Rattle.std.proofs.lemmas.Bool.{true≢false}
@@ -70,7 +70,7 @@ begins-front : (test : ℕ → Bool) (front rest other : List ℕ) → Left fron
 begins-front test [] rest other h = absurd h
 begins-front test (b ∷ bs) rest other h = refl
 
--- ---- with more behind
+-- ---- with more after
 
 module _ (more : List ℕ) where
   begins-on : (test : ℕ → Bool) (rest : List ℕ) → Left rest → begins test (rest ++ more) ≡ begins test rest
@@ -133,7 +133,7 @@ module _ (more : List ℕ) where
       → Goes Any same R R → ((a : A) → Goes P on (next a) (next a)) → Goes P on (Then R next) (Then R next)
   then-same P on R next D E = then-goes P same on R R next next D E
 
-  -- the last of what is spelled is decided by what stands behind it
+  -- the last of what is spelled is decided by what comes after it
   last-goes : {A B : Type 0} (P : B → List ℕ → Type 0) (Q : A → List ℕ → Type 0) (on : A → A) (on_next : B → B) (R S : Grammar A) (give other : A → B)
       → Goes Q on R S → ((a : A) → on_next (give a) ≡ other (on a)) → ((a : A) (front rest : List ℕ) → P (give a) rest → Q a (front ++ rest))
       → Goes P on_next (Then R (λ a. Gives (give a))) (Then S (λ a. Gives (other a)))
@@ -281,7 +281,7 @@ module _ (more : List ℕ) where
   more_on None = None
   more_on (Some field) = Some (field_on field)
 
-  -- behind a field something stands that isn't whitespace
+  -- after a field something stands that isn't whitespace
   abbrev SeenField : Option Field → List ℕ → Type 0
   SeenField None rest = Unit {0}
   SeenField (Some field) rest = NotWhite rest
@@ -423,7 +423,7 @@ module _ (more : List ℕ) where
   head-begins : Begins IsNoEnd Head
   head-begins = then-begins IsNoEnd (Spaced NameHere) (λ name. HeadOf (command_of name) name) (λ name. head_of-begins (command_of name) name)
 
-  -- what ends with a sign of its own stays so, whatever stands behind it
+  -- what ends with a sign of its own stays so, whatever comes after it
   spaced-free : {A : Type 0} (R : Grammar A) (a : A) (front rest : List ℕ)
       → ((inner : List ℕ) → R (Ok a) inner rest → Left inner × R (Ok a) inner (rest ++ more)) → Spaced R (Ok a) front rest
       → Spaced R (Ok a) front (rest ++ more)
@@ -494,7 +494,7 @@ module _ (more : List ℕ) where
 
   -- ---- a comment at the end of a text
 
-  -- a name ends where it did, if the text behind doesn't go on with it
+  -- a name ends where it did, if the text after doesn't go on with it
   run-free : (set : ByteSet) (rest : List ℕ) → begins (is_in set) more ≡ false → begins (is_in set) rest ≡ false → begins (is_in set) (rest ++ more) ≡ false
   run-free set [] stops ended = stops
   run-free set (b ∷ bs) stops ended = ended
@@ -719,7 +719,7 @@ module _ (more : List ℕ) where
     abbrev pub after_events : S → List Placed → S
     after_events state events = fold (λ (s : S) (p : Placed). keeping.after s p.event) state events
 
-    -- a text that ends outside any item, and more behind it, are read one after the other
+    -- a text that ends outside any item, and more after it, are read one after the other
     pub reading-on : (events behind : List Placed) (state : S) (first : Expected) (text : List ℕ) → EndsOutside events more
         → IsReading keeping state first text events → IsReading keeping (after_events state events) Item more behind
         → IsReading keeping state first (text ++ more) (map placed_on events ++ behind)

@@ -85,7 +85,7 @@ pub enclosed-first : (e : Enclosure) (s : List ℕ) (place : ℕ) → place ≡ 
     ≡ enclosed_len e 0 s
 enclosed-first e s place is = rw is (sym (enclosed-skip e 0 s))
 
--- and from behind a mark that isn't it
+-- and from after a mark that isn't it
 pub enclosed-further : (e : Enclosure) (d : ℕ) (s : List ℕ) (place : ℕ) (k total : ℕ) → place < length s → (eqb d 0 && ends_enclosed e (get_or s place 0))
     ≡ false →
     k ≡ unmarked_len (is_mark e) (drop (place + 1) s) → place + enclosed_len e d (drop place s) ≡ total →

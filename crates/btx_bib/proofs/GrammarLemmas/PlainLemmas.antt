@@ -48,7 +48,7 @@ module _ (b : ℕ) (bs behind_sign rest : List ℕ) (value : List Part) (begins 
   unfolding field_at name_here sign_in
   plain-field = rw (name-past b bs begins, begins, signed, valued) refl
 
-  -- it stands next behind a comma
+  -- it stands next after a comma
   pub plain-more : (delimiter : Delimiter) (text behind_comma : List ℕ) → past Gap text ≡ 44 ∷ behind_comma → past Gap behind_comma ≡ b ∷ bs →
       more_at delimiter text ≡ Ok (Some (record { name = longest_run NameByte (b ∷ bs); value = value }), rest)
   unfolding more_in after_comma

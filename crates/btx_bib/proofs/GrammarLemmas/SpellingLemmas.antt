@@ -215,7 +215,7 @@ enclosed_in-of e t rest i n =
     let len = enclosed_len-of e 0 t rest i n in
     rw (take_at t rest (enclosed_len e 0 (t ++ rest)) (sym len), drop_at t rest (enclosed_len e 0 (t ++ rest)) (sym len)) refl
 
--- the text with the sign behind it
+-- the text with the sign after it
 with_sign : (text r bs : List ℕ) (b sign : ℕ) → b ≡ sign → text ++ b ∷ r ≡ bs → (text ++ sign ∷ []) ++ r ≡ bs
 with_sign text r bs b sign is e = append_assoc text (sign ∷ []) r ∙ ap (λ c. text ++ c ∷ r) (sym is) ∙ e
 
@@ -328,7 +328,7 @@ part_here-decides = record { total = part_here-total; only = part_here-only }
 
 -- ---- values
 
--- the text behind the `#` that was read
+-- the text after the `#` that was read
 abbrev hash_of : Parsed (Unit {0}) → Option (List ℕ)
 hash_of (Ok got) = Some got.1
 hash_of (Err wrong) = None

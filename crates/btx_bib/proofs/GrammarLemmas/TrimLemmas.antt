@@ -29,7 +29,7 @@ squeezed-less (b ∷ bs) h = at (is_gap b) (eqb b 32) h where
   at true false h = absurd (true≢false (sym h))
   at false t h = h
 
--- behind whitespace
+-- after whitespace
 squeezed-behind : (b : ℕ) (bs : List ℕ) → is_gap b ≡ true → is_squeezed false (b ∷ bs) ≡ true → is_squeezed true bs ≡ true
 unfolding is_squeezed
 squeezed-behind b bs is h = at (eqb b 32) (ap (λ (g : Bool). cond g ((eqb b 32 && true) && is_squeezed true bs) (is_squeezed false bs)) (sym is) ∙ h) where

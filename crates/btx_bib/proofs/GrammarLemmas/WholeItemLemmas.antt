@@ -1,4 +1,4 @@
--- Behind each `@` exactly one item is spelled, or one thing is wrong.
+-- After each `@` exactly one item is spelled, or one thing is wrong.
 use Rattle.std.proofs.Common.{◌≡◌, ℕ, zero, suc, ◌<◌, List, [], ◌∷◌, ◌++◌, length, refl, sym, ◌∙◌, subst, arith, inl, Ok, Err, Some, None, Option}
 use Rattle.btx_bib.specs.declared.grammar.byte_sets.Delimiter.{Delimiter}
 use Rattle.btx_bib.specs.declared.grammar.byte_sets.ByteSet.TheVariants.{Gap}

@@ -50,7 +50,7 @@ has_value wanted given name =
     (λ (place : ℕ). field_value place (field_values wanted given.fields))
     (wanted.field (folded name)))
 
--- what is known after a field: it is kept, behind the entry's other fields, if its entry is stored, the style declares the field, and the entry has no
+-- what is known after a field: it is kept, after the entry's other fields, if its entry is stored, the style declares the field, and the entry has no
 -- value for it yet; a value that is too long ends the reading. Any other field changes nothing
 abbrev pub after_field : Request → Known → Option Given → Field → Known
 after_field wanted known None field = known

@@ -58,7 +58,7 @@ field_messages wanted database strings (Some given) field rest =
     if has_value wanted given field.name then message.ExtraField given.key field.name (spot_before database rest) ∷ []
     else if is_some (wanted.field (folded field.name)) then value_messages database strings None field.value else []
 
--- the messages for an event of a database; `rest` is the text behind it, from which its line follows. For the key of an entry that is to be stored
+-- the messages for an event of a database; `rest` is the text after it, from which its line follows. For the key of an entry that is to be stored
 -- there is a warning, if the style has no function for its type
 abbrev pub event_messages : Request → Database → Known → Event → List ℕ → List Message
 event_messages wanted database known Comment rest = []

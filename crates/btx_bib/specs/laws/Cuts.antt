@@ -15,7 +15,7 @@ use Rattle.btx_bib.specs.laws.Databases.{database_events, read_all}
 abbrev pub EndsName : List ℕ → Type 0
 EndsName text = begins is_name_byte text ≡ false
 
--- in front of this text a reading ends outside any item: the last that was read is the end of an item, or something stands behind it, or it
+-- in front of this text a reading ends outside any item: the last that was read is the end of an item, or something comes after it, or it
 -- is an `@comment`, and the text doesn't go on with its name
 abbrev pub EndsOutside : List Placed → List ℕ → Type 0
 EndsOutside [] text = Unit {0}

@@ -31,7 +31,7 @@ MessagesStay = (wanted : Request) (macros : List (List ℕ × List ℕ)) (databa
     → goes_on (read_all wanted macros databases).known.ending ≡ false
     → (library_of wanted macros databases).messages ≡ (read_all wanted macros databases).messages
 
--- a database that is too long ends the reading: the messages are those of the databases before it, and none is read behind it
+-- a database that is too long ends the reading: the messages are those of the databases before it, and none is read after it
 abbrev pub LongDatabaseEnds : Type 0
 LongDatabaseEnds = (wanted : Request) (macros : List (List ℕ × List ℕ)) (before : List Database) (database : Database) (behind : List Database)
     → goes_on (read_all wanted macros before).known.ending ≡ true → is_too_long database.text ≡ true

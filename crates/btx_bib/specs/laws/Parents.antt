@@ -40,7 +40,7 @@ values_by (Some slot) = body_values slot.body
 abbrev pub parent_by_key : List Slot → List ℕ → Option (List ℕ)
 parent_by_key slots key = parent_in (values_by (slot_at slots key))
 
--- the value of a declared field of the entry of a key in a list, where 0 is the first field behind `crossref`
+-- the value of a declared field of the entry of a key in a list, where 0 is the first field after `crossref`
 abbrev pub declared_value : List Slot → List ℕ → ℕ → Option (List ℕ)
 declared_value slots key field = field_value (suc field) (values_by (slot_at slots key))
 

@@ -62,7 +62,7 @@ MacrosGoOn = (known : Known) (own text : List ℕ) → goes_on known.ending ≡ 
 abbrev pub is_asked_for : Request → List Given → List ℕ → Bool
 is_asked_for wanted stored key = is_some wanted.all || (is_any_key wanted.cited key || is_any_key (parents_in wanted stored) key)
 
--- an entry that is read is stored, behind the others and without a field yet, exactly if it is wanted and no stored one has its key
+-- an entry that is read is stored, after the others and without a field yet, exactly if it is wanted and no stored one has its key
 abbrev pub WantedNewAreStored : Type 0
 WantedNewAreStored = (wanted : Request) (known : Known) (kind key : List ℕ) (next : Next) → goes_on known.ending ≡ true
     → (let stored = stored_in known in let read = as_known ((keeping wanted).is_stored known) (Entry kind key, next) in

@@ -44,7 +44,7 @@ kind name = if bytes_eq name (codes "misc") then misc else if bytes_eq name (cod
 abbrev pub citing : List (List ℕ) → ℕ → Request
 citing keys fewest = record { cited = keys; all = None; field = declared_field; count = 3; kind = kind; fewest = fewest }
 
--- a job that cites `*` behind this number of its keys
+-- a job that cites `*` after this number of its keys
 abbrev pub citing_all : List (List ℕ) → ℕ → Request
 citing_all keys place = record { cited = keys; all = Some place; field = declared_field; count = 3; kind = kind; fewest = 0 }
 
@@ -52,7 +52,7 @@ citing_all keys place = record { cited = keys; all = Some place; field = declare
 abbrev pub database_with : List ℕ → Database
 database_with text = record { file = codes "d.bib"; text = text }
 
--- the spot in the line of this number of the database `d.bib`, behind this number of its bytes
+-- the spot in the line of this number of the database `d.bib`, after this number of its bytes
 abbrev pub spot_in : ℕ → ℕ → Spot
 spot_in number place = record { file = codes "d.bib"; line = number; at = place }
 
@@ -206,19 +206,19 @@ pub record WorkedCut : Type 0 where
   pub first : List ℕ
   pub second : List ℕ
 
--- a worked cut, of the text before it and the text behind it
+-- a worked cut, of the text before it and the text after it
 abbrev pub worked_cut : List ℕ → List ℕ → WorkedCut
 worked_cut first second = record { first = first; second = second }
 
 -- texts that are cut where no item is open
 abbrev pub cuts : List WorkedCut
 cuts =
-    -- behind a string, and in front of an entry that uses it
+    -- after a string, and in front of an entry that uses it
     worked_cut (codes "@string{s={A}}") (codes "@misc{k,title=s}")
-    -- before the first item, and behind a text that belongs to none
+    -- before the first item, and after a text that belongs to none
     ∷ worked_cut (codes "A database\n") (codes "@misc{k}")
     ∷ worked_cut (codes "@misc{j} an") (codes "d @misc{k}")
-    -- directly behind an `@comment`, in front of what doesn't go on with its name
+    -- directly after an `@comment`, in front of what doesn't go on with its name
     ∷ worked_cut (codes "@comment") (codes "{@misc{k}}")
     ∷ worked_cut (codes "@misc{k} @COMMENT") (codes "\n@misc{j}")
     ∷ []
@@ -229,7 +229,7 @@ no_cuts =
     -- inside an entry, and inside a name
     worked_cut (codes "@misc{k") (codes "}")
     ∷ worked_cut (codes "@mi") (codes "sc{k}")
-    -- directly behind an `@comment`, in front of what goes on with its name: an `@` does
+    -- directly after an `@comment`, in front of what goes on with its name: an `@` does
     ∷ worked_cut (codes "@comment") (codes "s{k}")
     ∷ worked_cut (codes "@comment") (codes "@misc{k}")
     ∷ []

@@ -6,7 +6,7 @@ use Rattle.btx_bib.specs.language.Entries.{Given}
 use Rattle.btx_bib.specs.language.Known.{has_value, Known}
 use Rattle.btx_bib.specs.language.Stored.{is_wanted}
 
--- an entry with one more field, its name and its text, behind the others
+-- an entry with one more field, its name and its text, after the others
 abbrev pub with_field : Given → List ℕ → List ℕ → Given
 with_field given name text = record given { fields = given.fields ++ record { name = name; value = text } ∷ [] }
 

@@ -67,7 +67,7 @@ abbrev pub kept_macros : Gathering → List (List ℕ × List ℕ) → Gathering
 kept_macros kept [] = kept
 kept_macros kept (macro ∷ macros) = kept_macros (kept_macro kept macro) macros
 
--- ---- behind the last one
+-- ---- after the last one
 
 -- the list with the keys that were cited after `*`
 abbrev pub listed_draft : Request → Draft → Draft
@@ -77,7 +77,7 @@ listed_draft wanted draft = cited_all wanted draft (last_cited wanted.all wanted
 abbrev pub IsListed : Draft → Type 0
 IsListed draft = draft.names ≡ lower_keys (settled_all draft.slots)
 
--- the library of these places, with this preamble, behind these messages
+-- the library of these places, with this preamble, after these messages
 abbrev pub library_listed : List Slot → List ℕ → List Message → Library
 library_listed slots preamble messages = record {
   entries = entries_of slots;

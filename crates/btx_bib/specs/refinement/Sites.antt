@@ -19,6 +19,6 @@ asked_in reading = wanted reading.request.now
 abbrev pub database_read : Reading → Database
 database_read reading = site_database reading.site
 
--- the reading with these messages behind its own
+-- the reading with these messages after its own
 abbrev pub reported : Reading → List Message → Reading
 reported reading messages = record reading { messages = reading.messages ++ messages }

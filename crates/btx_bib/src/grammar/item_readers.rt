@@ -53,11 +53,11 @@ pub struct EntryHead<'a> {
     pub key: &'a [u8],
     /// What stands round the entry.
     pub delimiter: Delimiter,
-    /// The text behind the key.
+    /// The text after the key.
     pub rest: &'a [u8],
 }
 
-/// The type and the key of an entry, if they stand behind an `@`.
+/// The type and the key of an entry, if they come after an `@`.
 #[tactic(auto, unfolding(crate::specs::language::Grammar::Items::head_at, crate::specs::language::Grammar::Items::head_of))]
 #[inline(always)]
 pub fn entry_head(text: &[u8]) -> Option<EntryHead<'_>>
@@ -77,7 +77,7 @@ pub fn entry_head(text: &[u8]) -> Option<EntryHead<'_>>
     })
 }
 
-/// The text behind the end of an entry, with a comma before it or without one, if that stands here.
+/// The text after the end of an entry, with a comma before it or without one, if that stands here.
 #[tactic(auto, unfolding(crate::specs::language::Grammar::Fields::more_in, crate::specs::language::Grammar::Fields::after_comma))]
 #[inline(always)]
 pub fn entry_end(delimiter: Delimiter, text: &[u8]) -> Option<&[u8]>
@@ -168,7 +168,7 @@ pub fn read_field_or_end(delimiter: Delimiter, text: &[u8]) -> Read<'_, (Event<'
     }
 }
 
-/// The text behind the first `@`.
+/// The text after the first `@`.
 #[tactic(auto, using(crate::proofs::GrammarLemmas::ItemLemmas::at_steps))]
 pub fn behind_at(text: &[u8]) -> Option<&[u8]>
     ensures { option_map (λ rest. rest.now) result ≡ spec.behind_at text.now }

@@ -25,7 +25,7 @@ pub fn one_field()
         FieldSpelling outcome front rest → field_at (front ++ rest) ≡ read_as outcome rest }
 {}
 
-/// Behind each `@` exactly one item is spelled by exactly one front of the text, or exactly one thing is wrong at exactly one place.
+/// After each `@` exactly one item is spelled by exactly one front of the text, or exactly one thing is wrong at exactly one place.
 pub fn one_item()
     ensures spells { (text : List ℕ) → Splits ItemHere text (whole_item_at text) }
     ensures only { (outcome : Result WholeItem SyntaxError) (front rest : List ℕ) →
@@ -41,7 +41,7 @@ pub fn one_reading()
         IsReading (by_history is_stored) [] wanted.Item text events → events ≡ events_from (by_history is_stored) [] wanted.Item text }
 {}
 
-/// The events of a text are those of the item behind its first `@` and of the rest after it, or those before the fault that is met in
+/// The events of a text are those of the item after its first `@` and of the rest after it, or those before the fault that is met in
 /// that item, the fault, and those from its place on. (An entry whose key is stored is a fault by itself.)
 pub fn items_are_read_so()
     ensures { (is_stored : List Event → List ℕ → Bool) (before : List Event) (text behind : List ℕ) →

@@ -90,7 +90,7 @@ fn passed_in(enclosure: Enclosure, text: &[u8]) -> Option<usize>
     }
 }
 
-/// What is enclosed, and the text behind what closes it.
+/// What is enclosed, and the text after what closes it.
 #[inline(always)]
 pub fn passed_enclosed(enclosure: Enclosure, text: &[u8]) -> Option<(&[u8], &[u8])>
     ensures { IfSome result (λ got. spec.enclosed_in enclosure text.now ≡ Ok (enclosed_part enclosure got.0.now, got.1.now)) }

@@ -8,7 +8,7 @@ use crate::grammar::plain::{BLOCK, lanes_before};
 use crate::grammar::plain_fields::{Purpose, plain_field, plain_part};
 use std::simd::prelude::*;
 
-// Which bytes of the block behind the first byte of a text are no whitespace.
+// Which bytes of the block after the first byte of a text are no whitespace.
 #[inline(always)]
 fn solid_bits(text: &[u8]) -> u64
     requires { 17 ≤ length text.now }
@@ -33,7 +33,7 @@ fn unlike_letter_bits(text: &[u8]) -> u64
     unlike_letter.to_bitmask()
 }
 
-// The place of the first bit that is set, from a place on; one behind the block, if none is.
+// The place of the first bit that is set, from a place on; one after the block, if none is.
 #[inline(always)]
 fn first_from(bits: u64, place: usize) -> usize
     requires { place < 64 }
@@ -43,7 +43,7 @@ fn first_from(bits: u64, place: usize) -> usize
     place + lanes_before(bits >> place)
 }
 
-// The place of a field's value, if the comma before the field stands here, and behind it, within a block, a name of lower-case letters, `=` and the first byte
+// The place of a field's value, if the comma before the field stands here, and after it, within a block, a name of lower-case letters, `=` and the first byte
 // of the value.
 #[inline(always)]
 fn value_place(text: &[u8]) -> Option<usize>
@@ -81,7 +81,7 @@ fn begins_with_comma(text: &[u8]) -> bool
     !text.is_empty() && text[0] == b','
 }
 
-// The text behind the part of a value that stands here, if no other part follows.
+// The text after the part of a value that stands here, if no other part follows.
 #[inline(always)]
 fn behind_last_part(text: &[u8]) -> Option<&[u8]>
     ensures { IfSome result (λ rest. IsLastPart text.now rest.now) }
@@ -96,7 +96,7 @@ fn behind_last_part(text: &[u8]) -> Option<&[u8]>
     }
 }
 
-// The text behind the field that stands here with the comma before it, if its value has one part.
+// The text after the field that stands here with the comma before it, if its value has one part.
 #[inline(never)]
 fn behind_any_field(text: &[u8]) -> Option<&[u8]>
     ensures { IfSome result (λ rest. IsField text.now rest.now) }
@@ -107,7 +107,7 @@ fn behind_any_field(text: &[u8]) -> Option<&[u8]>
     }
 }
 
-/// The text behind the field that stands here with the comma before it, if its value has one part. Most begin within one block.
+/// The text after the field that stands here with the comma before it, if its value has one part. Most begin within one block.
 #[inline(always)]
 pub fn behind_field(text: &[u8]) -> Option<&[u8]>
     ensures { IfSome result (λ rest. IsField text.now rest.now) }

@@ -28,7 +28,7 @@ pub(super) fn lanes_before(bits: u64) -> usize
     }
 }
 
-// How many lower-case letters stand first in the block with which a text begins: bytes of a name, which goes on behind them.
+// How many lower-case letters stand first in the block with which a text begins: bytes of a name, which goes on after them.
 #[inline(always)]
 fn letters_in_block(text: &[u8]) -> usize
     requires { 16 ≤ length text.now }
@@ -101,7 +101,7 @@ fn stays_squeezed(text: &[u8], place: usize, byte: u8) -> bool
     !is_gap(byte) || (byte == b' ' && !is_behind_white(text, place))
 }
 
-// How many bytes stand before the first that ends what is enclosed, if they are squeezed and don't begin with whitespace. Behind each byte that is looked at
+// How many bytes stand before the first that ends what is enclosed, if they are squeezed and don't begin with whitespace. After each byte that is looked at
 // by itself, plain ones are passed at once.
 #[inline(always)]
 fn squeezed_len(enclosure: Enclosure, text: &[u8]) -> Option<usize>
@@ -154,7 +154,7 @@ fn squeezed_in(enclosure: Enclosure, text: &[u8]) -> Option<usize>
     }
 }
 
-/// What is enclosed, if it stands as a field's value, and the text behind what closes it.
+/// What is enclosed, if it stands as a field's value, and the text after what closes it.
 #[inline(always)]
 pub fn plain_enclosed(enclosure: Enclosure, text: &[u8]) -> Option<(&[u8], &[u8])>
     ensures value { IfSome result (λ got. spec.enclosed_in enclosure text.now ≡ Ok (enclosed_part enclosure got.0.now, got.1.now)) }

@@ -53,7 +53,7 @@ pub struct PlainField<'a> {
     pub value: PlainValue<'a>,
 }
 
-// What is enclosed, and the text behind what closes it, where it is plain enough for this.
+// What is enclosed, and the text after what closes it, where it is plain enough for this.
 #[inline(always)]
 fn enclosed_for(purpose: Purpose, enclosure: Enclosure, text: &[u8]) -> Option<(&[u8], &[u8])>
     ensures value { IfSome result (λ got. spec.enclosed_in enclosure text.now ≡ Ok (enclosed_part enclosure got.0.now, got.1.now)) }

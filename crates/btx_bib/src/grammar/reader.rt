@@ -88,7 +88,7 @@ impl<'a> Reader<'a> {
         }
     }
 
-    /// The text behind the field that stands at the next place, if it has one part. The reader stays where it is.
+    /// The text after the field that stands at the next place, if it has one part. The reader stays where it is.
     #[inline(always)]
     pub(crate) fn behind_field(&self) -> Option<&'a [u8]>
         ensures { IfSome result (λ rest. IsFieldNext self.now rest.now) }
@@ -111,7 +111,7 @@ impl<'a> Reader<'a> {
         }
     }
 
-    /// Goes on behind the type and the key of an entry.
+    /// Goes on after the type and the key of an entry.
     #[inline(always)]
     pub(crate) fn enter(&mut self, head: &EntryHead<'a>)
         ensures { self.new ≡ (Expected.Fields head.now.delimiter, head.now.rest.now) }
@@ -120,7 +120,7 @@ impl<'a> Reader<'a> {
         self.rest = head.rest;
     }
 
-    /// Goes on behind the end of an entry, if it stands at the next place. Answers whether it did.
+    /// Goes on after the end of an entry, if it stands at the next place. Answers whether it did.
     #[inline(always)]
     #[tactic(auto, unfolding(crate::specs::language::Grammar::Items::expected_step))]
     pub(crate) fn leave(&mut self) -> bool
@@ -137,7 +137,7 @@ impl<'a> Reader<'a> {
         true
     }
 
-    /// Goes on behind a field that stands at the next place, where this is the text from its end on.
+    /// Goes on after a field that stands at the next place, where this is the text from its end on.
     #[inline(always)]
     pub(crate) fn pass(&mut self, rest: &'a [u8])
         ensures { self.new ≡ (self.old.0, rest.entry.now) }

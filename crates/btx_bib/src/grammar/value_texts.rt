@@ -30,7 +30,7 @@ pub trait Strings<'a> {
         ensures squeezed { IfOk result (λ found. IfSome found (λ text. squeezing.is_squeezed false text.now ≡ true)) };
 }
 
-// Whether a text has no whitespace but single spaces, none of them behind whitespace.
+// Whether a text has no whitespace but single spaces, none of them after whitespace.
 #[tactic(auto, using(crate::proofs::GrammarLemmas::SqueezeLemmas::plain_steps))]
 fn is_squeezed(was_white: bool, text: &[u8]) -> bool
     ensures { result ≡ squeezing.is_squeezed was_white text.now }

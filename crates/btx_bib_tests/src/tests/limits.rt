@@ -8,7 +8,7 @@ use std::alloc::{AllocError, Global};
 /// How many bytes a string has at most.
 pub const MOST: usize = 1_000_000;
 
-/// A database with a long run of letters: the text before it, the number of letters, the text behind it, and the size of what it gives.
+/// A database with a long run of letters: the text before it, the number of letters, the text after it, and the size of what it gives.
 type Long = (&'static [u8], usize, &'static [u8], Size);
 
 const LONG: [Long; 9] = [
@@ -63,7 +63,7 @@ const LONG: [Long; 9] = [
     ),
 ];
 
-// Adds `letters` letters, and a text behind them.
+// Adds `letters` letters, and a text after them.
 fn push_letters(text: &mut Vec<u8>, letters: usize, after: &[u8]) -> Result<(), AllocError> {
     for _ in 0..letters {
         text.push(b'x')?;

@@ -20,7 +20,7 @@ pub const PASSED: [Row; 16] = [
         first: b"@misc{a,\r\n\tTitle\t=\t{x},\n  a-b_c+1 = 3 ,\n  note                     =                {y},x=z,\n}@misc( b ,title={x})@misc{k, title = {T}}",
         ..KEPT
     },
-    // Braces and quotes at and behind the ends of blocks.
+    // Braces and quotes at and after the ends of blocks.
     Row {
         first: b"@misc{a, note = {0123456789abcde{f}0123456789abcdef{}0123456789abcdefg}, note = \"0123456789abcdef{\"}0123456789abcdef0\"}@misc{k, title = {T}}",
         ..KEPT
@@ -42,7 +42,7 @@ pub const PASSED: [Row; 16] = [
         log: b"!Error--I was expecting a , or a )--line 1 of file d.bib\n",
         ..KEPT
     },
-    // No sign behind a name.
+    // No sign after a name.
     Row {
         first: b"@misc{a,\nnote {x}}@misc{k, title = {T}}",
         log: b"!Error--I was expecting an =--line 2 of file d.bib\n",
@@ -54,7 +54,7 @@ pub const PASSED: [Row; 16] = [
         log: b"!Error--I was expecting a name--line 1 of file d.bib\n",
         ..KEPT
     },
-    // No value behind a sign.
+    // No value after a sign.
     Row {
         first: b"@misc{a, note = ,\n year = 1}@misc{k, title = {T}}",
         log: b"!Error--I was expecting a value--line 1 of file d.bib\n",

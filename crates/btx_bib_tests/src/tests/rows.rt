@@ -1,4 +1,4 @@
-//! Databases, and what they give to a job whose style has the fields `title` and `booktitle` behind `crossref`.
+//! Databases, and what they give to a job whose style has the fields `title` and `booktitle` after `crossref`.
 
 /// A style with the fields `title` and `booktitle`, a macro, and the types `misc` and `book`.
 pub const STYLE: &[u8] =
@@ -160,7 +160,7 @@ pub const VALUES: [Row; 16] = [
 
 /// Each fault and each warning, with its line.
 pub const FAULTS: [Row; 20] = [
-    // No name behind an at sign.
+    // No name after an at sign.
     Row {
         keys: b"k",
         first: b"@ {k}@misc{k}",
@@ -240,7 +240,7 @@ pub const FAULTS: [Row; 20] = [
         log: b"!Error--Unbalanced braces--line 1 of file d.bib\n",
         ..ALONE
     },
-    // Behind a fault an item is wanted from its place on.
+    // After a fault an item is wanted from its place on.
     Row {
         keys: b"k,j",
         first: b"@misc{k, title = \"a}b\" @misc{j}",
@@ -340,7 +340,7 @@ pub const ENDS: [Row; 12] = [
         log: b"!Error--Illegal end of database file--line 1 of file d.bib\nWarning--I didn't find a database entry for \"k\"\n",
         ..ALONE
     },
-    // The end behind a key.
+    // The end after a key.
     Row {
         keys: b"k",
         first: b"@misc{k",
@@ -356,7 +356,7 @@ pub const ENDS: [Row; 12] = [
         log: b"!Error--Illegal end of database file--line 2 of file d.bib\n",
         ..ALONE
     },
-    // The end behind a value.
+    // The end after a value.
     Row {
         keys: b"k",
         first: b"@misc{k,title={A}",
@@ -364,7 +364,7 @@ pub const ENDS: [Row; 12] = [
         log: b"!Error--Illegal end of database file--line 1 of file d.bib\n",
         ..ALONE
     },
-    // The end behind the sign that joins a part.
+    // The end after the sign that joins a part.
     Row {
         keys: b"k",
         first: b"@misc{k,title={A} #",

@@ -72,7 +72,7 @@ fn push_entry(
     shown.extend_from_slice(b"\n")
 }
 
-// A line of the log, an error behind a `!`.
+// A line of the log, an error after a `!`.
 fn push_line(shown: &mut Vec<u8>, line: &LogLine) -> Result<(), AllocError> {
     if line.kind() == LineKind::Error {
         shown.extend_from_slice(b"!")?;

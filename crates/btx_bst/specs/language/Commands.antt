@@ -86,7 +86,7 @@ function_command style place =
 abbrev pub has_read : Style → Bool
 has_read style = is_some style.before_read
 
--- READ reads the databases: it stands behind ENTRY and takes effect once; the functions before it may be types of entries (btxhak, section 5.2)
+-- READ reads the databases: it comes after ENTRY and takes effect once; the functions before it may be types of entries (btxhak, section 5.2)
 unfoldable pub read_command : Style → Place → CommandOutcome
 read_command style place =
     if has_read style then outcome (Some (Another command.Read)) style place
@@ -115,7 +115,7 @@ run_command command item style place =
     run_of item style name place (function_in (named style.names name))))
     else outcome (Some (BeforeRead command)) style place
 
--- SORT orders the list by the sort keys of its entries, the strings that the style assigned to the entry variable `sort.key$`; it stands behind READ
+-- SORT orders the list by the sort keys of its entries, the strings that the style assigned to the entry variable `sort.key$`; it comes after READ
 -- (btxhak, section 5.2)
 unfoldable pub sort_command : Style → Place → CommandOutcome
 sort_command style place = if has_read style then outcome None (with_item Sort style) place else outcome (Some (BeforeRead command.Sort)) style place
@@ -141,7 +141,7 @@ macro_command style place =
     after_read style (closing place) (λ _ place.
     outcome None (with_item Macro (record style { macros = style.macros ++ (folded name, text) ∷ [] })) place))))))
 
--- what a command makes of a style, read from the place behind the command's word on
+-- what a command makes of a style, read from the place after the command's word on
 abbrev pub command_at : Command → Style → Place → CommandOutcome
 command_at command.Entry style place = entry_command style place
 command_at command.Function style place = function_command style place

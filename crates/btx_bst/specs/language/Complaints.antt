@@ -18,7 +18,7 @@ pub data Complaint : Type 0 where
   Unknown : (name : List ℕ) → Complaint
   -- an integer has no digits, or doesn't fit 32 bits
   BadInteger : Complaint
-  -- something stands directly behind a string or an integer
+  -- something stands directly after a string or an integer
   TextAfter : Complaint
   -- a string has no end on its line
   NoQuoteEnd : Complaint

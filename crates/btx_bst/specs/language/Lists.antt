@@ -1,6 +1,6 @@
 -- Arguments of commands: braces, names and lists of names. A list of names, as ENTRY and INTEGERS have, is read in turns, a name each time:
 -- `Listing` is what is known before a turn, `Listed` what the whole list came to, and `listing` and `listed` make the two of their parts.
--- `list_turn` is one turn, `list_end` all turns, `list_read` begins them behind the `{`, and `list_at`, which commands use, reads the `{` too.
+-- `list_turn` is one turn, `list_end` all turns, `list_read` begins them after the `{`, and `list_at`, which commands use, reads the `{` too.
 use Rattle.std.specs.Prelude.{ℕ, zero, suc, ◌==◌, List, [], ◌∷◌, take, drop, Option, None, Some, if◌then◌else◌, not, is_some}
 use Rattle.btx_text.specs.language.Keys.{folded}
 use Rattle.btx_bst.specs.declared.callee.Kind.{Kind}
@@ -19,11 +19,11 @@ abbrev pub brace_in : ℕ → Complaint → Place → List ℕ → Read (Unit {0
 brace_in brace complaint place [] = Slip EndOfFile place
 brace_in brace complaint place (b ∷ bs) = if b == brace then Took tt (further place bs) else Slip complaint place
 
--- the `{` that stands next, behind whitespace and comments, or the complaint that it is missing
+-- the `{` that stands next, after whitespace and comments, or the complaint that it is missing
 abbrev pub opening : Place → Read (Unit {0})
 opening place = brace_in (byte "{") NoOpen (ink place) (ink place).line
 
--- the `}` that stands next, behind whitespace and comments, or the complaint that it is missing
+-- the `}` that stands next, after whitespace and comments, or the complaint that it is missing
 abbrev pub closing : Place → Read (Unit {0})
 closing place = brace_in (byte "}") NoClose (ink place) (ink place).line
 
@@ -37,7 +37,7 @@ abbrev pub name_in : Place → List ℕ → Read (List ℕ)
 name_in place [] = Slip EndOfFile place
 name_in place (b ∷ bs) = front_of NoName place (b ∷ bs) (name_len (b ∷ bs))
 
--- the name that stands next, behind whitespace and comments, or the complaint that there is none
+-- the name that stands next, after whitespace and comments, or the complaint that there is none
 abbrev pub next_name : Place → Read (List ℕ)
 next_name place = name_in (ink place) (ink place).line
 
@@ -55,7 +55,7 @@ abbrev pub quoted_in : Place → List ℕ → Read (List ℕ)
 quoted_in place [] = Slip EndOfFile place
 quoted_in place (b ∷ bs) = if b == byte "\"" then quoted_text place (take (quote_len bs) bs) (drop (quote_len bs) bs) else Slip NoQuote place
 
--- the text in quotes that stands next, behind whitespace and comments, or the complaint that a quote is missing
+-- the text in quotes that stands next, after whitespace and comments, or the complaint that a quote is missing
 abbrev pub quoted_at : Place → Read (List ℕ)
 quoted_at place = quoted_in (ink place) (ink place).line
 

@@ -31,7 +31,7 @@ command_outcome style place =
     (command_named (folded word))
     (outcome (Some (NotCommand word)) style behind))
 
--- how the reading of a style goes on after a command: at the place where that ends, or, if something was wrong, behind the next empty line, with a
+-- how the reading of a style goes on after a command: at the place where that ends, or, if something was wrong, after the next empty line, with a
 -- message
 abbrev pub resumed : Option Complaint → Style → Place → StyleState
 resumed complaint style place =
@@ -40,7 +40,7 @@ resumed complaint style place =
     complaint (style_state style place)
 
 -- reads a command at a place that isn't in whitespace or a comment; at the end of the text the style ends. After the command reading goes on where it
--- ends. If something was wrong, it goes on behind the next empty line, with a message
+-- ends. If something was wrong, it goes on after the next empty line, with a message
 abbrev pub item_in : Style → Place → List ℕ → Turn StyleState Style
 item_in style place [] = Ends style
 item_in style place (b ∷ bs) =

@@ -116,13 +116,13 @@ HasBody name style from o =
 
 -- ---- the commands
 
--- a function is executed: only behind READ
+-- a function is executed: only after READ
 abbrev pub Executes : Command → (Callee → Item) → Rule
 Executes command item =
     Where has_read (BeforeRead command) (Opened (AndThen (BehindGap StyleNameHere) (λ name.
     HasMeaning (λ style. function_in (named style.names name)) (Unknown name) (λ callee. Closed (Makes (with_item (item callee)))))))
 
--- what stands behind the word of each command, and what the command makes of the style so far
+-- what comes after the word of each command, and what the command makes of the style so far
 abbrev pub Behind : Command → Rule
 Behind Entry = Unless (λ style. style.has_entry) (Another Entry) (Lists kind.Field (Lists kind.EntryInteger (Lists kind.EntryString
     (Makes (λ style. with_item item.Entry (record style { has_entry = true }))))))
@@ -143,7 +143,7 @@ Behind Macro = Unless has_read AfterRead (Opened (AndThen (BehindGap StyleNameHe
 abbrev pub IsWordOf : Command → List ℕ → Type 0
 IsWordOf command letters = folded letters ≡ folded (command_word_of command)
 
--- letters that are the word of a command, and what stands behind it; or they are the word of none
+-- letters that are the word of a command, and what comes after it; or they are the word of none
 abbrev pub Named : List ℕ → Rule
 Named letters style from o =
     ((command : Command) × IsWordOf command letters × Behind command style from o)
@@ -155,13 +155,13 @@ CommandHere = AndThen LettersHere Named
 
 -- ---- styles
 
--- what is skipped behind a fault: the rest of its line, and the lines up to the next empty one, with it, or up to the end
+-- what is skipped after a fault: the rest of its line, and the lines up to the next empty one, with it, or up to the end
 abbrev pub Skips : Place → Place → Type 0
 Skips from to = (lines : List (List ℕ)) × AreFull lines ×
     (((after : List (List ℕ)) × (from.after ≡ lines ++ [] ∷ after) × (to ≡ place_at (from.number + length lines + 1) [] after))
     ⊎ ((from.after ≡ lines) × (to ≡ place_at (from.number + length lines) [] [])))
 
--- how far the reading has come where the next command is looked for: directly behind a command without a fault; behind one with a fault what is
+-- how far the reading has come where the next command is looked for: directly after a command without a fault; after one with a fault what is
 -- skipped lies between, and the message has the line of the fault
 abbrev pub GoesOn : Option Complaint → Style → Place → StyleState → Type 0
 GoesOn None style place next = next ≡ style_state style place

@@ -4,12 +4,12 @@ use Rattle.std.specs.Prelude.{◌≡◌, ℕ, suc, Bool, true, false, List, [], 
 use Rattle.btx_bst.specs.language.Items.{Item, Function, Read}
 use Rattle.btx_bst.specs.language.StyleText.{style_of}
 
--- how many functions there are behind an item, given how many there were before it
+-- how many functions there are after an item, given how many there were before it
 abbrev pub functions_behind : ℕ → Item → ℕ
 functions_behind count (Function number) = suc number
 functions_behind count _ = count
 
--- how many functions there are behind these items
+-- how many functions there are after these items
 abbrev pub functions_in : List Item → ℕ
 functions_in items = fold functions_behind 0 items
 

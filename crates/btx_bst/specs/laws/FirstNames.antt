@@ -1,4 +1,4 @@
--- The names that the program means by a number keep their numbers: whatever a style declares, it declares behind them.
+-- The names that the program means by a number keep their numbers: whatever a style declares, it declares after them.
 use Rattle.std.specs.Prelude.{◌≡◌, ℕ, List, Some, codes}
 use Rattle.btx_bst.specs.declared.callee.Callee.TheVariants.{Field, EntryString, GlobalInteger}
 use Rattle.btx_bst.specs.language.Names.{Names, named_lower}

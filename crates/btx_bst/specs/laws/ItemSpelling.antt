@@ -1,4 +1,4 @@
--- How a style is spelled. A text is commands, one after another, of which each is whole or has a fault, and its end. Behind a fault all is
+-- How a style is spelled. A text is commands, one after another, of which each is whole or has a fault, and its end. After a fault all is
 -- skipped up to the next empty line.
 use Rattle.std.specs.Prelude.{◌≡◌, ℕ, ◌+◌, List, [], ◌∷◌, ◌++◌, length, None, Some}
 use Rattle.btx_bst.specs.language.Places.{Place, place_at, ink, skipped}
@@ -39,12 +39,12 @@ abbrev pub AreFull : List (List ℕ) → Type 0
 AreFull [] = Unit {0}
 AreFull (line ∷ lines) = (line ≡ [] → ⊥) × AreFull lines
 
--- What stands behind a fault up to the next empty line, or up to the end, changes nothing but the number of the line.
+-- What comes after a fault up to the next empty line, or up to the end, changes nothing but the number of the line.
 abbrev pub SkippedLaw : Type 0
 SkippedLaw = (number : ℕ) (line : List ℕ) (lines after : List (List ℕ)) → AreFull lines
     → skipped (place_at number line (lines ++ [] ∷ after)) ≡ place_at (number + length lines + 1) [] after
 
--- Where no empty line stands behind a fault, all up to the end of the text is skipped, and the end has the number of the last line.
+-- Where no empty line comes after a fault, all up to the end of the text is skipped, and the end has the number of the last line.
 abbrev pub SkippedToEndLaw : Type 0
 SkippedToEndLaw = (number : ℕ) (line : List ℕ) (lines : List (List ℕ)) → AreFull lines
     → skipped (place_at number line lines) ≡ place_at (number + length lines) [] []

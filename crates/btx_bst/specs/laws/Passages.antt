@@ -5,7 +5,7 @@ use Rattle.btx_bst.specs.language.Places.{Place, ink, skipped}
 use Rattle.btx_bst.specs.language.Style.{Style}
 use Rattle.btx_bst.specs.language.StyleText.{command_outcome}
 
--- the text of lines that follow another one: each behind a line feed
+-- the text of lines that follow another one: each after a line feed
 abbrev pub lines_text : List (List ℕ) → List ℕ
 lines_text [] = []
 lines_text (line ∷ lines) = line_feed ∷ (line ++ lines_text lines)

@@ -155,7 +155,7 @@ abbrev pub recorded_after : {A : Type 0} → Read A → (A → Place → Recorde
 recorded_after (Took x place) go r = go x place r
 recorded_after (Slip complaint place) go r = r
 
--- what is recorded of the body of a FUNCTION, if it has one; the command is read from the place behind its word on
+-- what is recorded of the body of a FUNCTION, if it has one; the command is read from the place after its word on
 unfoldable pub function_command_recorded : Style → Place → Recorded → Recorded
 function_command_recorded style place =
     recorded_after (opening place) (λ _ place.

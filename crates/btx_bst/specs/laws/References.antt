@@ -81,7 +81,7 @@ function_executed (Iterate callee) = Some callee
 function_executed (Reverse callee) = Some callee
 function_executed _ = None
 
--- A function of the style is executed only behind the FUNCTION that defines it.
+-- A function of the style is executed only after the FUNCTION that defines it.
 abbrev pub ExecutedLaw : Type 0
 ExecutedLaw = (file text : List ℕ) (item : Item) (number k : ℕ) → slice_get (style_of file text).items k ≡ Some item
     → function_executed item ≡ Some (User number)

@@ -8,7 +8,7 @@ use Rattle.btx_bst.specs.language.Reads.{Read, Took, Slip}
 use Rattle.btx_bst.specs.laws.Fronts.{is_no_letter, ends_name, is_quote}
 use Rattle.btx_text.specs.laws.Bytes.{double_quote, percent}
 
--- how something is spelled: a relation between the place where it begins and what is read from there on, which is a value and the place behind it,
+-- how something is spelled: a relation between the place where it begins and what is read from there on, which is a value and the place after it,
 -- or a complaint and its place
 abbrev pub StyleGrammar : Type 0 → Type 1
 StyleGrammar A = Place → Read A → Type 0
@@ -56,12 +56,12 @@ abbrev pub AllWhite : List ℕ → Type 0
 AllWhite [] = Unit {0}
 AllWhite (b ∷ bs) = (is_white b ≡ true) × AllWhite bs
 
--- behind whitespace something stands in the line that is no comment, and `to` is the place before it
+-- after whitespace something stands in the line that is no comment, and `to` is the place before it
 abbrev pub InkIn : ℕ → List ℕ → List (List ℕ) → Place → Type 0
 InkIn number line after to = (white : List ℕ) × (rest : List ℕ) × AllWhite white × (line ≡ white ++ rest) × Begins ends_gap rest
     × (to ≡ place_at number rest after)
 
--- something that is no comment stands in this line or, behind lines without such a thing, in a later one, and `to` is the place before it; or
+-- something that is no comment stands in this line or, after lines without such a thing, in a later one, and `to` is the place before it; or
 -- nothing does, and `to` is the end of the text, in its last line
 abbrev pub GapFrom : ℕ → List ℕ → List (List ℕ) → Place → Type 0
 GapFrom number line [] to = InkIn number line [] to ⊎ (IsBlank line × (to ≡ place_at number [] []))

@@ -36,20 +36,20 @@ number_of false n = pos n
 number_of true zero = pos 0
 number_of true (suc n) = negsuc n
 
--- the word behind a `#` is the integer `value`: perhaps a minus, then digits and nothing else, of a number of 32 bits
+-- the word after a `#` is the integer `value`: perhaps a minus, then digits and nothing else, of a number of 32 bits
 abbrev pub IsInteger : ℤ → List ℕ → Type 0
 IsInteger value word = (minus : Bool) × (digits : List ℕ) × IsNumeral minus digits [] word × Fits minus (digits_value digits)
     × (value ≡ number_of minus (digits_value digits))
 
--- the word behind a `#` is an integer of 32 bits with something directly behind it
+-- the word after a `#` is an integer of 32 bits with something directly after it
 abbrev pub IsOverlong : List ℕ → Type 0
 IsOverlong word = (minus : Bool) × (digits : List ℕ) × (more : List ℕ) × IsNumeral minus digits more word × Fits minus (digits_value digits) × (more ≡ [] → ⊥)
 
--- the word behind a `#` doesn't begin with an integer of 32 bits: it has no digits, or its number is too great
+-- the word after a `#` doesn't begin with an integer of 32 bits: it has no digits, or its number is too great
 abbrev pub IsNoInteger : List ℕ → Type 0
 IsNoInteger word = (minus : Bool) (digits more : List ℕ) → IsNumeral minus digits more word → Fits minus (digits_value digits) → ⊥
 
--- `line` is the string `text` in its quotes, then `more`, which stands directly behind it up to the end of a word, and then `rest`
+-- `line` is the string `text` in its quotes, then `more`, which stands directly after it up to the end of a word, and then `rest`
 abbrev pub IsString : List ℕ → List ℕ → List ℕ → List ℕ → Type 0
 IsString text more line rest = (behind : List ℕ) × (line ≡ double_quote ∷ (text ++ double_quote ∷ behind)) × NoneIn is_quote text × IsBodyWord more behind rest
 
@@ -75,7 +75,7 @@ IsToken (Faulty _) line rest = ⊥
 IsToken Unended line rest = (line ≡ double_quote ∷ rest) × NoneIn is_quote rest
 IsToken Ended line rest = (line ≡ []) × (rest ≡ [])
 
--- the next word of a body from the place `from` on is `word`, and `to` is the place behind it
+-- the next word of a body from the place `from` on is `word`, and `to` is the place after it
 abbrev pub NextWord : BodyWord → Place → Place → Type 0
 NextWord word from to = (ink : Place) × (rest : List ℕ) × Gap from ink × IsToken word ink.line rest × (to ≡ further ink rest)
 

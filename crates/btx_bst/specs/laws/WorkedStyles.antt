@@ -25,7 +25,7 @@ pub record WorkedStyle : Type 0 where
 abbrev pub style_row : List ℕ → List Item → WorkedStyle
 style_row text items = record { text = text; items = items }
 
--- styles without a fault, and what is read again behind one
+-- styles without a fault, and what is read again after one
 abbrev pub commands : List WorkedStyle
 commands =
     -- nothing, and nothing but a comment
@@ -42,12 +42,12 @@ commands =
     ∷ style_row (codes "INTEGERS {a b}") (item.Integers ∷ [])
     ∷ style_row (codes "STRINGS {s t}") (item.Strings ∷ [])
     ∷ style_row (codes "MACRO {jan} {\"January\"}") (item.Macro ∷ [])
-    -- one directly behind another, and with whitespace and comments in the middle
+    -- one directly after another, and with whitespace and comments in the middle
     ∷ style_row (codes "INTEGERS{a}STRINGS{b}FUNCTION{f}{}") (item.Integers ∷ item.Strings ∷ item.Function 0 ∷ [])
     ∷ style_row (codes "ENTRY % the fields\n\n\t{ title % and }\n} { } {\n}\n") (item.Entry ∷ [])
     -- a nameless function is defined before the one that it stands in
     ∷ style_row (codes "FUNCTION {f} {{skip$} {#1} if$} FUNCTION {g} {f}") (item.Function 2 ∷ item.Function 3 ∷ [])
-    -- the name of a function that broke off is free, and so is ENTRY behind an ENTRY with a fault
+    -- the name of a function that broke off is free, and so is ENTRY after an ENTRY with a fault
     ∷ style_row (codes "FUNCTION {f} {\"a\n\nFUNCTION {f} {}") (Message NoQuoteEnd 1 ∷ item.Function 0 ∷ [])
     ∷ style_row (codes "ENTRY {a b!#} {} {}\n\nENTRY {c} {} {}") (Message NoName 1 ∷ item.Entry ∷ [])
     ∷ []
@@ -101,7 +101,7 @@ faults =
     ∷ style_row (codes "FUNCTION {f} {\n#- #x}") (Message BadInteger 2 ∷ Message BadInteger 2 ∷ item.Function 0 ∷ [])
     ∷ style_row (codes "FUNCTION {f} {#2147483648}") (Message BadInteger 1 ∷ item.Function 0 ∷ [])
     ∷ style_row (codes "FUNCTION {f} {#-2147483649}") (Message BadInteger 1 ∷ item.Function 0 ∷ [])
-    -- something stands directly behind a string or an integer
+    -- something stands directly after a string or an integer
     ∷ style_row (codes "FUNCTION {f} {\"a\"b}") (Message TextAfter 1 ∷ item.Function 0 ∷ [])
     ∷ style_row (codes "FUNCTION {f} {\n\n#1x\n}") (Message TextAfter 3 ∷ item.Function 0 ∷ [])
     -- a string has no end on its line; the messages of the body stay
@@ -131,7 +131,7 @@ faults =
     ∷ style_row (codes "ENTRY {} {} {} READ\nEXECUTE {skip$") (item.Entry ∷ item.Read ∷ Message EndOfFile 2 ∷ [])
     ∷ style_row (codes "MACRO {a} {") (Message EndOfFile 1 ∷ [])
     ∷ style_row (codes "MACRO {a} {\"x\"") (Message EndOfFile 1 ∷ [])
-    -- behind a fault all is skipped up to the next empty line; one of whitespace alone is empty too
+    -- after a fault all is skipped up to the next empty line; one of whitespace alone is empty too
     ∷ style_row (codes "bogus SORT }\nSORT\n \t\nSORT") (Message (NotCommand (codes "bogus")) 1 ∷ Message (BeforeRead command.Sort) 4 ∷ [])
     ∷ style_row (codes "bogus\nbogus\nbogus") (Message (NotCommand (codes "bogus")) 1 ∷ [])
     ∷ []
@@ -149,7 +149,7 @@ body_row text bodies texts = record { text = text; bodies = bodies; texts = text
 -- bodies of functions: `FUNCTION {f} {"a"} FUNCTION {g} {""}` has two, which push the strings 0 and 1: `a`, and the empty one
 abbrev pub bodies : List WorkedBody
 bodies =
-    -- a body has integers, strings, names behind a quote, and names; strings are numbered through the style
+    -- a body has integers, strings, names after a quote, and names; strings are numbered through the style
     body_row (codes "FUNCTION {f} {#10 #-2 #0 \"x\" 'skip$ POP$}")
     ((token.Integer (pos 10) ∷ token.Integer (negsuc 1) ∷ token.Integer (pos 0) ∷ Text 0 ∷ Quote (callee.BuiltIn Skip) ∷ Run (callee.BuiltIn Pop) ∷ []) ∷ [])
     ((codes "x") ∷ [])
@@ -162,7 +162,7 @@ bodies =
     ∷ []) ((codes "a") ∷ [])
     -- a function that broke off leaves neither a body nor a string
     ∷ body_row (codes "FUNCTION {f} {{\"a\"} \"b\n\nFUNCTION {g} {\"c\"}") ((Text 0 ∷ []) ∷ []) ((codes "c") ∷ [])
-    -- names are numbered behind those that are known before the style
+    -- names are numbered after those that are known before the style
     ∷ body_row (codes "INTEGERS {n} STRINGS {s} ENTRY {t} {i} {l} FUNCTION {f} {n s t i l}")
     ((Run (callee.GlobalInteger 2) ∷ Run (callee.GlobalString 0) ∷ Run (callee.Field 1) ∷ Run (callee.EntryInteger 0) ∷ Run (callee.EntryString 1) ∷ [])
     ∷ []) []

@@ -137,7 +137,7 @@ abbrev pub ExecutesFunction : (Callee → Item) → List ℕ → Style → Style
 ExecutesFunction item name style end = (callee : Callee) × (has_read style ≡ true) × (function_in (named style.names name) ≡ Some callee)
     × (with_item (item callee) style ≡ end)
 
--- the command may stand behind `style`, and makes `end` of it
+-- the command may come after `style`, and makes `end` of it
 abbrev pub MakesStyle : Written → Style → Style → Type 0
 MakesStyle (Entry fields integers strings) style end =
     (style.has_entry ≡ false)

@@ -32,7 +32,7 @@ shown_of (Another command) = command_word_of command
 shown_of (BeforeRead command) = command_word_of command
 shown_of _ = []
 
--- what stands behind the name or the command that is shown
+-- what comes after the name or the command that is shown
 unfoldable pub after_shown : Complaint → List ℕ
 after_shown (NotCommand name) = codes " isn't a command"
 after_shown (Defined name) = codes " is already defined"

@@ -8,6 +8,6 @@ use Rattle.btx_bst.specs.language.Words.{Front, front, String, Faulty}
 abbrev pub string_before : List ℕ → List ℕ → Front
 string_before text rest = if is_word_end rest then front (String text) rest else front (Faulty TextAfter) (drop (word_len rest) rest)
 
--- a number with one more decimal digit behind it
+-- a number with one more decimal digit after it
 abbrev pub with_digit : ℕ → ℕ → ℕ
 with_digit n d = n * 10 + (d - 48)

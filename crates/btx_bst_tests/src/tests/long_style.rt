@@ -32,7 +32,7 @@ FUNCTION {all.names}\n{\n  'listed :=\n  listed num.names$ 'namecount :=\n  #1 '
   { nameindex namecount > opposite }\n  {\n    nameindex #1 > { \" and \" * } { skip$ } if$\n    listed nameindex \"{ff~}{vv~}{ll}{, jj}\" format.name$ *\n\
     nameindex #1 + 'nameindex :=\n  }\n  while$\n}\n\n";
 
-// What stands behind the parts.
+// What comes after the parts.
 const TAIL: &[u8] = b"READ\n\n\
 FUNCTION {make.key}\n{\n  author missing$\n    { \"\" }\n    { author all.names purify$ \"l\" change.case$ }\n  if$\n\
   title missing$ { \"\" } { title purify$ } if$\n  *\n  #1 entry.max$ substring$\n  'sort.key$ :=\n}\n\n\
@@ -70,13 +70,13 @@ fn push_part(
     Ok(())
 }
 
-// What stands before the `=` of a word, and behind it.
+// What stands before the `=` of a word, and after it.
 fn cut(word: &[u8]) -> (&[u8], &[u8]) {
     let mut parts = word.splitn(2, |byte| *byte == b'=');
     (parts.next().unwrap_or(b""), parts.next().unwrap_or(b""))
 }
 
-// A part for each of these words, which are a first one and, behind a `=`, a second.
+// A part for each of these words, which are a first one and, after a `=`, a second.
 fn push_parts(text: &mut Vec<u8>, part: &[u8], words: &[u8]) -> Result<(), AllocError> {
     for word in words.split(|byte| *byte == b' ') {
         let (first, second) = cut(word);

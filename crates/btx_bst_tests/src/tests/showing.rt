@@ -71,7 +71,7 @@ impl<'w, 't> Writing<'w, 't> {
         self.push(self.style.name(callee))
     }
 
-    // The bodies, each with its end: its tokens behind its number.
+    // The bodies, each with its end: its tokens after its number.
     fn push_bodies(&mut self) -> Result<(), AllocError> {
         let style = self.style;
         for number in 0..style.functions() {
@@ -89,7 +89,7 @@ impl<'w, 't> Writing<'w, 't> {
         self.push(b"\n")
     }
 
-    // A token behind a space: a string in quotes, an integer behind a `#`, a literal behind a `'`; a function of the style by its number.
+    // A token after a space: a string in quotes, an integer after a `#`, a literal after a `'`; a function of the style by its number.
     fn push_token(&mut self, token: Token) -> Result<(), AllocError> {
         match token {
             Token::Text(number) => {

@@ -75,7 +75,7 @@ abbrev pub parents_named : List Stored → List (List ℕ)
 parents_named stored = flat_map (λ (entry : Stored). option_to_list (entry.value (codes "crossref"))) stored
 
 -- an entry of this key is to be stored: `*` is cited, or the key is, or a stored entry names it as its parent; so a parent that
--- isn't cited has to stand behind a child
+-- isn't cited has to come after a child
 abbrev pub is_asked : Request → List Stored → List ℕ → Bool
 is_asked request stored key = is_some request.all || list_any (is_same_key key) (request.cited ++ parents_named stored)
 
@@ -121,7 +121,7 @@ entry_begun request database known kind key rest =
     if not (is_asked request known.stored key) then known
     else saying (only_if (is_none (request.types (folded kind))) unknown) (record known { current = Some entry })
 
--- what is known behind an event of a database; `rest` is the text behind it. A comment ends with its word, so the next item may stand in it. A second
+-- what is known after an event of a database; `rest` is the text after it. A comment ends with its word, so the next item may stand in it. A second
 -- `@string` of a name takes the place of the first, and nothing is logged
 abbrev pub known_after_event : Request → Database → DatabaseState → Event → List ℕ → DatabaseState
 known_after_event request database known Comment rest = known
@@ -149,8 +149,8 @@ known_after request database known placed = if is_some known.limit then known el
 abbrev pub keeping : Keeping DatabaseState
 keeping = record { is_stored = λ known key. is_some (stored_with (all_stored known) key); after = λ known event. known }
 
--- these are the events of a text from where `expected` stands first, and `last` is what is known behind them: each event is what its front of the text spells,
--- or what is wrong at its end; and behind the last no `@` is left
+-- these are the events of a text from where `expected` stands first, and `last` is what is known after them: each event is what its front of the text spells,
+-- or what is wrong at its end; and after the last no `@` is left
 abbrev pub AreEvents : Request → Database → DatabaseState → Expected → List ℕ → List Placed → DatabaseState → Type 0
 AreEvents request database known expected text [] last = (expected ≡ Item) × HasNoAt text × (last ≡ known)
 AreEvents request database known expected text (placed ∷ others) last =

@@ -18,7 +18,7 @@ pub record Divisions : Type 0 where
   pub names : List ℕ → List (List ℕ)
   -- the tokens of a name or of a part of it
   pub tokens : List ℕ → List NameToken
-  -- what stands before and behind the first comma of a name that counts
+  -- what stands before and after the first comma of a name that counts
   pub cut : List ℕ → Option (List ℕ × List ℕ)
   -- First, von, Last and Jr
   pub parts : List ℕ → NameParts

@@ -85,7 +85,7 @@ module _ (slots : List Slot) where
   stays_at i = has_entry i && option_map_or (λ (slot : Slot). slot.stays) (slice_get slots i) false
 
   -- What an entry has is its own value; else its parent's. Entries take what they lack in the order of the list: of a parent that stands before it an
-  -- entry takes also what that has taken, of one that stands behind it only what is that one's own. `value` gives what each has then
+  -- entry takes also what that has taken, of one that comes after it only what is that one's own. `value` gives what each has then
   abbrev pub IsInherited : (ℕ → List ℕ → Option (List ℕ)) → Type 0
   IsInherited value = (i : ℕ) (name : List ℕ) →
       value i name ≡ option_or (own i name) (option_and_then (λ j. if nat_lt j i then value j name else own j name) (parent i))

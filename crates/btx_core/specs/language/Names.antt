@@ -41,7 +41,7 @@ abbrev pub AreNames : List ℕ → List (List ℕ) → Type 0
 AreNames [] names = names ≡ []
 AreNames (b ∷ bs) names = names ≡ pieces_between 0 (map and_word_range (separators_of (b ∷ bs))) (b ∷ bs)
 
--- the tokens are what stands between whitespace, `~`, `-` and commas at depth 0; what joins a token to the next is the byte behind it
+-- the tokens are what stands between whitespace, `~`, `-` and commas at depth 0; what joins a token to the next is the byte after it
 abbrev pub AreTokens : List ℕ → List NameToken → Type 0
 AreTokens text [] = list_all is_break text ≡ true
 AreTokens text (token ∷ tokens) =
@@ -134,8 +134,8 @@ module _ (the : Divisions) (mode : TextMode) where
   separator_between so_far Hyphen is_last = byte "-"
   separator_between so_far Space is_last = if is_last || is_short so_far then byte "~" else byte " "
 
-  -- what stands behind a token of a piece, which this number of tokens follows: the piece's own string; else a period behind an abbreviation, and the byte
-  -- between. Nothing behind the last
+  -- what comes after a token of a piece, which this number of tokens follows: the piece's own string; else a period after an abbreviation, and the byte
+  -- between. Nothing after the last
   abbrev pub behind_token : FormatPiece → List ℕ → TokenSeparator → ℕ → List ℕ
   behind_token piece so_far joint zero = []
   behind_token piece so_far joint (suc left) =

@@ -59,13 +59,13 @@ command_does means library list (Iterate f) left s = execute_for_each means (cod
 command_does means library list (Reverse f) left s = execute_for_each means (codes "REVERSE") f (reverse list) left s
 command_does means library list Sort left s = Done s left
 
--- the list behind a command: READ makes all entries known, in the order of the library, and SORT puts them into the order of their keys
+-- the list after a command: READ makes all entries known, in the order of the library, and SORT puts them into the order of their keys
 abbrev pub IsListAfter : Library → Command → List Entry → State → List Entry → Type 0
 IsListAfter library Read list s next = next ≡ library.entries
 IsListAfter library Sort list s next = IsInOrder (sort_key s) list next
 IsListAfter library _ list s next = next ≡ list
 
--- behind the first outcome the next follows as `Next` says, if the first is done; else it is the last
+-- after the first outcome the next follows as `Next` says, if the first is done; else it is the last
 abbrev pub GoesOn : Outcome → (ℕ → State → Outcome → Type 0) → Outcome → Type 0
 GoesOn (Done s left) Next outcome = Next left s outcome
 GoesOn (Stopped s) Next outcome = outcome ≡ Stopped s

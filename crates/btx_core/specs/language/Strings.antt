@@ -41,13 +41,13 @@ module _ (the : Divisions) where
   purified string = flat_map (λ (part : Element). purified_part part.kind part.text) (the.elements Bytes string)
 
   -- `change.case$` of a part: bytes at depth 0, and special characters glyph by glyph, where `\i`, `\j` and `\ss` in upper case lose their backslash and the
-  -- whitespace behind them
+  -- whitespace after them
   abbrev pub cased : Conversion → Kind → ℕ → List ℕ → List ℕ
   cased to Byte depth text = if depth == 0 then map (case_of to) text else text
   cased to Special depth text = flat_map (cased_glyph to) (without_white (becomes_letters to) [] (the.glyphs text))
   cased to _ depth text = text
 
-  -- in a title the first element keeps its case, and the first behind a colon and whitespace; `before` are the elements before, nearest first
+  -- in a title the first element keeps its case, and the first after a colon and whitespace; `before` are the elements before, nearest first
   abbrev pub all_cased : Conversion → List Element → List Element → List ℕ
   all_cased to before [] = []
   all_cased to before (part ∷ parts) =
@@ -57,7 +57,7 @@ module _ (the : Divisions) where
   abbrev pub in_case : Conversion → List ℕ → List ℕ
   in_case to string = all_cased to [] (the.elements Bytes string)
 
-  -- `width$` of a part: the sum of the widths of bytes; of a special character that of its glyphs, without the whitespace behind control sequences
+  -- `width$` of a part: the sum of the widths of bytes; of a special character that of its glyphs, without the whitespace after control sequences
   abbrev pub part_width : Kind → List ℕ → ℕ
   part_width Special text = sum_by glyph_width (without_white (λ _. true) [] (the.glyphs text))
   part_width _ text = sum_by byte_width text

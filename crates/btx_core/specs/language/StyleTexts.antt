@@ -88,7 +88,7 @@ ended_at wrong style place = record { wrong = wrong; style = style; place = plac
 abbrev pub Rule : Type 1
 Rule = SoFar → Place → CommandEnd → Type 0
 
--- what `R` spells stands here, behind whitespace, and `rest` follows; or what is wrong in it ends the command
+-- what `R` spells stands here, after whitespace, and `rest` follows; or what is wrong in it ends the command
 abbrev pub Next : {A : Type 0} → StyleGrammar A → (A → Rule) → Rule
 Next {A} R rest style from o =
     ((a : A) × (to : Place) × BehindGap R from (Took a to) × rest a style to o)
@@ -190,14 +190,14 @@ as_type f = None
 abbrev pub is_read : SoFar → Bool
 is_read style = is_some style.types
 
--- the name of a function, in braces: it is executed, which only goes behind READ
+-- the name of a function, in braces: it is executed, which only goes after READ
 abbrev pub Executes : CommandName → (Function → Command) → Rule
 Executes command made =
     Where is_read (BeforeRead command) (Opened (Next StyleNameHere (λ name style from o.
     ((f : Function) × (meaning style name ≡ Some f) × (is_function f ≡ true) × Closed (Makes (and_command (made f))) style from o)
     ⊎ (((f : Function) → meaning style name ≡ Some f → is_function f ≡ true → ⊥) × (o ≡ ended_at (Some (Unknown name)) style from)))))
 
--- what stands behind the word of each command, and what the command makes of the style so far. A faulty ENTRY doesn't count as one (in the original it
+-- what comes after the word of each command, and what the command makes of the style so far. A faulty ENTRY doesn't count as one (in the original it
 -- does), but the names that it declared stand
 abbrev pub Behind : CommandName → Rule
 Behind command.Entry = Where (λ style. not style.has_entry) (Another command.Entry) (Lists kind.Field (Lists kind.EntryInteger (Lists kind.EntryString
@@ -215,7 +215,7 @@ Behind command.Macro = Where (λ style. not (is_read style)) AfterRead (Opened (
     Where (λ style. is_none (lookup (bytes_eq (folded name)) style.macros)) (NameTaken name) (Closed (Opened (Next TextHere (λ text.
     Closed (Makes (λ style. record style { macros = style.macros ++ (folded name, text) ∷ [] })))))))))
 
--- the word of a command in any case, and what stands behind it; or a word of none
+-- the word of a command in any case, and what comes after it; or a word of none
 abbrev pub Named : List ℕ → Rule
 Named letters style from o =
     ((command : CommandName) × IsWordOf command letters × Behind command style from o)
@@ -223,7 +223,7 @@ Named letters style from o =
 
 -- ---- styles
 
--- where the next command is looked for: behind a command; behind what is skipped, if something was wrong, which is said at its line
+-- where the next command is looked for: after a command; after what is skipped, if something was wrong, which is said at its line
 abbrev pub FollowsOn : CommandEnd → Option Complaint → SoFar → Place → Type 0
 FollowsOn o None style place = (style ≡ o.style) × (place ≡ o.place)
 FollowsOn o (Some wrong) style place = Skips o.place place × (style ≡ and_says ((wrong, o.place.number) ∷ []) o.style)

@@ -78,13 +78,13 @@ item_by means job list (item.Iterate f) left s = in_order (λ entry. visit_by me
 item_by means job list (item.Reverse f) left s = in_order (λ entry. visit_by means job command.Reverse f (Some entry)) (reverse list) left s
 item_by means job list _ left s = Done s left
 
--- the list behind an item: SORT puts it into the order of the keys
+-- the list after an item: SORT puts it into the order of the keys
 abbrev pub IsListAfter : Job → Item → List ℕ → Store → List ℕ → Type 0
 IsListAfter job item.Read list store next = next ≡ range_with_len 0 (length job.library.entries)
 IsListAfter job item.Sort list store next = IsInOrder (λ (entry : ℕ). string_of store.entries entry 0) list next
 IsListAfter job _ list store next = next ≡ list
 
--- behind the first outcome the next follows as `Next` says, if the first is done; else it is the last
+-- after the first outcome the next follows as `Next` says, if the first is done; else it is the last
 abbrev pub GoesOn : Outcome → (ℕ → State → Outcome → Type 0) → Outcome → Type 0
 GoesOn (Done s left) Next outcome = Next left s outcome
 GoesOn (Stopped s) Next outcome = outcome ≡ Stopped s
@@ -149,7 +149,7 @@ abbrev pub IsProductOfFiles : AuxJob → FilesRead → Options → LogCounts →
 IsProductOfFiles job (Ends ending) options counts budget product = product ≡ record { bbl = []; log_so_far = []; report = report_of ending 0 0 counts }
 IsProductOfFiles job (Found found) options counts budget product = IsExecuted job found options counts budget product
 
--- the product of a job: what follows the reading of its files, behind the log lines of the reading
+-- the product of a job: what follows the reading of its files, after the log lines of the reading
 pub record IsProductWith (files : Files) (name : List ℕ) (options : Options) (budget : ℕ) (whole : Product) : Type 0 where
   pub rest : Product
   pub follows : IsProductOfFiles (job_named files name) (reading_of files name).gives options (counts_of (reading_of files name).lines) budget rest

@@ -21,11 +21,11 @@ shows_all =
 abbrev pub narrow : Options
 narrow = options 1000 2 20
 
--- a run of a style with one entry, the key `k`, whose title is `T`: the style behind READ, the list, the lines of the log behind those on files, and the status
+-- a run of a style with one entry, the key `k`, whose title is `T`: the style after READ, the list, the lines of the log after those on files, and the status
 abbrev pub does : String → String → List String → ℕ → WorkedJob
 does style list log status = gathers "k" "@misc{k, title = {T}}" style list log status
 
--- the same run where nothing is logged but the files and the end: the style behind READ, the list, and the number of steps
+-- the same run where nothing is logged but the files and the end: the style after READ, the list, and the number of steps
 abbrev pub writes : String → String → String → WorkedJob
 writes style list steps = lists "k" "@misc{k, title = {T}}" style list steps
 
@@ -110,7 +110,7 @@ reference_corners =
     -- all are cited, and a parent isn't there
     ∷ gathers "*" "@misc{k,crossref={P}}" shows_all "k/misc/-/-\n"
     ("Error--A bad cross reference--entry \"k\" refers to entry \"P\", which doesn't exist" ∷ "Ended: finished, warnings 0, errors 1, steps 28" ∷ []) 2
-    -- a key that is cited behind the star stands at its entry's place
+    -- a key that is cited after the star stands at its entry's place
     ∷ lists "b,*,k" "@misc{a}@misc{K}@misc{b}" shows_title "b=-\na=-\nk=-\n" "42"
     -- no reference is wanted
     ∷ under (options 1000 0 79) (lists "k" "@misc{k,crossref={p}}@misc{p,title={T}}" shows_all "k/misc/T/p\np/misc/T/-\n" "56")
@@ -140,7 +140,7 @@ style_corners =
     ∷ does "STRINGS {x X}\n\nFUNCTION {skip$} {}" ""
     ("Error--X is already defined--line 1 of file s.bst" ∷ "Error--skip$ is already defined--line 3 of file s.bst"
     ∷ "Ended: finished, warnings 0, errors 2, steps 0" ∷ []) 2
-    -- a macro behind READ
+    -- a macro after READ
     ∷ does "MACRO {a} {\"b\"} EXECUTE {skip$}\n \nEXECUTE {skip$}" ""
     ("Error--Illegal, MACRO command after READ--line 1 of file s.bst" ∷ "Ended: finished, warnings 0, errors 1, steps 1" ∷ []) 2
     -- a string without its end drops the function
@@ -228,7 +228,7 @@ name_corners =
     ∷ writes "FUNCTION {f} {\"Ann Lucas-Dubois\" #1 \"{ll}|{ff}\" format.name$ write$ newline$} EXECUTE {f}" "Lucas-Dubois|Ann\n" "7"
     -- two separators share their white
     ∷ writes "FUNCTION {f} {\"a and and b\" num.names$ int.to.str$ write$ newline$} EXECUTE {f}" "3\n" "6"
-    -- the byte behind a token joins it
+    -- the byte after a token joins it
     ∷ writes "FUNCTION {f} {\"A -B C\" #1 \"{ff}\" format.name$ write$ newline$} EXECUTE {f}" "A~B\n" "7"
     -- a colon ends no sentence
     ∷ writes "FUNCTION {f} {\"a:\" add.period$ write$ newline$} EXECUTE {f}" "a:.\n" "5"

@@ -43,7 +43,7 @@ aux_citing keys databases = (codes "job.aux", codes "\\citation{" ++ codes keys 
 abbrev pub whole_style : String → File
 whole_style text = (codes "s.bst", codes text)
 
--- the file `s.bst`, whose entries are of the type `misc` and have a title; this stands behind READ
+-- the file `s.bst`, whose entries are of the type `misc` and have a title; this comes after READ
 abbrev pub style_file : String → File
 style_file text = (codes "s.bst", codes "ENTRY {title}{}{} FUNCTION {misc}{} READ " ++ codes text)
 
@@ -84,11 +84,11 @@ files_logged = "The top-level auxiliary file: job.aux" ∷ "The style file: s.bs
 abbrev pub comes_to : List File → String → List String → ℕ → WorkedJob
 comes_to files list log status = worked_job files usual (codes list) (lines log) status
 
--- the files of a run that cites these keys: its database, and its style behind READ
+-- the files of a run that cites these keys: its database, and its style after READ
 abbrev pub files_of : String → String → String → List File
 files_of keys database style = aux_citing keys "d" ∷ database_file database ∷ style_file style ∷ []
 
--- a run that cites these keys, with this database and style, which comes to this list, these lines of the log behind those on files, and this status
+-- a run that cites these keys, with this database and style, which comes to this list, these lines of the log after those on files, and this status
 abbrev pub gathers : String → String → String → String → List String → ℕ → WorkedJob
 gathers keys database style list log status = comes_to (files_of keys database style) list (files_logged ++ log) status
 
@@ -122,7 +122,7 @@ one_entry = "@misc{k, title = {T}}\n"
 abbrev pub a_citation : WorkedJob
 a_citation = lists "k" "@misc{k, title = {T}}\n" "FUNCTION {f} {cite$ write$ \": \" write$ title write$ newline$} ITERATE {f}" "k: T\n" "8"
 
--- a parent that two cited entries name stays in the list, behind them, and they have its fields
+-- a parent that two cited entries name stays in the list, after them, and they have its fields
 abbrev pub cross_references : WorkedJob
 cross_references =
     lists "a,b" "@misc{a, crossref = {p}}\n@misc{b, crossref = {P}}\n@misc{p, title = {Whole}}\n"
@@ -164,7 +164,7 @@ broken_lines =
 abbrev pub no_top_file : WorkedJob
 no_top_file = comes_to [] "" ("Ended: no top file, warnings 0, errors 0, steps 0" ∷ []) 3
 
--- without its style a run ends behind an error
+-- without its style a run ends after an error
 abbrev pub no_style : WorkedJob
 no_style =
     comes_to (aux_citing "k" "d" ∷ database_file one_entry ∷ []) ""

@@ -5,7 +5,7 @@ use Rattle.btx_out.specs.language.Pieces.{AppendsPrefix}
 use Rattle.btx_machine.specs.language.Product.{Product}
 use Rattle.btx_machine.specs.language.KeepingStep.{Received, BothBegin, WithinOneStep}
 
--- the log's last line comes only behind the whole list: the list was written to its end, or nothing of that line was written
+-- the log's last line comes only after the whole list: the list was written to its end, or nothing of that line was written
 abbrev pub LastLineBehindList : Received → Received → Product → Type 0
 LastLineBehindList before after product = Appends before.0 after.0 product.bbl ⊎ AppendsPrefix before.1 after.1 product.log_so_far
 

@@ -43,12 +43,12 @@ abbrev pub is_doubled : ℕ → List ℕ → Bool
 is_doubled letter [] = false
 is_doubled letter (second ∷ rest) = to_ascii_lowercase second == to_ascii_lowercase letter
 
--- the braced string directly behind the letters, without its braces
+-- the braced string directly after the letters, without its braces
 abbrev pub between_of : List ℕ → Option (List ℕ)
 between_of rest =
     if slice_index rest 0 == byte "{" then Some (take (run_len Closing 0 (drop 1 rest)) (drop 1 rest)) else None
 
--- what follows the letters of a piece, without the braced string directly behind them, if there is one
+-- what follows the letters of a piece, without the braced string directly after them, if there is one
 abbrev pub behind_between : List ℕ → List ℕ
 behind_between rest =
     if slice_index rest 0 == byte "{" then drop (run_len Closing 0 (drop 1 rest) + 1) (drop 1 rest) else rest

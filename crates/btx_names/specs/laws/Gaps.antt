@@ -1,7 +1,7 @@
 -- The pieces of a string between gaps: a gap goes from one place to another.
 use Rattle.std.specs.Prelude.{ℕ, ◌+◌, List, [], ◌∷◌, drop, slice_range}
 
--- a gap of a string: the place at which it begins, and the place behind it
+-- a gap of a string: the place at which it begins, and the place after it
 abbrev pub NameGap : Type 0
 NameGap = ℕ × ℕ
 
@@ -10,7 +10,7 @@ unfoldable pub pieces_between : ℕ → List NameGap → List ℕ → List (List
 pieces_between from [] string = drop from string ∷ []
 pieces_between from (gap ∷ gaps) string = slice_range string from gap.0 ∷ pieces_between gap.1 gaps string
 
--- the letters of a separator of names, which stand behind the whitespace byte at a place
+-- the letters of a separator of names, which come after the whitespace byte at a place
 abbrev pub and_word_range : ℕ → NameGap
 and_word_range place = (place + 1, place + 4)
 

@@ -5,7 +5,7 @@ use Rattle.btx_strings.specs.laws.Controls.{glyphs_text}
 use Rattle.std.specs.Char.{is_ascii_lowercase}
 use Rattle.btx_names.specs.laws.VonTokens.{is_foreign, begins_lower}
 
--- the first control sequence among glyphs says lower case if it is a foreign letter in lower case, and else if the first letter behind it is
+-- the first control sequence among glyphs says lower case if it is a foreign letter in lower case, and else if the first letter after it is
 unfoldable pub are_lower : List Glyph → Bool
 are_lower [] = false
 are_lower (Control name ∷ after) = if is_foreign name then is_ascii_lowercase (slice_index name 0) else begins_lower (glyphs_text after)

@@ -31,7 +31,7 @@ other_tokens =
     ∷ codes "{\\AE}x"
     ∷ codes "{\\AA}x"
     ∷ codes "{\\L}x"
-    -- no foreign control sequence, and no letter behind it
+    -- no foreign control sequence, and no letter after it
     ∷ codes "{\\J}x"
     ∷ codes "{\\'E}x"
     ∷ codes "{\\relax X}x"

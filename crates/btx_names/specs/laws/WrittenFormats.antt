@@ -40,7 +40,7 @@ abbrev pub begin_literal : List FormatItem → Bool
 begin_literal (Literal text ∷ items) = true
 begin_literal _ = false
 
--- items that can be written one after another: no literal stands directly behind another, since both would be one
+-- items that can be written one after another: no literal stands directly after another, since both would be one
 unfoldable pub are_items : List FormatItem → Bool
 are_items [] = true
 are_items (item ∷ items) = is_item item && (not (begin_literal (item ∷ []) && begin_literal items) && are_items items)

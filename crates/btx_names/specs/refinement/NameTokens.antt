@@ -24,7 +24,7 @@ unfoldable pub lettered_in : List NameToken → ℕ
 lettered_in [] = 0
 lettered_in (token ∷ tokens) = token.lettered.len + lettered_in tokens
 
--- the same of the tokens that are said to have no abbreviation, those counted behind each token
+-- the same of the tokens that are said to have no abbreviation, those counted after each token
 unfoldable pub lettered_of_bare : List NameToken → ℕ
 lettered_of_bare [] = 0
 lettered_of_bare (token ∷ tokens) = lettered_in (take token.bare_behind tokens) + lettered_of_bare tokens

@@ -12,7 +12,7 @@ abbrev pub jr_of : spec.Sections → List ℕ
 jr_of (spec.Three surname jr first) = jr
 jr_of _ = []
 
--- the section of First behind a comma, nothing in a name without one
+-- the section of First after a comma, nothing in a name without one
 abbrev pub first_section : spec.Sections → List ℕ
 first_section (spec.One name) = []
 first_section (spec.Two surname first) = first

@@ -21,7 +21,7 @@ pub record IsListOf (bytes : List ℕ) (list : TokenList) (sections : Sections) 
 abbrev pub surname_in : List ℕ → TokenList → List NameToken
 surname_in bytes list = take list.surname (tokens_in bytes list.tokens.items)
 
--- where von and Last begin in the first section of a list: with commas von begins it, and Last stands behind von
+-- where von and Last begin in the first section of a list: with commas von begins it, and Last comes after von
 pub record AreRangesOf (bytes : List ℕ) (list : TokenList) (ranges : Ranges) : Type 0 where
   pub von_start : ranges.von_start ≡ (if list.has_commas then 0 else von_start (surname_in bytes list))
   pub last_start : ranges.last_start ≡ (if list.has_commas then von_end (surname_in bytes list) else last_start (surname_in bytes list))

@@ -1,4 +1,4 @@
--- How literals lie in memory: small slots, top first, and one pool of bytes, in which the strings that were made lie one behind another, those of
+-- How literals lie in memory: small slots, top first, and one pool of bytes, in which the strings that were made lie one after another, those of
 -- the top slot at the end.
 use Rattle.std.specs.Prelude.{◌≡◌, ◌≤◌, ◌-◌, ℕ, Bool, true, false, List, [], ◌∷◌, length, take, drop, if◌then◌else◌}
 use Rattle.btx_text.specs.declared.limits.TheConstants.{MOST_LITERALS}

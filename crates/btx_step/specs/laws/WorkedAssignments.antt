@@ -36,7 +36,7 @@ with_strings strings = record variables { strings = strings }
 abbrev pub with_entries : EntryVariables → EntryVariables → Variables
 with_entries first second = record variables { entries = first ∷ second ∷ [] }
 
--- the global integer `count`, which stands behind `entry.max$` and `global.max$`
+-- the global integer `count`, which comes after `entry.max$` and `global.max$`
 abbrev pub count : Callee
 count = GlobalInteger 2
 

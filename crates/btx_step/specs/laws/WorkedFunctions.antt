@@ -347,7 +347,7 @@ of_lamport =
     ∷ gives "type$" [] (string "" ∷ [])
     ∷ []
 
--- the same, with `default.type` behind READ: `call.type$` does nothing then
+-- the same, with `default.type` after READ: `call.type$` does nothing then
 abbrev pub of_lamport_without_default : List WorkedFunction
 of_lamport_without_default = gives "call.type$" [] [] ∷ []
 

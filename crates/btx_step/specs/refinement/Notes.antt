@@ -1,4 +1,4 @@
--- The place behind a message as the code's clauses have it.
+-- The place after a message as the code's clauses have it.
 use Rattle.std.specs.Prelude.{ℕ, Bool, List, [], Option, if◌then◌else◌}
 use Rattle.btx_step.specs.language.Notes.{place_of}
 

@@ -104,7 +104,7 @@ fn body_of(alloc: Global, function: &str, way: usize, count: usize) -> Result<Ve
     Ok(body)
 }
 
-/// Adds an error, and what was executed, behind the others in `answers`.
+/// Adds an error, and what was executed, after the others in `answers`.
 fn add_error(answers: &mut Vec<u8>, pieces: &[&str], function: &str) -> Result<(), AllocError> {
     answers.extend_from_slice(b"Error--")?;
     for piece in pieces {
@@ -116,7 +116,7 @@ fn add_error(answers: &mut Vec<u8>, pieces: &[&str], function: &str) -> Result<(
     Ok(())
 }
 
-/// Adds what stands in for a result behind the others in `answers`.
+/// Adds what stands in for a result after the others in `answers`.
 fn add_instead(answers: &mut Vec<u8>, instead: &str) -> Result<(), AllocError> {
     if instead.is_empty() {
         return Ok(());

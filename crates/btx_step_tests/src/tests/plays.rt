@@ -254,7 +254,7 @@ fn write_said(
     }
 }
 
-/// Adds an item of two parts behind the others in `answers`.
+/// Adds an item of two parts after the others in `answers`.
 fn write_line(answers: &mut Vec<u8>, front: &[u8], back: &[u8]) -> Result<(), AllocError> {
     if !answers.is_empty() {
         answers.extend_from_slice(b" | ")?;

@@ -10,7 +10,7 @@ abbrev pub is_ended : Option ℕ → Bool
 is_ended None = false
 is_ended (Some b) = b == byte "." || b == byte "?" || b == byte "!"
 
--- `add.period$`: the string with a `.` behind it. It stays as it is if its last byte that is no `}` is `.`, `?` or `!`, and if it is empty.
+-- `add.period$`: the string with a `.` after it. It stays as it is if its last byte that is no `}` is `.`, `?` or `!`, and if it is empty.
 abbrev pub add_period_of : List ℕ → List ℕ
 add_period_of [] = []
 add_period_of (b ∷ bs) =

@@ -1,4 +1,4 @@
--- Where a title keeps the case of an element: behind a colon and whitespace.
+-- Where a title keeps the case of an element: after a colon and whitespace.
 use Rattle.std.specs.Prelude.{◌≡◌, ◌<◌, List, ◌∷◌, ◌++◌, length, IsTrue, ◌==◌, ◌&&◌, Bool, codes}
 use Rattle.std.specs.List.{list_all}
 use Rattle.btx_text.specs.language.Elements.{Element}

@@ -32,7 +32,7 @@ specials =
     ∷ special_row "{\\L}" "L" 625
     ∷ special_row "{\\J}" "" 0
     ∷ special_row "{\\'e}" "e" 444
-    -- whitespace behind a control sequence has no width, be the sequence letters or a sign; before or between other bytes it has its own
+    -- whitespace after a control sequence has no width, be the sequence letters or a sign; before or between other bytes it has its own
     ∷ special_row "{\\oe x}" "oex" 1306
     ∷ special_row "{\\relax x}" "x" 528
     ∷ special_row "{\\' x}" "x" 528

@@ -18,7 +18,7 @@ is_alpha b = is_ascii_uppercase b || is_ascii_lowercase b || nat_le 128 b
 abbrev pub is_sep : ℕ → Bool
 is_sep b = b == byte "~" || b == byte "-"
 
--- a byte that can stand in a name, in styles and in databases: from `!` up, which is the first behind the space, and none of `" # % ' ( ) , = { }`
+-- a byte that can stand in a name, in styles and in databases: from `!` up, which is the first after the space, and none of `" # % ' ( ) , = { }`
 abbrev pub is_name_byte : ℕ → Bool
 is_name_byte b =
     nat_le (byte "!") b

@@ -70,7 +70,7 @@ abbrev pub step_by : Parsed (Event × Expected) → Step
 step_by (Ok got) = record { event = got.0.0; wanted = got.0.1; rest = got.1 }
 step_by (Err wrong) = record { event = Wrong wrong.0; wanted = Item; rest = wrong.1 }
 
--- the text behind the first `@`, with which an item begins
+-- the text after the first `@`, with which an item begins
 unfoldable pub behind_at : List ℕ → Option (List ℕ)
 behind_at [] = None
 behind_at (b ∷ bs) = if b == byte "@" then Some bs else behind_at bs

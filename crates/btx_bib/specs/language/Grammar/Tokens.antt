@@ -31,7 +31,7 @@ wrong_at slip text = Err (slip_at slip text, text)
 unfoldable pub name_here : List ℕ → Parsed (List ℕ)
 name_here rest = if begins begins_name rest then Ok (longest_run NameByte rest, past NameByte rest) else wrong_at NoName rest
 
--- the name that stands next, behind whitespace
+-- the name that stands next, after whitespace
 abbrev pub name_at : List ℕ → Parsed (List ℕ)
 name_at text = name_here (past Gap text)
 
@@ -43,7 +43,7 @@ open_in rest =
     if begins (λ b. b == brace) rest then Ok (Braces, drop 1 rest)
     else if begins (λ b. b == parenthesis) rest then Ok (Parens, drop 1 rest) else wrong_at NoDelimiter rest
 
--- the opening delimiter that stands next, behind whitespace
+-- the opening delimiter that stands next, after whitespace
 abbrev pub open_at : List ℕ → Parsed Delimiter
 open_at text = open_in (past Gap text)
 
@@ -56,7 +56,7 @@ closing_delimiter Parens = byte ")"
 unfoldable pub sign_in : ℕ → SyntaxError → List ℕ → Parsed (Unit {0})
 sign_in sign slip rest = if begins (λ b. b == sign) rest then Ok (tt, drop 1 rest) else wrong_at slip rest
 
--- the sign that stands next, behind whitespace
+-- the sign that stands next, after whitespace
 abbrev pub sign_at : ℕ → SyntaxError → List ℕ → Parsed (Unit {0})
 sign_at sign slip text = sign_in sign slip (past Gap text)
 
@@ -65,6 +65,6 @@ unfoldable pub key_here : Delimiter → List ℕ → Parsed (List ℕ)
 key_here delimiter [] = Err (EndOfFile, [])
 key_here delimiter (b ∷ bs) = Ok (longest_run (KeyByte delimiter) (b ∷ bs), past (KeyByte delimiter) (b ∷ bs))
 
--- the key of an entry that stands next, behind whitespace
+-- the key of an entry that stands next, after whitespace
 abbrev pub key_at : Delimiter → List ℕ → Parsed (List ℕ)
 key_at delimiter text = key_here delimiter (past Gap text)

@@ -11,7 +11,7 @@ use Rattle.std.specs.Char.{is_ascii_digit}
 use Rattle.std.specs.Str.{byte}
 use Rattle.std.specs.Option.{option_map_or}
 
--- the name of a string where it stands in a value. `rest` is the text behind it, which shows its place: how much of the file is left.
+-- the name of a string where it stands in a value. `rest` is the text after it, which shows its place: how much of the file is left.
 pub record StringName : Type 0 where
   pub name : List ℕ
   pub rest : List ℕ
@@ -23,18 +23,18 @@ pub data Part : Type 0 where
   Digits : (text : List ℕ) → Part
   Named : (string : StringName) → Part
 
--- an enclosed part whose text is `text`, and the rest behind it, given what follows that: the end of the file is an error, and in quotes a `}`,
+-- an enclosed part whose text is `text`, and the rest after it, given what follows that: the end of the file is an error, and in quotes a `}`,
 -- too
 abbrev pub closed_part : Enclosure → List ℕ → List ℕ → Parsed Part
 closed_part enclosure text [] = Err (EndOfFile, [])
 closed_part Group text (b ∷ bs) = Ok (Braced text, bs)
 closed_part Quotes text (b ∷ bs) = if b == byte "\"" then Ok (Quoted text, bs) else Err (Unbalanced, b ∷ bs)
 
--- a group or a text in quotes, from behind the byte that opens it to where it ends at depth 0
+-- a group or a text in quotes, from after the byte that opens it to where it ends at depth 0
 abbrev pub enclosed_in : Enclosure → List ℕ → Parsed Part
 enclosed_in enclosure rest = closed_part enclosure (take (enclosed_len enclosure 0 rest) rest) (drop (enclosed_len enclosure 0 rest) rest)
 
--- the part of a value with which a text begins, and the text behind it; or what is wrong: the file ends, or no part begins with this byte
+-- the part of a value with which a text begins, and the text after it; or what is wrong: the file ends, or no part begins with this byte
 unfoldable pub part_in : List ℕ → Parsed Part
 part_in [] = Err (EndOfFile, [])
 part_in (b ∷ bs) =
@@ -44,7 +44,7 @@ part_in (b ∷ bs) =
     else if begins_name b then Ok (Named (record { name = longest_run NameByte (b ∷ bs); rest = past NameByte (b ∷ bs) }), past NameByte (b ∷ bs))
     else Err (NoValue, b ∷ bs)
 
--- the part of a value that stands next, behind whitespace
+-- the part of a value that stands next, after whitespace
 abbrev pub part_at : List ℕ → Parsed Part
 part_at text = part_in (past Gap text)
 
@@ -57,7 +57,7 @@ behind_hash (b ∷ bs) = if b == byte "#" then Some bs else None
 abbrev pub next_part : List ℕ → Option (List ℕ)
 next_part rest = behind_hash (past Gap rest)
 
--- reads a value of at most `turns` parts: a part, and the others if a `#` stands behind it. The bound is never reached, since each part takes a byte
+-- reads a value of at most `turns` parts: a part, and the others if a `#` comes after it. The bound is never reached, since each part takes a byte
 -- at least
 unfoldable pub value_within : ℕ → List ℕ → Parsed (List Part)
 value_within zero text = Err (EndOfFile, [])

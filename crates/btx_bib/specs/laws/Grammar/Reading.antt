@@ -16,7 +16,7 @@ use Rattle.btx_bib.specs.language.Grammar.Items.{Event, Comment, Preamble, Defin
 use Rattle.btx_bib.specs.laws.Grammar.Spelling.{Grammar, Gives, Then, Spaced, IsRun, IsWrongHere, NameHere, SignHere, ValueSpelling, FieldSpelling}
 use Rattle.btx_text.specs.laws.Bytes.{at_sign, comma, equals_sign, open_brace, open_parenthesis}
 
--- a thing as `R` has it, behind the byte `sign`; or one as `S` has it where the text doesn't begin with that byte
+-- a thing as `R` has it, after the byte `sign`; or one as `S` has it where the text doesn't begin with that byte
 abbrev pub OnSign : {A : Type 0} → ℕ → Grammar A → Grammar A → Grammar A
 OnSign sign R S o front rest =
     ((behind : List ℕ) × (front ≡ sign ∷ behind) × R o behind rest) ⊎ ((begins (λ b. b == sign) (front ++ rest) ≡ false) × S o front rest)
@@ -43,7 +43,7 @@ AfterComma delimiter = OnSign (closing_delimiter delimiter) (Gives None) (Then F
 abbrev pub MoreHere : Delimiter → Grammar (Option Field)
 MoreHere delimiter = OnSign (closing_delimiter delimiter) (Gives None) (OnSign comma (Spaced (AfterComma delimiter)) (WrongHere (NoComma delimiter)))
 
--- what follows the name behind an `@`, by the command that the name is: the event that it comes to, and what is wanted after it
+-- what follows the name after an `@`, by the command that the name is: the event that it comes to, and what is wanted after it
 abbrev pub HeadOf : Command → List ℕ → Grammar (Event × Expected)
 HeadOf command.Comment name = Gives (Comment, Item)
 HeadOf command.Preamble name =
@@ -68,7 +68,7 @@ abbrev pub HasNoAt : List ℕ → Type 0
 HasNoAt [] = Unit {0}
 HasNoAt (b ∷ bs) = ((b == at_sign) ≡ false) × HasNoAt bs
 
--- what may stand at a place: the next item behind its `@`, an item's closing delimiter, or a field of an entry or its end, as `Expected` says
+-- what may stand at a place: the next item after its `@`, an item's closing delimiter, or a field of an entry or its end, as `Expected` says
 abbrev pub Stands : Expected → Grammar (Event × Expected)
 Stands Item o front rest = (ignored : List ℕ) × (behind : List ℕ) × (front ≡ ignored ++ at_sign ∷ behind) × HasNoAt ignored × Head o behind rest
 Stands (Closing delimiter) o front rest = Then (Spaced (SignHere (closing_delimiter delimiter) (NoClosing delimiter))) (λ sign. Gives (End, Item)) o front rest
@@ -81,7 +81,7 @@ IsOutcome keeping state event next (Ok got) = (event ≡ (as_known (keeping.is_s
 IsOutcome keeping state event next (Err slip) = (event ≡ Wrong slip) × (next ≡ Item)
 
 -- these are the events of a text, if `state` is what is known before it and `wanted` what is wanted first: each is what its front spells, or what is
--- wrong at its end; and behind the last one no `@` is left
+-- wrong at its end; and after the last one no `@` is left
 abbrev pub IsReading : {S : Type 0} → Keeping S → S → Expected → List ℕ → List Placed → Type 0
 IsReading keeping state wanted text [] = (wanted ≡ Item) × HasNoAt text
 IsReading keeping state wanted text (placed ∷ others) =

@@ -1,4 +1,4 @@
--- The grammar of a database, as relations between a front of a text and the rest behind it: the front spells a thing, or something is wrong at its
+-- The grammar of a database, as relations between a front of a text and the rest after it: the front spells a thing, or something is wrong at its
 -- end. `P (Ok a) front rest` says that `front` spells an a as `P` has it, and `P (Err slip) front rest` that `slip` is wrong where `rest` begins.
 use Rattle.std.specs.Prelude.{◌≡◌, ℕ, zero, suc, ◌==◌, ◌||◌, Bool, true, false, List, [], ◌∷◌, ◌++◌, ◌⊎◌, Result, Ok, Err}
 use Rattle.btx_text.specs.language.Class.{begins_name}
@@ -28,17 +28,17 @@ abbrev pub Gives : {A : Type 0} → A → Grammar A
 Gives a (Ok b) front rest = (front ≡ []) × (b ≡ a)
 Gives a (Err slip) front rest = ⊥
 
--- of two things one behind the other, the first is wrong
+-- of two things one after the other, the first is wrong
 abbrev pub FirstFails : {A B : Type 0} → Grammar A → Grammar B
 FirstFails R (Ok b) front rest = ⊥
 FirstFails R (Err slip) front rest = R (Err slip) front rest
 
--- of two things one behind the other, the first is spelled, and `next` says what its value has to be followed by, or what is wrong in that
+-- of two things one after the other, the first is spelled, and `next` says what its value has to be followed by, or what is wrong in that
 abbrev pub Both : {A B : Type 0} → Grammar A → (A → Grammar B) → Grammar B
 Both {A} R next o front rest = (a : A) × (first : List ℕ) × (second : List ℕ) × (front ≡ first ++ second) × R (Ok a) first (second ++ rest)
     × next a o second rest
 
--- a thing as `R` has it, and behind it one as `next` has it, or what is wrong in the first or the second
+-- a thing as `R` has it, and after it one as `next` has it, or what is wrong in the first or the second
 abbrev pub Then : {A B : Type 0} → Grammar A → (A → Grammar B) → Grammar B
 Then R next o front rest = FirstFails R o front rest ⊎ Both R next o front rest
 
@@ -116,13 +116,13 @@ PartHere (Ok (Digits text)) front rest = IsWord Digit is_ascii_digit text front 
 PartHere (Ok (Named string)) front rest = IsWord NameByte begins_name string.name front rest × (string.rest ≡ rest)
 PartHere (Err slip) front rest = IsWrongPart slip front rest
 
--- a value ends with this part: no `#` stands behind the whitespace that follows
+-- a value ends with this part: no `#` comes after the whitespace that follows
 abbrev pub EndsThere : Part → Grammar (List Part)
 EndsThere part (Ok parts) front rest = (front ≡ []) × (parts ≡ part ∷ []) ×
     (gap : List ℕ) × (behind : List ℕ) × (rest ≡ gap ++ behind) × IsRun Gap gap behind × (begins (λ b. b == hash) behind ≡ false)
 EndsThere part (Err slip) front rest = ⊥
 
--- a value goes on after this part: a `#` stands behind whitespace, and `others` follow
+-- a value goes on after this part: a `#` comes after whitespace, and `others` follow
 abbrev pub OthersFollow : Grammar (List Part) → Part → Grammar (List Part)
 OthersFollow others part = Both (Spaced (SignHere hash NoValue)) (λ none. Then others (λ parts. Gives (part ∷ parts)))
 

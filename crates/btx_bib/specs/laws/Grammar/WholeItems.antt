@@ -1,4 +1,4 @@
--- Whole items. Behind each `@` one is spelled, or something is wrong there; which items there are, and how they are spelled, is the
+-- Whole items. After each `@` one is spelled, or something is wrong there; which items there are, and how they are spelled, is the
 -- original's, and where a fault is met is this project's own.
 use Rattle.std.specs.Prelude.{ℕ, zero, suc, List, [], ◌∷◌, length, Option, None, Some, Ok, Err}
 use Rattle.btx_bib.specs.declared.grammar.byte_sets.Delimiter.{Delimiter}
@@ -14,7 +14,7 @@ use Rattle.btx_bib.specs.laws.Grammar.Reading.{OpenHere, KeyHere, MoreHere}
 use Rattle.btx_bib.specs.laws.Grammar.Fields.{more_at}
 use Rattle.btx_text.specs.laws.Bytes.{equals_sign}
 
--- what stands behind an `@`: an `@comment`, which ends with its own name; a `@preamble`; a `@string`; or an entry
+-- what comes after an `@`: an `@comment`, which ends with its own name; a `@preamble`; a `@string`; or an entry
 pub data WholeItem : Type 0 where
   CommentItem : WholeItem
   PreambleItem : (value : List Part) → WholeItem
@@ -27,7 +27,7 @@ pub data WholeItem : Type 0 where
 abbrev pub ClosingHere : Delimiter → Grammar (Unit {0})
 ClosingHere delimiter = Spaced (SignHere (closing_delimiter delimiter) (NoClosing delimiter))
 
--- behind one more field others follow; behind the entry's end none does
+-- after one more field others follow; after the entry's end none does
 abbrev pub OtherFields : Grammar (List Field) → Option Field → Grammar (List Field)
 OtherFields others None = Gives []
 OtherFields others (Some field) = Then others (λ fields. Gives (field ∷ fields))
@@ -41,7 +41,7 @@ FieldsOf (suc n) delimiter o front rest = Then (Spaced (MoreHere delimiter)) (Ot
 abbrev pub FieldsHere : Delimiter → Grammar (List Field)
 FieldsHere delimiter o front rest = (n : ℕ) × FieldsOf n delimiter o front rest
 
--- what stands behind the name `name` of an item, whose command is given
+-- what comes after the name `name` of an item, whose command is given
 abbrev pub ItemOf : Command → List ℕ → Grammar WholeItem
 ItemOf command.Comment name = Gives CommentItem
 ItemOf command.Preamble name =
@@ -53,13 +53,13 @@ ItemOf command.Entry name =
     Then (Spaced OpenHere) (λ delimiter. Then (Spaced (KeyHere delimiter)) (λ key.
     Then (FieldsHere delimiter) (λ fields. Gives (EntryItem name key fields))))
 
--- a whole item behind its `@`, or what is wrong in it
+-- a whole item after its `@`, or what is wrong in it
 abbrev pub ItemHere : Grammar WholeItem
 ItemHere = Then (Spaced NameHere) (λ name. ItemOf (command_of name) name)
 
 -- ---- the item that a text begins with
 
--- a field and those behind it, or none where the entry is at its end
+-- a field and those after it, or none where the entry is at its end
 abbrev pub other_fields : (List ℕ → Parsed (List Field)) → Option Field → List ℕ → Parsed (List Field)
 other_fields others None rest = Ok ([], rest)
 other_fields others (Some field) rest = followed_by (others rest) (λ fields end. Ok (field ∷ fields, end))
@@ -69,11 +69,11 @@ unfoldable pub fields_within : ℕ → Delimiter → List ℕ → Parsed (List F
 fields_within zero delimiter text = Err (EndOfFile, [])
 fields_within (suc turns) delimiter text = followed_by (more_at delimiter text) (other_fields (fields_within turns delimiter))
 
--- the fields of an entry up to its closing delimiter, read from behind its key on
+-- the fields of an entry up to its closing delimiter, read from after its key on
 unfoldable pub fields_at : Delimiter → List ℕ → Parsed (List Field)
 fields_at delimiter text = fields_within (suc (length text)) delimiter text
 
--- the item whose command and name are given, read from behind that name on
+-- the item whose command and name are given, read from after that name on
 unfoldable pub whole_item : Command → List ℕ → List ℕ → Parsed WholeItem
 whole_item command.Comment name text = Ok (CommentItem, text)
 whole_item command.Preamble name text =
@@ -91,6 +91,6 @@ whole_item command.Entry name text =
     followed_by (key_at delimiter behind_open) (λ key behind_key.
     followed_by (fields_at delimiter behind_key) (λ fields rest. Ok (EntryItem name key fields, rest))))
 
--- a whole item, read from behind its `@` on, or what is wrong in it
+-- a whole item, read from after its `@` on, or what is wrong in it
 unfoldable pub whole_item_at : List ℕ → Parsed WholeItem
 whole_item_at text = followed_by (name_at text) (λ name rest. whole_item (command_of name) name rest)

@@ -24,7 +24,7 @@ is_entry_of key _ = false
 abbrev pub has_entry_of : List Event → List ℕ → Bool
 has_entry_of events key = list_any (is_entry_of key) events
 
--- the name of a string in a value, and the text behind it
+-- the name of a string in a value, and the text after it
 abbrev pub name : List ℕ → List ℕ → Part
 name string rest = Named (record { name = string; rest = rest })
 
@@ -47,7 +47,7 @@ texts =
     -- nothing, and what stands outside any item
     text_row (codes "") []
     ∷ text_row (codes "jan = {x}\n% y") []
-    -- fields have values of one part or of several; a comma may stand behind the last one
+    -- fields have values of one part or of several; a comma may come after the last one
     ∷ text_row (codes "@misc{k, title={A{b}},\n TITLE = 1 # b,}")
     (Entry (codes "misc") (codes "k") ∷ worked_field (codes "title") (Braced (codes "A{b}") ∷ [])
     ∷ worked_field (codes "TITLE") (Digits (codes "1") ∷ name (codes "b") (codes ",}") ∷ []) ∷ End ∷ [])
@@ -82,14 +82,14 @@ texts =
     ∷ text_row (codes "@misc{k, t = {A} # , u = 1}") (Entry (codes "misc") (codes "k") ∷ Wrong NoValue ∷ [])
     -- a `}` in quotes closes nothing
     ∷ text_row (codes "@misc(k, title = \"a}b\")") (Entry (codes "misc") (codes "k") ∷ Wrong Unbalanced ∷ [])
-    -- the file ends before a key, inside an entry, behind a value, which is read whole, behind a `#`, and inside a group
+    -- the file ends before a key, inside an entry, after a value, which is read whole, after a `#`, and inside a group
     ∷ text_row (codes "@misc{") (Wrong EndOfFile ∷ [])
     ∷ text_row (codes "@String{s = \"x\" # s}\n@misc{k")
     (Definition (codes "s") (Quoted (codes "x") ∷ name (codes "s") (codes "}\n@misc{k") ∷ []) ∷ End ∷ Entry (codes "misc") (codes "k") ∷ Wrong EndOfFile ∷ [])
     ∷ text_row (codes "@misc{k,t={A}") (Entry (codes "misc") (codes "k") ∷ worked_field (codes "t") (Braced (codes "A") ∷ []) ∷ Wrong EndOfFile ∷ [])
     ∷ text_row (codes "@misc{k,t={A} #") (Entry (codes "misc") (codes "k") ∷ Wrong EndOfFile ∷ [])
     ∷ text_row (codes "@misc{k,t={A{b}") (Entry (codes "misc") (codes "k") ∷ Wrong EndOfFile ∷ [])
-    -- a second entry of a key, whose case is ignored, is a fault behind its key; nothing of it is read
+    -- a second entry of a key, whose case is ignored, is a fault after its key; nothing of it is read
     ∷ text_row (codes "@misc{k,t={A}}\n@misc{K,t={B}}") (Entry (codes "misc") (codes "k") ∷ worked_field (codes "t") (Braced (codes "A") ∷ []) ∷ End
     ∷ Wrong Repeated ∷ [])
     ∷ []

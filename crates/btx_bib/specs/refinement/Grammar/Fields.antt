@@ -1,4 +1,4 @@
--- The field behind a comma, as proofs name it.
+-- The field after a comma, as proofs name it.
 use Rattle.std.specs.Prelude.{Option, Some, Ok}
 use Rattle.btx_bib.specs.language.Grammar.Tokens.{Parsed, followed_by}
 use Rattle.btx_bib.specs.language.Grammar.Fields.{Field}

@@ -62,7 +62,7 @@ Fits purpose (Named string) = Unit {0}
 abbrev pub StandsNext : List ℕ → PlainField → Type 0
 StandsNext text field = (delimiter : Delimiter) → more_at delimiter text ≡ Ok (Some (plain_field_view field), field.value.rest.now)
 
--- what the reader reads there: the field, behind which the same is wanted as before it
+-- what the reader reads there: the field, after which the same is wanted as before it
 abbrev pub plain_step : Expected → PlainField → Step
 plain_step wanted field = record { event = FieldOf (plain_field_view field); wanted = wanted; rest = field.value.rest.now }
 
@@ -70,7 +70,7 @@ plain_step wanted field = record { event = FieldOf (plain_field_view field); wan
 abbrev pub entry_step : EntryHead → Step
 entry_step head = record { event = Entry head.kind.now head.key.now; wanted = Fields head.delimiter; rest = head.rest.now }
 
--- the end of an entry stands next, behind which this text is left; or it doesn't, and the reader stays where it is
+-- the end of an entry stands next, after which this text is left; or it doesn't, and the reader stays where it is
 abbrev pub IsLeft : Bool → Expected × List ℕ → Expected × List ℕ → Type 0
 IsLeft true old new = (expected_step old.0 old.1 ≡ Some (record { event = End; wanted = Item; rest = new.1 })) × (new.0 ≡ Item)
 IsLeft false old new = new ≡ old

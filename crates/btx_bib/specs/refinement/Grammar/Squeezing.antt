@@ -37,7 +37,7 @@ stays_squeezed white b = not (is_gap b) || (b == space && not white)
 abbrev pub is_behind_white : List ℕ → ℕ → Bool
 is_behind_white text place = place == 0 || is_gap (slice_index text (place - 1))
 
--- a byte that leaves depth and squeezing alone: a word byte, or a space behind a byte that isn't whitespace
+-- a byte that leaves depth and squeezing alone: a word byte, or a space after a byte that isn't whitespace
 abbrev pub is_plain_byte : ℕ → ℕ → Bool
 is_plain_byte before b = is_word_byte b || (b == space && not (is_gap before))
 

@@ -29,7 +29,7 @@ before c = take c.args.writer.now.start c.args.writer.now.text.items
 abbrev wanted : In-loop-token → List ℕ
 wanted c = with_tokens c.args.writer.now.mode (piece_view c.args.piece) (drop c.args.writer.now.start c.args.writer.now.text.items) (part_tokens c.args.part)
 
--- the tokens that are left, the first of them, and those behind it
+-- the tokens that are left, the first of them, and those after it
 abbrev left : In-loop-token → List Token
 left c = tokens_in c.args.part.bytes.now (drop c.loop-token.token-index c.args.part.tokens.now)
 

@@ -18,7 +18,7 @@ loop-place-init c =
       bare = none_bare;
     }
 
--- the token before, with the count of those behind it
+-- the token before, with the count of those after it
 abbrev counted : In-loop-place → NameToken
 counted c = record (get_or c.loop-place.tokens (c.loop-place.place - 1) no_token) { bare_behind = c.loop-place.bare }
 

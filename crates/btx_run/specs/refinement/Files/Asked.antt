@@ -1,4 +1,4 @@
--- Which files a run asks for behind the `.aux` files of its job: the style, and then the databases.
+-- Which files a run asks for after the `.aux` files of its job: the style, and then the databases.
 use Rattle.std.specs.Prelude.{◌≡◌, ◌⊎◌, ℕ, List, [], ◌∷◌, ◌++◌, Option, None, Some}
 use Rattle.btx_aux.specs.language.Job.{AuxJob}
 

@@ -59,7 +59,7 @@ abbrev pub ReadsAs : {T : Type 0} → Result T Fault → Counted → LogReceived
 ReadsAs (Ok value) counted log part = IsRead value counted log part
 ReadsAs (Err fault) counted log part = AppendsPrefix log.0 log.1 (bytes_of_lines part.lines)
 
--- a database was logged, and is kept behind those before it if it was found
+-- a database was logged, and is kept after those before it if it was found
 pub record IsAdded (before after : List NamedFile) (counted : Counted) (log : LogReceived) (part : Logged (Option NamedFile)) : Type 0 where
   pub kept : after ≡ before ++ option_to_list part.gives
   pub logs : Logs counted log part.lines

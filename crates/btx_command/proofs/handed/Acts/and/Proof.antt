@@ -1,4 +1,4 @@
--- `and` makes any acts behind those that there are. Assumes `Logic`.
+-- `and` makes any acts after those that there are. Assumes `Logic`.
 use Rattle.std.proofs.Common.{◌≡◌, ◌++◌, List, [], ◌∷◌, refl}
 use mir.Syntax.{a_type}
 use denote.Param.{layouts}

@@ -1,4 +1,4 @@
--- `and` makes any bytes behind those that there are. Assumes `Logic`.
+-- `and` makes any bytes after those that there are. Assumes `Logic`.
 use Rattle.std.proofs.Common.{◌≡◌, ◌++◌, List, ℕ, [], ◌∷◌, refl}
 use mir.Syntax.{a_type}
 use denote.Param.{layouts}
