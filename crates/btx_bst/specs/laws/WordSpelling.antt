@@ -25,7 +25,7 @@ pub record IsNumeral (minus : Bool) (digits more word : List ℕ) : Type 0 where
   pub digits_first : IsUpTo is_no_digit digits unsigned more
   pub some : digits ≡ [] → ⊥
 
--- a number, with a minus before it if the first argument is true, fits 32 bits
+-- a number, with a minus before it if the first argument is true, fits 32 bits (one that doesn't wraps in the original)
 abbrev pub Fits : Bool → ℕ → Type 0
 Fits false n = n < 2 ^ 31
 Fits true n = n ≤ 2 ^ 31

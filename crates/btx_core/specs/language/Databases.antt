@@ -1,4 +1,4 @@
--- 9. What databases give: their items one after another. How an item is spelled, and what is wrong in one, `IsReading` says (Grammar, further below).
+-- What databases give: their items one after another. How an item is spelled, and what is wrong in one, `IsReading` says (Grammar, further below).
 use Rattle.btx_aux.specs.language.Names.{is_same_key}
 use Rattle.btx_bib.specs.declared.grammar.commands.Expected.{Expected}
 use Rattle.btx_bib.specs.declared.grammar.commands.Expected.TheVariants.{Item}
@@ -89,7 +89,7 @@ at_spot kind text spot = message kind (text ++ place_text spot.line spot.file)
 abbrev pub meaning_of : DatabaseState → Option (List ℕ) → List ℕ → Option (List ℕ)
 meaning_of known own name = if option_map_or (λ (defined : List ℕ). is_same_key defined name) own false then None else known.strings (folded name)
 
--- a name in a value that stands for no string is a warning, and so is one in its own value
+-- a name in a value that stands for no string is a warning, and so is one in its own value (the original warns of values that aren't stored, too)
 abbrev pub part_messages : Database → DatabaseState → Option (List ℕ) → Part → List Line
 part_messages database known own (Named string) =
     let warned : List ℕ → List Line = λ text. at_spot Warning (codes "string name \"" ++ string.name ++ text) (spot_at database string.rest) ∷ [] in
@@ -122,7 +122,7 @@ entry_begun request database known kind key rest =
     else saying (only_if (is_none (request.types (folded kind))) unknown) (record known { current = Some entry })
 
 -- what is known after an event of a database; `rest` is the text after it. A comment ends with its word, so the next item may stand in it. A second
--- `@string` of a name takes the place of the first, and nothing is logged
+-- `@string` of a name takes the place of the first, and nothing is logged (in the original a string whose definition is faulty stands for its own name)
 abbrev pub known_after_event : Request → Database → DatabaseState → Event → List ℕ → DatabaseState
 known_after_event request database known Comment rest = known
 known_after_event request database known (Preamble value) rest =
@@ -150,7 +150,7 @@ abbrev pub keeping : Keeping DatabaseState
 keeping = record { is_stored = λ known key. is_some (stored_with (all_stored known) key); after = λ known event. known }
 
 -- these are the events of a text from where `expected` stands first, and `last` is what is known after them: each event is what its front of the text spells,
--- or what is wrong at its end; and after the last no `@` is left
+-- or what is wrong at its end; and after the last no `@` is left (the original doesn't read an item that follows another one on the last line)
 abbrev pub AreEvents : Request → Database → DatabaseState → Expected → List ℕ → List Placed → DatabaseState → Type 0
 AreEvents request database known expected text [] last = (expected ≡ Item) × HasNoAt text × (last ≡ known)
 AreEvents request database known expected text (placed ∷ others) last =

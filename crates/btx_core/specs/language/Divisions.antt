@@ -1,4 +1,4 @@
--- 5. How strings are divided. A part of a string is never computed here: `Divisions` gives each division a name, and `AreDivisions` says what it is. Each
+-- How strings are divided. A part of a string is never computed here: `Divisions` gives each division a name, and `AreDivisions` says what it is. Each
 -- string has one division of each kind, so that there is no choice.
 use Rattle.btx_names.specs.language.Formats.{FormatItem}
 use Rattle.btx_names.specs.language.NameParts.{NameParts}

@@ -1,4 +1,4 @@
--- 2. What the functions of a style do (btxhak, section 5.3, and section 5.2 for fields and variables).
+-- What the functions of a style do (btxhak, section 5.3, and section 5.2 for fields and variables).
 use Rattle.btx_bst.specs.declared.built_in.BuiltIn.{BuiltIn}
 use Rattle.btx_bst.specs.declared.callee.Kind.{Kind}
 use Rattle.btx_bst.specs.language.BuiltIns.{built_in_name}
@@ -115,8 +115,8 @@ abbrev pub Does : List Operand → Type 0
 Does [] = State → Effect
 Does (operand ∷ more) = Value operand → Does more
 
--- the function on the literals on top; or the error about the first that isn't what is asked for. (Where there are fewer literals than operands, `with_operands_checked` has
--- the error)
+-- the function on the literals on top; or the error about the first that isn't what is asked for. (Where there are fewer literals than
+-- operands, `with_operands_checked` has the error)
 abbrev pub on_literals : (operands : List Operand) → Does operands → List Literal → Result (State → Effect) (List ℕ)
 on_literals [] does xs = Ok does
 on_literals (operand ∷ more) does [] = Err []
@@ -150,7 +150,8 @@ with_operands_checked row s =
 
 -- ---- variables
 
--- `:=` of a value to a function: a variable takes a literal of its kind, a string no further than it keeps
+-- `:=` of a value to a function: a variable takes a literal of its kind, a string no further than it keeps (the original doesn't cut every string that is too
+-- long, and ends a string of an entry at a byte 127)
 abbrev pub assigns : Job → Function → Literal → State → Effect
 assigns job (Declared kind.GlobalInteger name) (Integer n) s = Leaves (record s { integers = set name n s.integers })
 assigns job (Declared kind.GlobalInteger name) x s = Leaves (error (wrong_operand_text AnInteger x) s)
@@ -219,13 +220,15 @@ module _ (the : Divisions) (job : Job) where
       option_map_or (λ (to : Conversion). push_text (in_case the to text) s)
       (conversion_of letter) (push_text_in (error (codes "\"" ++ letter ++ codes "\" is an illegal case-conversion string") s) text s)
 
-  -- `call.type$`: the function of the entry's type; `default.type` for a type that the style doesn't know; and nothing where the style has none above READ
+  -- `call.type$`: the function of the entry's type; `default.type` for a type that the style doesn't know; and nothing where the style has none above READ (in
+  -- the original one after READ counts from there on)
   abbrev pub calls_type : Entry → State → Effect
   calls_type entry s = option_map_or (λ (f : Function). Runs f s) (option_or entry.kind (job.style.types (codes "default.type"))) (Leaves s)
 
   -- The table: what each built-in function takes, the top operand first, what is pushed in place of its result, and what it does. In a sum and a
   -- difference, `b` stands on top, and so does `last` in `*`. In `if$` the function for a positive integer stands below the other one, and in `while$` the
   -- test below the body. `swap$` alone puts back what it finds, and `missing$` without an entry takes its operand whatever it is: see `built_in_effect`.
+  -- (In the original `text.length$` of what is no string pushes the empty string.)
   abbrev pub row : BuiltIn → Row
   row built_in.Equals = takes (AnyLiteral ∷ AnyLiteral ∷ []) zero_default equals
   row built_in.Greater = takes (AnInteger ∷ AnInteger ∷ []) zero_default (λ b a. push_truth (int_lt b a))

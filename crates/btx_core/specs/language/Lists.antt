@@ -1,4 +1,4 @@
--- 10. The list, and cross-references (btxdoc, section 2, at `\nocite{*}`, and section 3.2 at `crossref`).
+-- The list, and cross-references (btxdoc, section 2, at `\nocite{*}`, and section 3.2 at `crossref`).
 use Rattle.btx_aux.specs.language.Names.{is_same_key, listed_as, with_key}
 use Rattle.btx_bib.specs.language.Messages.{Database}
 use Rattle.btx_core.specs.language.Databases.{AreRead, DatabaseState, Request, Stored, parents_named, stored_with, with_macros}
@@ -64,7 +64,7 @@ module _ (slots : List Slot) where
   abbrev pub place_of : List ℕ → Option ℕ
   place_of key = position (λ (slot : Slot). is_same_key key slot.key) slots
 
-  -- the place of the parent of the entry at a place, if its key is listed
+  -- the place of the parent of the entry at a place, if its key is listed (with `*` the original may take another entry for a parent that is cited and has no entry)
   abbrev pub parent : ℕ → Option ℕ
   parent i = option_and_then place_of (own i (codes "crossref"))
 
@@ -95,7 +95,7 @@ module _ (slots : List Slot) where
   keeps_parent i = option_map_or stays_at (parent i) false
 
   -- what is wrong with the parent of the entry at a place: it has no entry; or it has a parent itself. A parent that stands before the entry counts as having
-  -- one only if it keeps its `crossref`: if its own parent has an entry and stays
+  -- one only if it keeps its `crossref`: if its own parent has an entry and stays (with `*` see `parent`)
   abbrev pub parent_messages : ℕ → List Line
   parent_messages i = option_map_or (λ key.
       option_map_or (λ j. if not (has_entry j) then bad_reference (key_at i) key ∷ []

@@ -1,4 +1,4 @@
--- 7. Names and formats (btxhak, sections 5.3 and 5.4; btxdoc, section 4).
+-- Names and formats (btxhak, sections 5.3 and 5.4; btxdoc, section 4).
 use Rattle.btx_bib.specs.language.Grammar.ByteSets.{begins}
 use Rattle.btx_core.specs.language.Divisions.{Divisions}
 use Rattle.btx_core.specs.language.Strings.{text_length}
@@ -41,7 +41,8 @@ abbrev pub AreNames : List ℕ → List (List ℕ) → Type 0
 AreNames [] names = names ≡ []
 AreNames (b ∷ bs) names = names ≡ pieces_between 0 (map and_word_range (separators_of (b ∷ bs))) (b ∷ bs)
 
--- the tokens are what stands between whitespace, `~`, `-` and commas at depth 0; what joins a token to the next is the byte after it
+-- the tokens are what stands between whitespace, `~`, `-` and commas at depth 0; what joins a token to the next is the byte after it (the
+-- original divides a name with braces that match none in another way)
 abbrev pub AreTokens : List ℕ → List NameToken → Type 0
 AreTokens text [] = list_all is_break text ≡ true
 AreTokens text (token ∷ tokens) =
@@ -99,7 +100,8 @@ module _ (the : Divisions) where
     pub apart : (left : List NameToken) (token : NameToken) → parts.first ≡ left ++ token ∷ [] → is_hyphen token.joint ≡ false
     pub some : parts.last ≡ [] → tokens ≡ []
 
-  -- the parts of a name by its sections: First von Last; von Last, First; von Last, Jr, First
+  -- the parts of a name by its sections: First von Last; von Last, First; von Last, Jr, First (of a name that begins with a comma the original writes pieces
+  -- without tokens)
   abbrev pub AreParts : Sections → NameParts → Type 0
   AreParts (One name) parts = (HasVon (the.tokens name) parts ⊎ HasNoVon (the.tokens name) parts) × (parts.jr ≡ [])
   AreParts (Two surname first) parts =
@@ -128,7 +130,7 @@ module _ (the : Divisions) (mode : TextMode) where
   is_short text = nat_lt (text_length the mode text) 3
 
   -- the byte between two tokens: the `~` or `-` of the name; else a `~` before the last token, and while the piece so far, with what stands before its letter
-  -- and with this token and its period, has fewer than three characters; else a space
+  -- and with this token and its period, has fewer than three characters; else a space (the original counts the characters in another way)
   abbrev pub separator_between : List ℕ → TokenSeparator → Bool → ℕ
   separator_between so_far Tie is_last = byte "~"
   separator_between so_far Hyphen is_last = byte "-"
@@ -148,7 +150,8 @@ module _ (the : Divisions) (mode : TextMode) where
       let next = so_far ++ (if piece.is_full then token.text else initial token.text) in
       and_tokens piece (next ++ behind_token piece next token.joint (length tokens)) tokens
 
-  -- of a final `~~` one `~` is removed; a single final `~` becomes a space, unless the text before it is short
+  -- of a final `~~` one `~` is removed; a single final `~` becomes a space, unless the text before it is short (the
+  -- original looks at the whole text so far)
   abbrev pub with_final_tie_resolved : List ℕ → List ℕ
   with_final_tie_resolved text =
       if not (ends_in_tie text) then text
@@ -171,7 +174,8 @@ module _ (the : Divisions) (mode : TextMode) where
 abbrev pub numbered_name : Divisions → ℤ → List ℕ → Option (List ℕ)
 numbered_name the number names = option_and_then (slice_get (the.names names)) (names_before number)
 
--- `format.name$`: the items of the format for the parts of the name, joined; nothing without such a name or with an illegal format
+-- `format.name$`: the items of the format for the parts of the name, joined; nothing without such a name or with an illegal format (with an illegal
+-- format the original writes its other pieces)
 abbrev pub formatted_name : Divisions → TextMode → List ℕ → ℤ → List ℕ → List ℕ
 formatted_name the mode format number names =
     option_map_or (λ name. option_map_or (flat_map (item the mode (the.parts name))) (the.items format) []) (numbered_name the number names) []
@@ -181,7 +185,8 @@ abbrev pub has_third : Divisions → Sections → Bool
 has_third the (Three surname jr first) = is_some (the.cut first)
 has_third the _ = false
 
--- what is wrong, in this order: the name has a comma at its end; it has a third comma; the format is illegal. Or there is no such name
+-- what is wrong, in this order: the name has a comma at its end; it has a third comma; the format is illegal. Or there is no such name (the original
+-- logs each comma too many, and each one at the end)
 abbrev pub name_errors : Divisions → List ℕ → ℤ → List ℕ → List (List ℕ)
 name_errors the format number names =
     option_map_or (λ name.

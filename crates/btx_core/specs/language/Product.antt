@@ -1,4 +1,4 @@
--- 0. The whole: what BibTeX writes for a job. Read this first, and then `Styles` (1) to `Lists` (10) downwards.
+-- The whole: what BibTeX writes for a job. Read this first, and then `Styles` to `Lists` downwards.
 use Rattle.btx_aux.specs.language.Files.{Files}
 use Rattle.btx_aux.specs.language.Names.{with_ending}
 use Rattle.btx_core.specs.language.AuxFiles.{AuxContents, AreAuxContents}
@@ -97,7 +97,7 @@ abbrev pub FollowsStyleSize : Bool → Files → AuxContents → List ℕ → Li
 FollowsStyleSize true files job name text log options product = product ≡ ends_with (ended.Limit limit.File) 0 0 [] log
 FollowsStyleSize false files job name text log options product = IsExecutionOfStyle files job name text log options product
 
--- what follows the name of a style, by whether its file is there
+-- what follows the name of a style, by whether its file is there (the original names databases that aren't there in any case)
 abbrev pub FollowsStyleFile : Option (List ℕ) → Files → AuxContents → List ℕ → Options → Product → Type 0
 FollowsStyleFile None files job name options product = product ≡ ends_with ended.Finished 0 0 [] (job.log ++ no_style_line name ∷ [])
 FollowsStyleFile (Some text) files job name options product = FollowsStyleSize (is_too_long text) files job name text (job.log ++ style_line name ∷ []) options product

@@ -1,4 +1,4 @@
--- 4. What the commands of a style do (btxhak, section 5.2).
+-- What the commands of a style do (btxhak, section 5.2).
 use Rattle.btx_core.specs.language.Meanings.{Done, Limited, Meaning, Outcome, Stopped, then_do}
 use Rattle.btx_core.specs.language.Notes.{error, shows}
 use Rattle.btx_core.specs.language.Styles.{Command, Entry, Execute, Function, Iterate, Library, Read, Reverse, Run, Says, Sort, State}

@@ -1,4 +1,4 @@
--- 6. The functions on strings (btxhak, section 5.3), by the elements of a string and the glyphs of special characters. `add.period$` and `substring$` go by
+-- The functions on strings (btxhak, section 5.3), by the elements of a string and the glyphs of special characters. `add.period$` and `substring$` go by
 -- bytes (`add_period_of`, `substring_of`); classes, widths and foreign letters are tables.
 use Rattle.btx_core.specs.language.Divisions.{Divisions}
 use Rattle.btx_strings.specs.declared.conversions.Conversion.{Conversion}
@@ -53,7 +53,7 @@ module _ (the : Divisions) where
   all_cased to before (part ∷ parts) =
       (if is_title to && begins_title before then part.text else cased to part.kind part.depth part.text) ++ all_cased to (part ∷ before) parts
 
-  -- `change.case$` of a string
+  -- `change.case$` of a string (the original also warns of braces that match none)
   abbrev pub in_case : Conversion → List ℕ → List ℕ
   in_case to string = all_cased to [] (the.elements Bytes string)
 

@@ -1,4 +1,4 @@
--- 11. How a style is written (btxhak, sections 5.1 and 5.2). A text is commands, one after another, each its word and its arguments. Whitespace and
+-- How a style is written (btxhak, sections 5.1 and 5.2). A text is commands, one after another, each its word and its arguments. Whitespace and
 -- comments may stand before each thing. What is wrong ends a command, and then all is skipped up to the first empty line below the line of the mistake. A line
 -- of whitespace alone is empty; one with a comment isn't.
 -- `Place`, `Gap` and the spelling of names, words and bodies are those of `TokenSpelling` and `WordSpelling`.
@@ -113,7 +113,7 @@ Makes change style from o = o ≡ ended_at None (change style) from
 -- ---- names and lists of names
 
 -- the inside of a list of names, up to its `}`: each name is new, and is declared as one of the kind. What is wrong is that something else stands there, or
--- that a name has a meaning already; the names before it stay
+-- that a name has a meaning already; the names before it stay (in the original a name before a wrong byte, as in `{a, b}`, isn't declared)
 abbrev pub Names : Kind → List (List ℕ) → Rule → Rule
 Names kind [] rest style from o =
     ((to : Place) × BehindGap (StyleSignHere close_brace NoClose) from (Took tt to) × rest style to o)
@@ -228,7 +228,8 @@ abbrev pub FollowsOn : CommandEnd → Option Complaint → SoFar → Place → T
 FollowsOn o None style place = (style ≡ o.style) × (place ≡ o.place)
 FollowsOn o (Some wrong) style place = Skips o.place place × (style ≡ and_says ((wrong, o.place.number) ∷ []) o.style)
 
--- from a place on the text is commands that come to this, one after another, and then its end, where the style is `end`
+-- from a place on the text is commands that come to this, one after another, and then its end, where the style is `end` (a byte-order mark is no whitespace, in
+-- the original neither)
 abbrev pub AreCommands : List CommandEnd → SoFar → Place → SoFar → Type 0
 AreCommands [] style from end = (to : Place) × Gap from to × (to.line ≡ []) × (end ≡ style)
 AreCommands (o ∷ more) style from end =

@@ -27,6 +27,7 @@ end_word (ended.Limit Files) = codes "limit files"
 end_word ended.NoTopFile = codes "no top file"
 
 -- the exit status of a run, by its end and its number of errors: 0 if it finished without errors and 2 with some, 4 if it was stopped, 3 else
+-- (3 and 4 are this project's own)
 abbrev pub status_of : End → ℕ → ℕ
 status_of ended.Finished errors = if errors == 0 then 0 else 2
 status_of ended.Stopped errors = 4
@@ -45,7 +46,7 @@ report_of end steps deepest counts = record {
 }
 
 -- the last line of the log, without its line feed: how the run ended, its counts and its steps. A run that takes all 100 steps of its budget and
--- wants another one ends `Ended: stopped, warnings 0, errors 0, steps 100`.
+-- wants another one ends `Ended: stopped, warnings 0, errors 0, steps 100`. This line is this project's own.
 unfoldable pub last_line : Report → List ℕ
 last_line report =
     codes "Ended: " ++ end_word report.end ++ codes ", warnings " ++ decimal report.warnings

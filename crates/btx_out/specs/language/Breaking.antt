@@ -1,5 +1,6 @@
 -- How a logical line, the text between two `newline$`, is broken into lines. The output of `write$` is broken reasonably (btxhak,
--- section 5.3, at `newline$` and `write$`); where exactly is this project's own rule. `line_length` is the greatest length of a line.
+-- section 5.3, at `newline$` and `write$`); the numbers 79 and 3 and the two spaces are the original's, and
+-- that the whole logical line is broken is this project's own. `line_length` is the greatest length of a line.
 use Rattle.std.specs.Prelude.{ℕ, zero, suc, ◌+◌, ◌&&◌, nat_le, Bool, true, false, List, [], ◌∷◌, ◌++◌, length, take, drop, Option, None, Some, slice_index}
 use Rattle.std.specs.Prelude.{codes, if◌then◌else◌}
 use Rattle.std.specs.List.{flat_map}

@@ -70,7 +70,8 @@ abbrev pub after_colon : List Element → Bool
 after_colon [] = false
 after_colon (part ∷ before) = if is_white_text part.text then after_colon before else part.depth == 0 && bytes_eq part.text (codes ":")
 
--- an element begins a title, or a part of one: nothing stands before it; or whitespace does, and before that a colon outside all braces
+-- an element begins a title, or a part of one: nothing stands before it; or whitespace does, and before that a colon outside all braces (in the original a
+-- colon at the end of a string counts for the next string, too)
 abbrev pub begins_title : List Element → Bool
 begins_title [] = true
 begins_title (part ∷ before) = is_white_text part.text && after_colon before

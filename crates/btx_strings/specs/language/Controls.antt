@@ -19,7 +19,8 @@ abbrev pub lone : List ℕ → List ℕ
 lone [] = []
 lone (b ∷ bs) = if is_brace b then [] else b ∷ []
 
--- the name of a control sequence whose backslash stands before `bs`: the longest run of alpha bytes, or else the one next byte, if that is no brace
+-- the name of a control sequence whose backslash stands before `bs`: the longest run of alpha bytes, or else the one next byte, if that is no brace (in
+-- `purify$` the original takes letters alone)
 unfoldable pub control_name : List ℕ → List ℕ
 control_name bs = let letters = take_while is_alpha bs in if length letters == 0 then lone bs else letters
 

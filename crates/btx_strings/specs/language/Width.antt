@@ -1,4 +1,4 @@
--- The width of a string in hundredths of a point, by this project's own table of widths (btxhak, section 5.3, at `width$`).
+-- The width of a string in hundredths of a point, by the original's table of widths (btxhak, section 5.3, at `width$`).
 use Rattle.std.specs.Prelude.{ℕ, true, List, [], ◌∷◌, ◌++◌, replicate, codes, sum_by, if◌then◌else◌, slice_index}
 use Rattle.std.specs.Str.{bytes_eq}
 use Rattle.btx_text.specs.declared.element_kind.Kind.{Kind}

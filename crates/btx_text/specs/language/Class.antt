@@ -1,4 +1,4 @@
--- The classes of bytes. Alpha is `A-Z`, `a-z` and the bytes from 128 up, which have no case (this project's own rule);
+-- The classes of bytes. Alpha is `A-Z`, `a-z` and the bytes from 128 up, which have no case, as in the original with its usual tables;
 -- separators are `~` and `-` (btxhak, section 5.3, at `purify$`); whitespace is space, tab and, this project's own, carriage return.
 use Rattle.std.specs.Prelude.{ℕ, ◌==◌, ◌||◌, ◌&&◌, nat_le, Bool, not, if◌then◌else◌}
 use Rattle.btx_text.specs.declared.byte_class.Class.{Class}
@@ -6,7 +6,7 @@ use Rattle.btx_text.specs.declared.byte_class.Class.TheVariants.{White, Alpha, D
 use Rattle.std.specs.Char.{is_ascii_uppercase, is_ascii_lowercase, is_ascii_digit}
 use Rattle.std.specs.Str.{byte}
 
--- space, tab and carriage return
+-- space, tab and carriage return (to the original a carriage return ends a line)
 abbrev pub is_white : ℕ → Bool
 is_white b = b == byte " " || b == byte "\t" || b == byte "\r"
 

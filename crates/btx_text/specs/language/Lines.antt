@@ -5,7 +5,7 @@ use Rattle.btx_text.specs.language.Class.{is_white}
 use Rattle.std.specs.List.{onto_first}
 use Rattle.std.specs.Str.{byte}
 
--- the text cut at its line feeds; the part after the last line feed counts only if it has a byte
+-- the text cut at its line feeds; the part after the last line feed counts only if it has a byte (the original cuts at carriage returns, too)
 unfoldable pub line_pieces : List ℕ → List (List ℕ)
 line_pieces [] = []
 line_pieces (b ∷ bs) = if b == byte "\n" then [] ∷ line_pieces bs else onto_first b (line_pieces bs)
