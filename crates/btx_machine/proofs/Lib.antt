@@ -45,3 +45,4 @@ pub mod MeaningRows
 pub mod ReportRows
 pub mod MadeLemmas
 pub mod NotebookLemmas
+pub mod CountingLemmas

@@ -13,7 +13,7 @@ use Rattle.btx_machine.specs.refinement.Joined.{Beginning, HasNoted}
 use Rattle.btx_machine.specs.refinement.Wholeness.{wholeness_after}
 
 -- lines, and then further ones
-adds_then : (a b c : Option (List Line)) (xs ys : List Line) → AddsLines a b xs → AddsLines b c ys → AddsLines a c (xs ++ ys)
+pub adds_then : (a b c : Option (List Line)) (xs ys : List Line) → AddsLines a b xs → AddsLines b c ys → AddsLines a c (xs ++ ys)
 adds_then None None None xs ys h k = tt
 adds_then None None (Some z) xs ys h k = k
 adds_then None (Some y) c xs ys h k = absurd h

@@ -1,5 +1,6 @@
 pub mod Wholeness
 pub mod Joined
+pub mod Counting
 pub mod States
 pub mod Outputs
 pub mod Faults

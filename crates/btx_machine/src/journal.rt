@@ -6,8 +6,11 @@ ghost use Rattle.btx_text.specs.language.LogLines.{is_error, is_warning};
 ghost use Rattle.btx_aux.specs.refinement.Faults.{CountsOfOne};
 ghost use Rattle.btx_machine.specs.language.Reports.{last_line};
 ghost use Rattle.btx_machine.specs.language.Saying.{counted_if, ended_line};
+ghost use Rattle.btx_machine.specs.laws.Reports.{log_counts};
+ghost use Rattle.btx_machine.specs.refinement.Counting.{CountsNoted};
 ghost use Rattle.btx_machine.specs.refinement.Wholeness.{WholeUnlessCutOff};
 
+use crate::counted_since::CountedSince;
 use crate::last::log_end;
 use crate::log_sink::LogSink;
 use crate::notebook::About;
@@ -22,9 +25,12 @@ pub struct Journal<'s, L: LogSink> {
     sink: &'s mut L,
     warnings: u64,
     errors: u64,
+    since: CountedSince,
 }
 
 impl<'s, L: LogSink> Model for Journal<'s, L> {
+    ghost use Rattle.btx_machine.specs.laws.Reports.{log_counts};
+    ghost use Rattle.btx_machine.specs.refinement.Counting.{CountsNoted};
     ghost use Rattle.btx_machine.specs.refinement.Outputs.{Journal as Logged};
 
     ghost Value = { Logged };
@@ -33,9 +39,12 @@ impl<'s, L: LogSink> Model for Journal<'s, L> {
       sink = record { name = journal.sink.ghost_name; received = L.received journal.sink.now; failures = L.failures journal.sink.now };
       warnings = journal.warnings;
       errors = journal.errors;
-      joined = L.joined journal.sink.now;
+      joined = record { log = L.joined journal.sink.now; since = journal.since.at };
+      noted = L.noted journal.sink.now;
       wholeness = L.wholeness journal.sink.now;
     } };
+
+    ghost invariant = { λ journal. CountsNoted (journal.since.at.noted, L.noted journal.sink.now) journal.since.at.counts (log_counts journal.warnings journal.errors) };
 }
 
 impl<'s, L: LogSink> Journal<'s, L> {
@@ -46,13 +55,18 @@ impl<'s, L: LogSink> Journal<'s, L> {
         ensures failures { result.sink.failures ≡ L.failures sink.old }
         ensures warnings { result.warnings ≡ counts.warnings }
         ensures errors { result.errors ≡ counts.errors }
-        ensures joined { result.joined ≡ L.joined sink.old }
+        ensures joined { result.joined.log ≡ L.joined sink.old }
+        ensures since_noted { result.joined.since.noted ≡ L.noted sink.old }
+        ensures since_counts { result.joined.since.counts ≡ counts }
+        ensures noted { result.noted ≡ L.noted sink.old }
         ensures whole { result.wholeness ≡ L.wholeness sink.old }
     {
+        let since = counted_since(&*sink, counts);
         Journal {
             sink,
             warnings: counts.warnings,
             errors: counts.errors,
+            since,
         }
     }
 
@@ -79,23 +93,8 @@ impl<'s, L: LogSink> Journal<'s, L> {
         ensures whole { WholeUnlessCutOff result self.old.wholeness self.new.wholeness }
         ensures counts { CountsOfOne result (self.old.sink.failures, self.new.sink.failures) }
     {
-        self.count(line.kind());
+        count(line.kind(), &mut self.warnings, &mut self.errors);
         self.sink.log_line(line, about)
-    }
-
-    // Counts a line as a warning, as an error or not at all.
-    fn count(&mut self, kind: LineKind)
-        ensures sink { self.new.sink ≡ self.old.sink }
-        ensures joined { self.new.joined ≡ self.old.joined }
-        ensures whole { self.new.wholeness ≡ self.old.wholeness }
-        ensures warnings { self.new.warnings ≡ counted_if (is_warning kind) self.old.warnings }
-        ensures errors { self.new.errors ≡ counted_if (is_error kind) self.old.errors }
-    {
-        match kind {
-            LineKind::Plain => {}
-            LineKind::Warning => self.warnings = self.warnings.saturating_add(1),
-            LineKind::Error => self.errors = self.errors.saturating_add(1),
-        }
     }
 
     /// Writes the last line, which isn't counted, and answers the report that it gives.
@@ -103,6 +102,8 @@ impl<'s, L: LogSink> Journal<'s, L> {
         ensures report { IfOk result (λ answer. answer ≡ report) }
         ensures ok { OnOk result (Appends self.old.sink.received self.new.sink.received (ended_line (last_line report))) }
         ensures err { OnErr result (AppendsPrefix self.old.sink.received self.new.sink.received (ended_line (last_line report))) }
+        ensures warnings { self.new.warnings ≡ self.old.warnings }
+        ensures errors { self.new.errors ≡ self.old.errors }
         ensures sink { self.new.sink.name ≡ self.old.sink.name }
         ensures joined { self.new.joined ≡ self.old.joined }
         ensures whole { WholeUnlessCutOff result self.old.wholeness self.new.wholeness }
@@ -116,9 +117,31 @@ impl<'s, L: LogSink> Journal<'s, L> {
         ensures name { result.ghost_name ≡ self.entry.sink.name }
         ensures received { L.received result.now ≡ self.entry.sink.received }
         ensures failures { L.failures result.now ≡ self.entry.sink.failures }
-        ensures joined { L.joined result.now ≡ self.entry.joined }
+        ensures joined { L.joined result.now ≡ self.entry.joined.log }
+        ensures noted { L.noted result.now ≡ self.entry.noted }
+        ensures counted { CountsNoted (self.entry.joined.since.noted, self.entry.noted) self.entry.joined.since.counts (log_counts self.entry.warnings self.entry.errors) }
         ensures whole { L.wholeness result.now ≡ self.entry.wholeness }
     {
         self.sink
+    }
+}
+
+// What a notebook has noted now, and these counts.
+fn counted_since<L: LogSink>(sink: &L, counts: LogCounts) -> CountedSince
+    ensures noted { result.at.noted ≡ L.noted sink.now }
+    ensures counts { result.at.counts ≡ counts }
+{
+    CountedSince::new().of(&(sink, counts))
+}
+
+// Counts a line as a warning, as an error or not at all.
+fn count(kind: LineKind, warnings: &mut u64, errors: &mut u64)
+    ensures warnings { warnings.new ≡ counted_if (is_warning kind) warnings.old }
+    ensures errors { errors.new ≡ counted_if (is_error kind) errors.old }
+{
+    match kind {
+        LineKind::Plain => {}
+        LineKind::Warning => *warnings = warnings.saturating_add(1),
+        LineKind::Error => *errors = errors.saturating_add(1),
     }
 }

@@ -8,7 +8,10 @@ ghost use Rattle.btx_machine.specs.language.Reports.{end_as, last_line, report_o
 ghost use Rattle.btx_machine.specs.refinement.Faults.{CountsOfBoth, Writes};
 ghost use Rattle.btx_machine.specs.language.Saying.{ended_line};
 ghost use Rattle.btx_machine.specs.laws.Reports.{log_counts};
+ghost use Rattle.btx_machine.specs.refinement.Counting.{CountsNoted};
+ghost use Rattle.btx_machine.specs.refinement.Outputs.{HasCounts};
 ghost use Rattle.btx_machine.specs.refinement.Wholeness.{WholeUnlessCutOff};
+ghost use Rattle.btx_machine.specs.declared.report.LogCounts.{LogCounts};
 
 use crate::ending::Ending;
 use crate::log_sink::LogSink;
@@ -45,6 +48,7 @@ pub fn log_end<L: LogSink>(alloc: Global, report: Report, log: &mut L) -> Result
     ensures err { OnErr result (AppendsPrefix (L.received log.old) (L.received log.new) (ended_line (last_line report))) }
     ensures counts { CountsOfOne result (L.failures log.old, L.failures log.new) }
     ensures joined { L.joined log.new ≡ L.joined log.old }
+    ensures counted { (counts : LogCounts) → CountsNoted (L.noted log.old, L.noted log.new) counts counts }
     ensures whole { WholeUnlessCutOff result (L.wholeness log.old) (L.wholeness log.new) }
 {
     let text = last_line(alloc, &report)?;
@@ -77,6 +81,7 @@ pub fn conclude<W: Sink, L: LogSink>(
     ensures report { IfOk result (λ report. report ≡ report_of (end_as end) steps work.old.store.deepest (log_counts work.old.outputs.log.warnings work.old.outputs.log.errors)) }
     ensures ok { OnOk result (Closes work.old end steps work.new.outputs) }
     ensures err { OnErr result (ClosesPart work.old end steps work.new.outputs) }
+    ensures counted { HasCounts result work.new.outputs.log }
     ensures counts { CountsOfBoth result work.old.outputs work.new.outputs }
 {
     finish(&mut work.outputs, end)?;

@@ -3,6 +3,7 @@
 
 mod at_once;
 mod command;
+mod counted_since;
 mod ending;
 mod items;
 mod journal;

@@ -1,10 +1,12 @@
 //! Where the lines of a log go.
-ghost use Rattle.std.specs.Prelude.{◌≡◌, ℕ, Option, List, IfErr, OnErr, OnOk};
+ghost use Rattle.std.specs.Prelude.{◌≡◌, ◌∷◌, [], ℕ, Option, List, IfErr, OnErr, OnOk};
 ghost use Rattle.std.specs.Io.KnownBytes.{Appends};
 ghost use Rattle.btx_text.specs.declared.failures.Failures.{Failures};
+ghost use Rattle.btx_text.specs.language.LogLines.{Line};
 ghost use Rattle.btx_out.specs.language.Pieces.{AppendsPrefix};
 ghost use Rattle.btx_aux.specs.refinement.Faults.{CountsOfOne};
 ghost use Rattle.btx_machine.specs.language.Saying.{ended_line};
+ghost use Rattle.btx_machine.specs.laws.Noting.{AddsLines};
 ghost use Rattle.btx_machine.specs.refinement.Joined.{Joined};
 ghost use Rattle.btx_machine.specs.refinement.Wholeness.{WholeUnlessCutOff};
 ghost use Rattle.btx_machine.specs.declared.wholeness.Wholeness.{Wholeness};
@@ -23,6 +25,9 @@ pub trait LogSink {
     /// The log and the notebook that are joined, and what they had then.
     ghost joined: { Self → Joined };
 
+    /// The lines that the notebook was handed, as long as it shows them.
+    ghost noted: { Self → Option (List Line) };
+
     /// Whether the log has all that was noted since then.
     ghost wholeness: { Self → Wholeness };
 
@@ -33,5 +38,6 @@ pub trait LogSink {
         ensures fault { IfErr result (λ fault. fault ≡ Fault.Device) }
         ensures counts { CountsOfOne result (failures self.old, failures self.new) }
         ensures joined { joined self.new ≡ joined self.old }
+        ensures noted { AddsLines (noted self.old) (noted self.new) (line.now ∷ []) }
         ensures whole { WholeUnlessCutOff result (wholeness self.old) (wholeness self.new) };
 }

@@ -44,6 +44,7 @@ impl<'l, L: Sink, N: Notebook> NotedLog<'l, L, N> {
         ensures since_received { result.joined.since.received ≡ L.received sink.old }
         ensures since_noted { result.joined.since.noted ≡ N.noted notebook.old }
         ensures received { result.received ≡ L.received sink.old }
+        ensures noted { result.noted ≡ N.noted notebook.old }
         ensures failures { result.failures ≡ L.failures sink.old }
         ensures whole { result.wholeness ≡ Whole }
     {
@@ -83,6 +84,8 @@ impl<'l, L: Sink, N: Notebook> LogSink for NotedLog<'l, L, N> {
     ghost failures = { λ log. log.failures };
 
     ghost joined = { λ log. log.joined };
+
+    ghost noted = { λ log. log.noted };
 
     ghost wholeness = { λ log. log.wholeness };
 

@@ -44,7 +44,9 @@ impl<'s, W: Sink, L: LogSink> Outputs<'s, W, L> {
     ghost use Rattle.btx_out.specs.laws.Breaking.{Collecting};
     ghost use Rattle.btx_out.specs.refinement.Breakers.{holding};
     ghost use Rattle.btx_out.specs.laws.Lengths.{IsLineLength};
+    ghost use Rattle.btx_machine.specs.laws.Reports.{log_counts};
     ghost use Rattle.btx_machine.specs.refinement.Closing.{FinishedAt, FinishedPart};
+    ghost use Rattle.btx_machine.specs.refinement.Counting.{CountsNoted};
     ghost use Rattle.btx_machine.specs.refinement.Faults.{CountsOfBoth, Writes};
     ghost use Rattle.btx_machine.specs.refinement.Written.{Becomes, Stops};
 
@@ -73,7 +75,10 @@ impl<'s, W: Sink, L: LogSink> Outputs<'s, W, L> {
         ensures log_name { result.1.ghost_name ≡ self.entry.log.sink.name }
         ensures log_received { L.received result.1.now ≡ self.entry.log.sink.received }
         ensures log_failures { L.failures result.1.now ≡ self.entry.log.sink.failures }
-        ensures log_joined { L.joined result.1.now ≡ self.entry.log.joined }
+        ensures log_joined { L.joined result.1.now ≡ self.entry.log.joined.log }
+        ensures log_noted { L.noted result.1.now ≡ self.entry.log.noted }
+        ensures counted { CountsNoted (self.entry.log.joined.since.noted, self.entry.log.noted) self.entry.log.joined.since.counts
+            (log_counts self.entry.log.warnings self.entry.log.errors) }
         ensures log_whole { L.wholeness result.1.now ≡ self.entry.log.wholeness }
     {
         (self.bbl, self.log.into_sink())
@@ -200,6 +205,8 @@ impl<'s, W: Sink, L: LogSink> Outputs<'s, W, L> {
         ensures ok { OnOk result (Appends self.old.log.sink.received self.new.log.sink.received (ended_line (last_line report))) }
         ensures err { OnErr result (AppendsPrefix self.old.log.sink.received self.new.log.sink.received (ended_line (last_line report))) }
         ensures bbl { self.new.bbl ≡ self.old.bbl }
+        ensures warnings { self.new.log.warnings ≡ self.old.log.warnings }
+        ensures errors { self.new.log.errors ≡ self.old.log.errors }
         ensures counts { CountsOfBoth result self.old self.new }
     {
         self.log.end(alloc, report)

@@ -9,6 +9,8 @@ ghost use Rattle.btx_machine.specs.language.KeepingStep.{AtFault, Completes};
 ghost use Rattle.btx_machine.specs.language.Product.{style_product};
 ghost use Rattle.btx_machine.specs.refinement.Written.{received};
 ghost use Rattle.btx_machine.specs.laws.Reports.{log_counts};
+ghost use Rattle.btx_machine.specs.refinement.Counting.{ReportCounts};
+ghost use Rattle.btx_machine.specs.refinement.Outputs.{HasCounts};
 ghost use Rattle.btx_machine.specs.refinement.Wholeness.{WholeUnlessCutOff};
 
 use crate::items::do_items;
@@ -41,6 +43,7 @@ pub fn execute_style<'a, W: Sink, L: LogSink>(
         (style_product job.now counts line) budget) }
     ensures counts { CountsOfTwo result (W.failures bbl.old, W.failures bbl.new) (L.failures log.old, L.failures log.new) }
     ensures joined { L.joined log.new ≡ L.joined log.old }
+    ensures counted { ReportCounts result (L.noted log.old, L.noted log.new) counts }
     ensures whole { WholeUnlessCutOff result (L.wholeness log.old) (L.wholeness log.new) }
 {
     let store = Store::new(alloc, job)?;
@@ -71,6 +74,7 @@ fn do_all<'a, W: Sink, L: LogSink>(
     ensures bound { IfOk result (λ report. report.steps ≤ budget) }
     ensures err { OnErr result (AtFault (received work.old.outputs) (received work.new.outputs)
         (style_product job.now (log_counts work.old.outputs.log.warnings work.old.outputs.log.errors) work.old.outputs.breaker.line_length) budget) }
+    ensures counted { HasCounts result work.new.outputs.log }
     ensures counts { CountsOfBoth result work.old.outputs work.new.outputs }
 {
     let mut left = budget;

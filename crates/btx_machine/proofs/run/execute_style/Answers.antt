@@ -3,7 +3,8 @@ use Rattle.btx_machine.proofs.Common.{Journal, style_product, log_counts}
 use Rattle.btx_out.specs.refinement.Breakers.{Held}
 use Rattle.btx_machine.specs.refinement.Faults.{CountsOfTwo}
 use Rattle.btx_machine.specs.language.KeepingStep.{AtFault, Completes}
-use Rattle.btx_machine.proofs.ComesLemmas.{on_err}
+use Rattle.btx_machine.proofs.ComesLemmas.{ok_map, on_err}
+use Rattle.btx_machine.proofs.CountingLemmas.{counts_reported, counts_since}
 use Rattle.btx_machine.proofs.EdgeLemmas.{ends_as, of_equals, pair_is}
 use Rattle.btx_machine.proofs.RunLemmas.{nothing_written}
 use Rattle.btx_machine.proofs.run.execute_style.Goals as goal
@@ -51,3 +52,15 @@ returns-clause-counts g c =
     (ends_as g.L.LogSink.failures _ c.into_sinks-list.result.1 _ c.do_all-result.new.work.outputs.log.sink.failures (c.into_sinks-list.ensures.log_name
     ∙ c.do_all-result.ensures.counts.0.1 ∙ ap (λ (log : Journal). log.sink.name) c.new-outputs.ensures.log ∙ c.new-2.ensures.name)
     c.into_sinks-list.ensures.log_failures (search rules)) c.do_all-result.ensures.counts.1
+
+pub returns-clause-counted : goal.returns-clause-counted
+returns-clause-counted g c =
+    let noted = g.L.LogSink.noted in
+    let log = c.do_all-result.new.work.outputs.log in
+    let counted = counts_since _ _ _ c.args.counts (log_counts log.warnings log.errors) log.joined c.new-2.result.joined
+    (c.do_all-result.ensures.counts.0.2 ∙ ap (λ (log : Journal). log.joined) c.new-outputs.ensures.log) c.new-2.ensures.since_noted
+    c.new-2.ensures.since_counts
+    (ends_as noted _ c.into_sinks-list.result.1 _ log.noted (c.into_sinks-list.ensures.log_name
+    ∙ c.do_all-result.ensures.counts.0.1 ∙ ap (λ (log : Journal). log.sink.name) c.new-outputs.ensures.log ∙ c.new-2.ensures.name)
+    c.into_sinks-list.ensures.log_noted (search rules)) c.into_sinks-list.ensures.counted in
+    ok_map (λ report is. counts_reported _ c.args.counts _ _ _ _ is.0 is.1 counted) c.do_all-result.result c.do_all-result.ensures.counted
