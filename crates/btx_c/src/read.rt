@@ -82,8 +82,9 @@ pub extern "C" fn btx_read<'a>(
 ) -> u32
     ensures answers { (result ≡ DONE) ⊎ ((result ≡ FULL) ⊎ ((result ≡ REFUSED) ⊎ (result ≡ MEMORY))) }
 
-    // A database that is longer than a file may be is refused.
+    // A database that is longer than a file may be is refused, and only such a one.
     ensures refused { result ≡ REFUSED → (is_too_long text.now ≡ true) × ((records.new ≡ records.old) × (texts.new ≡ texts.old) × (sizes.new ≡ sizes.old)) }
+    ensures too_long { is_too_long text.now ≡ true → result ≡ REFUSED }
     ensures memory { result ≡ MEMORY → (records.new ≡ records.old) × (texts.new ≡ texts.old) × (sizes.new ≡ sizes.old) }
 
     // The records are those of the definition, whole or begun.

@@ -32,7 +32,7 @@ content_of strings (event.FieldOf field) = Field field.name (fitting (value_text
 content_of strings event.End = End
 content_of strings (event.Wrong slip) = Wrong slip
 
--- the strings that are known after a name was given a text: one that is too long gives it nothing
+-- the strings that are known after a name was given a text: where the text is too long the name has the value that it had
 abbrev pub with_string : List (List ℕ × List ℕ) → List ℕ → List ℕ → List (List ℕ × List ℕ)
 with_string strings name text = if nat_lt greatest_string (length text) then strings else defined strings name text
 
@@ -64,7 +64,7 @@ left_at (event.Wrong slip) before left = left
 
 -- ---- the records of a database
 
--- the record that says this and begins where so many bytes of a text are left, and ends where `rest` begins
+-- the record of `content` that begins where `left` bytes of `text` are left, and ends where `rest` begins
 abbrev pub record_at : List ℕ → Content → ℕ → List ℕ → Record
 record_at text content left rest =
     let start = length text - left in

@@ -62,7 +62,7 @@ text_of file one = text_in file one.line one.start one.content
 abbrev pub texts_of : List ℕ → Record → List ℕ
 texts_of file one = name_of one.content ++ text_of file one
 
--- the row of a record, before which the room has so many bytes
+-- the row of a record, before which the room has `room` bytes
 abbrev pub row_of : List ℕ → ℕ → Record → Row
 row_of file room one = record {
   kind = kind_of one.content;
@@ -76,7 +76,7 @@ row_of file room one = record {
   text_len = length (text_of file one);
 }
 
--- the rows of records, before which the room has so many bytes
+-- the rows of records, before which the room has `room` bytes
 abbrev pub rows_along : List ℕ → ℕ → List Record → List Row
 rows_along file room [] = []
 rows_along file room (one ∷ others) = row_of file room one ∷ rows_along file (room + length (texts_of file one)) others

@@ -7,7 +7,7 @@ use btx_text::Fault;
 use std::alloc::{AllocError, Global};
 use std::test::Fail;
 
-// A style's function that pushes so many literals and shows them.
+// A style's function that pushes `count` literals and shows them.
 fn pushing(alloc: Global, count: usize) -> Result<Vec<u8>, AllocError> {
     let literals = repeated(alloc, b"#7 ", count)?;
     joined(
@@ -16,7 +16,7 @@ fn pushing(alloc: Global, count: usize) -> Result<Vec<u8>, AllocError> {
     )
 }
 
-// Runs a job that pushes so many literals.
+// Runs a job that pushes `count` literals.
 fn run_pushing(alloc: Global, count: usize) -> Result<Outputs, Fault> {
     let text = pushing(alloc, count)?;
     let row = Row {
@@ -26,7 +26,7 @@ fn run_pushing(alloc: Global, count: usize) -> Result<Outputs, Fault> {
     run_row(alloc, &row)
 }
 
-// Whether a run that pushes so many literals shows so many and ends so.
+// Whether a run that pushes `count` literals shows `shown`, and has this end.
 fn pushes(alloc: Global, count: usize, shown: usize, ends: Ends) -> Result<bool, Fault> {
     let after = repeated(alloc, b"7\n", shown)?;
     let row = Row {
@@ -66,7 +66,7 @@ fn doubles(alloc: Global, then: &[u8], ends: Ends, steps: u64) -> Result<bool, F
     holds(alloc, &row)
 }
 
-// Whether a run of so many functions ends so, each of which but the first calls the one before.
+// Whether a run of `count` functions has this end, where each but the first calls the one before.
 fn calls(alloc: Global, count: usize, last: &[u8], ends: Ends, steps: u64) -> Result<bool, Fault> {
     let functions = calling_functions(alloc, count)?;
     let text = joined(alloc, &[&functions, b" EXECUTE {", last, b"}"])?;
@@ -80,7 +80,7 @@ fn calls(alloc: Global, count: usize, last: &[u8], ends: Ends, steps: u64) -> Re
     holds(alloc, &row)
 }
 
-// A text between two others, so many times.
+// A text between two others, `count` times.
 fn between(
     alloc: Global,
     front: &[u8],
@@ -92,7 +92,7 @@ fn between(
     joined(alloc, &[front, &texts, behind])
 }
 
-// Whether the job of a row holds with a database of which one text stands so many times between two others.
+// Whether the job of a row holds with a database of which one text is there `count` times, between two others.
 fn holds_over(
     alloc: Global,
     row: &Row<'_>,

@@ -34,8 +34,9 @@ head_note style places event =
     event_note (word_text event.word) event.moment.steps event.moment.before.errors event.moment.after.errors
     ++ item_note style (item_line places event.item) (slice_get style.items event.item)
 
--- A text is what is noted of an event of a job's run: its first lines; for each literal that a command left, since which token it has been there; and the scene
--- before the event's step, in the command of this item, if one was found. `began` is the token that is said to have begun the loop, if the event is a loop's
+-- A text is what is noted of this event of a job's run: its first lines; for each literal that a command left, since which token it has been there; and the scene
+-- before the event's step, in the command of this item, if one was found (that one is found is only
+-- tested). `began` is the token that is said to have begun the loop, if the event is a loop's
 -- test
 pub record IsNoteOf (style : Style) (job : Job) (counts : LogCounts) (places : StylePlaces) (event : Event) (text : List ℕ) : Type 0 where
   pub since : List (Option Place)
@@ -59,7 +60,7 @@ pub record GrowsBy (IsText : List ℕ → Type 0) (old new : List ℕ) : Type 0 
   pub behind : new ≡ old ++ text
   pub is : IsText text
 
--- the notes grew by those of some events of a job's run, with the lines of these places of its style
+-- the notes grew by those of events of a job's run, with the lines of these places of its style (which events these are is only tested)
 pub record Explains (job : Job) (counts : LogCounts) (places : StylePlaces) (old new : List ℕ) : Type 0 where
   pub events : List Event
   pub notes : GrowsBy (AreNotesOf job.style job counts places events) old new

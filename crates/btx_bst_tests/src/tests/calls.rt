@@ -103,7 +103,7 @@ fn all_are(alloc: Global, texts: &[&[u8]], direct: bool) -> Result<bool, Fault> 
     Ok(true)
 }
 
-// Whether a style of a type's function and so many others, each of which calls the one before, is direct; and how many functions it has.
+// Whether a style of a type's function and `count` others, each of which calls the one before, is direct; and how many functions it has.
 fn calling(alloc: Global, count: usize) -> Result<(bool, usize), Fault> {
     let functions = calling_functions(alloc, count)?;
     let start = b"ENTRY {title}{}{} FUNCTION {misc}{} READ ".as_slice();

@@ -47,10 +47,15 @@ fn gives_for(alloc: Global, job: &AuxJob) -> Result<bool, Fault> {
     }
 }
 
-// Whether it gives that to the files of a finder.
-fn gives_from(alloc: Global, finder: Result<MemoryFinder, FetchFault>) -> Result<bool, Fault> {
-    let mut finder = finder?;
-    match read_aux(alloc, &mut finder, b"job.aux") {
+// The job of a finder's files.
+fn job_from(alloc: Global, finder: MemoryFinder) -> Result<AuxJob, Fault> {
+    let mut finder = finder;
+    read_aux(alloc, &mut finder, b"job.aux")
+}
+
+// Whether it gives that to this job.
+fn gives_to(alloc: Global, job: Result<AuxJob, Fault>) -> Result<bool, Fault> {
+    match job {
         Ok(job) => gives_for(alloc, &job),
         Err(fault) => Err(fault),
     }
@@ -59,6 +64,7 @@ fn gives_from(alloc: Global, finder: Result<MemoryFinder, FetchFault>) -> Result
 #[test]
 fn libraries(rt: HostRuntime) {
     let alloc = rt.alloc();
-    let finder = MemoryFinder::new(alloc, &[(b"job.aux", AUX)]);
-    assert!(rt; gives_from(alloc, finder) == Ok(true));
+    let finder: Result<MemoryFinder, FetchFault> = MemoryFinder::new(alloc, &[(b"job.aux", AUX)]);
+    let job = finder.map_err(Fault::from).and_then(|finder| job_from(alloc, finder));
+    assert!(rt; gives_to(alloc, job) == Ok(true));
 }

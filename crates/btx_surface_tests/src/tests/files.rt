@@ -87,7 +87,10 @@ const AUX: &[u8] = b"\\citation{k,*}\n\\bibdata{d}\n\\bibstyle{s}\n";
 
 // Whether these are one name alone.
 fn is_only(names: &[Vec<u8>], name: &[u8]) -> bool {
-    names.len() == 1 && names[0].as_slice() == name
+    match names {
+        [only] => only.as_slice() == name,
+        _ => false,
+    }
 }
 
 // Whether a job is that of the text, read from its one file.
@@ -101,17 +104,17 @@ fn is_job(job: &AuxJob) -> bool {
 }
 
 // Whether a job is that of the text, and the letter of its end.
-fn told(answer: Result<AuxJob, Fault>) -> Result<(bool, u8), Fault> {
+fn outcome(answer: Result<AuxJob, Fault>) -> Result<(bool, u8), Fault> {
     match answer {
         Ok(job) => Ok((is_job(&job), end_letter(job.end()))),
         Err(fault) => Err(fault),
     }
 }
 
-// What is told of the job of this name.
+// The outcome of reading the job of this name.
 fn reads<F: Finder + Drop>(alloc: Global, finder: F, name: &[u8]) -> Result<(bool, u8), Fault> {
     let mut finder = finder;
-    told(read_aux(alloc, &mut finder, name))
+    outcome(read_aux(alloc, &mut finder, name))
 }
 
 // Keeps the text under this name, in memory, after another that has it first.
@@ -128,7 +131,7 @@ fn fetches(alloc: Global, name: &[u8]) -> Result<(bool, bool), FetchFault> {
     found.map(|found| (found, bytes.as_slice() == AUX))
 }
 
-// What is told of the job of the files in memory.
+// The outcome of reading the job of the files in memory.
 fn reads_kept(alloc: Global) -> Result<(bool, u8), Fault> {
     match kept(alloc, b"job.aux") {
         Ok(finder) => reads(alloc, finder, b"job.aux"),

@@ -29,7 +29,7 @@ impl Sink for Narrow {
     }
 }
 
-// Writes a line of a log to a sink with so much room, and answers how often that failed.
+// Writes a line of a log to a sink with `room` bytes of room, and answers how often that failed.
 fn log_to(room: usize) -> (Result<(), Fault>, u64) {
     let mut sink = Narrow {
         room,
