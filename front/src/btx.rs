@@ -2,8 +2,10 @@
 
 use crate::job::File;
 use crate::letters::line_of_half_letter;
+use crate::log::{Log, looks_like_message};
 use crate::system::trying;
 use std::ffi::c_uchar;
+use std::ops::Range;
 
 #[repr(C)]
 struct Text {
@@ -61,6 +63,35 @@ pub struct Report {
     log_len: usize,
 }
 
+/// An event of a run: a line of its log, and what it is.
+#[repr(C)]
+#[derive(Debug, Clone, Copy)]
+struct Event {
+    /// How many bytes of the log come before the line, and how many bytes it has without its end.
+    at: u64,
+    len: u64,
+    entry: u64,
+    kind: u32,
+    met: u32,
+}
+
+/// The kind of a line that is neither a warning nor an error.
+const PLAIN: u32 = 0;
+
+/// Of how many lines of a log it is asked what they are: of the first ones. A style may print lines without end.
+const MOST_EVENTS: usize = 1 << 16;
+
+impl Event {
+    /// Those bytes of the log in this event's text that no message begins in: all that a style prints, and the further lines of a message's text.
+    fn printed(&self, log: &[u8]) -> Option<Range<usize>> {
+        let start = usize::try_from(self.at).ok()?;
+        let end = start.checked_add(usize::try_from(self.len).ok()?)?;
+        let text = log.get(start..end)?;
+        let first = if self.kind == PLAIN { 0 } else { text.iter().position(|byte| *byte == b'\n')? + 1 };
+        text[first..].split(|byte| *byte == b'\n').any(looks_like_message).then_some(start + first..end)
+    }
+}
+
 unsafe extern "C" {
     fn btx_needs(
         job: *const u8,
@@ -71,7 +102,7 @@ unsafe extern "C" {
         names_room: usize,
         names_len: *mut usize,
     ) -> u32;
-    fn btx_run(
+    fn btx_run_events(
         job: *const u8,
         job_len: usize,
         files: *const CFile,
@@ -82,6 +113,9 @@ unsafe extern "C" {
         log: *mut u8,
         log_room: usize,
         report: *mut Report,
+        events: *mut Event,
+        events_room: usize,
+        events_len: *mut usize,
     ) -> u32;
     fn btx_where(
         job: *const u8,
@@ -171,12 +205,19 @@ pub enum Answer {
 pub struct Ran {
     pub list: Vec<u8>,
     pub log: Vec<u8>,
+    /// The parts of the log that look like messages and are none, since the style printed them.
+    pub printed: Vec<Range<usize>>,
     pub answer: Answer,
     /// Whether text was read as UTF-8.
     pub utf8: bool,
 }
 
 impl Ran {
+    /// The log, in which no line that the style printed is taken for a message.
+    pub fn lines_of_log(&self) -> Log<'_> {
+        Log::new(&self.log).with_printed(&self.printed)
+    }
+
     /// The first line of the list that has half a letter of UTF-8; None where the run broke off.
     pub fn line_of_half_letter(&self) -> Option<usize> {
         match self.answer {
@@ -263,18 +304,27 @@ fn room(len: usize) -> Result<Vec<u8>, MemoryRefused> {
     Ok(bytes)
 }
 
+/// The parts of a log that look like messages and are none, by these events of it.
+fn printed_parts(log: &[u8], events: &[Event]) -> Vec<Range<usize>> {
+    events.iter().filter_map(|event| event.printed(log)).collect()
+}
+
 /// Runs a job over these files.
 pub fn run(job: &[u8], files: &[File], options: &Options, rooms: &Rooms) -> Ran {
     let (Ok(mut list), Ok(mut log)) = (room(rooms.list), room(rooms.log)) else {
-        return Ran { list: Vec::new(), log: Vec::new(), answer: Answer::Memory, utf8: options.utf8 };
+        return Ran { list: Vec::new(), log: Vec::new(), printed: Vec::new(), answer: Answer::Memory, utf8: options.utf8 };
     };
     let given = for_c(files);
     let (wanted, rooms) = (*rooms, Rooms { list: list.capacity().min(rooms.list), log: log.capacity().min(rooms.log) });
     let mut report = Report::default();
-    // SAFETY: each pointer is that of a slice or a reference that outlives the call, with its length; list and log have that much room of
-    // their own, which is only written to; and as many of their bytes as the report says have been written.
+    let mut events: Vec<Event> = Vec::new();
+    let wanted_events = MOST_EVENTS.min(rooms.log);
+    let events_room = trying(|| events.try_reserve_exact(wanted_events)).map_or(0, |()| wanted_events);
+    let mut events_len = 0;
+    // SAFETY: each pointer is that of a slice or a reference that outlives the call, with its length; list, log and events have that much room
+    // of their own, which is only written to; and as many of their bytes as the report says have been written, and as many events as the call says.
     let code = unsafe {
-        let code = btx_run(
+        let code = btx_run_events(
             job.as_ptr(),
             job.len(),
             given.as_ptr(),
@@ -285,9 +335,13 @@ pub fn run(job: &[u8], files: &[File], options: &Options, rooms: &Rooms) -> Ran 
             log.as_mut_ptr(),
             rooms.log,
             &mut report,
+            events.as_mut_ptr(),
+            events_room,
+            &mut events_len,
         );
         list.set_len(report.list_len.min(rooms.list));
         log.set_len(report.log_len.min(rooms.log));
+        events.set_len(events_len.min(events_room));
         code
     };
     debug_assert!(code != ASKS, "btx_needs names all files that a run asks for");
@@ -298,7 +352,8 @@ pub fn run(job: &[u8], files: &[File], options: &Options, rooms: &Rooms) -> Ran 
         FULL => Answer::LogFull,
         _ => Answer::Memory,
     };
-    Ran { list, log, answer, utf8: options.utf8 }
+    let printed = printed_parts(&log, &events);
+    Ran { list, log, printed, answer, utf8: options.utf8 }
 }
 
 /// The room for notes that is tried first.
@@ -395,6 +450,7 @@ fn check_in(name: &[u8], style: &[u8], steps: u64, room: usize) -> Result<Option
 #[cfg(test)]
 mod tests {
     use super::*;
+    use crate::log::{Content, Severity};
 
     const OPTIONS: Options = Options::usual(1000);
     const ROOMS: Rooms = Rooms { list: 1 << 16, log: 1 << 16 };
@@ -460,6 +516,18 @@ mod tests {
         let types = vec![b"misc".to_vec()];
         assert_eq!(check(b"s.bst", clean.as_bytes(), 1000), Ok(Some(Verdict::Clean { literals: 3, bodies: 2, types })));
         assert!(matches!(check(b"s.bst", clean.as_bytes(), 1), Ok(Some(Verdict::Incomplete(_)))));
+    }
+
+    #[test]
+    fn what_a_style_prints_is_no_message() {
+        let error = "Error--x while executing pop$ for entry k";
+        let printed = format!("\"a\" #10 int.to.chr$ * \"{error}\" * duplicate$ top$ warning$ \"a\" #1 =");
+        let ran = run(b"a.aux", &small_job(&STYLE.replace("title write$", &format!("{printed} pop$"))), &OPTIONS, &ROOMS);
+        let errors = ran.lines_of_log().lines().filter(|line| matches!(line.content, Content::Message(message) if message.severity == Severity::Error));
+        let errors: Vec<&[u8]> = errors.map(|line| line.bytes).collect();
+        assert!(matches!(ran.answer, Answer::Done(Report { warnings: 1, errors: 1, .. })), "{:?}", ran.answer);
+        assert_eq!(errors, [b"Error--= needs two integers or two strings while executing = for entry k"]);
+        assert_eq!(ran.printed.len(), 2);
     }
 
     #[test]

@@ -142,7 +142,7 @@ mod tests {
     fn stopped(budget: u64) -> Ran {
         let mut report = Report::default();
         (report.status, report.steps) = (btx::STOPPED, budget);
-        Ran { list: Vec::new(), log: Vec::new(), answer: Answer::Done(report), utf8: false }
+        Ran { list: Vec::new(), log: Vec::new(), printed: Vec::new(), answer: Answer::Done(report), utf8: false }
     }
 
     fn steps(ran: &Ran) -> u64 {

@@ -1,6 +1,6 @@
 //! For each warning of a style an entry of a database that shows it. It is searched for, and tried by a run before it is shown.
 
-use crate::btx::{self, Answer, MemoryRefused, Options, Rooms};
+use crate::btx::{self, Answer, MemoryRefused, Options, Ran, Rooms};
 use crate::database::Folded;
 use crate::hints::{names_of_fields, types_meant};
 use crate::job::{File, Files};
@@ -246,8 +246,8 @@ fn error_of<'a>(line: &Line<'a>) -> Option<Option<Logged<'a>>> {
 }
 
 /// All errors of a log, in their order.
-fn errors_of(log: &[u8]) -> Vec<Option<Logged<'_>>> {
-    Log::new(log).lines().filter_map(|line| error_of(&line)).collect()
+fn errors_of<'a>(log: &Log<'a>) -> Vec<Option<Logged<'a>>> {
+    log.lines().filter_map(|line| error_of(&line)).collect()
 }
 
 /// What a case logs at a warning's place: the line, and since when what it left has been there.
@@ -285,13 +285,13 @@ impl Search<'_> {
         self.done.set(self.done.get() + runs * (steps + WORK_OF_BYTE * bytes as u64));
     }
 
-    /// The log of a run of at most this many steps, and the steps that it took.
-    fn run(&self, files: &Files, options: &Options) -> (Vec<u8>, u64) {
+    /// A run with these options, and the steps that it took.
+    fn run(&self, files: &Files, options: &Options) -> (Ran, u64) {
         let ran = btx::run(&files.top, &files.all, options, &ROOMS);
         let steps = if let Answer::Done(report) = ran.answer { report.steps } else { options.budget };
         self.is_refused.set(self.is_refused.get() || ran.answer == Answer::Memory);
         self.add_work(files, 1, steps);
-        (ran.log, steps)
+        (ran, steps)
     }
 
     /// A job of this style over a database.
@@ -307,7 +307,8 @@ impl Search<'_> {
     fn shown(&self, case: &Case, warnings: &[&Warning]) -> Vec<(usize, Proof)> {
         let files = self.job(case.text("key"));
         let options = Options::usual(STEPS_OF_FEW);
-        let (log, steps) = self.run(&files, &options);
+        let (ran, steps) = self.run(&files, &options);
+        let log = ran.lines_of_log();
         let errors = errors_of(&log);
         let can_be = |error: &Logged<'_>| warnings.iter().any(|warning| fits(warning, error));
         if !errors.iter().flatten().any(can_be) {
@@ -335,7 +336,8 @@ impl Search<'_> {
         let database: Vec<u8> =
             cases.iter().enumerate().flat_map(|(number, case)| case.text(&format!("e{number}"))).collect();
         let files = self.job(database);
-        let (log, _) = self.run(&files, &Options::usual(STEPS_OF_MANY));
+        let (ran, _) = self.run(&files, &Options::usual(STEPS_OF_MANY));
+        let log = ran.lines_of_log();
         let mut logged: HashMap<usize, Vec<FunctionAndText<'_>>> = HashMap::new();
         let errors = errors_of(&log);
         for error in errors.iter().flatten().filter(|error| warnings.iter().any(|warning| fits(warning, error))) {

@@ -8,6 +8,7 @@ use crate::scene::{End, Scene, Scenes};
 use crate::text::{split_first, split_last, split_line};
 use std::collections::{BTreeMap, btree_map};
 use std::iter::Peekable;
+use std::ops::Range;
 
 /// How grave a message is.
 #[derive(Debug, Clone, Copy, PartialEq, Eq)]
@@ -103,6 +104,8 @@ pub struct Line<'a> {
 #[derive(Debug, Clone, Copy)]
 pub struct Log<'a> {
     bytes: &'a [u8],
+    /// The parts that look like messages and are none, in their order.
+    printed: &'a [Range<usize>],
     scenes: Option<&'a Scenes>,
     /// Whether a signal ended the run.
     pub is_interrupted: bool,
@@ -111,7 +114,12 @@ pub struct Log<'a> {
 impl<'a> Log<'a> {
     /// The log that these bytes are.
     pub fn new(bytes: &'a [u8]) -> Self {
-        Log { bytes, scenes: None, is_interrupted: false }
+        Log { bytes, printed: &[], scenes: None, is_interrupted: false }
+    }
+
+    /// The same log, in which no message begins in these parts, since a style printed them.
+    pub fn with_printed(self, printed: &'a [Range<usize>]) -> Self {
+        Log { printed, ..self }
     }
 
     /// The same log, of a run that a signal ended or didn't: it was stopped by that, and not by the budget that was asked for.
@@ -138,7 +146,7 @@ impl<'a> Log<'a> {
     pub fn lines(&self) -> Lines<'a> {
         let errors = Numbered::new(self.scenes.map(|scenes| &scenes.errors));
         let warnings = Numbered::new(self.scenes.map(|scenes| &scenes.warnings));
-        Lines { rest: self.bytes, part: Part::AuxFiles, errors, warnings }
+        Lines { rest: self.bytes, at: 0, printed: self.printed, part: Part::AuxFiles, errors, warnings }
     }
 }
 
@@ -177,6 +185,10 @@ impl<'a> Numbered<'a> {
 #[derive(Debug, Clone)]
 pub struct Lines<'a> {
     rest: &'a [u8],
+    /// How many bytes of the log come before the rest.
+    at: usize,
+    /// The parts without a message that don't end before that.
+    printed: &'a [Range<usize>],
     part: Part,
     errors: Numbered<'a>,
     warnings: Numbered<'a>,
@@ -190,20 +202,33 @@ impl<'a> Iterator for Lines<'a> {
             return None;
         }
         let (bytes, rest) = split_line(self.rest);
+        let is_printed = self.is_printed();
+        self.at += self.rest.len() - rest.len();
         self.rest = rest;
-        Some(Line { bytes, content: self.content(bytes) })
+        Some(Line { bytes, content: if is_printed { Content::Other } else { self.content(bytes) } })
     }
 
     /// The last line. Those before it aren't read.
     fn last(mut self) -> Option<Line<'a>> {
         let whole = self.rest.strip_suffix(b"\n").unwrap_or(self.rest);
         let start = whole.iter().rposition(|byte| *byte == b'\n').map_or(0, |end| end + 1);
+        self.at += start;
         self.rest = &self.rest[start..];
         self.next()
     }
 }
 
 impl<'a> Lines<'a> {
+    /// Whether the style printed what the next line has, and it only looks like a message.
+    fn is_printed(&mut self) -> bool {
+        while let Some((first, others)) = self.printed.split_first()
+            && first.end < self.at
+        {
+            self.printed = others;
+        }
+        self.printed.first().is_some_and(|first| first.contains(&self.at))
+    }
+
     fn content(&mut self, line: &'a [u8]) -> Content<'a> {
         if let Some(name) = self.found(line) {
             return Content::Found(name);
@@ -245,6 +270,11 @@ impl<'a> Lines<'a> {
         }
         found
     }
+}
+
+/// Whether a line looks like an error or a warning.
+pub fn looks_like_message(line: &[u8]) -> bool {
+    line.starts_with(b"Error--") || line.starts_with(b"Warning--")
 }
 
 /// The name in a line `BEFORE N BEHIND NAME`, without the spaces.

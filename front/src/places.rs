@@ -60,16 +60,16 @@ struct Errors<'a> {
 
 impl<'a> Errors<'a> {
     /// Those of a whole log.
-    fn of(log: &'a [u8]) -> Errors<'a> {
+    fn of(log: &Log<'a>) -> Errors<'a> {
         let mut errors = Errors::default();
-        Log::new(log).lines().for_each(|line| errors.add(&line));
+        log.lines().for_each(|line| errors.add(&line));
         errors
     }
 
     /// Those of a log up to where enough errors of the execution are found.
-    fn first_of(log: &'a [u8]) -> Errors<'a> {
+    fn first_of(log: &Log<'a>) -> Errors<'a> {
         let mut errors = Errors::default();
-        let mut lines = Log::new(log).lines();
+        let mut lines = log.lines();
         while errors.of_execution.len() < MOST_LOGGED
             && let Some(line) = lines.next()
         {
@@ -115,8 +115,8 @@ pub fn scenes(files: &Files, options: &Options, rooms: &Rooms, ran: &Ran) -> Sce
     match ran.answer {
         Answer::Done(report) if report.has_finished() && report.errors == 0 => Scenes::default(),
         Answer::Done(report) => {
-            let errors = Errors::of(&ran.log);
-            // A style can log lines that look like errors; then no error's number is certain.
+            let errors = Errors::of(&ran.lines_of_log());
+            // Of a log with very many lines it isn't known of each whether the style printed it; then no error's number may be certain.
             let errors = if errors.count as u64 == report.errors { errors.of_execution } else { HashMap::new() };
             if report.has_finished() && errors.is_empty() {
                 return Scenes::default();
@@ -138,7 +138,7 @@ pub fn scenes(files: &Files, options: &Options, rooms: &Rooms, ran: &Ran) -> Sce
             search.scenes(&errors, looked, !report.has_finished())
         }
         Answer::ListFull | Answer::LogFull => {
-            let (errors, steps) = (Errors::first_of(&ran.log).of_execution, search.steps_of_flood(rooms));
+            let (errors, steps) = (Errors::first_of(&ran.lines_of_log()).of_execution, search.steps_of_flood(rooms));
             let events = events_within(steps, options.global_max);
             search.scenes(&errors, Looked { budget: steps, events, is_whole: false }, true)
         }
@@ -348,8 +348,9 @@ mod tests {
     }
 
     #[test]
-    fn errors_of_a_style_s_own_making_make_all_uncertain() {
+    fn errors_of_a_style_s_own_making_are_none() {
         let style = "READ FUNCTION {f} {\"x\" #10 int.to.chr$ * \"Error--y\" * warning$ #1 write$} ITERATE {f}";
-        assert_eq!(found(style), Scenes::default());
+        let errors = found(style).errors;
+        assert_eq!(errors.values().map(|scene| (scene.at.line, scene.stack.len())).collect::<Vec<_>>(), [(2, 1)]);
     }
 }

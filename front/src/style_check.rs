@@ -7,7 +7,7 @@ use crate::hints::{Hint, hints};
 use crate::job::{File, Files};
 use crate::lint_entry::{Shown, entries};
 use crate::lint_warnings::{Warnings, read};
-use crate::log::{Content, Log, Place};
+use crate::log::{Content, Place};
 use crate::style_text::{Kind, Token, Tokens, commands};
 use crate::system::trying;
 use std::io;
@@ -174,8 +174,8 @@ fn messages_by(files: &Files) -> Result<Messages, MemoryRefused> {
     let options = Options::usual(STEPS_OF_READING);
     let ran = btx::run(&files.top, &files.all, &options, &Rooms { list: ROOM, log: ROOM });
     let is_of_text = |content: &Content<'_>| matches!(content, Content::Message(message) if matches!(message.place, Place::Line { file, .. } if file.ends_with(b".bst")));
-    let log = Log::new(&ran.log);
-    // (a text that the style warns of may look like such a line, and isn't counted as an error)
+    let log = ran.lines_of_log();
+    // (of a log with very many lines it isn't known of each whether the style printed it)
     let (is_whole, errors) = match ran.answer {
         Answer::Done(report) => (report.has_finished(), usize::try_from(report.errors).unwrap_or(usize::MAX)),
         Answer::ListFull | Answer::LogFull => (false, usize::MAX),
