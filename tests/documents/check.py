@@ -241,7 +241,8 @@ def names():
         yield f"{crate}: definitions have a `-` in their names: {' '.join(hyphens)}", not hyphens
     hyphens = sorted(name for name in bodies() if "-" in name)
     yield f"wrong bodies have a `-` in their names: {' '.join(hyphens)}", not hyphens
-    known = set().union(*lemmas.values(), *(words_of(crate) for crate in crates()))
+    records = set(re.findall(r"(?m)^(?:pub )?record ([A-Z]\w*)", "\n".join(path.read_text(encoding="utf-8") for path in ROOT.glob("crates/*/proofs/**/*.antt"))))
+    known = records.union(*lemmas.values(), *(words_of(crate) for crate in crates()))
     odd = sorted(name for name in set().union(*lemmas.values()) if "-" in name and (name.count("-") > 1 or name.split("-")[0] not in known))
     yield f"{len(odd)} lemmas aren't named as docs/CONTRIBUTING.md says, and {OLDER_NAMES} are allowed: {' '.join(odd)}", len(odd) <= OLDER_NAMES
 
