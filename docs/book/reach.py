@@ -19,7 +19,7 @@ PROMISES = {
     "clause-check": ("btx_check::check", ()),
 }
 # Files of definitions that a public call beside `run` promises by (`read_placed_style` of `btx_bst`, `run_noted`): they are read like laws, with all that they name.
-PLACES = ("btx_bst.Recorded", "btx_bst.StylePlaces", "btx_machine.Noting")
+PLACES = ("btx_bst.Recorded", "btx_bst.StylePlaces", "btx_machine.Noting", "btx_run.Noted")
 # The relation between a job and its product, and that a product is the only one in it.
 RELATION = ("btx_core.Product.IsProduct", "btx_core.Product.IsTheOne")
 # The crate whose specs/language has the relation between a job and its product: there, and in no other crate, it has only what has to be believed.

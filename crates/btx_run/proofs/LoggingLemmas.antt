@@ -7,16 +7,21 @@ use Rattle.std.proofs.lemmas.List.Sums.{sum_by-append}
 use Rattle.std.specs.Prelude.{cond, count_by, sum_by}
 use Rattle.std.specs.Io.KnownBytes.{Appends}
 use Rattle.std.proofs.KnownBytes.{Appends-trans, Appends-nil}
+use Rattle.btx_text.specs.declared.log_line.LineKind.{LineKind}
 use Rattle.btx_text.specs.language.LogLines.{Line, is_error, is_warning}
 use Rattle.btx_out.specs.language.Pieces.{AppendsPrefix}
 use Rattle.btx_out.proofs.PieceLemmas.{prefix-after, prefix-all, prefix-longer}
 use Rattle.btx_machine.specs.declared.report.LogCounts.{LogCounts}
+use Rattle.btx_machine.specs.declared.report.Report.{Report}
 use Rattle.btx_core.specs.language.Files.Counts.{counts_of}
 use Rattle.btx_run.specs.refinement.Files.Counts.{at_most_greatest, counts_at}
 use Rattle.btx_run.specs.refinement.Files.Logging.{Logs, bytes_of_lines}
 use Rattle.btx_machine.specs.language.Saying.{counted_if, ended_line}
 use Rattle.btx_machine.specs.refinement.Outputs.{Journal}
+use Rattle.btx_machine.specs.laws.Noting.{NotedChange}
 use Rattle.btx_machine.specs.laws.Reports.{log_counts}
+use Rattle.btx_machine.specs.refinement.Counting.{CountsNoted, counted_in}
+use Rattle.btx_run.specs.laws.Noted.{CountsOfNoted}
 
 -- the bytes of lines and further lines
 pub bytes_of_both : (xs ys : List Line) → bytes_of_lines (xs ++ ys) ≡ bytes_of_lines xs ++ bytes_of_lines ys
@@ -61,7 +66,7 @@ one_more : (is : Bool) (n : ℕ) → counted_if is (at_most_greatest n) ≡ at_m
 one_more true n = grind arith
 one_more false n = grind arith
 
-counted_more : (counts : Line → Bool) (before : List Line) (line : Line)
+pub counted_more : (counts : Line → Bool) (before : List Line) (line : Line)
     → counted_if (counts line) (at_most_greatest (count_by counts before)) ≡ at_most_greatest (count_by counts (before ++ line ∷ []))
 counted_more counts before line =
     one_more (counts line) (count_by counts before) ∙ ap at_most_greatest (sym (sum_by-append (λ line. cond (counts line) 1 0) before (line ∷ [])))
@@ -106,3 +111,23 @@ pub line_begins : (lines : List Line) (i : ℕ) (line : Line) (a b : LogCounts) 
 line_begins lines i line a b x y z lt is logs part =
     subst (λ l. AppendsPrefix x z (bytes_of_lines l)) (sym (at_line lines i line lt is))
     (part_begins x z (take i lines ++ line ∷ []) (drop (i + 1) lines) (rest_begins x y z a b _ _ logs part))
+
+-- ---- the lines that were noted
+
+-- a count after lines is that of the lines before and these
+counted_from : (is : LineKind → Bool) (before lines : List Line)
+    → counted_in is lines (at_most_greatest (count_by (λ line. is line.kind) before)) ≡ at_most_greatest (count_by (λ line. is line.kind) (before ++ lines))
+counted_from is before [] = ap (λ lines. at_most_greatest (count_by (λ line. is line.kind) lines)) (sym (append-nil before))
+counted_from is before (line ∷ lines) =
+    ap (counted_in is lines) (counted_more (λ line. is line.kind) before line) ∙ counted_from is (before ++ line ∷ []) lines
+    ∙ ap (λ lines. at_most_greatest (count_by (λ line. is line.kind) lines)) (append_assoc before (line ∷ []) lines)
+
+-- a report that counts the noted lines, from none on
+pub counts_of_noted : (noted : NotedChange) (report : Report) → CountsNoted noted (log_counts 0 0) (log_counts report.warnings report.errors)
+    → CountsOfNoted noted report
+counts_of_noted noted report h = record {
+  lines = h.lines;
+  are_noted = h.are_noted;
+  counts_are = ap (λ n. log_counts n report.errors) (h.warnings_are ∙ counted_from is_warning [] h.lines)
+      ∙ ap (log_counts (counts_of h.lines).warnings) (h.errors_are ∙ counted_from is_error [] h.lines);
+}

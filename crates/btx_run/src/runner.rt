@@ -1,18 +1,21 @@
 //! A whole run: the files of a job are read, then what its style and its databases hold, and then the style is executed.
-ghost use Rattle.std.specs.Prelude.{◌≡◌, ◌≤◌, IfOk, IfSome, OnErr, OnOk, length};
+ghost use Rattle.std.specs.Prelude.{◌≡◌, ◌≤◌, IfErr, IfOk, IfSome, OnErr, OnOk, length};
 ghost use Rattle.std.specs.Io.KnownBytes.{Appends};
 ghost use Rattle.btx_text.specs.language.Limits.{greatest_file};
 ghost use Rattle.btx_aux.specs.refinement.Answers.{ByAnswers};
 ghost use Rattle.btx_machine.specs.language.DirectDepth.{StaysWithin};
 ghost use Rattle.btx_machine.specs.refinement.Faults.{CountsOfTwo};
+ghost use Rattle.btx_machine.specs.refinement.Counting.{ReportCounts};
 ghost use Rattle.btx_machine.specs.refinement.Wholeness.{WholeUnlessCutOff};
 ghost use Rattle.btx_machine.specs.language.KeepingStep.{AtFault, Completes};
 ghost use Rattle.btx_machine.specs.laws.Noting.{Printed, PrintedOrBrokenOff};
+ghost use Rattle.btx_machine.specs.laws.Reports.{log_counts};
 ghost use Rattle.btx_machine.specs.language.Product.{log_of, style_product as executed};
 ghost use Rattle.btx_machine.specs.declared.report.End.TheVariants.{NoTopFile};
 ghost use Rattle.btx_run.specs.language.Answered.{CompletesAsAnswered, FailsAsAnswered};
 ghost use Rattle.btx_run.specs.language.DirectStyles.{WhereDirect};
 ghost use Rattle.btx_run.specs.language.Written.{BeganTheProduct, WroteTheProduct};
+ghost use Rattle.btx_run.specs.laws.Noted.{CountsOfNoted};
 ghost use Rattle.btx_run.specs.refinement.Files.Asked.{AreAmong, names_in};
 ghost use Rattle.btx_run.specs.refinement.Files.Faults.{CountsOfThree};
 ghost use Rattle.btx_core.specs.refinement.Files.Readings.{reading_of};
@@ -55,6 +58,7 @@ fn execute<'a, W: Sink, L: LogSink>(
     ensures counts { CountsOfTwo result (W.failures bbl.old, W.failures bbl.new) (L.failures log.old, L.failures log.new) }
     ensures joined { L.joined log.new ≡ L.joined log.old }
     ensures whole { WholeUnlessCutOff result (L.wholeness log.old) (L.wholeness log.new) }
+    ensures counted { ReportCounts result (L.noted log.old, L.noted log.new) counts }
 {
     let job = Job::new(
         style,
@@ -85,6 +89,7 @@ fn execute_found<'a, W: Sink, L: LogSink>(
     ensures counts { CountsOfTwo result (W.failures bbl.old, W.failures bbl.new) (L.failures log.old, L.failures log.new) }
     ensures joined { L.joined log.new ≡ L.joined log.old }
     ensures whole { WholeUnlessCutOff result (L.wholeness log.old) (L.wholeness log.new) }
+    ensures counted { ReportCounts result (L.noted log.old, L.noted log.new) counts }
 {
     let style = read_style(alloc, found.style.name(), found.style.bytes())?;
     let library = read_library(alloc, &style, job, &found.databases, options.min_crossrefs)?;
@@ -112,6 +117,7 @@ fn after_files<'a, W: Sink, L: LogSink>(
     ensures counts { CountsOfTwo result (W.failures bbl.old, W.failures bbl.new) (L.failures log.old, L.failures log.new) }
     ensures joined { L.joined log.new ≡ L.joined log.old }
     ensures whole { WholeUnlessCutOff result (L.wholeness log.old) (L.wholeness log.new) }
+    ensures counted { ReportCounts result (L.noted log.old, L.noted log.new) counts }
 {
     match read {
         FilesRead::Ends(end) => log_end(alloc, report_of(end, 0, 0, counts), log),
@@ -143,6 +149,7 @@ fn run_job<F: Finder, W: Sink, L: LogSink>(
         (L.failures log.old, L.failures log.new) }
     ensures joined { L.joined log.new ≡ L.joined log.old }
     ensures whole { WholeUnlessCutOff result (L.wholeness log.old) (L.wholeness log.new) }
+    ensures counted { ReportCounts result (L.noted log.old, L.noted log.new) (log_counts 0 0) }
     ensures stays { F.content finder.new ≡ F.content finder.old }
 {
     let mut journal = Journal::new(log, LogCounts::NONE);
@@ -177,6 +184,7 @@ fn run_named<F: Finder, W: Sink, L: LogSink>(
         (L.failures log.old, L.failures log.new) }
     ensures joined { L.joined log.new ≡ L.joined log.old }
     ensures whole { WholeUnlessCutOff result (L.wholeness log.old) (L.wholeness log.new) }
+    ensures counted { ReportCounts result (L.noted log.old, L.noted log.new) (log_counts 0 0) }
     ensures stays { F.content finder.new ≡ F.content finder.old }
 {
     let job = read_job(alloc, finder, name)?;
@@ -209,6 +217,9 @@ fn run_noting<F: Finder, W: Sink, L: Sink, N: Notebook>(
         (L.failures log.old, L.failures log.new) }
     ensures noted { OnOk result (Printed (N.noted notebook.old, N.noted notebook.new) (L.received log.old, L.received log.new)) }
     ensures noted_at_fault { OnErr result (PrintedOrBrokenOff (N.noted notebook.old, N.noted notebook.new) (L.received log.old, L.received log.new)) }
+    ensures noted_without_memory { IfErr result (λ fault. fault ≡ Fault.Memory → Printed (N.noted notebook.old, N.noted notebook.new)
+        (L.received log.old, L.received log.new)) }
+    ensures counted { ReportCounts result (N.noted notebook.old, N.noted notebook.new) (log_counts 0 0) }
     ensures stays { F.content finder.new ≡ F.content finder.old }
 {
     let mut noted = NotedLog::new(log, notebook);
@@ -291,10 +302,14 @@ pub fn run_noted<F: Finder, W: Sink, L: Sink, N: Notebook>(
     log: &mut L,
     notebook: &mut N,
 ) -> Result<Report, RunFault>
-    // For a notebook that shows what it was handed: the log received each line that was noted, in order, and nothing else. After a fault it is so too, but
-    // that of the last line it may have a prefix.
+    // For a notebook that shows what it was handed: the log received each line that was noted, in order, and nothing else. It is so too where memory was
+    // refused; after the device's fault of the last line it may have a prefix.
     ensures noted { OnOk result (Printed (N.noted notebook.old, N.noted notebook.new) (L.received log.old, L.received log.new)) }
     ensures noted_at_fault { OnErr result (PrintedOrBrokenOff (N.noted notebook.old, N.noted notebook.new) (L.received log.old, L.received log.new)) }
+    ensures noted_without_memory { IfErr result (λ fault. fault ≡ RunFault.Memory → Printed (N.noted notebook.old, N.noted notebook.new)
+        (L.received log.old, L.received log.new)) }
+    // The warnings and the errors that the report counts are those among the lines that were noted.
+    ensures counted { IfOk result (λ report. CountsOfNoted (N.noted notebook.old, N.noted notebook.new) report) }
 
     // All that `run` promises.
     // What was written is the one thing that stands in the relation between the job and its product, for a finder that shows its content. After a fault both

@@ -1,5 +1,7 @@
-use Rattle.std.proofs.Common.{refl}
+use Rattle.std.proofs.Common.{refl, ap, ◌∙◌}
+use Rattle.btx_machine.specs.declared.report.Report.{Report}
 use Rattle.btx_machine.proofs.ComesLemmas.{err_map, ok_map}
+use Rattle.btx_machine.proofs.CountingLemmas.{counts_reported}
 use Rattle.btx_run.proofs.ProductLemmas.{completes_early, counts_of_end, fails_early, never_deeper, touched_with_top_file}
 use Rattle.btx_run.proofs.runner.after_files.Goals as goal
 use Rattle.btx_run.specs.refinement.Product.{work_in}
@@ -34,3 +36,9 @@ pub returns-in-Found-clause-untouched : goal.returns-in-Found-clause-untouched
 returns-in-Found-clause-untouched g c =
     touched_with_top_file _ _ _ _ (work_in c.args.job.now c.in-Found.found c.args.options.now) c.args.counts c.args.options.now.line c.args.options.now.budget
     c.execute_found.result c.execute_found.ensures.ok
+
+pub returns-in-Ends-clause-counted : goal.returns-in-Ends-clause-counted
+returns-in-Ends-clause-counted g c =
+    ok_map (λ report same. counts_reported _ c.args.counts c.args.counts.warnings c.args.counts.errors report.warnings report.errors
+    (ap (λ (report : Report). report.warnings) (same ∙ c.report_of.ensures)) (ap (λ (report : Report). report.errors) (same ∙ c.report_of.ensures))
+    (c.log_end.ensures.counted c.args.counts)) c.log_end.result c.log_end.ensures.report

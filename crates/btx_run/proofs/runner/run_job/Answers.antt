@@ -1,8 +1,11 @@
-use Rattle.std.proofs.Common.{rules, ◌∙◌, subst}
+use Rattle.std.proofs.Common.{rules, sym, ◌∙◌, subst}
 use Rattle.btx_aux.proofs.AnswerLemmas.{by_map}
 use Rattle.btx_machine.specs.language.KeepingStep.{AtFault, Completes}
 use Rattle.btx_machine.proofs.ComesLemmas.{err_map, ok_map, on_err}
+use Rattle.btx_machine.proofs.CountingLemmas.{counts_both, counts_since}
 use Rattle.btx_machine.proofs.EdgeLemmas.{ends_as}
+use Rattle.btx_machine.specs.laws.Reports.{log_counts}
+use Rattle.btx_machine.specs.refinement.Counting.{CountsNoted}
 use Rattle.btx_core.specs.language.Files.Counts.{counts_of}
 use Rattle.btx_core.specs.refinement.ComputedProduct.{product_of_files}
 use Rattle.btx_run.specs.refinement.Files.Counts.{counts_at}
@@ -65,3 +68,15 @@ returns-clause-err g c =
     (product_of_files c.args.job.now c.in_ok-read.field-0 c.args.options.now c.counts-counts.result) c.args.options.now.budget) c.into_sink-log.ensures.received
     fault))))
     c.after_files.result c.after_files.ensures.err
+
+pub returns-clause-counted : goal.returns-clause-counted
+returns-clause-counted g c =
+    let noted = g.L.LogSink.noted in
+    let none = log_counts 0 0 in
+    let log = c.read_files-read.new.journal in
+    let is_given = counts_are c.counts-counts.result _ _ c.counts-counts.ensures.warnings c.counts-counts.ensures.errors in
+    let files = counts_since _ _ _ none (log_counts log.warnings log.errors) log.joined c.new-journal.result.joined c.read_files-read.ensures.counts.2
+    c.new-journal.ensures.since_noted c.new-journal.ensures.since_counts (sym c.into_sink-log.ensures.noted) c.into_sink-log.ensures.counted in
+    let before = subst (CountsNoted (noted c.args.log.now, noted c.into_sink-log.result.now) none) (sym is_given) files in
+    ok_map (λ report counted. subst (λ last. CountsNoted (noted c.args.log.now, last) none (log_counts report.warnings report.errors)) (search rules)
+    (counts_both _ _ (noted c.after_files.new.log) none c.counts-counts.result _ before counted)) c.after_files.result c.after_files.ensures.counted

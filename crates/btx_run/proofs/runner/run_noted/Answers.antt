@@ -1,4 +1,5 @@
 use Rattle.btx_run.proofs.DirectLemmas.{report_stays}
+use Rattle.btx_run.proofs.LoggingLemmas.{counts_of_noted}
 use Rattle.btx_run.proofs.ReadingLemmas.{of_logged}
 use Rattle.btx_run.proofs.WrittenLemmas.{began, wrote}
 use Rattle.btx_run.proofs.runner.run_noted.Goals as goal
@@ -34,3 +35,6 @@ returns-in-Err-Device-clause-broken_off g c =
     of_logged (g.F.Finder.content c.args.finder.now) _ _ c.in-Err-Device.ensures.err (λ files fails. began files c.args.name.now c.args.options.now
     (g.W.Sink.received c.args.bbl.now, g.L.Sink.received c.args.log.now) (g.W.Sink.received c.run_noting.new.bbl, g.L.Sink.received c.run_noting.new.log)
     c.has_room.ensures fails)
+
+pub returns-in-Ok-clause-counted : goal.returns-in-Ok-clause-counted
+returns-in-Ok-clause-counted g c = counts_of_noted _ c.in-Ok.report c.in-Ok.ensures.counted
