@@ -8,9 +8,10 @@
 reference lists that old jobs have with those that they get now. `check` says of a style, before any run, whether it is clean.
 
 What is proved is the library below, libbtx.so.1: that list, log and report are those of the definition of BibTeX's language for the files
-that were handed in. This package is ordinary Python around three of its calls."""
+that were handed in. This package is ordinary Python around its calls."""
 
 from .checking import Answer, Branches, Fault, Operand, Spot, StyleWarning, Verdict, check
+from .events import Event, Events, Met, Severity
 from .jobs import Content, Files, Finder, Name, in_folder, needs, run, run_in
 from .messages import Kind, Message, messages_of
 from .options import TEX_LIVE, Options
@@ -22,6 +23,8 @@ __all__ = [
     "Branches",
     "Content",
     "End",
+    "Event",
+    "Events",
     "Fault",
     "FileUnknown",
     "Files",
@@ -31,6 +34,7 @@ __all__ = [
     "LibraryMissing",
     "MemoryRefused",
     "Message",
+    "Met",
     "Name",
     "NameRefused",
     "Operand",
@@ -40,6 +44,7 @@ __all__ = [
     "Refusal",
     "Report",
     "Result",
+    "Severity",
     "Spot",
     "StyleTooLong",
     "StyleWarning",
@@ -49,7 +54,6 @@ __all__ = [
     "in_folder",
     "messages_of",
     "needs",
-    "paper",
     "run",
     "run_in",
 ]

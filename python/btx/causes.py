@@ -6,7 +6,7 @@ import enum
 import re
 from typing import Dict, List, NamedTuple, Optional
 
-from .messages import Message, messages_of
+from .events import Met, Severity
 from .results import End, Result
 
 __all__ = ["Cause", "Difference", "cause_of", "first_difference"]
@@ -15,10 +15,8 @@ ITEM = re.compile(rb"^(?=\\(?:bib|harvard)item|\\entry\{)", re.MULTILINE)
 KEY = re.compile(rb"\\(?:bib|harvard)item\s*(?:\[(?:[^\]{]|\{(?:[^{}]|\{[^{}]*\})*\})*\]\s*)?\{([^}]*)\}|\\entry\{([^}]*)\}")
 WHITE_SPACE = b" \t\r\n"
 LONGEST_SHOWN = 160
-# Lines of the log, which may have millions: so they are looked for in its bytes.
-ERROR = re.compile(rb"^Error--[^\n]*", re.MULTILINE)
-NO_DATABASE = re.compile(rb"^Error--I couldn't open database file", re.MULTILINE)
-CUT = re.compile(rb"^Warning--string of [0-9]+ bytes cut to [0-9]+", re.MULTILINE)
+NO_DATABASE = b"Error--I couldn't open database file "
+CUT = re.compile(rb"Warning--string of [0-9]+ bytes cut to [0-9]+ while ")
 
 
 class Cause(enum.Enum):
@@ -96,7 +94,7 @@ def cause_of(result: Result, there: bytes) -> Cause:
         return Cause.LINE_ENDS
     if here.translate(None, WHITE_SPACE) == there.translate(None, WHITE_SPACE):
         return Cause.SPACES
-    if NO_DATABASE.search(result.log):
+    if any(event.met is Met.FILES and result.log.startswith(NO_DATABASE, event.offset) for event in result.events.of(Severity.ERROR)):
         return Cause.DATABASE
     ours, theirs = items_of(here), items_of(there)
     if ours.keys() != theirs.keys():
@@ -108,18 +106,13 @@ def cause_of(result: Result, there: bytes) -> Cause:
 
 def cause_of_items(result: Result, ours: Dict[bytes, bytes], theirs: Dict[bytes, bytes]) -> Cause:
     """Why items of the same keys differ or stand in another order: what the log says of it, unless their order alone differs."""
-    if CUT.search(result.log):
+    if any(event.met is Met.EXECUTION and CUT.match(result.log, event.offset) for event in result.events.of(Severity.WARNING)):
         return Cause.CUT
     if ours == theirs:
         return Cause.ORDER
-    if any(is_of_style(message) for line in ERROR.finditer(result.log) for message in messages_of(line[0])):
+    if any(event.met in (Met.STYLE, Met.EXECUTION) for event in result.events.of(Severity.ERROR)):
         return Cause.STYLE
     return Cause.ORDER if list(ours) != list(theirs) else Cause.ITEMS
-
-
-def is_of_style(message: Message) -> bool:
-    """Whether an error is one of the style or of its execution."""
-    return bool(message.function) or (message.file or "").endswith(".bst")
 
 
 def items_of(text: bytes) -> Dict[bytes, bytes]:

@@ -25,8 +25,10 @@ from typing import Dict, Generator, Iterator, List, Optional, Sequence, Tuple, U
 from .causes import cause_of, first_difference
 from .commands import STATUS_REFUSED, Words, broken_pipe
 from .corpus import Job, found_jobs
-from .jobs import run
-from .messages import messages_of
+from .events import Met, Severity
+from .jobs import gathered
+from .library import run_over
+from .messages import message_with
 from .options import RANGES, Options
 from .refusals import Refusal
 from .reports import Compared, Progress, Resumed, Table, shown
@@ -40,8 +42,10 @@ BUDGET = 100_000_000
 SECONDS = 60.0
 # How many bytes a list and a log may have: those of papers have a thousandth of that.
 MOST_BYTES = 64 << 20
-# The lines of a log that say that there is no list to compare.
-NO_LIST = re.compile(rb"^Error--(?:I found no \\bib|I couldn't open style file)[^\n]*", re.MULTILINE)
+# How many lines of a log are looked at: a hostile one may have millions.
+MOST_EVENTS = 1 << 20
+# What a log says where there is no list to compare.
+NO_LIST = re.compile(rb"Error--(?:I found no \\bib|I couldn't open style file)")
 # What ends programs beside an interrupt.
 ENDING = (signal.SIGTERM, signal.SIGHUP, signal.SIGQUIT)
 STATUS_DIFFERENT = 2
@@ -311,7 +315,7 @@ def compared_here(job: Job, here: Search, options: Options, program: Optional[st
             found[name] = bytes_there
         return bytes_there
 
-    result = run(job.name, content, options)
+    result = run_over(job.name, gathered(job.name, content), options, MOST_EVENTS)
     reason = why_not_run(result)
     if reason is not None:
         return not_run(job, reason)
@@ -330,8 +334,10 @@ def why_not_run(result: Result) -> Optional[str]:
     """Why a job gives no list that could be compared, if so."""
     if result.report.end is End.NO_TOP_FILE:
         return "the .aux file can't be read"
-    found = NO_LIST.search(result.log)
-    return messages_of(found[0])[0].text if found else None
+    for event in result.events.of(Severity.ERROR):
+        if event.met is Met.FILES and NO_LIST.match(result.log, event.offset):
+            return message_with(result.log[event.offset : event.end], event).text
+    return None
 
 
 def not_run(job: Job, reason: str) -> Compared:

@@ -35,12 +35,17 @@ def run(job: Name, files: Files, options: Optional[Options] = None) -> Result:
     if not isinstance(chosen, Options):
         raise TypeError(f"options are Options, and not {chosen!r}")
     name = job_name(job)
+    return library.run_over(name, gathered(name, files), chosen)
+
+
+def gathered(job: bytes, files: Files) -> Dict[bytes, Content]:
+    """What is said of each file that a job needs."""
     finder = files if callable(files) else finder_over(files)
     known: Dict[bytes, Content] = {}
     while True:
-        new = library.needed_names(name, known)
+        new = library.needed_names(job, known)
         if not new:
-            return library.run_over(name, known, chosen)
+            return known
         for asked in new:
             known[asked] = content_of(finder, asked)
 

@@ -11,6 +11,7 @@ import os
 import pathlib
 from typing import List, Mapping, Optional, Tuple
 
+from .events import EVENT, Events
 from .options import Options
 from .refusals import FileUnknown, LibraryMissing, MemoryRefused, OutputTooLong, Refusal
 from .results import End, Report, Result
@@ -26,6 +27,8 @@ FIRST_NAMES = 4096
 LEAST_ROOM = 1 << 16
 # How many bytes the names of a style's types and the notes of a check are given room for at first.
 FIRST_TYPES, FIRST_NOTES = 1 << 16, 1 << 20
+# How many lines of a log have room for their events at first.
+FIRST_EVENTS = 1 << 16
 
 
 class Text(ctypes.Structure):
@@ -66,14 +69,14 @@ def found_library() -> ctypes.CDLL:
     path = os.environ.get("BTX_LIBRARY") or (str(beside) if beside.exists() else "libbtx.so.1")
     try:
         library = ctypes.CDLL(path)
-        needs, run, check = library.btx_needs, library.btx_run, library.btx_check
+        needs, run, check = library.btx_needs, library.btx_run_events, library.btx_check
     except (OSError, AttributeError) as error:
         raise LibraryMissing(path, str(error)) from error
     needs.restype = run.restype = check.restype = ctypes.c_uint32
     size = ctypes.c_size_t
     text, files, room = (ctypes.c_char_p, size), (ctypes.POINTER(File), size), (ctypes.c_void_p, size)
     needs.argtypes = (*text, *files, *room, ctypes.POINTER(size))
-    run.argtypes = (*text, *files, ctypes.POINTER(Asked), *room, *room, ctypes.POINTER(Answered))
+    run.argtypes = (*text, *files, ctypes.POINTER(Asked), *room, *room, ctypes.POINTER(Answered), *room, ctypes.POINTER(size))
     check.argtypes = (*text, *text, ctypes.c_uint64, *room, *room, ctypes.POINTER(Checked))
     return library
 
@@ -138,40 +141,46 @@ def needed_names(job: bytes, known: Known) -> List[bytes]:
         room = length.value
 
 
-def run_over(job: bytes, known: Known, options: Options) -> Result:
-    """Runs the job over these files."""
-    bbl, log = Room(options.most_list), Room(options.most_log)
+def run_over(job: bytes, known: Known, options: Options, most_events: Optional[int] = None) -> Result:
+    """Runs the job over these files, and keeps the events of the log's first `most_events` lines. Where None is said, all are kept: a log with more lines than have room at first
+    takes a second run."""
+    result = run_once(job, known, options, FIRST_EVENTS if most_events is None else most_events)
+    if most_events is None and len(result.events) < result.events.total:
+        result = run_once(job, known, options, result.events.total)
+        if len(result.events) < result.events.total:
+            raise MemoryRefused("there is no memory for the events of a log")
+    return result
+
+
+def run_once(job: bytes, known: Known, options: Options, most_events: int) -> Result:
+    """Runs the job over these files, with room for so many events."""
+    bbl, log, events = Room(options.most_list), Room(options.most_log), Room(most_events * EVENT.size)
     try:
-        answer, answered = call(job, known, options, bbl, log)
+        answer, answered, total = call(job, known, options, bbl, log, events)
         outputs = bbl.prefix(answered.list_len), log.prefix(answered.log_len)
+        kept = Events(events.prefix(total * EVENT.size), total)
     finally:
-        bbl.close()
-        log.close()
+        for room in (bbl, log, events):
+            room.close()
     if answer == FULL:
         raise OutputTooLong(*outputs)
     if answer != DONE:
         raise refusal_of(answer)
     report = Report(answered.status, End(answered.end), answered.steps, answered.deepest, answered.warnings, answered.errors)
-    return Result(*outputs, report)
+    return Result(*outputs, report, kept)
 
 
-def call(job: bytes, known: Known, options: Options, bbl: Room, log: Room) -> Tuple[int, Answered]:
-    """The library's answer, and its report."""
+def call(job: bytes, known: Known, options: Options, bbl: Room, log: Room, events: Room) -> Tuple[int, Answered, int]:
+    """The library's answer, its report, and how many events there are."""
     asked = Asked(options.budget, options.min_crossrefs, options.line, options.entry_max, options.global_max, options.utf8)
-    answered = Answered()
-    answer = LIBRARY.btx_run(
-        job,
-        len(job),
-        array_of(known),
-        len(known),
-        ctypes.byref(asked),
-        ctypes.byref(bbl.bytes),
-        bbl.size,
-        ctypes.byref(log.bytes),
-        log.size,
-        ctypes.byref(answered),
+    answered, total = Answered(), ctypes.c_size_t()
+    outputs = [word for room in (bbl, log) for word in (ctypes.byref(room.bytes), room.size)]
+    answer = LIBRARY.btx_run_events(
+        *(job, len(job), array_of(known), len(known), ctypes.byref(asked)),
+        *(*outputs, ctypes.byref(answered)),
+        *(ctypes.byref(events.bytes), events.size // EVENT.size, ctypes.byref(total)),
     )
-    return answer, answered
+    return answer, answered, total.value
 
 
 def checked_style(name: bytes, style: bytes, steps: int) -> Optional[Tuple[Checked, bytes, bytes]]:

@@ -3,10 +3,11 @@
 from __future__ import annotations
 
 import enum
-from dataclasses import dataclass
+from dataclasses import dataclass, field
 from typing import List, NamedTuple
 
-from .messages import Message, messages_of
+from .events import Events
+from .messages import Message, messages_with
 
 __all__ = ["End", "Report", "Result"]
 
@@ -49,13 +50,16 @@ class Report(NamedTuple):
 class Result:
     """What a job gives: the bytes of the reference list (`.bbl`), those of the log (`.blg`), and the report.
 
+    events: what the library says of each line of the log.
+
     Of a run that was stopped or that met a limit these are what it wrote until then."""
 
     bbl: bytes
     log: bytes
     report: Report
+    events: Events = field(default=Events(), repr=False)
 
     @property
     def messages(self) -> List[Message]:
         """The log as data, a message for each of its lines."""
-        return messages_of(self.log)
+        return messages_with(self.log, self.events)

@@ -26,14 +26,17 @@ import btx
 from btx import compare
 from btx.causes import Cause, cause_of, first_difference
 from btx.corpus import found_jobs
+from btx.events import EVENT, Events, Met, Severity
 from btx.results import End, Report, Result
 from tests.jobs import AUX, EXAMPLES, FILES, STYLE
 
 ENVIRONMENT = {**os.environ, "PYTHONPATH": str(pathlib.Path(btx.__file__).parent.parent)}
 
 
-def result_of(bbl, end=End.FINISHED, log=b""):
-    return Result(bbl, log, Report(0, end, 0, 0, 0, 0))
+def result_of(bbl, end=End.FINISHED, log=b"", severity=Severity.ERROR, met=Met.EXECUTION):
+    """A result whose log has at most one line."""
+    events = Events(EVENT.pack(0, len(log) - 1, 0, severity, met), 1) if log else Events()
+    return Result(bbl, log, Report(0, end, 0, 0, 0, 0), events)
 
 
 def default_signals():
@@ -66,6 +69,7 @@ class Causes(unittest.TestCase):
         one, two = b"\\bibitem{a}\nOne\n\n", b"\\bibitem{b}\nTwo\n\n"
         cut = b"Warning--string of 300 bytes cut to 250 while executing := for entry a\n"
         error = b"Error--You can't pop an empty literal stack while executing pop$ for entry a\n"
+        unfound = b"Error--I couldn't open database file d.bib\n"
         rows = [
             (result_of(one, End.STOPPED), two, Cause.STOPPED),
             (result_of(one, End.LIMIT_CALLS), two, Cause.LIMIT),
@@ -74,11 +78,12 @@ class Causes(unittest.TestCase):
             (result_of(one + two), two + one, Cause.ORDER),
             (result_of(one + two, log=error), two + one, Cause.ORDER),
             (result_of(one + two, log=error), two + one.replace(b"One", b"Eins"), Cause.STYLE),
-            (result_of(one, log=b"Error--I couldn't open database file d.bib\n"), one + two, Cause.DATABASE),
+            (result_of(one, log=unfound, met=Met.FILES), one + two, Cause.DATABASE),
+            (result_of(one, log=unfound, severity=Severity.PLAIN), one + two, Cause.KEYS),
             (result_of(one), two, Cause.KEYS),
             (result_of(one), one + two, Cause.KEYS),
             (result_of(one), one.replace(b"One", b"Eins"), Cause.ITEMS),
-            (result_of(one, log=cut), one.replace(b"One", b"Eins"), Cause.CUT),
+            (result_of(one, log=cut, severity=Severity.WARNING), one.replace(b"One", b"Eins"), Cause.CUT),
             (result_of(one, log=error), one.replace(b"One", b"Eins"), Cause.STYLE),
             (result_of(b"x" + one), b"y" + one, Cause.OTHER),
             (result_of(b"\\bibitem[{A[1]}]{a} x\n"), b"\\bibitem[{B[2]}]{a} x\n", Cause.ITEMS),

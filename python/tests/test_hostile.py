@@ -61,6 +61,13 @@ class Refusals(unittest.TestCase):
             self.assertEqual([answers[0].result(), answers[1].exception().bbl, answers[2].result()], [b"k: T\n", b"k:", b"k: T\n"])
 
 
+class Names(unittest.TestCase):
+    def test_each_public_name_is_there(self):
+        for name in btx.__all__:
+            with self.subTest(name=name):
+                self.assertTrue(hasattr(btx, name))
+
+
 class Calls(unittest.TestCase):
     def test_wrong_files(self):
         rows = [("job", {**FILES, "d.bib": "text"}), ("job", {**FILES, "d.bib": 7}), ("job", []), ("job", None), ("job", lambda name: name)]

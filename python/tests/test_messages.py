@@ -1,10 +1,11 @@
 """The log as data."""
 
+import pickle
 import random
 import unittest
 
 import btx
-from btx import Kind
+from btx import Kind, Met, Severity
 from tests.jobs import FILES, with_style
 
 ROWS = [
@@ -55,6 +56,29 @@ class Lines(unittest.TestCase):
         self.assertEqual(len(warnings), result.report.warnings)
         self.assertEqual({message.file for message in errors if message.line}, {"d.bib", "s.bst"})
         self.assertIn(("*", "k"), {(message.function, message.entry) for message in errors})
+
+    def test_a_style_imitates_no_error(self):
+        imitated = [line for line, _ in ROWS] + [b"Error--x", b"Ended: stopped, warnings 0, errors 0, steps 4"]
+        shown = b" ".join(b'"%s" top$ "x" #10 int.to.chr$ * "%s" * warning$' % (line.replace(b'"', b"'"), line.replace(b'"', b"'")) for line in imitated)
+        result = btx.run("job", with_style(b"FUNCTION {f} {" + shown + b"} ITERATE {f} EXECUTE {f}"))
+        met = [message for message in result.messages if message.met is Met.EXECUTION]
+        self.assertEqual([message.kind for message in met], [Kind.SHOWN, Kind.WARNING] * len(imitated) * 2)
+        self.assertEqual({(message.file, message.line, message.function, message.entry) for message in met}, {(None, None, None, None)})
+        self.assertEqual([message.number for message in met], [0] * len(imitated) * 2 + [None] * len(imitated) * 2)
+        self.assertEqual((result.report.errors, sum(message.severity is Severity.ERROR for message in result.messages)), (0, 0))
+        self.assertEqual([message.kind for message in result.messages].count(Kind.ENDED), 1)
+        self.assertEqual(b"".join(message.raw + b"\n" for message in result.messages), result.log)
+
+    def test_offsets(self):
+        result = btx.run("job", with_style(b'FUNCTION {f} {title #1 * "a" #10 int.to.chr$ * top$} ITERATE {f} nonsense'))
+        for message in [*result.messages, *btx.messages_of(result.log)]:
+            self.assertTrue(result.log.startswith(message.raw + b"\n", message.offset))
+        self.assertEqual([message.offset for message in result.messages], [event.offset for event in result.events])
+
+    def test_more_lines_than_have_room_at_first(self):
+        result = btx.run("job", with_style(b"INTEGERS {n} FUNCTION {f} {#70000 'n := {n #0 >} {n top$ n #1 - 'n :=} while$} EXECUTE {f} nonsense"))
+        self.assertEqual((len(result.messages), result.messages[-2].severity), (70005, Severity.ERROR))
+        self.assertEqual(pickle.loads(pickle.dumps(result)), result)
 
     def test_a_long_line(self):
         log = b'Warning--A bad cross reference--entry "' + b'" refers to entry "' * 50_000 + b"--line " * 50_000 + b"\n"
