@@ -15,14 +15,19 @@ from .events import Event, Events, Met, Severity
 from .jobs import Content, Files, Finder, Name, in_folder, needs, run, run_in
 from .messages import Kind, Message, messages_of
 from .options import TEX_LIVE, Options
-from .refusals import FileUnknown, FinderRefused, LibraryMissing, MemoryRefused, NameRefused, OptionRefused, OutputTooLong, Refusal, StyleTooLong
+from .reading import MONTHS, Bibliography, Entries, Entry, Mistake, Place, read
+from .refusals import DatabaseTooLong, FileUnknown, FinderRefused, LibraryMissing, MemoryRefused, NameRefused, OptionRefused, OutputTooLong, Refusal, StyleTooLong
 from .results import End, Report, Result
 
 __all__ = [
     "Answer",
+    "Bibliography",
     "Branches",
     "Content",
+    "DatabaseTooLong",
     "End",
+    "Entries",
+    "Entry",
     "Event",
     "Events",
     "Fault",
@@ -32,15 +37,18 @@ __all__ = [
     "FinderRefused",
     "Kind",
     "LibraryMissing",
+    "MONTHS",
     "MemoryRefused",
     "Message",
     "Met",
+    "Mistake",
     "Name",
     "NameRefused",
     "Operand",
     "OptionRefused",
     "Options",
     "OutputTooLong",
+    "Place",
     "Refusal",
     "Report",
     "Result",
@@ -54,6 +62,7 @@ __all__ = [
     "in_folder",
     "messages_of",
     "needs",
+    "read",
     "run",
     "run_in",
 ]

@@ -9,6 +9,7 @@ import ctypes
 import mmap
 import os
 import pathlib
+import struct
 from typing import List, Mapping, Optional, Tuple
 
 from .events import EVENT, Events
@@ -16,7 +17,7 @@ from .options import Options
 from .refusals import FileUnknown, LibraryMissing, MemoryRefused, OutputTooLong, Refusal
 from .results import End, Report, Result
 
-__all__ = ["Checked", "checked_style", "needed_names", "run_over"]
+__all__ = ["RECORD", "Checked", "checked_style", "needed_names", "read_records", "run_over"]
 
 # What is said of each file: its bytes, or None where there is no such file.
 Known = Mapping[bytes, Optional[bytes]]
@@ -29,6 +30,10 @@ LEAST_ROOM = 1 << 16
 FIRST_TYPES, FIRST_NOTES = 1 << 16, 1 << 20
 # How many lines of a log have room for their events at first.
 FIRST_EVENTS = 1 << 16
+# A record of a database: kind, is_whole, start, end, line, name_at, name_len, text_at, text_len.
+RECORD = struct.Struct("=I?3x7Q")
+# How many bytes of a database have room for a record at first.
+BYTES_OF_A_RECORD = 24
 
 
 class Text(ctypes.Structure):
@@ -55,6 +60,14 @@ class Answered(ctypes.Structure):
     ]
 
 
+class String(ctypes.Structure):
+    _fields_ = [("name", Text), ("text", Text)]
+
+
+class Sizes(ctypes.Structure):
+    _fields_ = [(name, ctypes.c_size_t) for name in ("records", "texts")]
+
+
 class Checked(ctypes.Structure):
     _fields_ = [
         ("verdict", ctypes.c_uint32),
@@ -69,14 +82,15 @@ def found_library() -> ctypes.CDLL:
     path = os.environ.get("BTX_LIBRARY") or (str(beside) if beside.exists() else "libbtx.so.1")
     try:
         library = ctypes.CDLL(path)
-        needs, run, check = library.btx_needs, library.btx_run_events, library.btx_check
+        needs, run, check, read = library.btx_needs, library.btx_run_events, library.btx_check, library.btx_read
     except (OSError, AttributeError) as error:
         raise LibraryMissing(path, str(error)) from error
-    needs.restype = run.restype = check.restype = ctypes.c_uint32
+    needs.restype = run.restype = check.restype = read.restype = ctypes.c_uint32
     size = ctypes.c_size_t
     text, files, room = (ctypes.c_char_p, size), (ctypes.POINTER(File), size), (ctypes.c_void_p, size)
     needs.argtypes = (*text, *files, *room, ctypes.POINTER(size))
     run.argtypes = (*text, *files, ctypes.POINTER(Asked), *room, *room, ctypes.POINTER(Answered), *room, ctypes.POINTER(size))
+    read.argtypes = (*text, *text, ctypes.POINTER(String), size, *room, *room, ctypes.POINTER(Sizes))
     check.argtypes = (*text, *text, ctypes.c_uint64, *room, *room, ctypes.POINTER(Checked))
     return library
 
@@ -198,3 +212,31 @@ def checked_style(name: bytes, style: bytes, steps: int) -> Optional[Tuple[Check
         if answer == DONE:
             return checked, types.raw[: checked.types_len], notes.raw[: checked.notes_len]
         types_room, notes_room = max(types_room, checked.types_len), max(notes_room, checked.notes_len)
+
+
+def read_records(file: bytes, text: bytes, strings: Mapping[bytes, bytes]) -> Optional[Tuple[bytes, bytes]]:
+    """The records of a database before which these strings are known, and their texts. None where the database is longer than a file may be."""
+    known = (String * max(len(strings), 1))()
+    for place, (name, value) in zip(known, strings.items()):
+        place.name.at, place.name.len, place.text.at, place.text.len = name, len(name), value, len(value)
+    wanted = Sizes(len(text) // BYTES_OF_A_RECORD + 1024, 2 * len(text) + FIRST_NAMES)
+    while True:
+        sizes, records, texts = Sizes(), Room(wanted.records * RECORD.size), Room(wanted.texts)
+        try:
+            answer = LIBRARY.btx_read(
+                *(file, len(file), text, len(text), known, len(strings)),
+                *(ctypes.byref(records.bytes), records.size // RECORD.size, ctypes.byref(texts.bytes), texts.size, ctypes.byref(sizes)),
+            )
+            if answer == DONE:
+                return records.prefix(sizes.records * RECORD.size), texts.prefix(sizes.texts)
+            is_as_wanted = records.size == wanted.records * RECORD.size and texts.size == wanted.texts
+        finally:
+            records.close()
+            texts.close()
+        if answer == REFUSED:
+            return None
+        if answer != FULL:
+            raise refusal_of(answer)
+        if not is_as_wanted:
+            raise MemoryRefused("there is no memory for the records of a database")
+        wanted = Sizes(max(wanted.records, sizes.records), max(wanted.texts, sizes.texts))

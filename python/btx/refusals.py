@@ -6,7 +6,7 @@ from __future__ import annotations
 
 from typing import Optional, Union
 
-__all__ = ["Refusal", "OptionRefused", "MemoryRefused", "FileUnknown", "OutputTooLong", "NameRefused", "FinderRefused", "LibraryMissing", "StyleTooLong"]
+__all__ = ["Refusal", "OptionRefused", "MemoryRefused", "FileUnknown", "OutputTooLong", "NameRefused", "FinderRefused", "LibraryMissing", "StyleTooLong", "DatabaseTooLong"]
 
 
 class Refusal(Exception):
@@ -86,6 +86,17 @@ class StyleTooLong(Refusal, ValueError):
 
     def __str__(self) -> str:
         return f"the style has {self.length:,} bytes, and a file may have 2,147,483,647"
+
+
+class DatabaseTooLong(Refusal, ValueError):
+    """A database that is to be read has more bytes than a file may have. length: how many it has."""
+
+    def __init__(self, length: int) -> None:
+        super().__init__(length)
+        self.length = length
+
+    def __str__(self) -> str:
+        return f"the database has {self.length:,} bytes, and a file may have 2,147,483,647"
 
 
 class OutputTooLong(Refusal):

@@ -24,6 +24,7 @@ REFUSALS = {
     btx.FileUnknown: ("odd",),
     btx.OutputTooLong: (b"list", b"log"),
     btx.StyleTooLong: (7,),
+    btx.DatabaseTooLong: (7,),
 }
 
 

@@ -1,0 +1,140 @@
+"""What is wrong in a database that was read: the mistakes that end the reading of an item, which the library finds, and what a run warns of besides."""
+
+from __future__ import annotations
+
+from typing import Iterator, List, NamedTuple, Optional, Set
+
+from .messages import decoded
+from .reading import ENTRY, FIELD, PREAMBLE, STRING, WRONG, Bibliography, Mistake, Place, encoded
+from .values import Part, has_names, parts_of, value_of
+
+__all__ = ["Undefined", "mistakes_of", "undefined_strings"]
+
+
+class Undefined(NamedTuple):
+    """A name without a string. at: the record whose value has it. entry: the record of its entry, if it is in one. is_own: whether it is in the definition of that very string."""
+
+    part: Part
+    at: int
+    entry: Optional[int]
+    is_own: bool
+
+
+class Found(NamedTuple):
+    """What is wrong with the bytes from `start` to `end`. entry: the record of its entry, if it is in one."""
+
+    start: int
+    end: int
+    text: str
+    entry: Optional[int]
+    is_error: bool = False
+
+
+def mistakes_of(base: Bibliography) -> List[Mistake]:
+    """All that is wrong in a database, by place."""
+    places = Places(base.text)
+    found = sorted([*ended(base), *repeated_entries(base), *unread_fields(base), *unknown_strings(base)], key=lambda it: (it.start, it.end))
+    return [Mistake(it.text, base.file, places.of(it.start, it.end), it.is_error, key_of(base, it.entry)) for it in found]
+
+
+class Places:
+    """Lines and columns of places that ascend, so that no byte of a text is counted twice."""
+
+    def __init__(self, text: bytes) -> None:
+        self.text = text
+        self.at = 0
+        self.line = self.column = 1
+
+    def of(self, start: int, end: int) -> Place:
+        """The place of these bytes. The end of the database is on its last line."""
+        last = min(start, max(len(self.text) - 1, 0))
+        feed = self.text.rfind(b"\n", self.at, last)
+        if feed >= 0:
+            self.line += self.text.count(b"\n", self.at, last)
+            self.at, self.column = feed + 1, 1
+        self.column += len(decoded(self.text[self.at : start]))
+        self.at = start
+        return Place(self.line, self.column, (start, end))
+
+
+def ended(base: Bibliography) -> Iterator[Found]:
+    """The mistakes that end the reading of an item."""
+    file = encoded(base.file)
+    for at in base._all(WRONG):
+        place, line = base._number(at, 2), base._number(at, 4)
+        text = base._text(at)[len(b"Error--") : -len(b"--line %d of file %s" % (line, file))]
+        yield Found(place, place, decoded(text), broken_entry(base, at), True)
+
+
+def repeated_entries(base: Bibliography) -> Iterator[Found]:
+    """The entries whose key an earlier one has."""
+    known: Set[bytes] = set()
+    for at in base._all(ENTRY):
+        key = base._text(at)
+        if key.lower() in known:
+            end = base._number(at, 3)
+            yield Found(end - len(key), end, "Repeated entry", at, True)
+        known.add(key.lower())
+
+
+def unread_fields(base: Bibliography) -> Iterator[Found]:
+    """The fields that an entry has had before, and those whose value is too long for a run."""
+    for entry in base._all(ENTRY):
+        names: Set[bytes] = set()
+        for at in range(entry + 1, base._last(entry)):
+            name, start = base._name(at), base._number(at, 2)
+            if name.lower() in names:
+                yield Found(start, start + len(name), f'I\'m ignoring {decoded(base._text(entry))}\'s extra "{decoded(name)}" field', entry)
+            elif not base._number(at, 1):
+                yield Found(start, start + len(name), f"the value of {decoded(name)} has more than 1,000,000 bytes", entry, True)
+            names.add(name.lower())
+
+
+def unknown_strings(base: Bibliography) -> Iterator[Found]:
+    """The names of strings that aren't defined before them."""
+    for part, _, entry, is_own in undefined_strings(base):
+        what = "used in its own definition" if is_own else "undefined"
+        yield Found(part.start, part.end, f'string name "{decoded(base.text[part.start : part.end])}" is {what}', entry)
+
+
+def undefined_strings(base: Bibliography) -> Iterator[Undefined]:
+    """The names of strings that aren't defined before them, in the order of the text. Those of a field that an entry has had before don't count: a run doesn't read it."""
+    known: Set[bytes] = set(base._known)
+    names: Set[bytes] = set()
+    text, entry = base.text, None
+    for at, kind in enumerate(base._kinds):
+        if kind != FIELD:
+            entry = at if kind == ENTRY else None
+            names = set()
+        if kind not in (FIELD, STRING, PREAMBLE):
+            continue
+        name = base._name(at).lower()
+        start, end = base._number(at, 2), base._number(at, 3)
+        first, end = value_of(text, start, end, b"({" if kind == PREAMBLE else b"=")
+        if has_names(text, first, end) and not (kind == FIELD and name in names):
+            own = name if kind == STRING else None
+            yield from (Undefined(part, at, entry, is_own) for part, is_own in without_string(text, first, end, known, own))
+        if kind == STRING:
+            known.add(name)
+        else:
+            names.add(name)
+
+
+def without_string(text: bytes, start: int, end: int, known: Set[bytes], own: Optional[bytes]) -> Iterator["tuple[Part, bool]"]:
+    """The parts of a value that are names without a string, and whether each is the name that the value is to define."""
+    for part in parts_of(text, start, end):
+        name = text[part.start : part.end].lower()
+        if part.is_name and (name == own or name not in known):
+            yield part, name == own
+
+
+def key_of(base: Bibliography, entry: Optional[int]) -> Optional[str]:
+    return None if entry is None else decoded(base._text(entry))
+
+
+def broken_entry(base: Bibliography, at: int) -> Optional[int]:
+    """The record of the entry that a mistake ends."""
+    at -= 1
+    while at >= 0 and base._kinds[at] == FIELD:
+        at -= 1
+    return at if at >= 0 and base._kinds[at] == ENTRY else None

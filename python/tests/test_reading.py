@@ -1,0 +1,208 @@
+"""Entries as data."""
+
+import os
+import pathlib
+import pickle
+import re
+import tempfile
+import time
+import unittest
+
+import btx
+from tests.made import entries_by_run, names_for_style
+from tests.spoilt import logged, of_tex_live, spoilt
+
+SPOILT = int(os.environ.get("BTX_TEST_SPOILT", "600"))
+TEXT = b'''@String{jcs = {Journal of   Counting
+  Systems}}
+@Article{Kay, Title = "A" # {  b }, journal = jcs, month = feb, year = 1984, title = {no}}
+@misc{j, note 1}
+@preamble{"\\\\x" # jcs}
+ \xc3\xa9 @book(x , title = jcs # "~" # zz, crossref = {KAY})
+@misc{KAY, x\xff = {\xff}}
+'''
+
+
+def lower(text):
+    return text.encode("utf8", "surrogateescape").lower().decode("utf8", "surrogateescape")
+
+
+def entries_of(base):
+    """The entries as `entries_by_run` has them: of a repeated key the first; fields and types that a style can define."""
+    entries, seen = [], set()
+    types, fields = {entry.type for entry in base}, {name for entry in base for name in entry}
+    known = set(names_for_style(types)) - fields
+    for entry in base:
+        if lower(entry.key) not in seen:
+            seen.add(lower(entry.key))
+            wanted = {name: entry[name] for name in names_for_style(entry)}
+            entries.append((entry.key, entry.type if entry.type in known else "", wanted))
+    return entries, types, fields
+
+
+def hides_items(base):
+    """Whether a repeated entry has an `@` after its key: a run looks for items there."""
+    seen = set()
+    for entry in base:
+        if lower(entry.key) in seen and b"@" in entry.raw[1:]:
+            return True
+        seen.add(lower(entry.key))
+    return False
+
+
+class Shapes(unittest.TestCase):
+    def setUp(self):
+        self.base = btx.read(TEXT)
+
+    def test_entries(self):
+        base = self.base
+        self.assertEqual([entry.key for entry in base], ["Kay", "j", "x", "KAY"])
+        self.assertEqual([entry.type for entry in base.entries], ["article", "misc", "book", "misc"])
+        self.assertEqual(dict(base["kay"]), {"title": "A b", "journal": "Journal of Counting Systems", "month": "February", "year": "1984"})
+        self.assertEqual((base["KAY"]["TITLE"], base.entries["X"]["title"], base.entries[2].get("note")), ("A b", "Journal of Counting Systems~", None))
+        self.assertIs(base.entries[0], base["Kay"])
+        self.assertEqual((len(base), len(base.entries), base.entries[1:3]), (4, 4, [base["j"], base["x"]]))
+        self.assertIs(base["x"].parent, base["Kay"])
+        self.assertIsNone(base["j"].parent)
+        self.assertIsNone(base.get("zz"))
+
+    def test_collections(self):
+        base = self.base
+        self.assertTrue("KAY" in base and "j" in base.entries and base["j"] in base and "Title" in base["kay"])
+        self.assertFalse("zz" in base or 7 in base or "note" in base["j"] or 7 in base["j"])
+        self.assertNotEqual(base.entries[0], base.entries[3])
+        for wrong in (lambda: base["zz"], lambda: base.entries["zz"], lambda: base["j"]["note"], lambda: base["j"].place_of("note")):
+            with self.assertRaises(KeyError):
+                wrong()
+        with self.assertRaises(IndexError):
+            base.entries[9]
+        with self.assertRaises(TypeError):
+            base["kay"].fields["title"] = "B"  # type: ignore[index]
+        self.assertEqual(repr(base), "<btx.Bibliography database.bib: 4 entries>")
+        self.assertEqual(repr(base["x"]), "<btx.Entry @book{x}, line 6 of database.bib>")
+
+    def test_places(self):
+        entry = self.base["x"]
+        self.assertEqual(entry.place[:2], (6, 4))
+        self.assertEqual(entry.raw, TEXT[slice(*entry.place.span)])
+        self.assertEqual(entry.raw, b'@book(x , title = jcs # "~" # zz, crossref = {KAY})')
+        place = entry.place_of("Title")
+        self.assertEqual((place.line, place.column, TEXT[slice(*place.span)]), (6, 14, b'title = jcs # "~" # zz'))
+        self.assertEqual((self.base["j"].raw, self.base["j"].is_whole, entry.is_whole), (b"@misc{j, note ", False, True))
+
+    def test_strings_and_preamble(self):
+        self.assertEqual(self.base.strings, {"jcs": "Journal of Counting Systems"})
+        self.assertEqual(self.base.preamble, "\\\\xJournal of Counting Systems")
+        self.assertEqual(btx.read(TEXT, {"FEB": "II", "zz": "!"})["x"]["title"], "Journal of Counting Systems~!")
+        self.assertEqual(btx.read(TEXT, {"FEB": "II"})["kay"]["month"], "II")
+        self.assertEqual(btx.read(b"@misc{k, month = jan}", {})["k"]["month"], "")
+
+    def test_messages(self):
+        found = [(message.place.line, message.place.column, message.text, message.is_error, message.key) for message in self.base.messages]
+        self.assertEqual(found, [
+            (3, 78, 'I\'m ignoring Kay\'s extra "title" field', False, "Kay"),
+            (4, 15, "I was expecting an =", True, "j"),
+            (6, 34, 'string name "zz" is undefined', False, "x"),
+            (7, 7, "Repeated entry", True, "KAY"),
+        ])
+        self.assertEqual(str(self.base.messages[1]), "Error--I was expecting an =--line 4 of file database.bib")
+        self.assertEqual(btx.read(b"@misc{a, x = {\n").messages[0].place, btx.Place(1, 16, (15, 15)))
+        self.assertEqual([it.text for it in btx.read(b"@string{a = a}").messages], ['string name "a" is used in its own definition'])
+
+    def test_bytes_that_are_not_utf8(self):
+        self.assertEqual(list(self.base.entries[3].items()), [("x\udcff", "\udcff")])
+
+    def test_long_values(self):
+        base = btx.read(b"@misc{k, a = {" + b"x" * 1_000_001 + b"}, b = {y}}")
+        self.assertEqual((dict(base["k"]), [message.text for message in base.messages]), ({"b": "y"}, ["the value of a has more than 1,000,000 bytes"]))
+
+    def test_records_that_need_more_room(self):
+        base = btx.read(b"@misc{k" + b",a=1" * 100_000 + b"}")
+        self.assertEqual(len(list(base["k"])), 1)
+        grows = b"@string{a={" + b"x" * 100_000 + b"}}" + b"@misc{k, x = a}" * 100
+        self.assertEqual({len(entry["x"]) for entry in btx.read(grows)}, {100_000})
+
+    def test_paths(self):
+        with tempfile.TemporaryDirectory() as folder:
+            path = pathlib.Path(folder, "d.bib")
+            path.write_bytes(TEXT)
+            for source in (path, str(path)):
+                self.assertEqual((btx.read(source).file, len(btx.read(source))), ("d.bib", 4))
+            with self.assertRaises(FileNotFoundError):
+                btx.read(path.with_name("none.bib"))
+        for source in (bytearray(TEXT), memoryview(TEXT)):
+            self.assertEqual(len(btx.read(source)), 4)
+
+    def test_it_is_pickled(self):
+        again = pickle.loads(pickle.dumps(self.base))
+        self.assertEqual([(entry.key, dict(entry)) for entry in again], [(entry.key, dict(entry)) for entry in self.base])
+
+    def test_nothing(self):
+        for text in (b"", b"text", b"@", b"@comment{x}"):
+            self.assertEqual((len(btx.read(text)), list(btx.read(text).strings), btx.read(text).preamble), (0, [], ""))
+
+
+class BesideRuns(unittest.TestCase):
+    """What is read has the values, keys, types and order of a run. (Each field crossref has another name in these databases: what a run inherits isn't read.)"""
+
+    def same(self, text):
+        text = re.sub(rb"(?i)crossref", b"crossreg", text)
+        base = btx.read(text)
+        if hides_items(base):
+            return 0
+        entries, types, fields = entries_of(base)
+        self.assertEqual(entries_by_run(text, types, fields), entries)
+        return len(entries)
+
+    def test_databases_of_tex_live(self):
+        paths = of_tex_live()
+        if not paths:
+            self.skipTest("there is no TeX Live")
+        total = 0
+        for path in paths:
+            with self.subTest(path=path.name):
+                total += self.same(path.read_bytes())
+        self.assertGreater(total, 10_000)
+
+    def test_spoilt_databases(self):
+        self.assertGreater(sum(self.same(text) for text in spoilt(SPOILT)), SPOILT)
+
+    def test_mistakes_are_those_that_are_logged(self):
+        total = 0
+        for text in spoilt(SPOILT, seed=65):
+            base = btx.read(text, {})
+            if len({lower(entry.key) for entry in base}) < len(base):
+                continue
+            names = {name.encode("utf8", "surrogateescape") for entry in base for name in entry}
+            mistakes = [(mistake.place.line, mistake.text) for mistake in base.messages]
+            lines = {line for line, text in mistakes if not text.startswith("I'm ignoring")}
+            found = logged(text, names)
+            self.assertEqual(sorted(text for _, text in found), sorted(text for _, text in mistakes), text)
+            self.assertEqual({line for line, text in found if not text.startswith("I'm ignoring")}, lines, text)
+            total += len(found)
+        self.assertGreater(total, SPOILT // 2)
+
+
+class Cost(unittest.TestCase):
+    def test_a_large_database(self):
+        text = b"".join(b"@article{key%d, author = {A. Author and B. Author}, title = {A {T}itle of %d}, year = 1984, pages = {1--2}}\n" % (number, number) for number in range(60_000))
+        begin = time.process_time()
+        base = btx.read(text)
+        read = time.process_time() - begin
+        self.assertEqual(sum(len(entry.fields) for entry in base), 240_000)
+        self.assertLess(read, 1.5)
+        self.assertLess(time.process_time() - begin - read, 3)
+
+    def test_long_texts_take_a_linear_time(self):
+        size = 100_000
+        hostile = [b"@misc{k, x = " + b"{" * size, b"@" * size, b"@misc{k" * (size // 7), b"@misc{k, x = 1 #" + b" 1 #" * size, b"@misc{k" + b",x=a" * size + b"}", b"@string{a=a#a}" * 20_000,
+                   b"@misc{k,x=a" + b"#a" * size + b"}", b"@misc{a" + b" " * size + b"1", b"@misc{a,x=1}" * 20_000, b"@a{,b=1 " * 20_000]
+        for text in hostile:
+            with self.subTest(text=text[:20]):
+                begin = time.process_time()
+                len(btx.read(text).messages)
+                self.assertLess(time.process_time() - begin, 5)
+
+
+if __name__ == "__main__":
+    unittest.main()
