@@ -14,9 +14,10 @@ from .checking import Answer, Branches, Fault, Operand, Spot, StyleWarning, Verd
 from .events import Event, Events, Met, Severity
 from .jobs import Content, Files, Finder, Name, in_folder, needs, run, run_in
 from .messages import Kind, Message, messages_of
+from .names import Divided, NameParts, names
 from .options import TEX_LIVE, Options
 from .reading import MONTHS, Bibliography, Entries, Entry, Mistake, Place, read
-from .refusals import DatabaseTooLong, FileUnknown, FinderRefused, LibraryMissing, MemoryRefused, NameRefused, OptionRefused, OutputTooLong, Refusal, StyleTooLong
+from .refusals import DatabaseTooLong, FileUnknown, FinderRefused, LibraryMissing, MemoryRefused, NameRefused, NamesRefused, OptionRefused, OutputTooLong, Refusal, StyleTooLong
 from .results import End, Report, Result
 
 __all__ = [
@@ -25,6 +26,7 @@ __all__ = [
     "Branches",
     "Content",
     "DatabaseTooLong",
+    "Divided",
     "End",
     "Entries",
     "Entry",
@@ -43,7 +45,9 @@ __all__ = [
     "Met",
     "Mistake",
     "Name",
+    "NameParts",
     "NameRefused",
+    "NamesRefused",
     "Operand",
     "OptionRefused",
     "Options",
@@ -61,6 +65,7 @@ __all__ = [
     "check",
     "in_folder",
     "messages_of",
+    "names",
     "needs",
     "read",
     "run",

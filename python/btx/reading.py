@@ -12,7 +12,7 @@ import os
 import pathlib
 import re
 from types import MappingProxyType
-from typing import Dict, FrozenSet, Iterator, List, Mapping, NamedTuple, Optional, Sequence, Tuple, Union, overload
+from typing import Any, Dict, FrozenSet, Iterator, List, Mapping, NamedTuple, Optional, Sequence, Tuple, Union, overload
 
 from .library import RECORD, read_records
 from .messages import decoded
@@ -212,6 +212,18 @@ class Bibliography:
         from .mistakes import mistakes_of
 
         return mistakes_of(self)
+
+    def to_pybtex(self) -> Any:
+        """The same as pybtex has it, where pybtex is installed."""
+        from .others import pybtex_of
+
+        return pybtex_of(self)
+
+    def to_bibtexparser(self) -> Any:
+        """The same as version 1 of bibtexparser has it, where that is installed."""
+        from .others import bibtexparser_of
+
+        return bibtexparser_of(self)
 
     def __getitem__(self, key: str) -> Entry:
         return self.entries[key]

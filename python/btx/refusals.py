@@ -6,7 +6,7 @@ from __future__ import annotations
 
 from typing import Optional, Union
 
-__all__ = ["Refusal", "OptionRefused", "MemoryRefused", "FileUnknown", "OutputTooLong", "NameRefused", "FinderRefused", "LibraryMissing", "StyleTooLong", "DatabaseTooLong"]
+__all__ = ["Refusal", "OptionRefused", "MemoryRefused", "FileUnknown", "OutputTooLong", "NameRefused", "FinderRefused", "LibraryMissing", "StyleTooLong", "DatabaseTooLong", "NamesRefused"]
 
 
 class Refusal(Exception):
@@ -97,6 +97,18 @@ class DatabaseTooLong(Refusal, ValueError):
 
     def __str__(self) -> str:
         return f"the database has {self.length:,} bytes, and a file may have 2,147,483,647"
+
+
+class NamesRefused(Refusal, ValueError):
+    """A text that is to be divided into names, and that no field can have. text: the text, or how it begins. reason: what is wrong with it."""
+
+    def __init__(self, text: str, reason: str) -> None:
+        super().__init__(text, reason)
+        self.text = text
+        self.reason = reason
+
+    def __str__(self) -> str:
+        return f"the text {self.text!r} {self.reason}"
 
 
 class OutputTooLong(Refusal):

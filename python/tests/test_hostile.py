@@ -25,6 +25,7 @@ REFUSALS = {
     btx.OutputTooLong: (b"list", b"log"),
     btx.StyleTooLong: (7,),
     btx.DatabaseTooLong: (7,),
+    btx.NamesRefused: ("}", "has braces that don't match, so no field has it"),
 }
 
 
