@@ -1,10 +1,12 @@
-"""BibTeX, proved, in process: `run` gives the reference list and the log of a job whose files are handed in.
+"""BibTeX, proved, in process.
 
     import btx
-    result = btx.run("paper", {"paper.aux": aux, "plain.bst": style, "refs.bib": database})
+    result = btx.run_paper("paper")                 # what `bibtex paper` does on this machine
     result.bbl, result.log, result.report.errors
+    btx.read("refs.bib")["knuth"]["title"]          # entries as data
+    btx.run("paper", {"paper.aux": aux, "plain.bst": style, "refs.bib": database})
 
-`run_in` takes the files of a folder. `python3 -m btx JOB` runs a job as the program does, and `python3 -m btx compare FOLDER` compares the
+`run` takes files that are handed in, and `run_in` those of a folder. What a call finds and how a run ends is logged by `logging`, under the name `btx`. `python3 -m btx JOB` runs a job as the program does, and `python3 -m btx compare FOLDER` compares the
 reference lists that old jobs have with those that they get now. `check` says of a style, before any run, whether it is clean.
 
 What is proved is the library below, libbtx.so.1: that list, log and report are those of the definition of BibTeX's language for the files
@@ -12,13 +14,14 @@ that were handed in. This package is ordinary Python around its calls."""
 
 from .checking import Answer, Branches, Fault, Operand, Spot, StyleWarning, Verdict, check
 from .events import Event, Events, Met, Severity
-from .jobs import Content, Files, Finder, Name, in_folder, needs, run, run_in
+from .jobs import Content, Files, Finder, Name, in_folder, needs, run, run_in, run_paper
 from .messages import Kind, Message, messages_of
 from .names import Divided, NameParts, names
 from .options import TEX_LIVE, Options
 from .reading import MONTHS, Bibliography, Entries, Entry, Mistake, Place, read
 from .refusals import DatabaseTooLong, FileUnknown, FinderRefused, LibraryMissing, MemoryRefused, NameRefused, NamesRefused, OptionRefused, OutputTooLong, Refusal, StyleTooLong
 from .results import End, Report, Result
+from .version import VERSION as __version__
 
 __all__ = [
     "Answer",
@@ -62,6 +65,7 @@ __all__ = [
     "StyleWarning",
     "TEX_LIVE",
     "Verdict",
+    "__version__",
     "check",
     "in_folder",
     "messages_of",
@@ -70,4 +74,5 @@ __all__ = [
     "read",
     "run",
     "run_in",
+    "run_paper",
 ]

@@ -18,6 +18,7 @@ from .refusals import OutputTooLong, Refusal
 from .results import End
 from .reports import shown
 from .searching import found_search
+from .version import VERSION
 
 STATUS_LIMIT = 3
 STATUS_MEMORY = 5
@@ -49,13 +50,14 @@ def parser() -> argparse.ArgumentParser:
     result.add_argument("--budget", type=int, metavar="N", help="how many steps the style may take (1,000,000,000)")
     result.add_argument("--line", type=int, metavar="N", help="the length of a line of the list (79)")
     result.add_argument("--utf8", action="store_true", help="read text as UTF-8")
+    result.add_argument("--version", action="version", version=f"btx {VERSION}")
     result.add_argument("--terse", action="store_true", help="don't print the log")
     return result
 
 
 def run_job(words: argparse.Namespace) -> int:
     """Runs a job and writes its outputs; the exit status is the program's."""
-    inputs = Inputs(found_search())
+    inputs = Inputs(found_search(), words.job)
     try:
         options = chosen_options(words, inputs.search.options(Options()))
         result = run(words.job, inputs.content, options)

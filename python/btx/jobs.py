@@ -2,19 +2,25 @@
 
 from __future__ import annotations
 
+import errno
+import logging
 import os
 import pathlib
 from typing import Callable, Dict, List, Mapping, Optional, Union
 
 from . import library
 from .options import Options
+from .outputs import Inputs, write_outputs
 from .refusals import FinderRefused, NameRefused
-from .results import Result
+from .results import End, Result
+from .searching import existing_folder, search_from
 
-__all__ = ["Content", "Files", "Finder", "Name", "in_folder", "needs", "run", "run_in"]
+__all__ = ["Content", "Files", "Finder", "Name", "in_folder", "needs", "run", "run_in", "run_paper"]
 
-# A name of a job or a file: bytes, or text whose bytes are UTF-8 (`surrogateescape` for those that aren't, as in Python's file names).
-Name = Union[str, bytes]
+LOG = logging.getLogger("btx")
+LOG.addHandler(logging.NullHandler())
+# A name of a job or a file: bytes, or text or a path whose bytes are UTF-8 (`surrogateescape` for those that aren't, as in Python's file names).
+Name = Union[str, bytes, "os.PathLike[str]"]
 # The bytes of a file, or None where there is no file of that name.
 Content = Optional[bytes]
 Finder = Callable[[str], Content]
@@ -35,7 +41,9 @@ def run(job: Name, files: Files, options: Optional[Options] = None) -> Result:
     if not isinstance(chosen, Options):
         raise TypeError(f"options are Options, and not {chosen!r}")
     name = job_name(job)
-    return library.run_over(name, gathered(name, files), chosen)
+    result = library.run_over(name, gathered(name, files), chosen)
+    LOG.debug("%s ended: %s, warnings %d, errors %d", name_text(name), result.report.end.word, result.report.warnings, result.report.errors)
+    return result
 
 
 def gathered(job: bytes, files: Files) -> Dict[bytes, Content]:
@@ -51,10 +59,30 @@ def gathered(job: bytes, files: Files) -> Dict[bytes, Content]:
 
 
 def run_in(folder: Union[str, "os.PathLike[str]"], job: Name, options: Optional[Options] = None) -> Result:
-    """Runs a job over the files of a folder, and writes nothing. A file that isn't there counts as missing; one that can't be read raises OSError.
+    """Runs a job over the files of a folder, and writes nothing. A file that isn't there counts as missing; one that can't be read raises OSError, and so does a folder
+    that isn't there.
 
     As with BibTeX, a job's files may name files outside of the folder, with `..` or from the root: of a job that nobody trusts hand the files in."""
     return run(job, in_folder(folder), options)
+
+
+def run_paper(path: Name, options: Optional[Options] = None, *, folder: Union[None, str, "os.PathLike[str]"] = None, write: bool = False) -> Result:
+    """Does what `bibtex PATH` does on this machine: styles and databases are found where TeX finds them, and variables keep as many bytes as TeX's set-up says.
+
+    path: the `.aux` file of a document, with or without `.aux`. folder: where BibTeX would be called; the present folder, if nothing else is said. write: whether the list and the log are
+    written beside the `.aux` file, with the care of `python3 -m btx`. options: those of TeX's set-up, if nothing else is said.
+
+    Raises FileNotFoundError where there is no such `.aux` file, OSError where a file can't be read or written, and a Refusal as `run` does."""
+    called_in = None if folder is None else existing_folder(folder)
+    name = name_text(job_name(path))
+    inputs = Inputs(search_from(called_in), name)
+    chosen = inputs.search.options(Options()) if options is None else options
+    result = run(name, inputs.content, chosen)
+    if result.report.end is End.NO_TOP_FILE:
+        raise FileNotFoundError(errno.ENOENT, os.strerror(errno.ENOENT), name if name.endswith(".aux") else name + ".aux")
+    if write:
+        write_outputs(name, result, inputs, called_in)
+    return result
 
 
 def needs(job: Name, files: Union[Mapping[str, Content], Mapping[bytes, Content], Mapping[Name, Content]]) -> List[str]:
@@ -66,8 +94,8 @@ def needs(job: Name, files: Union[Mapping[str, Content], Mapping[bytes, Content]
 
 
 def in_folder(folder: Union[str, "os.PathLike[str]"]) -> Finder:
-    """A finder over the files of a folder."""
-    root = pathlib.Path(folder)
+    """A finder over the files of a folder. Raises OSError where there is no such folder."""
+    root = pathlib.Path(existing_folder(folder))
 
     def found(name: str) -> Content:
         try:
@@ -108,7 +136,7 @@ def job_name(job: Name) -> bytes:
     """The bytes of a job's name; the library tells names by lines, so none has a line end."""
     name = name_bytes(job)
     if b"\n" in name:
-        raise NameRefused(job, "has a line end, which no job's name has")
+        raise NameRefused(job if isinstance(job, bytes) else name_text(name), "has a line end, which no job's name has")
     return name
 
 
@@ -116,6 +144,8 @@ def name_bytes(name: Name) -> bytes:
     """The bytes of a name."""
     if isinstance(name, bytes):
         return name
+    if isinstance(name, os.PathLike):
+        name = os.fspath(name)
     if not isinstance(name, str):
         raise NameRefused(repr(name), f"is neither text nor bytes, but {type(name).__name__}")
     try:

@@ -6,6 +6,7 @@ is room on the disk for both. The log is written first, so that no new list stan
 from __future__ import annotations
 
 import contextlib
+import logging
 import os
 import resource
 import stat
@@ -17,22 +18,28 @@ from .searching import MOST_BYTES, Search, content_of
 
 __all__ = ["Inputs", "write_outputs"]
 
+LOG = logging.getLogger("btx")
 # By which a file is known, whatever its names are: its device and its number there.
 Number = Tuple[int, int]
 
 
 class Inputs:
-    """Finds a job's files, and keeps which these were."""
+    """Finds a job's files, and keeps which these were. An `.aux` file that isn't there is looked for beside the job's, too."""
 
-    def __init__(self, search: Search) -> None:
+    def __init__(self, search: Search, job: str = "") -> None:
         self.search = search
+        self.beside = os.path.dirname(os.fsencode(job))
         self.numbers: Set[Number] = set()
 
     def content(self, name: str) -> Optional[bytes]:
         """The bytes of the file of this name, if there is one."""
         path = self.search.path_of(os.fsencode(name))
+        if path is None and self.beside and name.endswith(".aux"):
+            path = self.search.path_of(os.path.join(self.beside, os.fsencode(name)))
         if path is None:
+            LOG.debug("%s isn't there", name)
             return None
+        LOG.debug("%s is %s", name, os.fsdecode(path))
         self.numbers.add(number_of(os.stat(path)))
         return content_of(path, MOST_BYTES)
 
@@ -41,14 +48,15 @@ def number_of(known: os.stat_result) -> Number:
     return known.st_dev, known.st_ino
 
 
-def write_outputs(job: str, result: Result, inputs: Inputs) -> None:
-    """Writes the list and the log of a job beside its `.aux` file. Raises NameRefused where TeX's set-up forbids it, and OSError where one of them can't be written: then
+def write_outputs(job: str, result: Result, inputs: Inputs, folder: Optional[str] = None) -> None:
+    """Writes the list and the log of a job beside its `.aux` file, whose name is one from `folder`. Raises NameRefused where TeX's set-up forbids it, and OSError where one of them can't be written: then
     both stay as they were, unless the disk fails while it writes."""
     base = os.fsencode(job[: -len(".aux")] if job.endswith(".aux") else job)
-    contents = {base + b".blg": result.log, base + b".bbl": result.bbl}
-    for name in contents:
+    for name in (base + b".blg", base + b".bbl"):
         if not inputs.search.may_write(name):
             raise NameRefused(name, "isn't to be written to (openout_any)")
+    base = base if folder is None else os.path.join(os.fsencode(folder), base)
+    contents = {base + b".blg": result.log, base + b".bbl": result.bbl}
     with contextlib.ExitStack() as opened:
         files = [opened.enter_context(opened_without_change(name)) for name in contents]
         check_apart(list(contents), files, inputs)

@@ -6,15 +6,19 @@ from __future__ import annotations
 import ctypes
 import ctypes.util
 import errno
+import functools
 import os
 import re
 import shutil
+import stat
+import subprocess
+import threading
 from dataclasses import dataclass, replace
-from typing import List, Optional
+from typing import FrozenSet, List, Optional, Tuple, Union
 
 from .options import TEX_LIVE, Options
 
-__all__ = ["Search", "content_of", "found_search"]
+__all__ = ["Search", "SearchFrom", "content_of", "existing_folder", "found_search", "search_from"]
 
 # A file that is longer is the limit of a run.
 MOST_BYTES = 2**31 - 1
@@ -26,6 +30,10 @@ FORMATS = {b".bib": (6, "BIBINPUTS"), b".bst": (7, "BSTINPUTS")}
 # What separates folders in a search path with its alternatives, and a folder from the present one with all those below it.
 SEPARATORS = re.compile(rb"[:;,{}]")
 BELOW_HERE = re.compile(rb"(?:!!)?[^/!].*//|(?:!!)?[^/!]//", re.DOTALL)
+
+
+# kpathsea takes one call at a time.
+ONE_AT_A_TIME = threading.Lock()
 
 
 class Search:
@@ -94,7 +102,8 @@ class Kpathsea(Search):
         # (TeX's search would print that it may not read a file, and then look on; here the job isn't run)
         if os.path.isfile(name) and not os.access(name, os.R_OK):
             return name
-        found: Optional[bytes] = self.library.kpathsea_find_file(self.setup, name, FORMATS[ending][0], 1)
+        with ONE_AT_A_TIME:
+            found: Optional[bytes] = self.library.kpathsea_find_file(self.setup, name, FORMATS[ending][0], 1)
         return found if found is not None and os.path.isfile(found) else None
 
     def options(self, options: Options) -> Options:
@@ -115,6 +124,57 @@ class Kpathsea(Search):
         if value is None or not value.isdigit():
             return default
         return min(max(int(value), 1), 1_000_000)
+
+
+class SearchFrom(Search):
+    """The search of a program that is called in another folder: by `kpsewhich` there; without TeX, along the lists of folders."""
+
+    def __init__(self, folder: bytes, here: Search) -> None:
+        self.folder = folder
+        self.here = here
+
+    def path_of(self, name: bytes) -> Optional[bytes]:
+        found = self.along_path(name, name[-4:]) if name[-4:] in FORMATS else name
+        path = None if found is None else os.path.join(self.folder, found)
+        return path if path is not None and os.path.isfile(path) else None
+
+    def along_path(self, name: bytes, ending: bytes) -> Optional[bytes]:
+        if not isinstance(self.here, Kpathsea):
+            folders = folders_of(os.environ.get(FORMATS[ending][1]))
+            return next((path for path in (os.path.join(folder, name) for folder in folders) if os.path.isfile(os.path.join(self.folder, path))), None)
+        if b"\0" in name:
+            return None
+        words = [b"kpsewhich", b"-progname=bibtex", b"-format=" + ending[1:], b"--", name]
+        done = subprocess.run(words, cwd=self.folder, stdin=subprocess.DEVNULL, stdout=subprocess.PIPE, stderr=subprocess.DEVNULL)
+        return done.stdout[:-1] or None
+
+    def options(self, options: Options) -> Options:
+        return self.here.options(options)
+
+    def may_write(self, name: bytes) -> bool:
+        return self.here.may_write(name)
+
+
+def existing_folder(folder: Union[str, "os.PathLike[str]"]) -> str:
+    """The path of a folder; raises OSError where there is none."""
+    path = os.fspath(folder)
+    if not stat.S_ISDIR(os.stat(path).st_mode):
+        raise NotADirectoryError(errno.ENOTDIR, os.strerror(errno.ENOTDIR), path)
+    return path
+
+
+def search_from(folder: Optional[str]) -> Search:
+    """The search of a program that is called in this folder; without one, in the present folder. What TeX's trees have is read once."""
+    here = search_known(os.getcwd(), frozenset(os.environ.items()))
+    if folder is not None and not os.path.samefile(folder, os.curdir):
+        return SearchFrom(os.fsencode(folder), here)
+    return found_search() if here.looks_below_here() else here
+
+
+@functools.lru_cache(maxsize=4)
+def search_known(folder: str, environment: FrozenSet[Tuple[str, str]]) -> Search:
+    """TeX's search from a folder, in an environment."""
+    return found_search()
 
 
 def found_search() -> Search:
