@@ -2,13 +2,13 @@
 
 from __future__ import annotations
 
-from typing import Iterator, List, NamedTuple, Optional, Set
+from typing import Iterator, List, NamedTuple, Optional, Set, Tuple
 
 from .messages import decoded
 from .reading import ENTRY, FIELD, PREAMBLE, STRING, WRONG, Bibliography, Mistake, Place, encoded
 from .values import Part, has_names, parts_of, value_of
 
-__all__ = ["Undefined", "mistakes_of", "undefined_strings"]
+__all__ = ["Undefined", "mistakes_of", "undefined_strings", "values_of"]
 
 
 class Undefined(NamedTuple):
@@ -97,27 +97,30 @@ def unknown_strings(base: Bibliography) -> Iterator[Found]:
         yield Found(part.start, part.end, f'string name "{decoded(base.text[part.start : part.end])}" is {what}', entry)
 
 
+def values_of(base: Bibliography, first: int = 0, last: Optional[int] = None) -> Iterator[Tuple[int, int, int]]:
+    """The values of these records: the record of each, and where the value begins and ends."""
+    for at in range(first, len(base._kinds) if last is None else last):
+        kind = base._kinds[at]
+        if kind in (FIELD, STRING, PREAMBLE):
+            yield (at, *value_of(base.text, base._number(at, 2), base._number(at, 3), b"({" if kind == PREAMBLE else b"="))
+
+
 def undefined_strings(base: Bibliography) -> Iterator[Undefined]:
     """The names of strings that aren't defined before them, in the order of the text. Those of a field that an entry has had before don't count: a run doesn't read it."""
     known: Set[bytes] = set(base._known)
     names: Set[bytes] = set()
-    text, entry = base.text, None
-    for at, kind in enumerate(base._kinds):
-        if kind != FIELD:
-            entry = at if kind == ENTRY else None
-            names = set()
-        if kind not in (FIELD, STRING, PREAMBLE):
-            continue
-        name = base._name(at).lower()
-        start, end = base._number(at, 2), base._number(at, 3)
-        first, end = value_of(text, start, end, b"({" if kind == PREAMBLE else b"=")
-        if has_names(text, first, end) and not (kind == FIELD and name in names):
+    entry: Optional[int] = None
+    for at, start, end in values_of(base):
+        kind, name = base._kinds[at], base._name(at).lower()
+        if base._kinds[at - 1] == ENTRY:
+            entry, names = at - 1, set()
+        its = entry if kind == FIELD else None
+        if has_names(base.text, start, end) and not (kind == FIELD and name in names):
             own = name if kind == STRING else None
-            yield from (Undefined(part, at, entry, is_own) for part, is_own in without_string(text, first, end, known, own))
+            yield from (Undefined(part, at, its, is_own) for part, is_own in without_string(base.text, start, end, known, own))
         if kind == STRING:
             known.add(name)
-        else:
-            names.add(name)
+        names.add(name)
 
 
 def without_string(text: bytes, start: int, end: int, known: Set[bytes], own: Optional[bytes]) -> Iterator["tuple[Part, bool]"]:
