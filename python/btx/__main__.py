@@ -1,5 +1,6 @@
 """`python3 -m btx JOB` runs a job, `python3 -m btx compare FOLDER..` compares old reference lists with new ones, `python3 -m btx doctor BIB..` examines databases,
-`python3 -m btx extract JOB` takes the entries of a document from its databases, and `python3 -m btx lsp` is a language server."""
+`python3 -m btx extract JOB` takes the entries of a document from its databases,
+`python3 -m btx fields STYLE` says which fields a style asks for, and `python3 -m btx lsp` is a language server."""
 
 from __future__ import annotations
 
@@ -9,7 +10,7 @@ import sys
 from dataclasses import replace
 from typing import List, Optional
 
-from . import checkup, compare, extracting, server
+from . import asking, checkup, compare, extracting, server
 from .commands import STATUS_REFUSED, Words, broken_pipe, print_nowhere, prints_any_text
 from .jobs import run
 from .options import Options
@@ -35,6 +36,8 @@ def main(words: Optional[List[str]] = None) -> int:
         return checkup.main(given[1:])
     if given[:1] == ["extract"]:
         return extracting.main(given[1:])
+    if given[:1] == ["fields"]:
+        return asking.main(given[1:])
     if given[:1] == ["lsp"]:
         return server.main(given[1:])
     # (an interrupt ends it at once: Python's own handler would wait until the library has answered)
@@ -47,7 +50,7 @@ def main(words: Optional[List[str]] = None) -> int:
 
 def parser() -> argparse.ArgumentParser:
     result = Words(prog="python3 -m btx", description="Writes the reference list of JOB.aux to JOB.bbl, and a log to JOB.blg.")
-    result.add_argument("job", metavar="JOB", help="the .aux file of a document, with or without .aux; `compare`, `doctor`, `extract` and `lsp` are commands of their own")
+    result.add_argument("job", metavar="JOB", help="the .aux file of a document, with or without .aux; `compare`, `doctor`, `extract`, `fields` and `lsp` are commands of their own")
     result.add_argument("--min-crossrefs", type=int, metavar="N", help="how many entries name a parent that is listed without being cited (2)")
     result.add_argument("--budget", type=int, metavar="N", help="how many steps the style may take (1,000,000,000)")
     result.add_argument("--line", type=int, metavar="N", help="the length of a line of the list (79)")

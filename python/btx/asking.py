@@ -1,0 +1,201 @@
+"""`python3 -m btx fields STYLE`: which fields a style asks for, for each type of entry. Entries with and without a field are run: what the style warns of, and whether its list changes,
+says how it takes the field. So it is found by trying, and isn't proved: a field that counts in no entry that was tried is said to be never read."""
+
+from __future__ import annotations
+
+import argparse
+import html
+import itertools
+import json
+import os
+import sys
+from dataclasses import asdict, dataclass
+from typing import Dict, FrozenSet, Iterable, List, NamedTuple, Set, Tuple
+
+from .bsttext import read_style
+from .checkup import Refused, named_style
+from .commands import STATUS_REFUSED, Words, broken_pipe
+from .editing import TYPES
+from .events import Met, Severity
+from .jobs import run
+from .options import Options
+from .reports import shown
+from .searching import search_from
+
+__all__ = ["AskedFields", "fields_of", "main"]
+
+STATUS_DEVICE = 6
+# A field's value in the entries that are tried; one that isn't here is its name and a word.
+VALUES = {"author": "Aa, Bb and Cc, Dd", "editor": "Ee, Ff and Gg, Hh", "year": "1999", "volume": "17", "number": "5", "pages": "11--22", "month": "May", "key": "Kk", "chapter": "3", "edition": "Second"}
+AUX = b"\\citation{k}\n\\bibdata{d}\n\\bibstyle{s}\n"
+OPTIONS = Options(budget=2_000_000, utf8=True)
+
+
+@dataclass(frozen=True)
+class AskedFields:
+    """The fields that a style asks for in entries of a type.
+
+    required: without one of these it warns. one_of: pairs, and without both fields of one it warns. beside: pairs, and it warns where the second field is given without the first. not_both: pairs
+    that it warns of. optional: what else counts in an entry. never_read: what counts in none of the entries that were tried."""
+
+    type: str
+    required: Tuple[str, ...]
+    one_of: Tuple[Tuple[str, str], ...]
+    beside: Tuple[Tuple[str, str], ...]
+    not_both: Tuple[Tuple[str, str], ...]
+    optional: Tuple[str, ...]
+    never_read: Tuple[str, ...]
+
+
+class Shown(NamedTuple):
+    """What a style makes of an entry: its list, and its warnings."""
+
+    bbl: bytes
+    warnings: FrozenSet[bytes]
+
+
+class Prober:
+    """Tries entries of one type."""
+
+    def __init__(self, style: bytes, kind: str, fields: Iterable[str]) -> None:
+        self.style = style
+        self.kind = kind
+        self.fields = tuple(fields)
+        self.known: Dict[FrozenSet[str], Shown] = {}
+
+    def show(self, fields: Iterable[str]) -> Shown:
+        """What the style makes of an entry with these fields."""
+        wanted = frozenset(fields)
+        if wanted not in self.known:
+            written = "".join(f", {name} = {{{VALUES.get(name, name.capitalize() + ' word')}}}" for name in self.fields if name in wanted)
+            database = f"@{self.kind}{{k{written}}}\n".encode("utf8", "surrogateescape")
+            result = run("j", {"j.aux": AUX, "s.bst": self.style, "d.bib": database}, OPTIONS)
+            warned = (result.log[event.offset : event.end] for event in result.events.of(Severity.WARNING) if event.met is Met.EXECUTION)
+            self.known[wanted] = Shown(result.bbl, frozenset(warned))
+        return self.known[wanted]
+
+    def whole(self) -> FrozenSet[str]:
+        """As many fields as the style takes together: those of which it warns least, and of these without the last ones."""
+        chosen = frozenset(self.fields)
+        while True:
+            warned = len(self.show(chosen).warnings)
+            better = next((chosen - {name} for name in reversed(self.fields) if name in chosen and len(self.show(chosen - {name}).warnings) < warned), None)
+            if better is None:
+                return chosen
+            chosen = better
+
+
+def asked_by(prober: Prober) -> AskedFields:
+    """What the style asks for in entries of one type."""
+    whole = prober.whole()
+    least = len(prober.show(whole).warnings)
+
+    def warns(fields: FrozenSet[str]) -> bool:
+        return len(prober.show(fields).warnings) > least
+
+    there = [name for name in prober.fields if name in whole]
+    left_out = [name for name in prober.fields if name not in whole]
+    missed = [name for name in there if warns(whole - {name})]
+    one_of = [(name, other) for name in missed for other in left_out if not warns(whole - {name} | {other})]
+    beside = [(name, other) for name in missed for other in there if other != name and not warns(whole - {name, other})]
+    required = [name for name in missed if name not in {pair[0] for pair in (*one_of, *beside)}]
+    rest = [name for name in there if name not in missed and counts(prober, name, [whole, frozenset()])]
+    one_of += [pair for pair in itertools.combinations(rest, 2) if warns(whole - set(pair))]
+    not_both = [(name, other) for other in left_out if warns(whole | {other}) for name in there if not warns(whole - {name} | {other})]
+    named = {*required, *itertools.chain(*one_of)}
+    read = read_by(prober, whole, named)
+    return AskedFields(
+        prober.kind,
+        tuple(required),
+        tuple(one_of),
+        tuple(beside),
+        tuple(pair for pair in not_both if pair not in one_of),
+        tuple(read),
+        tuple(name for name in prober.fields if name not in read and name not in named),
+    )
+
+
+def read_by(prober: Prober, whole: FrozenSet[str], named: Set[str]) -> List[str]:
+    """The other fields that count: in the whole entry, alone, or in the whole one without another field that counts, which may hide it."""
+    others = [name for name in prober.fields if name not in named]
+    seen = [name for name in others if counts(prober, name, [whole, frozenset()])]
+    hiding = [whole - {name} for name in (*named, *seen)]
+    return [name for name in others if name in seen or counts(prober, name, hiding)]
+
+
+def counts(prober: Prober, name: str, beside: List[FrozenSet[str]]) -> bool:
+    """Whether a field changes the list or the warnings of an entry with one of these sets of fields."""
+    return any(prober.show(fields - {name}) != prober.show(fields | {name}) for fields in beside)
+
+
+def fields_of(style: bytes, types: Iterable[str] = ()) -> List[AskedFields]:
+    """What a style asks for in entries of these types, or of all that it has."""
+    read = read_style(style)
+    used = {word.name for word in read.uses}
+    own = [name for name in read.named("function") if name in TYPES or name not in used]
+    fields = [name for name in read.named("field") if name != "crossref"]
+    return [asked_by(Prober(style, kind, fields)) for kind in types or own]
+
+
+# ---- the command ----
+
+
+def main(words: List[str]) -> int:
+    """Does what the words say, and answers the exit status."""
+    given = parser().parse_args(words)
+    try:
+        found = fields_of(named_style(given.style, search_from(None)), given.types)
+        print(as_json(found) if given.json else as_page(given.style, found) if given.html else as_text(found))
+        sys.stdout.flush()
+        return 0
+    except Refused as error:
+        print(f"btx fields: {shown(str(error))}", file=sys.stderr)
+        return STATUS_REFUSED
+    except BrokenPipeError:
+        return broken_pipe()
+    except OSError as error:
+        print(f"btx fields: {shown(str(error))}", file=sys.stderr)
+        return STATUS_DEVICE
+
+
+def parser() -> argparse.ArgumentParser:
+    result = Words(prog="python3 -m btx fields", description="Says which fields a style asks for, for each type of entry.")
+    result.add_argument("style", metavar="STYLE", help="the style, by its path or as \\bibliographystyle names it")
+    result.add_argument("types", metavar="TYPE", nargs="*", help="types of entries; all that the style has, if none is named")
+    shape = result.add_mutually_exclusive_group()
+    shape.add_argument("--json", action="store_true", help="print JSON")
+    shape.add_argument("--html", action="store_true", help="print a page")
+    return result
+
+
+def rows_of(asked: AskedFields) -> List[Tuple[str, str]]:
+    """What is said of a type, in words."""
+    pairs = [" or ".join(pair) for pair in asked.one_of]
+    rows = [
+        ("required", ", ".join([*asked.required, *pairs])),
+        ("beside", ", ".join(" where there is ".join(pair) for pair in asked.beside)),
+        ("not both", ", ".join(" and ".join(pair) for pair in asked.not_both)),
+        ("optional", ", ".join(asked.optional)),
+        ("never read", ", ".join(asked.never_read)),
+    ]
+    return [(what, text) for what, text in rows if text]
+
+
+def as_text(found: List[AskedFields]) -> str:
+    lines = [f"{shown(asked.type)}\n" + "".join(f"  {what:10}  {shown(text)}\n" for what, text in rows_of(asked)) for asked in found]
+    return "\n".join(lines).rstrip("\n")
+
+
+def as_json(found: List[AskedFields]) -> str:
+    return json.dumps([asdict(asked) for asked in found], indent=1)
+
+
+def as_page(style: str, found: List[AskedFields]) -> str:
+    """A page of HTML."""
+    name = html.escape(shown(os.path.basename(style)))
+    parts = [
+        f"<h2>{html.escape(shown(asked.type))}</h2>\n<dl>" + "".join(f"<dt>{what}</dt><dd>{html.escape(shown(text))}</dd>" for what, text in rows_of(asked)) + "</dl>"
+        for asked in found
+    ]
+    head = f'<!DOCTYPE html>\n<html lang="en"><meta charset="utf-8"><title>The fields of {name}</title>\n<h1>The fields of {name}</h1>'
+    return "\n".join([head, *parts, "</html>"])
