@@ -1,65 +1,51 @@
-"""The text of a database: its items with their places, and its mistakes, as a run reads it. docs/RULES.md has the grammar, under Databases.
+"""The text of a database for editors: its items with their places, as a run reads them. docs/RULES.md has the grammar, under Databases.
 
     database = read(open("refs.bib", "rb").read())
     for item in database.items:
         print(item.start, item.key, item.slip)
 
-This reader isn't proved. The tests compare its mistakes with the log of runs, on spoilt databases and on those of TeX Live. `read` alone is what
-the rest of the package calls."""
+The library reads the database; its records are made into items here. Where an entry is repeated, a run looks for items after its key; so the rest is read once more there."""
 
 from __future__ import annotations
 
 import bisect
 import re
-from typing import Dict, Iterator, List, NamedTuple, Optional, Set, Tuple
+from typing import Any, Dict, Iterator, List, NamedTuple, Optional, Set, Tuple
 
-__all__ = ["Database", "Field", "Item", "Lines", "Part", "Slip", "Undefined", "read", "squeezed", "undefined_strings"]
+from .library import RECORD, read_records
+from .reading import COMMENT, ENTRY, FIELD, PREAMBLE, STRING, WRONG, without_collection
+from .refusals import DatabaseTooLong
+from .values import Part, has_names, parts_of
 
-END_OF_FILE = "Illegal end of database file"
-NO_NAME = "I was expecting a name"
+__all__ = ["Database", "Field", "Item", "Lines", "Slip", "Undefined", "read", "undefined_strings"]
+
 NO_EQUALS = "I was expecting an ="
-NO_VALUE = "I was expecting a value"
 REPEATED = "Repeated entry"
-# How many bytes of a joined value are kept: those of a string that is joined from itself again and again would have no end.
-MOST_KEPT = 10_000
+# How often the rest of a database is read once more.
+MOST_AGAIN = 50
 
-WHITE = rb"[ \t\r\n]*"
-FIRST_OF_NAME = rb"[^\x00- \"#%'(),={}0-9]"
-NAME = FIRST_OF_NAME + rb"[^\x00- \"#%'(),={}]*"
-SKIPS_WHITE = re.compile(WHITE)
-TAKES_NAME = re.compile(NAME)
-TAKES_PART_NAME = re.compile(rb"[^\x00- \"#%'(),={}]+")
-TAKES_DIGITS = re.compile(rb"[0-9]+")
-# The usual beginning of an entry, and a usual field with the sign after it. Its value is one part, in which braces are at most four deep.
-BEGINS_ENTRY = re.compile(WHITE + rb"(" + NAME + rb")" + WHITE + rb"\{" + WHITE + rb"([^, \t\r\n}]*)" + WHITE + rb",")
-GROUP = rb"\{[^{}]*(?:\{[^{}]*(?:\{[^{}]*(?:\{[^{}]*\}[^{}]*)*\}[^{}]*)*\}[^{}]*)*\}"
-QUOTED = rb"\"[^{}\"]*(?:" + GROUP + rb"[^{}\"]*)*\""
-USUAL_FIELD = WHITE + rb"(" + NAME + rb")" + WHITE + rb"=" + WHITE + rb"(" + GROUP + rb"|" + QUOTED + rb"|[0-9]+|" + NAME + rb")" + WHITE
-BEGINS_TEXT = b'{"0123456789'
-TAKES_FIELD = {b"}": re.compile(USUAL_FIELD + rb"([,}])"), b")": re.compile(USUAL_FIELD + rb"([,)])")}
-TAKES_KEY = {b"}": re.compile(rb"[^, \t\r\n}]*"), b")": re.compile(rb"[^, \t\r\n]*")}
-BRACE = re.compile(rb"[{}]")
-BRACE_OR_QUOTE = re.compile(rb"[{}\"]")
-WHITE_RUN = re.compile(rb"[ \t\r\n]+")
+SKIPS_WHITE = re.compile(rb"[ \t\r\n]*")
+NAME = rb"[^\x00- \"#%'(),={}0-9][^\x00- \"#%'(),={}]*"
+BEGINS_ITEM = re.compile(rb"@[ \t\r\n]*(" + NAME + rb")?")
+OPENS_ITEM = re.compile(rb"[ \t\r\n]*[{(][ \t\r\n]*")
+# A text ends with one of these, if no name ends there.
+ENDS_TEXT = b'}"'
 LINE_END = re.compile(rb"\n")
-
-
-class Part(NamedTuple):
-    """A part of a value: the name of a string, or a text without its delimiters."""
-
-    start: int
-    end: int
-    is_name: bool
+# A record: kind, is_whole, start, end, line, name_at, name_len, text_at, text_len.
+Record = Tuple[Any, ...]
 
 
 class Field(NamedTuple):
-    """A field: where its name and its value are. parts: those of the value; None of a single one that is no name of a string."""
+    """A field: its name in lower case, and where that is; what its value comes to; the byte after the `=`, and where the value ends. is_plain: whether it is seen at once that the value is
+    one text."""
 
+    name: bytes
     name_start: int
     name_end: int
-    start: int
+    value: bytes
+    after: int
     end: int
-    parts: Optional[Tuple[Part, ...]]
+    is_plain: bool
 
 
 class Slip(NamedTuple):
@@ -78,10 +64,12 @@ class Item:
 
     __slots__ = ("start", "kind", "kind_end", "key", "key_end", "fields", "end", "slip")
 
-    def __init__(self, start: int) -> None:
-        self.start = self.kind_end = self.key_end = self.end = start
-        self.kind = b""
-        self.key: Optional[bytes] = None
+    def __init__(self, start: int, kind: bytes, kind_end: int, key: Optional[bytes], end: int) -> None:
+        self.start = start
+        self.kind = kind
+        self.kind_end = kind_end
+        self.key = key
+        self.key_end = self.end = end
         self.fields: List[Field] = []
         self.slip: Optional[Slip] = None
 
@@ -112,230 +100,153 @@ class Lines:
 
 
 class Database:
-    """A database that was read: its text and its items."""
+    """A database that was read: its text, its items, and the strings that are defined after it."""
 
-    def __init__(self, text: bytes, items: List[Item]) -> None:
+    def __init__(self, text: bytes, items: List[Item], strings: Dict[bytes, bytes]) -> None:
         self.text = text
         self.items = items
+        self.strings = strings
 
-    def name(self, field: Field) -> bytes:
-        """The name of a field in lower case."""
-        return self.text[field.name_start : field.name_end].lower()
+    def start(self, field: Field) -> int:
+        """Where a field's value begins."""
+        return SKIPS_WHITE.match(self.text, field.after).end()  # type: ignore[union-attr]
+
+    def is_text(self, field: Field) -> bool:
+        """Whether a value is one text or number."""
+        if field.is_plain:
+            return True
+        start = self.start(field)
+        if not has_names(self.text, start, field.end):
+            return True
+        parts = list(parts_of(self.text, start, field.end))
+        return len(parts) == 1 and not parts[0].is_name
 
     def raw(self, field: Field) -> bytes:
         """The text of a value, if it is one text or digits; else what is written there."""
-        start, end = field.start, field.end
-        if field.parts is None and self.text[start] in b'{"':
+        start, end = self.start(field), field.end
+        if self.text[start] in b'{"' and self.is_text(field):
             return self.text[start + 1 : end - 1]
         return self.text[start:end]
 
-    def value(self, field: Field, strings: Dict[bytes, bytes]) -> bytes:
-        """A value whose parts are joined and squeezed, where these strings have a value. Of one with names of strings the first 10,000 bytes are kept."""
-        if field.parts is None:
-            return squeezed(self.raw(field))
-        texts: List[bytes] = []
-        length = 0
-        for part in field.parts:
-            text = self.text[part.start : part.end]
-            texts.append(strings.get(text.lower(), b"") if part.is_name else text)
-            length += len(texts[-1])
-            if length > MOST_KEPT:
-                break
-        return squeezed(b"".join(texts)[:MOST_KEPT])
+    def names(self, field: Field) -> List[Part]:
+        """The names of strings in a value."""
+        if self.is_text(field):
+            return []
+        return [part for part in parts_of(self.text, self.start(field), field.end) if part.is_name]
 
 
-def squeezed(text: bytes) -> bytes:
-    """A text in which each run of whitespace is one space."""
-    return WHITE_RUN.sub(b" ", text)
-
-
-def read(text: bytes, stored: Optional[Set[bytes]] = None) -> Database:
+def read(text: bytes, stored: Optional[Set[bytes]] = None, strings: Optional[Dict[bytes, bytes]] = None) -> Database:
     """Reads a database as a run does.
 
     stored: the keys, in lower case, of the entries that are stored so far, as of all entries in a job with `\\nocite{*}`; those of this database are added. Then a repeated
-    entry is a mistake, and what follows its key is text, as in a run. Without it no key is stored, so each entry is read to its end."""
-    items: List[Item] = []
-    start = text.find(b"@")
-    while start >= 0:
-        item = Reader(text, start, stored).item()
-        items.append(item)
-        start = text.find(b"@", item.end)
-    return Database(text, items)
-
-
-class Stop(Exception):
-    """An item can't go on."""
-
-    def __init__(self, slip: Slip) -> None:
-        super().__init__(slip)
-        self.slip = slip
+    entry is a mistake, and what follows its key is text, as in a run. Without it no key is stored, so each entry is read to its end.
+    strings: those that are defined before it, by names in lower case."""
+    reader = Reader(text, stored, dict(strings or {}))
+    with without_collection():
+        again = reader.read_from(0)
+        for _ in range(MOST_AGAIN):
+            again = None if again is None else reader.read_from(again)
+    return Database(text, reader.items, reader.strings)
 
 
 class Reader:
-    """Reads one item. It goes forward only, so that reading a database takes a time that is linear in its length."""
+    """Makes items of the records of a database."""
 
-    def __init__(self, text: bytes, start: int, stored: Optional[Set[bytes]]) -> None:
+    def __init__(self, text: bytes, stored: Optional[Set[bytes]], strings: Dict[bytes, bytes]) -> None:
         self.text = text
         self.stored = stored
-        self.at = start + 1
-        self.it = Item(start)
+        self.strings = strings
+        self.items: List[Item] = []
+        self.names: Dict[bytes, bytes] = {}
 
-    def item(self) -> Item:
-        try:
-            self.read_item()
-        except Stop as stop:
-            self.it.slip = stop.slip
-        self.it.end = self.at
-        return self.it
-
-    def stop(self, message: str) -> Stop:
-        return Stop(Slip(self.at, message))
-
-    def skip_white(self) -> int:
-        """Passes over whitespace, and gives the byte after it."""
-        text, at = self.text, SKIPS_WHITE.match(self.text, self.at).end()  # type: ignore[union-attr]
-        self.at = at
-        if at == len(text):
-            raise self.stop(END_OF_FILE)
-        return text[at]
-
-    def take(self, pattern: "re.Pattern[bytes]", message: str) -> bytes:
-        """Takes what a pattern has here, after whitespace."""
-        self.skip_white()
-        found = pattern.match(self.text, self.at)
+    def read_from(self, base: int) -> Optional[int]:
+        """Reads the items from a place on. It answers where the rest is to be read once more, if a repeated entry hides items."""
+        found = read_records(b"d", self.text[base:] if base else self.text, self.strings)
         if found is None:
-            raise self.stop(message)
-        self.at = found.end()
-        return found[0]
+            raise DatabaseTooLong(len(self.text))
+        records, texts = list(RECORD.iter_unpack(found[0])), found[1]
+        at = 0
+        while at < len(records):
+            item = self.begun(base, records[at], texts)
+            is_repeated = self.is_repeated(item)
+            self.items.append(item)
+            last = self.filled(base, item, records, at, texts, is_repeated)
+            if is_repeated and self.text.find(b"@", item.key_end, base + records[last - 1][3]) >= 0:
+                return item.key_end
+            at = last
+        return None
 
-    def sign(self, wanted: bytes, message: str) -> int:
-        """Takes one of these bytes, after whitespace."""
-        byte = self.skip_white()
-        if byte not in wanted:
-            raise self.stop(message)
-        self.at += 1
-        return byte
+    def is_repeated(self, item: Item) -> bool:
+        """Whether an entry's key is stored; if not, it is from now on."""
+        if self.stored is None or not item.is_entry or item.key is None:
+            return False
+        key = item.key.lower()
+        if key in self.stored:
+            return True
+        self.stored.add(key)
+        return False
 
-    def read_item(self) -> None:
-        usual = BEGINS_ENTRY.match(self.text, self.at)
-        if usual is not None and usual[1].lower() not in (b"comment", b"preamble", b"string"):
-            self.it.kind, self.it.kind_end = usual[1].lower(), usual.end(1)
-            self.begin_entry(usual[2], usual.end(2))
-            self.at = usual.end()
-            self.read_fields(b"}")
-            return
-        self.it.kind = self.take(TAKES_NAME, NO_NAME).lower()
-        self.it.kind_end = self.at
-        if self.it.kind == b"comment":
-            return
-        closing = b"}" if self.sign(b"{(", "I was expecting a { or a (") == ord("{") else b")"
-        if self.it.kind in (b"preamble", b"string"):
-            self.read_definition(closing)
+    def begun(self, base: int, record: Record, texts: bytes) -> Item:
+        """The item that begins with a record."""
+        kind, _, start, end, _, name_at, name_len, text_at, text_len = record
+        start, end = base + start, base + end
+        if kind == WRONG:
+            # (nothing of it was read whole: it begins with the first `@` after the item before it)
+            start = self.text.find(b"@", max(base, self.items[-1].end if self.items else 0))
+        found = BEGINS_ITEM.match(self.text, start)
+        assert found is not None
+        name, key = (found[1] or b"").lower(), None
+        if kind == ENTRY:
+            key = texts[text_at : text_at + text_len]
+        elif kind == STRING:
+            key = texts[name_at : name_at + name_len]
+            end = self.opened(found.end()) + name_len
+        return Item(start, name, found.end(), key, end)
+
+    def opened(self, place: int) -> int:
+        """The first byte after the brace of an item whose type ends here, and after whitespace."""
+        found = OPENS_ITEM.match(self.text, place)
+        return place if found is None else found.end()
+
+    def filled(self, base: int, item: Item, records: List[Record], at: int, texts: bytes, is_repeated: bool) -> int:
+        """Adds what an item has after its beginning; the number of the record after the item."""
+        kind, is_whole, _, end, _, _, _, text_at, text_len = records[at]
+        if kind in (STRING, PREAMBLE):
+            value = texts[text_at : text_at + text_len]
+            after = self.text.index(b"=", item.key_end) + 1 if kind == STRING else self.opened(item.kind_end)
+            item.fields.append(Field(b"", after, after, value, after, base + end, False))
+            if kind == STRING and is_whole and item.key is not None:
+                self.strings[item.key.lower()] = value
+        if kind == COMMENT:
+            return at + 1
+        if kind != WRONG:
+            at = self.fields(base, [] if is_repeated else item.fields, records, at + 1, texts)
+        kind, _, start, end, _, _, _, text_at, text_len = records[at]
+        if is_repeated:
+            item.slip, item.end = Slip(item.key_end, REPEATED), item.key_end
+        elif kind == WRONG:
+            said = texts[text_at : text_at + text_len].rpartition(b"--line ")[0][len(b"Error--") :]
+            item.slip, item.end = Slip(base + start, said.decode()), base + start
         else:
-            self.read_entry(closing)
+            item.end = base + end
+        return at + 1
 
-    def read_definition(self, closing: bytes) -> None:
-        """Reads a string or a preamble."""
-        if self.it.kind == b"string":
-            self.it.key = self.take(TAKES_NAME, NO_NAME)
-            self.it.key_end = self.at
-            self.sign(b"=", NO_EQUALS)
-        self.it.fields.append(self.value(self.at, self.at))
-        self.sign(closing, f"I was expecting a {closing.decode()}")
-
-    def read_entry(self, closing: bytes) -> None:
-        self.skip_white()
-        key = TAKES_KEY[closing].match(self.text, self.at)[0]  # type: ignore[index]
-        self.begin_entry(key, self.at + len(key))
-        self.read_on(closing)
-
-    def begin_entry(self, key: bytes, end: int) -> None:
-        self.it.key, self.it.key_end, self.at = key, end, end
-        if self.stored is None:
-            return
-        if key.lower() in self.stored:
-            raise self.stop(REPEATED)
-        self.stored.add(key.lower())
-
-    def read_on(self, closing: bytes) -> None:
-        """Goes on after a key or a field that isn't usual."""
-        if self.sign(b"," + closing, f"I was expecting a , or a {closing.decode()}") == ord(","):
-            self.read_fields(closing)
-
-    def read_fields(self, closing: bytes) -> None:
-        """Reads fields, after the comma before each."""
-        text, fields, usual_field = self.text, self.it.fields, TAKES_FIELD[closing].match
+    def fields(self, base: int, into: List[Field], records: List[Record], at: int, texts: bytes) -> int:
+        """Adds the fields whose records begin here; the number of the record after them."""
+        text, names, index, find = self.text, self.names, self.text.index, self.text.find
         while True:
-            found = usual_field(text, self.at)
-            if found is None:
-                if self.skip_white() == closing[0]:
-                    self.at += 1
-                    return
-                fields.append(self.field())
-                byte = self.sign(b"," + closing, f"I was expecting a , or a {closing.decode()}")
-            else:
-                start, end = found.span(2)
-                fields.append(Field(*found.span(1), start, end, None if text[start] in BEGINS_TEXT else (Part(start, end, True),)))
-                self.at = found.end()
-                byte = text[self.at - 1]
-            if byte == closing[0]:
-                return
-
-    def field(self) -> Field:
-        name = self.take(TAKES_NAME, NO_NAME)
-        end = self.at
-        self.sign(b"=", NO_EQUALS)
-        return self.value(end - len(name), end)
-
-    def value(self, name_start: int, name_end: int) -> Field:
-        """Takes a value: parts with `#` between them."""
-        self.skip_white()
-        start, parts = self.at, []
-        while True:
-            parts.append(self.part())
-            end = self.at
-            after = SKIPS_WHITE.match(self.text, end).end()  # type: ignore[union-attr]
-            if self.text[after : after + 1] != b"#":
-                break
-            self.at = after + 1
-        is_single = len(parts) == 1 and not parts[0].is_name
-        return Field(name_start, name_end, start, end, None if is_single else tuple(parts))
-
-    def part(self) -> Part:
-        byte = self.skip_white()
-        start = self.at
-        if byte == ord("{"):
-            return self.group()
-        if byte == ord('"'):
-            return self.quoted()
-        is_name = not ord("0") <= byte <= ord("9")
-        self.take(TAKES_PART_NAME if is_name else TAKES_DIGITS, NO_VALUE)
-        return Part(start, self.at, is_name)
-
-    def group(self) -> Part:
-        """Takes a text in braces."""
-        start, depth = self.at + 1, 0
-        for found in BRACE.finditer(self.text, self.at):
-            depth += 1 if found[0] == b"{" else -1
-            if depth == 0:
-                self.at = found.end()
-                return Part(start, found.start(), False)
-        self.at = len(self.text)
-        raise self.stop(END_OF_FILE)
-
-    def quoted(self) -> Part:
-        """Takes a text in quotes. A quote inside braces doesn't end it."""
-        start, depth = self.at + 1, 0
-        for found in BRACE_OR_QUOTE.finditer(self.text, start):
-            if depth == 0 and found[0] != b"{":
-                self.at = found.start()
-                if found[0] == b"}":
-                    raise self.stop("Unbalanced braces")
-                self.at += 1
-                return Part(start, found.start(), False)
-            depth += {b"{": 1, b"}": -1}.get(found[0], 0)
-        self.at = len(self.text)
-        raise self.stop(END_OF_FILE)
+            kind, _, start, end, _, name_at, name_len, text_at, text_len = records[at]
+            if kind != FIELD:
+                return at
+            written = texts[name_at : name_at + name_len]
+            name = names.get(written)
+            if name is None:
+                name = names[written] = written.lower()
+            start, end = base + start, base + end
+            after = index(b"=", start + name_len) + 1
+            is_plain = text[end - 1] in ENDS_TEXT and find(b"#", after, end) < 0
+            into.append(Field(name, start, start + name_len, texts[text_at : text_at + text_len], after, end, is_plain))
+            at += 1
 
 
 class Undefined(NamedTuple):
@@ -346,24 +257,23 @@ class Undefined(NamedTuple):
     is_own: bool
 
 
-def undefined_strings(database: Database, strings: Dict[bytes, bytes]) -> Iterator[Undefined]:
-    """The names without a string, in the order of the text. strings: what is defined before the database, by names in lower case; what it defines is added."""
+def undefined_strings(database: Database, strings: Set[bytes]) -> Iterator[Undefined]:
+    """The names without a string, in the order of the text. strings: the names, in lower case, that are defined before the database; those that it defines are added."""
     for item in database.items:
         own = item.key.lower() if item.key is not None and item.kind == b"string" else None
-        names: Set[bytes] = set()
-        for field in item.fields:
-            name = database.name(field)
-            if field.parts is not None and not (name and name in names):
-                yield from undefined_parts(database, item, field, own, strings)
-            names.add(name)
+        if not all(field.is_plain for field in item.fields):
+            yield from undefined_of(database, item, own, strings)
         if own is not None and item.fields:
-            strings.pop(own, None)
-            strings[own] = database.value(item.fields[0], strings)
+            strings.add(own)
 
 
-def undefined_parts(database: Database, item: Item, field: Field, own: Optional[bytes], strings: Dict[bytes, bytes]) -> Iterator[Undefined]:
-    """The parts of a value that are names without a string."""
-    for part in field.parts or ():
-        name = database.text[part.start : part.end].lower()
-        if part.is_name and (name == own or name not in strings):
-            yield Undefined(part, item, name == own)
+def undefined_of(database: Database, item: Item, own: Optional[bytes], strings: Set[bytes]) -> Iterator[Undefined]:
+    """The names without a string in the values of an item."""
+    names: Set[bytes] = set()
+    for field in item.fields:
+        if not field.is_plain and not (field.name and field.name in names):
+            for part in database.names(field):
+                name = database.text[part.start : part.end].lower()
+                if name == own or name not in strings:
+                    yield Undefined(part, item, name == own)
+        names.add(field.name)

@@ -10,7 +10,9 @@ from __future__ import annotations
 import re
 from typing import Dict, FrozenSet, Iterable, Iterator, List, NamedTuple, Optional, Set, Tuple
 
-from .bibtext import BRACE, REPEATED, Database, Field, Item, Lines, read, undefined_strings
+from .bibtext import REPEATED, Database, Field, Item, Lines, read, undefined_strings
+from .reading import without_collection
+from .values import BRACE
 from .bsttext import StyleText, read_style
 
 __all__ = ["CHECKS", "Check", "Citation", "Finding", "Source", "Style", "examine"]
@@ -116,9 +118,10 @@ def shown(text: bytes) -> str:
 def examine(sources: List[Source], style: Optional[Style] = None, citations: Optional[List[Citation]] = None, off: FrozenSet[str] = frozenset()) -> List[Finding]:
     """All findings of these databases, as those of one job in this order; by file and place. off: the names of checks that are left out."""
     examiner = Examiner(style)
-    for source in sources:
-        examiner.examine(source)
-    examiner.compare_works()
+    with without_collection():
+        for source in sources:
+            examiner.examine(source)
+        examiner.compare_works()
     if citations is not None:
         examiner.compare_citations(citations)
     order = {id(source): number for number, source in enumerate(sources)}
@@ -149,7 +152,7 @@ class Examiner:
         self.titles: Dict[Tuple[bytes, bytes], List[Work]] = {}
         self.found: List[Finding] = []
         self.source = Source("", b"")
-        self.database = Database(b"", [])
+        self.database = Database(b"", [], {})
 
     def say(self, check: str, start: int, end: int, text: str, item: Optional[Item] = None) -> None:
         key = shown(item.key) if item is not None and item.is_entry and item.key is not None else ""
@@ -157,8 +160,10 @@ class Examiner:
 
     def examine(self, source: Source) -> None:
         """Examines a database."""
-        self.source, self.database = source, read(source.text, self.stored)
-        for unknown in undefined_strings(self.database, self.strings):
+        known = set(self.strings)
+        self.source, self.database = source, read(source.text, self.stored, self.strings)
+        self.strings = self.database.strings
+        for unknown in undefined_strings(self.database, known):
             if self.reads(unknown.item, unknown.part.start):
                 name = shown(source.text[unknown.part.start : unknown.part.end])
                 what = "used in its own definition" if unknown.is_own else "undefined"
@@ -173,7 +178,7 @@ class Examiner:
         """Whether the style, if one is known, reads the field of this place."""
         if self.style is None or not item.is_entry:
             return True
-        return any(field.start <= place < field.end and self.database.name(field) in self.style.fields for field in item.fields)
+        return any(field.after <= place < field.end and field.name in self.style.fields for field in item.fields)
 
     def item(self, item: Item, end: int) -> None:
         """Examines an item, and the text after it up to `end`."""
@@ -211,7 +216,7 @@ class Examiner:
         text, database, values = self.source.text, self.database, {}
         read_by_style = None if self.style is None else self.style.fields
         for field in item.fields:
-            name = text[field.name_start : field.name_end].lower()
+            name = field.name
             if name in values:
                 written = shown(text[field.name_start : field.name_end])
                 self.say("repeated-field", field.name_start, field.name_end, f'I\'m ignoring {shown(work.key)}\'s extra "{written}" field', item)
@@ -219,8 +224,8 @@ class Examiner:
             values[name] = field
             if read_by_style is not None and name not in read_by_style:
                 self.say("unread-field", field.name_start, field.name_end, f"the style doesn't read the field {shown(name)}", item)
-            if field.parts is None and not database.raw(field).strip(b" \t\r\n"):
-                self.say("empty-field", field.start, field.end, f"the field {shown(name)} is empty", item)
+            if not field.value and database.is_text(field):
+                self.say("empty-field", database.start(field), field.end, f"the field {shown(name)} is empty", item)
             elif name in EXAMINED:
                 EXAMINED[name](self, item, field)
         self.remember(work, values)
@@ -228,27 +233,26 @@ class Examiner:
     def remember(self, work: Work, values: Dict[bytes, Field]) -> None:
         """Keeps what tells a work, and its parent."""
 
-        def value(name: bytes) -> bytes:
-            return self.database.value(values[name], self.strings).strip(b" ")
-
         if b"doi" in values:
-            doi = RESOLVER.sub(b"", value(b"doi").lower())
+            doi = RESOLVER.sub(b"", values[b"doi"].value.lower())
             self.dois.setdefault(doi, []).append(work)
         if b"title" in values:
-            title = NOT_TITLE.sub(b"", TEX_COMMAND.sub(b"", value(b"title")).lower())
-            year = value(b"year") if b"year" in values else b""
+            title = NOT_TITLE.sub(b"", TEX_COMMAND.sub(b"", values[b"title"].value).lower())
+            year = values[b"year"].value if b"year" in values else b""
             if len(title) >= LEAST_TITLE:
                 self.titles.setdefault((title, year), []).append(work)
         if b"crossref" in values:
-            self.parents.setdefault(work.key.lower(), value(b"crossref").lower())
+            self.parents.setdefault(work.key.lower(), values[b"crossref"].value.lower())
 
     def names(self, item: Item, field: Field) -> None:
         """Examines the names of a field."""
+        value = field.value
+        may_be_doubtful = not value.isascii() or b"thers" in value or b"THERS" in value or ET_AL.search(value) is not None
+        if not may_be_doubtful or not self.database.is_text(field):
+            return
         text = self.database.raw(field)
         found = ET_AL.search(text)
-        offset = field.start + 1
-        if field.parts is not None:
-            return
+        offset = self.database.start(field) + 1
         if found is not None:
             self.say("et-al", offset + found.start(), offset + found.end(), "et al. is taken as a name: write `and others`", item)
         is_plain = text.isascii()
@@ -279,16 +283,14 @@ class Examiner:
                 self.say("von-letter", place, place + len(word[0]), said, item)
 
     def pages(self, item: Item, field: Field) -> None:
-        text = self.database.raw(field)
-        found = ONE_HYPHEN.search(text) if field.parts is None else None
-        if found is not None and b"--" not in text:
-            self.say("one-hyphen", field.start, field.end, "a range of pages with one hyphen: write `--`", item)
+        found = ONE_HYPHEN.search(field.value)
+        if found is not None and b"--" not in field.value and self.database.is_text(field):
+            self.say("one-hyphen", self.database.start(field), field.end, "a range of pages with one hyphen: write `--`", item)
 
     def month(self, item: Item, field: Field) -> None:
-        text = self.database.raw(field).strip()
-        if field.parts is None and MONTH_NAME.fullmatch(text):
-            short = shown(text[:3].lower())
-            self.say("month-text", field.start, field.end, f"the month as text: write `{short}`, without braces", item)
+        if MONTH_NAME.fullmatch(field.value) and self.database.is_text(field):
+            short = shown(field.value[:3].lower())
+            self.say("month-text", self.database.start(field), field.end, f"the month as text: write `{short}`, without braces", item)
 
     def compare_works(self) -> None:
         """Says which entries have the doi, or the title and year, of an earlier one."""

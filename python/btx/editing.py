@@ -5,7 +5,7 @@ from __future__ import annotations
 import re
 from typing import Any, Dict, Iterator, List, NamedTuple, Optional, Tuple
 
-from .bibtext import Field, Item
+from .bibtext import Database, Item
 from .bsttext import COMMANDS, LIST_WORD, Word
 from .builtins import BUILT_IN, described
 from .diagnosing import citations
@@ -67,26 +67,27 @@ def names_of(document: Document, workspace: Workspace) -> Iterator[Tuple[Named, 
             kind = "macro" if word.kind == "string" else "function"
             yield Named(kind, word.name, Place(document, word.start, word.end)), bool(word.kind)
     elif document.uri.endswith(".bib"):
-        for item in workspace.base(document).database.items:
-            yield from names_of_item(document, item)
+        database = workspace.base(document).database
+        for item in database.items:
+            yield from names_of_item(document, database, item)
     else:
         for start, end in citations(document):
             yield Named("key", shown(document.text[start:end].lower()), Place(document, start, end)), False
 
 
-def names_of_item(document: Document, item: Item) -> Iterator[Tuple[Named, bool]]:
+def names_of_item(document: Document, database: Database, item: Item) -> Iterator[Tuple[Named, bool]]:
     """The key of an item, the strings that it uses and the key that its crossref names."""
     text = document.text
     if item.key:
         kind = "key" if item.is_entry else "string"
         yield Named(kind, shown(item.key.lower()), Place(document, item.key_end - len(item.key), item.key_end)), True
     for field in item.fields:
-        for part in field.parts or ():
-            if part.is_name:
-                yield Named("string", shown(text[part.start : part.end].lower()), Place(document, part.start, part.end)), False
-        if field.parts is None and text[field.name_start : field.name_end].lower() == b"crossref":
-            raw = text[field.start + 1 : field.end - 1]
-            start = field.start + 1 + len(raw) - len(raw.lstrip())
+        for part in database.names(field):
+            yield Named("string", shown(text[part.start : part.end].lower()), Place(document, part.start, part.end)), False
+        if field.name == b"crossref" and database.is_text(field):
+            begin = database.start(field) + 1
+            raw = text[begin : field.end - 1]
+            start = begin + len(raw) - len(raw.lstrip())
             yield Named("key", shown(raw.strip().lower()), Place(document, start, start + len(raw.strip()))), False
 
 
@@ -176,7 +177,7 @@ def hover_of_entry(workspace: Workspace, named: Named) -> Optional[str]:
         base = workspace.base(place.document)
         for item in base.database.items:
             if item.is_entry and item.key_end == place.end:
-                values = {base.database.name(field): base.database.value(field, base.strings) for field in reversed(item.fields)}
+                values = {field.name: field.value for field in reversed(item.fields)}
                 rows = [f"{name}: {shown(values[name.encode()].strip())}" for name in ("author", "editor", "title", "year") if name.encode() in values]
                 return "\n\n".join([f"**@{shown(item.kind)}** `{shown(item.key or b'')}`", *rows])
     return None
@@ -239,12 +240,11 @@ def types_of(functions: List[str], uses_of: List[Word]) -> List[str]:
 
 def keys_of(document: Document, workspace: Workspace) -> List[Tuple[str, str, str]]:
     base = workspace.base(document)
-    return [(shown(item.key), "key", title_of(base.database.text, item.fields)) for item in base.database.items if item.is_entry and item.key]
+    return [(shown(item.key), "key", title_of(item)) for item in base.database.items if item.is_entry and item.key]
 
 
-def title_of(text: bytes, fields: List[Field]) -> str:
-    title = next((text[it.start : it.end] for it in fields if text[it.name_start : it.name_end].lower() == b"title"), b"")
-    return shown(title[:80])
+def title_of(item: Item) -> str:
+    return shown(next((field.value for field in item.fields if field.name == b"title"), b"")[:80])
 
 
 def rows_of(rows: List[Tuple[str, str, str]]) -> List[Dict[str, Any]]:

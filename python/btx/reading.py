@@ -8,6 +8,8 @@ fields of an entry when somebody asks for one. Names and values are text; bytes 
 
 from __future__ import annotations
 
+import contextlib
+import gc
 import os
 import pathlib
 import re
@@ -322,7 +324,20 @@ def read_text(text: bytes, file: str, strings: Mapping[str, str]) -> Bibliograph
     found = read_records(encoded(file), text, known)
     if found is None:
         raise DatabaseTooLong(len(text))
-    return Bibliography(file, text, frozenset(name.lower() for name in known), *found)
+    with without_collection():
+        return Bibliography(file, text, frozenset(name.lower() for name in known), *found)
+
+
+@contextlib.contextmanager
+def without_collection() -> Iterator[None]:
+    """Lets Python not look for garbage where many objects are made and none is garbage: it would look through all of them again and again."""
+    is_enabled = gc.isenabled()
+    gc.disable()
+    try:
+        yield
+    finally:
+        if is_enabled:
+            gc.enable()
 
 
 def encoded(text: str) -> bytes:

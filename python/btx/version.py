@@ -5,6 +5,7 @@ from __future__ import annotations
 import pathlib
 import re
 from importlib import metadata
+from typing import Optional
 
 __all__ = ["VERSION"]
 
@@ -12,15 +13,21 @@ __all__ = ["VERSION"]
 OF_SOURCES = pathlib.Path(__file__).resolve().parents[2] / "library" / "Makefile"
 
 
-def found_version() -> str:
-    """The version of the sources that this package stands in, or else of the package that is installed."""
+def version_of_sources() -> Optional[str]:
+    """The version of the sources that this package stands in, if it stands in them."""
     try:
         said = re.search(r"^VERSION = (\S+)$", OF_SOURCES.read_text(), re.MULTILINE)
-        return said[1] if said else metadata.version("btx")
     except OSError:
+        return None
+    return said[1] if said else None
+
+
+def version_installed() -> str:
+    """The version of the package that is installed; 0 where none is."""
+    try:
         return metadata.version("btx")
     except metadata.PackageNotFoundError:
         return "0"
 
 
-VERSION = found_version()
+VERSION = version_of_sources() or version_installed()

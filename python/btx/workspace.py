@@ -7,7 +7,7 @@ import re
 import urllib.parse
 from typing import Dict, Iterator, List, Optional, Tuple
 
-from .bibtext import Database, read, undefined_strings
+from .bibtext import Database, read
 from .bsttext import StyleText, read_style
 from .documents import Document
 from .doctor import Style
@@ -39,9 +39,7 @@ class Base:
 
     def __init__(self, text: bytes) -> None:
         self.database: Database = read(text)
-        self.strings: Dict[bytes, bytes] = {}
-        for _ in undefined_strings(self.database, self.strings):
-            pass
+        self.strings: Dict[bytes, bytes] = self.database.strings
 
 
 class Workspace:

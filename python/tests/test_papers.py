@@ -12,6 +12,7 @@ from unittest import mock
 
 import btx
 from btx.searching import Search, SearchFrom
+from btx.version import version_installed, version_of_sources
 from tests.jobs import AUX, FILES, SOURCES
 from tests.readme import EXAMPLES, examples, printed
 from tests.spoilt import run_module
@@ -115,6 +116,9 @@ class Names(unittest.TestCase):
 
     def test_versions(self):
         self.assertRegex(btx.__version__, r"^[0-9]")
+        self.assertEqual((version_of_sources(), version_installed() or "0"), (btx.__version__, version_installed()))
+        with mock.patch("btx.version.OF_SOURCES", pathlib.Path("/no/such/file")):
+            self.assertIsNone(version_of_sources())
         done = run_module("--version")
         self.assertEqual((done.returncode, done.stdout.decode().split()), (0, ["btx", btx.__version__]))
 
