@@ -48,6 +48,11 @@ class Definition:
         return f"{self.module}.{self.name}".replace("::", ".") + ("-type" if self.kind == "rust" else "")
 
     @property
+    def anchor(self):
+        """The definition's address in the book: its name with its module's, without what all crates' names begin with."""
+        return self.id.removeprefix("btx_")
+
+    @property
     def crate(self):
         return re.match(r"\w+", self.module)[0]
 

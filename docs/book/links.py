@@ -29,7 +29,7 @@ def to(name, by_id, escape=False):
     if it is None:
         return f"`{name}`"
     shown = it.name.replace("_", "\\_") if escape else it.name
-    return f"[{shown}](#{it.id.replace(chr(39), '_') if escape else it.id}) {it.number}"
+    return f"[{shown}](#{it.anchor.replace(chr(39), '_') if escape else it.anchor}) {it.number}"
 
 
 def linked(text, by_id, escape=False):

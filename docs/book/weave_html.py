@@ -26,6 +26,9 @@ WORKED = "Worked examples"
 RUNS = "book-runs.js"
 # A text in quotes of so many characters at most stays on one line.
 WHOLE = 12
+# A tag with attributes, and a value that needs no quotes there.
+TAG = re.compile(r"<\w+ [^<>]*>")
+QUOTED = re.compile(r'=("([\w.#:-]+)")(?=[ >])')
 # The signs of the library that a stranger looks up.
 LINKED_SIGN = re.compile(r"\+\+|&&|\|\||[≡≢×⊎∷⊥ℕℤ↔≤]")
 
@@ -38,7 +41,7 @@ def text(source):
 @functools.lru_cache(maxsize=None)
 def word_id(word):
     """The anchor of a word of the library, short since each use of the word has it."""
-    return f"w{list(glossary.meanings()).index(word)}" if word in glossary.meanings() else "words"
+    return f"_{list(glossary.meanings()).index(word)}" if word in glossary.meanings() else "_words"
 
 
 # ---- code ----
@@ -57,9 +60,9 @@ def linked(word, definition, is_head):
     written = two if two in definition.links else first
     target, behind = definition.links.get(written), html.escape(word[len(written):])
     if isinstance(target, Word):
-        return f'<a class=s href="#{word_id(target.name)}">{html.escape(written)}</a>{behind}'
+        return f'<a href="#{word_id(target.name)}">{html.escape(written)}</a>{behind}'
     if target is not None and target.place:
-        return f'<a href="#{target.id}">{html.escape(written)}</a>{behind}'
+        return f'<a href="#{target.anchor}">{html.escape(written)}</a>{behind}'
     return html.escape(word)
 
 
@@ -67,7 +70,7 @@ def signs(between):
     """What stands between the names of a definition's text, with its signs as links into the glossary."""
     out, at = [], 0
     for found in LINKED_SIGN.finditer(between):
-        out += [html.escape(between[at:found.start()], quote=False), f'<a class=s href="#{word_id(found[0])}">{html.escape(found[0], quote=False)}</a>']
+        out += [html.escape(between[at:found.start()], quote=False), f'<a href="#{word_id(found[0])}">{html.escape(found[0], quote=False)}</a>']
         at = found.end()
     return "".join(out) + html.escape(between[at:], quote=False)
 
@@ -99,7 +102,7 @@ def code(definition):
 
 def references(found, most=6):
     more = f" and {len(found) - most} more" if len(found) > most else ""
-    return ", ".join(f'<a href="#{it.id}">{html.escape(it.name)}</a>&nbsp;{it.number}' for it in found[:most]) + more
+    return ", ".join(f'<a href="#{it.anchor}">{html.escape(it.name)}</a>\u00a0{it.number}' for it in found[:most]) + more
 
 
 # ---- parts of the book ----
@@ -111,7 +114,7 @@ def definition_html(it):
     comment = text(layout.prose(it.comment)) or "<em>(no comment)</em>"
     foot = layout.foot_of(it, references, text)
     heading = f"<h4>{text(it.heading[0].upper() + it.heading[1:])}</h4>" if it.heading else ""
-    return (f'{heading}<section id="{it.id}" class="{layout.reach_of(it)}"><p><a class="number" href="#{it.id}">{it.number}</a> {comment}</p>{differences.sign_html(it.id)}{code(it)}{own_rules.box_html(it.id)}'
+    return (f'{heading}<section id="{it.anchor}" class="{layout.reach_of(it)}"><p><a class="number" href="#{it.anchor}">{it.number}</a> {comment}</p>{differences.sign_html(it.id)}{code(it)}{own_rules.box_html(it.id)}'
             f'<footer>{" · ".join(foot)}</footer>{margin}</section>')
 
 
@@ -145,7 +148,7 @@ def intros_html(files):
 
 
 def named_html(it):
-    return f'<a href="#{it.id}"><code>{html.escape(it.name)}</code></a> {it.number}'
+    return f'<a href="#{it.anchor}"><code>{html.escape(it.name)}</code></a> {it.number}'
 
 
 def listed_html(anchor, title, items):
@@ -191,7 +194,7 @@ def index_html(found):
     by_name = {}
     for it in sorted(found, key=lambda it: it.place):
         by_name.setdefault(it.name, []).append(it)
-    rows = [f"<li>{html.escape(name)} " + ", ".join(f'<a href="#{it.id}">{it.number}</a>' for it in by_name[name]) + "</li>"
+    rows = [f"<li>{html.escape(name)} " + ", ".join(f'<a href="#{it.anchor}">{it.number}</a>' for it in by_name[name]) + "</li>"
             for name in sorted(by_name, key=lambda name: (name.lower(), name))]
     return f'{bibtex_index_html()}<h3>Definitions</h3><ul class="index">{"".join(rows)}</ul>'
 
@@ -202,7 +205,7 @@ def index_html(found):
 def words_html(found):
     rows = []
     for word, meaning, example, use in glossary.explained(found):
-        shown = f'<a href="#{use[0].id}">{use[0].number}</a>{code_use(use)}' if use else ""
+        shown = f'<a href="#{use[0].anchor}">{use[0].number}</a>{code_use(use)}' if use else ""
         rows.append(f'<tr id="{word_id(word)}"><td><code>{html.escape(word)}</code></td><td>{text(meaning)}'
                     + (f"<br>{text(example)}" if example else "") + f'</td><td>{shown}</td></tr>')
     return f'<table class="words">{"".join(rows)}</table>'
@@ -221,7 +224,7 @@ def row_html(row, by_id):
 def manuals_html(sections):
     """The sections of BibTeX's manuals, each with the sections of the book that follow it."""
     rows = "".join(f"<tr><td>{manual}, section {number}</td><td>" + ", ".join(
-        f'<a href="#s{section.number}">{text(section.title)}</a>&nbsp;{section.number}' for section in found) + "</td></tr>"
+        f'<a href="#s{section.number}">{text(section.title)}</a>\u00a0{section.number}' for section in found) + "</td></tr>"
         for (manual, number), found in manuals.followers(sections))
     return f'<table class="words">{rows}</table>'
 
@@ -244,7 +247,7 @@ def heading_html(title):
 
 def shown_html(it):
     """A definition that a chapter of the book's own words shows."""
-    return f'<div class="shown"><p><a href="#{it.id}">{it.number}</a> {text(layout.prose(it.comment))}</p>{code(it)}</div>'
+    return f'<div class="shown"><p><a href="#{it.anchor}">{it.number}</a> {text(layout.prose(it.comment))}</p>{code(it)}</div>'
 
 
 def text_html(block, by_id):
@@ -260,12 +263,17 @@ def notation_html(front, book, level=2):
     return "\n".join([f'<h{level} id="{front.anchor}">{front.title}</h{level}>', *BLOCKS.woven(front, book)])
 
 
+def compact(body):
+    """A page's text without the quotes that its tags don't need, of which there are some 70,000."""
+    return TAG.sub(lambda tag: QUOTED.sub(r"=\2", tag[0]), body)
+
+
 def page_html(title, body, script=""):
     """A page that needs nothing else but the other page. Where runs.py has put its file beside it, its examples can be run."""
     style = STYLE.read_text(encoding="utf-8")
     script = (f"\n<script>{script}</script>" if script else "") + f'\n<script src="{RUNS}" defer></script>'
     return ('<!doctype html>\n<html lang="en"><head><meta charset="utf-8"><meta name="viewport" content="width=device-width,initial-scale=1">'
-            f"<title>{title}</title><style>{style}</style></head><body>\n{body}{script}\n</body></html>\n")
+            f"<title>{title}</title><style>{style}</style></head><body>\n{compact(body)}{script}\n</body></html>\n")
 
 
 def followers(sections):

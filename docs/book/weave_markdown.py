@@ -39,7 +39,7 @@ STRING = re.compile(r'"(?:[^"\\]|\\.)*"')
 
 
 def anchor(definition):
-    return definition.id.replace("'", "_")
+    return definition.anchor.replace("'", "_")
 
 
 def references(found, most=8):

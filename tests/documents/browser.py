@@ -29,6 +29,9 @@ PATIENCE_OF_PRINTING = 1800
 IDLE_PAINT = 150
 # How many pages of A4 the core may take at most.
 MOST_PAGES_OF_THE_CORE = 12
+# An anchor, and a link: most have no quotes.
+ANCHOR = re.compile(r"""<[^<>]* id=("[^"]*"|[^\s>]+)""")
+LINK = re.compile(r"""<a [^<>]*href=("[^"]*"|[^\s>]+)""")
 # What is asked of a page in the browser: a name, and an expression in which `page` is its window and `all` answers what a selector finds.
 ASKED = {
     "nothing is wider than the page": "page.document.documentElement.scrollWidth <= page.innerWidth",
@@ -46,7 +49,7 @@ ASKED = {
 ASKED_OF_BOOK = {
     "a paragraph isn't joined in its code": "all('code').some((it) => it.textContent.includes('  '))",
     "code is copied as it stands": """(() => {
-        const shown = [...page.document.getElementById('btx_text.Elements.kind_at').querySelectorAll('pre')][0];
+        const shown = [...page.document.getElementById('text.Elements.kind_at').querySelectorAll('pre')][0];
         page.getSelection().selectAllChildren(shown);
         return page.getSelection().toString().includes('byte "{" then Open') && /\\n {4}else/.test(page.getSelection().toString());
     })()""",
@@ -117,6 +120,11 @@ def asked_of(program, room, asked, frames, *flags):
     return json.loads(html.unescape(found[1])) if found else {}
 
 
+def found_in(attribute, text):
+    """The values of an attribute in a page, without their quotes."""
+    return [html.unescape(value.strip('"')) for value in attribute.findall(text)]
+
+
 def check_structure(checks):
     """What can be seen of the HTML without a browser."""
     for name in PAGES:
@@ -124,21 +132,21 @@ def check_structure(checks):
         checks.check(len(text.encode()) <= MOST_BYTES, f"{name} has {len(text.encode()):,} bytes, and at most {MOST_BYTES:,} are wanted")
         prose = html.unescape(re.sub(r"<(pre|code|style|script)\b.*?</\1>|<[^>]*>", " ", text, flags=re.S))
         checks.check("**" not in prose, f"{name}: a bold mark isn't rendered: {prose[max(0, prose.find('**') - 40):][:80]}")
-        checks.check(not re.search(r"(==|\|\||&amp;&amp;)(</a>)?</span><span class=\"l\"", text), f"{name}: a line of code ends behind a sign that joins")
+        checks.check(not re.search(r"(==|\|\||&amp;&amp;)(</a>)?</span><span class=l\b", text), f"{name}: a line of code ends behind a sign that joins")
         checks.check("prefers-color-scheme:dark" in text, f"{name} has no colours for the dark")
         checks.check("carried by" not in prose, f"{name} names what carries each definition")
-        ids = re.findall(r' id="([^"]+)"', text)
+        ids = found_in(ANCHOR, text)
         checks.check(len(ids) == len(set(ids)), f"{name}: an anchor stands twice: {sorted(it for it in set(ids) if ids.count(it) > 1)[:3]}")
-        others = {other: set(re.findall(r' id="([^"]+)"', (OUT / other).read_text(encoding="utf-8"))) for other in PAGES}
-        lost = [link for link in re.findall(r'href="([^"]+)"', text) if "#" in link and link.partition("#")[2] not in others.get(link.partition("#")[0] or name, ())]
+        others = {other: set(found_in(ANCHOR, (OUT / other).read_text(encoding="utf-8"))) for other in PAGES}
+        lost = [link for link in found_in(LINK, text) if "#" in link and link.partition("#")[2] not in others.get(link.partition("#")[0] or name, ())]
         checks.check(not lost, f"{name}: {len(lost)} links lead nowhere: {lost[:3]}")
     book = (OUT / PAGES[0]).read_text(encoding="utf-8")
-    contents = re.search(r'<nav id="contents">.*?</nav>', book, re.S)[0]
-    checks.check(re.search(r'href="#s1\.1">1\.1 ', contents), "the contents have no numbers of sections")
-    checks.check(all(f'href="#{anchor}"' in contents for anchor in ("rule-databases", "read-questions-and-where-the-book-answers-them")), "the contents lack the rules or the questions")
+    contents = re.search(r'<nav id=contents>.*?</nav>', book, re.S)[0]
+    checks.check(re.search(r'href=#s1\.1>1\.1 ', contents), "the contents have no numbers of sections")
+    checks.check(all(f'href=#{anchor}>' in contents for anchor in ("rule-databases", "read-questions-and-where-the-book-answers-them")), "the contents lack the rules or the questions")
     checks.check("<small>" not in contents, "the contents have numbers that look like those of pages")
-    checks.check(re.search(r'<a class="number" href="#btx_text\.Class\.is_white">', book), "a definition's number is no link to itself")
-    checks.check(not re.search(r'<p>[^<]*<span class="file">[^<]*</span> [A-Z]', book), "what two files say at their fronts stands in one paragraph")
+    checks.check(re.search(r'<a class=number href=#text\.Class\.is_white>', book), "a definition's number is no link to itself")
+    checks.check(not re.search(r'<p>[^<]*<span class=file>[^<]*</span> [A-Z]', book), "what two files say at their fronts stands in one paragraph")
     checks.check(re.search(r"(?m)^#+ Index", (OUT / "book.md").read_text(encoding="utf-8")), "book.md has no index")
 
 
@@ -205,9 +213,9 @@ def check_core(checks, pages):
     """How many pages the core takes, and all that has to be believed: what the book's first page says, within a tenth and one, since a page holds more or less by
     the fonts of a machine; and the core not more than it may."""
     book = (OUT / PAGES[0]).read_text(encoding="utf-8")
-    heads = [html.unescape(re.sub("<[^>]*>", "", head)) for head in re.findall(r'<h2 id="ch\d+">(.*?)</h2>', book)]
+    heads = [html.unescape(re.sub("<[^>]*>", "", head)) for head in re.findall(r'<h2 id=ch\d+>(.*?)</h2>', book)]
     starts = [next((number for number, page in enumerate(pages) if re.search(rf"(?m)^\s*{re.escape(head)}\s*$", page)), None) for head in heads]
-    first_behind = book.count('<div class="dense">')
+    first_behind = book.count('<div class=dense>')
     said = [int(number) for number in re.findall(r"(\d+) pages on paper", book)]
     if len(said) != 2 or None in (starts[0], starts[1], starts[first_behind]):
         checks.check(False, f"the first page says {said} for the pages of the core and of all that has to be believed; chapters begin at {starts}")
