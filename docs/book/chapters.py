@@ -12,6 +12,10 @@ FILE = pathlib.Path(__file__).with_name("chapters.txt")
 JOBS = ROOT / "tests/reference"
 # The part of the book with what has to be believed. Its first chapter is the core.
 BELIEVED = "What has to be believed"
+# What the types of the program stand below in a section that doesn't begin with them.
+TYPES = "types of the program"
+# A file's number among those of its folder, at its front, or behind its name in what another one says.
+NUMBER_OF_FILE = r"^\d+\. |(?<=`) \(\d+\)"
 ALLOWED = re.compile(r"// allowed: (\d+) (.+?)(?: -- .*)?$")
 
 
@@ -20,7 +24,7 @@ class Section:
 
     def __init__(self, title):
         self.title, self.modules, self.rules, self.examples, self.reason, self.parts = title, [], [], [], None, []
-        self.believed, self.table = set(), None
+        self.believed, self.table, self.first = set(), None, None
         self.captions, self.number = {}, None
 
     @property
@@ -86,6 +90,8 @@ def read_line(chapter, line):
         section.believed.update(rest.split(", "))
     elif word == "table":
         section.table = rest.strip()
+    elif word == "first":
+        section.first = rest.strip()
     elif word == "rule":
         section.rules += rest.split("; ")
     elif word == "example":
@@ -115,7 +121,8 @@ def place(chapters, found):
             for module in section.modules:
                 own = sorted((it for it in by_module.get(module, []) if it.kind != "rust" and it not in placed and (it.is_believed or module not in section.believed)),
                              key=place_in_module)
-                section.parts.append((module, with_types(own, placed)))
+                own = with_types(own, placed)
+                section.parts.append((module, downwards(own, section.first) if chapter.is_from_the_top else own))
             for it in section.definitions:
                 count += 1
                 it.place = (chapter_number, count)
@@ -126,6 +133,41 @@ def place_in_module(it):
     """A module's definitions stand in the order of the folders, and in each as in its file."""
     folder = definitions.folder_of(it.file)
     return (definitions.FOLDERS.index(folder) if folder else 0, it.line)
+
+
+def is_domain(it):
+    """Whether a definition is a set of values: a type of the program, or one of the definitions' own that no value is given to."""
+    return it.kind == "rust" or bool(re.fullmatch(rf"(?:record |data )?{re.escape(it.name)}(?: [({{][\w ]+ : Type 0[)}}])* : Type 0(?: where)?", it.lines[0]))
+
+
+def downwards(own, first):
+    """The definitions of a module in the order in which one reads: sets of values first, then each definition before those that it is made of. A module that has the
+    definition `first` begins with it, and has the sets of values last."""
+    is_headed = any(it.name == first for it in own)
+    types, groups = [it for it in own if it.kind == "rust"], titled([it for it in own if it.kind != "rust"])
+    domains = [(TYPES if is_headed else None, types)] + [(title, [it for it in group if is_domain(it)]) for title, group in groups]
+    others = [(title, sorted((it for it in reversed(group) if not is_domain(it)), key=lambda it: it.name != first)) for title, group in reversed(groups)]
+    return headed(others + domains if is_headed else domains + others)
+
+
+def titled(own):
+    """The groups of a file's definitions, each with its title, if it has one."""
+    groups = []
+    for it in own:
+        if it.heading or not groups:
+            groups.append((it.heading, []))
+        groups[-1][1].append(it)
+    return groups
+
+
+def headed(groups):
+    """The definitions of groups, with each title before the first one of its group, unless the group before has it, too."""
+    found, last = [], None
+    for title, group in groups:
+        for at, it in enumerate(group):
+            it.heading = None if at or title == last else title
+        found, last = found + group, title if group else last
+    return found
 
 
 def with_types(own, placed):
@@ -142,6 +184,15 @@ def with_types(own, placed):
     for it in own:
         add(it)
     return found
+
+
+def upwards(chapters):
+    """Definitions of chapters that are read from the top, each with one that it is made of and that stands before it in the same file's part, unless that is a set of values."""
+    for chapter in (it for it in chapters if it.is_from_the_top):
+        for section in chapter.sections:
+            for _, found in section.parts:
+                yield from ((it, used) for at, it in enumerate(found) for used in found[:at]
+                                if used in it.uses and it not in used.uses and used.name != section.first and not is_domain(used) and not is_domain(it))
 
 
 def forward_references(found, chapters):
@@ -278,10 +329,11 @@ def short(value):
 
 
 def files_of(module, found):
-    """The files of a section's module that have these definitions, from the repository's top, each with what it says at its front."""
+    """The files of a section's module that have these definitions, from the repository's top, each with what it says at its front, without the number that it has
+    among its folder's files."""
     name = module.partition("/")[0]
     if "::" in name:
         crate, *rest = name.split("::")
         return [(CRATES.joinpath(crate, "src", *rest).with_suffix(".rt").relative_to(ROOT), [])]
     files = {it.file for it in found}
-    return [(home.file.relative_to(ROOT), home.intro) for home in definitions.modules_shown(name) if home.file in files]
+    return [(home.file.relative_to(ROOT), re.sub(NUMBER_OF_FILE, "", "\n".join(home.intro)).split("\n")) for home in definitions.modules_shown(name) if home.file in files]

@@ -16,7 +16,7 @@ JOINTS = [(r"(?<= in) ", False), (r" (?=else )", True), (r" (?=→ )", True), (r
 # Tests in parentheses, with what stands before them.
 GROUP = re.compile(r"((?:&& |\|\| )?(?:not )?\()(.*)\)$")
 # A line that its author broke behind such a sign.
-UNFINISHED = re.compile(r"(==|\|\||&&|\+\+|\()$")
+UNFINISHED = re.compile(r"(==|\|\||&&|\+\+|→|\()$")
 # What is said of a definition by who needs it.
 REACHES = {"believed": "to be believed", "language": "how it is computed", "laws": "only in laws"}
 # What stands behind the core's sections.

@@ -13,6 +13,7 @@ A PDF with links: pandoc book.md -o book.pdf --pdf-engine=lualatex (with the fon
 
 Which definitions have to be believed is counted by what their texts name; the checker isn't asked."""
 
+import functools
 import pathlib
 import re
 import sys
@@ -64,6 +65,10 @@ class Book:
         self.signs = Front("signs.md", "The notation in short", links.heading_id("The notation in short"))
         self.last = Front("appendix.md", "The notation, sign by sign, questions and words", "appendix")
 
+    @functools.cached_property
+    def markdown(self):
+        return weave_markdown.book_markdown(self)
+
     @property
     def summary(self):
         """What there is to read, in numbers. tests/documents/browser.py counts the pages on paper."""
@@ -97,6 +102,7 @@ class Book:
             self.check(it not in self.lost, f"{where(it)}: `{it.module}` stands in no chapter, and `{it.name}` belongs into the book")
         silent = [f"{where(it)}: `{it.name}` has no comment" for it in self.found if not it.comment]
         self.check_few("definitions without a comment", silent, len(self.found))
+        self.check_order()
         forward = [f"{where(it)}: `{it.name}` uses `{used.name}` of a later chapter" for it, used in chapters.forward_references(self.found, self.chapters)]
         self.check_few("forward references between chapters", forward, len(self.found))
         self.check_folders()
@@ -107,6 +113,18 @@ class Book:
         self.check_links()
         self.check_sizes()
         self.check_tables()
+
+    def check_order(self):
+        """In a chapter that is read from the top downwards each definition stands before those of its file that it is made of, and no file has a number. A long line that is to be
+        believed has its arrows in front."""
+        for it, used in chapters.upwards(self.chapters):
+            self.check(False, f"{where(it)}: `{it.name}` is made of `{used.name}`, which stands before it")
+        for section in self.sections:
+            for module, found in section.parts:
+                numbered = [file for file, intro in chapters.files_of(module, found) if re.search(chapters.NUMBER_OF_FILE, "\n".join(intro))]
+                self.check(not numbered, f"chapters.txt, `{section.title}`: the number of {numbered} is printed")
+        for it in self.reach.believed:
+            self.check(not any(line.endswith("→") for line in layout.shown(it)[1:]), f"{where(it)}: a line of `{it.name}` ends with an arrow")
 
     def check_tables(self):
         """The tables of docs/RULES.md from which the index and the table of functions are made."""
@@ -227,10 +245,15 @@ class Book:
         print(f"laws: {len(laws):,} more, {reach.lines_in(laws):,} lines")
         print(f"refinement: {len(others):,} others, {reach.lines_in(others):,} lines, of which {in_public:,} stand in a public contract")
 
+    def check_markdown(self, text):
+        """In Markdown's code no sign has a backslash before it that a reader would see."""
+        blocks = re.findall(r"(?ms)^```.*?^```$|(?<=\n\n)(?:    [^\n]*\n)+(?=\n)", text)
+        self.check(not any(r"\$" in block for block in blocks), "book.md: a `$` of its code has a backslash before it")
+
     def write(self):
         OUT.mkdir(exist_ok=True)
         pages = weave_html.book_html(self)
-        for name, made in (pages | {"book.md": weave_markdown.book_markdown(self)}).items():
+        for name, made in (pages | {"book.md": self.markdown}).items():
             (OUT / name).write_text(made, encoding="utf-8")
             print(f"{(OUT / name).relative_to(chapters.ROOT)}: {len(made) / 1e6:.1f} MB")
         self.write_runs()
@@ -271,6 +294,7 @@ def main():
     sys.setrecursionlimit(10_000)
     book = Book()
     book.check_all()
+    book.check_markdown(book.markdown)
     for message in book.wrong:
         print(message)
     book.print_reach()

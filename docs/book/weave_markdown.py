@@ -169,7 +169,7 @@ def index_markdown(found):
 
 def without_mathematics(text):
     r"""A `$` outside code as `\$`, since pandoc takes two of them in a paragraph for the ends of a formula."""
-    pieces = re.split(r"(?ms)(^```.*?^```$|`[^`\n]*`)", text)
+    pieces = re.split(r"(?ms)(^```.*?^```$|(?<=\n\n)    [^\n]*\n(?:    [^\n]*\n)*(?=\n)|`[^`\n]*`)", text)
     return "".join(piece if number % 2 else piece.replace("$", r"\$") for number, piece in enumerate(pieces))
 
 
