@@ -9,7 +9,8 @@
 # make uninstall  takes them away again
 # make check      the whole gate: every proof, test and end-to-end check from nothing
 # make try        builds the program, the library and the front end of the tree as it stands, without any proof, in out/try; it installs nothing
-# make book       weaves the book of definitions, docs/book/out/book.html and book.md, and checks it; it needs no kit. After make web its examples can be run in it
+# make book       weaves the book of definitions, docs/book/out/book.html and book.md, and checks it; it needs no kit. After make web its examples can be run in it.
+#                 Where chromium is it prints book.pdf, too
 
 PREFIX = /usr/local
 DESTDIR =
@@ -55,7 +56,7 @@ web:
 	python3 -B web/page/build.py
 
 book:
-	python3 -B docs/book/make.py
+	python3 -B docs/book/make.py --pdf
 
 install: install-program install-front install-completion install-documents $(if $(wildcard library/out/libbtx.so.1),install-library)
 

@@ -3,6 +3,7 @@
 from typing import Callable, NamedTuple
 
 import chapters
+import edition
 import glossary
 import layout
 import manuals
@@ -51,6 +52,7 @@ class Blocks(NamedTuple):
     words: Callable
     rows: Callable
     manuals: Callable
+    renamed: Callable
     text: Callable
 
     def woven(self, front, book):
@@ -69,4 +71,6 @@ class Blocks(NamedTuple):
             return self.rows(f"{block[1:]}.txt", book.by_id)
         if block == "@manuals":
             return self.manuals(book.sections)
+        if block == "@renamed":
+            return self.renamed(edition.renamed(), book.by_id)
         return self.text(block, book.by_id)

@@ -13,6 +13,11 @@ def heading_id(title):
     return "read-" + re.sub(r"\W+", "-", title.lower()).strip("-")
 
 
+def row_id(word):
+    """The anchor of a row of words or of questions."""
+    return "row-" + re.sub(r"\W+", "-", word.lower()).strip("-")[:40]
+
+
 def key(name):
     """A definition's name as the book knows it."""
     return name.replace("::", ".")

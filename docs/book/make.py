@@ -1,6 +1,7 @@
 """Weaves the book of definitions, and checks it.
 
     python3 docs/book/make.py             writes book.html, worked.html and book.md into docs/book/out, and where the module of `make web` is there, book-runs.js
+    python3 docs/book/make.py --pdf       prints book.pdf, too, where there is chromium
     python3 docs/book/make.py --check     only checks
 
 The book has every definition that the contract of `run` reaches (the language) and every one that only laws reach, in the order of chapters.txt. A line is
@@ -9,20 +10,24 @@ that has none, a word of the library that words.txt doesn't explain or whose exa
 an example, a rule or an example that isn't there. chapters.txt says how many of some of these are allowed. The last line is 'N passed, M failed', of
 definitions, names, sections, rules and examples, and the exit status is 0 only where M is 0.
 
-A PDF with links: pandoc book.md -o book.pdf --pdf-engine=lualatex (with the fonts DejaVu), or print book.html from a browser.
+A PDF with links: pandoc book.md -o book.pdf --pdf-engine=lualatex (with the fonts DejaVu), or --pdf, which has the book's own pages.
 
 Which definitions have to be believed is counted by what their texts name; the checker isn't asked."""
 
 import functools
 import pathlib
 import re
+import shutil
+import subprocess
 import sys
+import tempfile
 
 import believed
 import bibtex_names
 import chapters
 import definitions
 import differences
+import edition
 import examples
 import functions
 import glossary
@@ -40,6 +45,8 @@ OUT = HERE / "out"
 # Where the repository says how many definitions of how many lines have to be believed.
 SIZES = {"README.md": r"some ([\d,]+) definitions of ([\d,]+) lines", "docs/PROOFS.md": r"some ([\d,]+) definitions of ([\d,]+) lines",
          "docs/book/README.md": r"(?m)^\| believed \|.*\| ([\d,]+) \| ([\d,]+) \|$"}
+# The browser that prints the book, and how many seconds it may take.
+BROWSERS, PATIENCE = ("chromium", "chromium-browser", "google-chrome"), 1800
 
 
 class Front:
@@ -47,7 +54,7 @@ class Front:
 
     def __init__(self, file, title, anchor):
         self.file, self.title, self.anchor = file, title, anchor
-        self.blocks = re.split(r"\n\n+", (HERE / file).read_text(encoding="utf-8").strip())
+        self.blocks = [edition.filled(block) for block in re.split(r"\n\n+", (HERE / file).read_text(encoding="utf-8").strip())]
 
 
 class Book:
@@ -61,6 +68,7 @@ class Book:
         self.sections = [section for chapter in self.chapters for section in chapter.sections]
         self.passed, self.wrong, self.examples, self.rules = 0, [], {}, rules.headings()
         self.by_id = {name: it for it in self.found for name in (it.id, it.id.removesuffix("-type"))}
+        self.title = Front("title.md", edition.TITLE, "title")
         self.first = Front("notation.md", "How to read this book", "notation")
         self.signs = Front("signs.md", "The notation in short", links.heading_id("The notation in short"))
         self.last = Front("appendix.md", "The notation, sign by sign, questions and words", "appendix")
@@ -74,8 +82,9 @@ class Book:
         """What there is to read, in numbers. tests/documents/browser.py counts the pages on paper."""
         all_of_it, others = self.reach.believed, [it for it in self.found if not it.is_believed]
         heart = believed.heart_of(believed.definitions_of(self.reach.relation))
-        return (f"This book says which bytes BibTeX writes for a job. Its [core](#ch1) is {counted(heart, ' of ')}, {believed.PAGES_OF_THE_CORE} pages on paper, "
-                f"and needs no other page to be understood. All that has to be believed is {counted(all_of_it, ' of ')}, {believed.PAGES} pages on paper. "
+        return (f"This book says which bytes this program writes for a job: those of BibTeX 0.99d but for [{len(differences.leads())} differences](#differences), each of which has a sign where "
+                f"a rule or a definition meets it. Its [core](#ch1) is {counted(heart, ' of ')}, some {believed.PAGES_OF_THE_CORE} pages on paper, "
+                f"and needs no other page to be understood. All that has to be believed is {counted(all_of_it, ' of ')}, some {believed.PAGES} pages on paper. "
                 "Most questions about the program are answered before these pages, by [the rules in words](#rules). "
                 f"{len(others):,} more definitions, of {reach.lines_in(others):,} lines, say the same as a program would, and are laws and worked examples: nobody has to read them for what a run writes.")
 
@@ -130,8 +139,8 @@ class Book:
         """The tables of docs/RULES.md from which the index and the table of functions are made."""
         lacking = bibtex_names.lacking() + functions.lacking(self.by_id)
         self.check(not lacking, "; ".join(lacking))
-        wrong = list(differences.wrong_in(self.by_id)) + list(own_rules.wrong_in(self.by_id))
-        self.passed += len(differences.leads()) + len(own_rules.by_definition())
+        wrong = list(differences.wrong_in(self.by_id)) + list(own_rules.wrong_in(self.by_id)) + list(edition.wrong_in_renamed())
+        self.passed += len(differences.leads()) + len(own_rules.by_definition()) + len(edition.renamed())
         self.wrong += wrong
 
     def check_folders(self):
@@ -191,7 +200,7 @@ class Book:
 
     def check_links(self):
         """The definitions that the front matter and the openings of chapters name, and the words that the front matter explains."""
-        texts = {front.file: "\n".join(front.blocks) for front in (self.first, self.signs, self.last)}
+        texts = {front.file: "\n".join(front.blocks) for front in (self.title, self.first, self.signs, self.last)}
         texts |= {f"chapters.txt, `{chapter.title}`": " ".join(chapter.opening) for chapter in self.chapters}
         found = [(place, name) for place, text in texts.items() for name in links.named_in(text)]
         found += [(file, name) for file in ("terms.txt", "questions.txt") for row in links.rows(file) for name in row.names]
@@ -205,16 +214,22 @@ class Book:
 
     def check_sizes(self):
         """What README, docs/PROOFS.md and the book's own page say of how much has to be believed, right within a twentieth."""
-        sizes = (len(self.reach.believed), reach.lines_in(self.reach.believed))
         for name, said in SIZES.items():
-            found = re.search(said, (chapters.ROOT / name).read_text(encoding="utf-8"))
-            numbers = [int(number.replace(",", "")) for number in found.groups()] if found else []
-            is_right = len(numbers) == 2 and all(abs(number - size) * 20 <= size for number, size in zip(numbers, sizes))
-            self.check(is_right, f"{name}: it says {numbers} for the definitions that have to be believed and their lines, and there are {sizes}")
+            self.check_size(name, said, "the definitions that have to be believed", self.reach.believed)
+        for name in ("language", "laws", "refinement"):
+            self.check_size("docs/book/README.md", rf"(?m)^\| {name} \|.*\| ([\d,]+) \| ([\d,]+) \|$", f"the definitions of {name}", getattr(self.reach, name))
         self.check_further()
-        said = re.search(r"core takes (\d+) pages on paper, and all that has to be believed (\d+)", (chapters.ROOT / "README.md").read_text(encoding="utf-8"))
+        said = re.search(r"core takes some (\d+) pages on paper, all that has to be believed (\d+)", (chapters.ROOT / "README.md").read_text(encoding="utf-8"))
         pages = (str(believed.PAGES_OF_THE_CORE), str(believed.PAGES))
-        self.check(said and said.groups() == pages, f"README.md: it doesn't say that the core takes {pages[0]} pages on paper, and all that has to be believed {pages[1]}")
+        self.check(said and said.groups() == pages, f"README.md: it doesn't say that the core takes some {pages[0]} pages on paper, all that has to be believed {pages[1]}")
+
+    def check_size(self, name, said, what, definitions_):
+        """What a file says of how many definitions of how many lines there are, right within a twentieth."""
+        sizes = (len(definitions_), reach.lines_in(definitions_))
+        found = re.search(said, (chapters.ROOT / name).read_text(encoding="utf-8"))
+        numbers = [int(number.replace(",", "")) for number in found.groups()] if found else []
+        is_right = len(numbers) == 2 and all(abs(number - size) * 20 <= size for number, size in zip(numbers, sizes))
+        self.check(is_right, f"{name}: it says {numbers} for {what} and their lines, and there are {sizes}")
 
     def check_further(self):
         """What docs/PROOFS.md says of each promise that takes further definitions, and README after it, right within a twentieth."""
@@ -258,6 +273,18 @@ class Book:
             print(f"{(OUT / name).relative_to(chapters.ROOT)}: {len(made) / 1e6:.1f} MB")
         self.write_runs()
 
+    def print_pages(self):
+        """The book on paper, where there is a browser."""
+        browser, printed = next((found for found in map(shutil.which, BROWSERS) if found), None), OUT / "book.pdf"
+        printed.unlink(missing_ok=True)
+        if browser is None:
+            print("no book.pdf: it needs chromium")
+            return
+        with tempfile.TemporaryDirectory(prefix="book-") as room:
+            flags = ["--headless", "--no-sandbox", "--disable-gpu", f"--user-data-dir={room}", "--no-pdf-header-footer", f"--print-to-pdf={printed}"]
+            subprocess.run([browser, *flags, (OUT / weave_html.BOOK).as_uri()], stdout=subprocess.DEVNULL, stderr=subprocess.DEVNULL, check=False, timeout=PATIENCE)
+        print(f"{printed.relative_to(chapters.ROOT)}: {printed.stat().st_size / 1e6:.1f} MB" if printed.is_file() else "no book.pdf: the browser didn't print it")
+
     def write_runs(self):
         """What runs the examples of the pages, beside them; it needs the module of `make web`."""
         (OUT / weave_html.RUNS).unlink(missing_ok=True)
@@ -300,6 +327,8 @@ def main():
     book.print_reach()
     if "--check" not in sys.argv[1:]:
         book.write()
+    if "--pdf" in sys.argv[1:]:
+        book.print_pages()
     print(f"{book.passed} passed, {len(book.wrong)} failed")
     return bool(book.wrong)
 

@@ -7,6 +7,7 @@ import re
 
 import bibtex_names
 import differences
+import edition
 import functions
 import glossary
 import layout
@@ -22,6 +23,8 @@ SCRIPT = pathlib.Path(__file__).with_name("book.js")
 # The pages, and the chapter that is a page of its own.
 BOOK, WORKED_EXAMPLES = "book.html", "worked.html"
 WORKED = "Worked examples"
+# The tables of words and of questions, by which the search field knows them.
+OF_ROWS = {"terms.txt": "terms", "questions.txt": "asked"}
 # What runs the examples of both pages, if it is there.
 RUNS = "book-runs.js"
 # A text in quotes of so many characters at most stays on one line.
@@ -177,9 +180,15 @@ def contents_html(book):
     chapters_ = "".join(f'{f"</ul><h3>{text(chapter.part)}</h3><ul>" if chapter.part else ""}<li><a href="#ch{chapter.number}">{chapter.number} {text(chapter.title)}</a><ul>'
                         + "".join(item(anchor, title, number) for anchor, title, number in layout.headings_of(chapter, book.signs)) + "</ul></li>" for chapter in book.chapters)
     return (f'<nav id="contents"><h2>Contents</h2><ul><li><a href="#{book.first.anchor}">{book.first.title}</a><ul>{first}</ul></li>'
-            f'<li><a href="#rules">The rules in words</a><ul>{words}</ul></li><li><a href="#differences">{differences.TITLE}</a></li>{chapters_}</ul><h3>Beside the chapters</h3><ul><li><a href="#{book.last.anchor}">{book.last.title}</a><ul>{last}</ul></li><li><a href="#index">Index</a></li></ul></nav>'
-            '<p class="tools"><label>Find a name <input type="search" id="find" placeholder="substring$, ITERATE, is_wanted"></label>'
-            '<output for="find" id="met"></output> <a href="#contents">Contents</a></p>')
+            f'<li><a href="#rules">The rules in words</a><ul>{words}</ul></li><li><a href="#differences">{differences.TITLE}</a></li>{chapters_}</ul><h3>Beside the chapters</h3><ul><li><a href="#{book.last.anchor}">{book.last.title}</a><ul>{last}</ul></li><li><a href="#index">Index</a></li></ul></nav>')
+
+
+def title_html(book):
+    """What the book is, of which version, the search field, how the book is cited and what is proved."""
+    about = "\n".join(text_html(block, book.by_id) for block in book.title.blocks)
+    return (f'<h1>{edition.TITLE}</h1><p class="subtitle">{text(edition.subtitle())}<br>{edition.version()}</p>'
+            '<p class="tools"><label>Find <input type="search" id="find" placeholder="substring$, exit status, special character, IsProduct"></label>'
+            f'<output for="find" id="met"></output> <a href="#contents">Contents</a></p><p class="opening">{text(book.summary)}</p><div class="title">{about}</div>')
 
 
 def bibtex_index_html():
@@ -214,11 +223,11 @@ def words_html(found):
 def rows_html(file, by_id):
     """A table of words or of questions, with what is said of each and the definitions that say it. A question stands out from its answer."""
     rows = "".join((f'<tr><th colspan="3">{text(title)}</th></tr>' if title else "") + "".join(row_html(row, by_id) for row in found) for title, found in links.groups(file))
-    return f'<table class="words{" asked" * (file == "questions.txt")}">{rows}</table>'
+    return f'<table class="words {OF_ROWS[file]}">{rows}</table>'
 
 
 def row_html(row, by_id):
-    return f"<tr><td>{text(row.word)}</td><td>{text(row.meaning)}</td><td>{text('; '.join(links.to(name, by_id) for name in row.names))}</td></tr>"
+    return f'<tr id="{links.row_id(row.word)}"><td>{text(row.word)}</td><td>{text(row.meaning)}</td><td>{text("; ".join(links.to(name, by_id) for name in row.names))}</td></tr>'
 
 
 def manuals_html(sections):
@@ -227,6 +236,13 @@ def manuals_html(sections):
         f'<a href="#s{section.number}">{text(section.title)}</a>\u00a0{section.number}' for section in found) + "</td></tr>"
         for (manual, number), found in manuals.followers(sections))
     return f'<table class="words">{rows}</table>'
+
+
+def renamed_html(rows, by_id):
+    """The names that changed, each with the definitions that have its new name. An old address leads to its row."""
+    made = "".join(f'<tr id="{row.old.removeprefix("btx_")}"><td><code>{html.escape(row.old)}</code></td><td><code>{html.escape(row.new)}</code></td><td>'
+                   f'{references(edition.targets(row.new, by_id))}</td></tr>' for row in rows)
+    return f'<table class="words renamed">{made}</table>' if rows else f"<p>{edition.NONE_RENAMED}</p>"
 
 
 def items_html(block, by_id):
@@ -251,11 +267,13 @@ def shown_html(it):
 
 
 def text_html(block, by_id):
-    """A paragraph or a list."""
+    """A paragraph, a list or code."""
+    if block.startswith("    "):
+        return rules.block_html(block, {})
     return items_html(block, by_id) if block.startswith(("- ", "1. ")) else f"<p>{text(links.linked(rules.joined(block), by_id))}</p>"
 
 
-BLOCKS = Blocks(heading_html, shown_html, words_html, rows_html, manuals_html, text_html)
+BLOCKS = Blocks(heading_html, shown_html, words_html, rows_html, manuals_html, renamed_html, text_html)
 
 
 def notation_html(front, book, level=2):
@@ -268,12 +286,12 @@ def compact(body):
     return TAG.sub(lambda tag: QUOTED.sub(r"=\2", tag[0]), body)
 
 
-def page_html(title, body, script=""):
+def page_html(named, body, script=""):
     """A page that needs nothing else but the other page. Where runs.py has put its file beside it, its examples can be run."""
-    style = STYLE.read_text(encoding="utf-8")
+    style = STYLE.read_text(encoding="utf-8").replace("RUNNING HEAD", edition.running_head())
     script = (f"\n<script>{script}</script>" if script else "") + f'\n<script src="{RUNS}" defer></script>'
     return ('<!doctype html>\n<html lang="en"><head><meta charset="utf-8"><meta name="viewport" content="width=device-width,initial-scale=1">'
-            f"<title>{title}</title><style>{style}</style></head><body>\n{compact(body)}{script}\n</body></html>\n")
+            f"<title>{named}</title><style>{style}</style></head><body>\n{compact(body)}{script}\n</body></html>\n")
 
 
 def followers(sections):
@@ -293,14 +311,13 @@ def across(body, own, other, file):
 
 def book_html(book):
     """The book, and its worked examples, as two pages: their files' names with their texts."""
-    title = "BibTeX, proved: the book of definitions"
     worked = [chapter for chapter in book.chapters if chapter.title == WORKED]
-    body = [f'<h1>{title}</h1><p class="opening">{text(book.summary)}</p>', contents_html(book),
+    body = [title_html(book), contents_html(book),
             notation_html(book.first, book), rules.as_html(followers(book.sections), differences.sign_html), differences.as_html()]
     body += [chapter_html(chapter, book) for chapter in book.chapters if chapter not in worked]
     body = "\n".join(body) + notation_html(book.last, book) + index_html(book.found)
-    examples = (f'<h1>{title}: worked examples</h1><p class="opening"><a href="{BOOK}">The book</a></p>'
+    examples = (f'<h1>{edition.TITLE}: worked examples</h1><p class="subtitle">{edition.version()}</p><p class="opening"><a href="{BOOK}">The book</a></p>'
                 + "\n".join(chapter_html(chapter, book) for chapter in worked))
     ids = [set(re.findall(r' id="([^"]+)"', page)) for page in (body, examples)]
-    return {BOOK: page_html(title, across(body, *ids, WORKED_EXAMPLES), SCRIPT.read_text(encoding="utf-8")),
-            WORKED_EXAMPLES: page_html(f"{title}: worked examples", across(examples, *ids[::-1], BOOK))}
+    return {BOOK: page_html(edition.TITLE, across(body, *ids, WORKED_EXAMPLES), SCRIPT.read_text(encoding="utf-8")),
+            WORKED_EXAMPLES: page_html(f"{edition.TITLE}: worked examples", across(examples, *ids[::-1], BOOK))}

@@ -5,6 +5,7 @@ import textwrap
 
 import bibtex_names
 import differences
+import edition
 import functions
 import glossary
 import layout
@@ -15,7 +16,9 @@ import rules
 from blocks import Blocks, Sections
 
 HEAD = """---
-title: "BibTeX, proved: the book of definitions"
+title: "{title}"
+subtitle: "{subtitle}"
+date: "{edition}"
 lang: en
 documentclass: report
 papersize: a4
@@ -133,6 +136,11 @@ def manuals_markdown(sections):
                      for (manual, number), found in manuals.followers(sections)) + "\n"
 
 
+def renamed_markdown(rows, by_id):
+    """The names that changed, each with the definitions that have its new name."""
+    return "\n".join(f"- `{row.old}` is now `{row.new}`: {references(edition.targets(row.new, by_id))}" for row in rows) + "\n" if rows else edition.NONE_RENAMED + "\n"
+
+
 def heading_markdown(title):
     return f"## {title} {{#{links.heading_id(title)} .unnumbered}}\n"
 
@@ -143,11 +151,13 @@ def shown_markdown(it):
 
 
 def text_markdown(block, by_id):
-    """A paragraph, or a list with a point a line."""
+    """A paragraph, a list with a point a line, or code."""
+    if block.startswith("    "):
+        return block + "\n"
     return links.linked(re.sub(r"\n(?!- |\d+\. )", " ", block), by_id, True) + "\n"
 
 
-BLOCKS = Blocks(heading_markdown, shown_markdown, words_markdown, rows_markdown, manuals_markdown, text_markdown)
+BLOCKS = Blocks(heading_markdown, shown_markdown, words_markdown, rows_markdown, manuals_markdown, renamed_markdown, text_markdown)
 
 
 def notation_markdown(front, book, level=1):
@@ -175,6 +185,8 @@ def without_mathematics(text):
 
 def book_markdown(book):
     """The whole book."""
-    parts = [HEAD, book.summary + "\n", notation_markdown(book.first, book), rules.as_markdown(), differences.as_markdown()]
+    head = HEAD.replace("{title}", edition.TITLE).replace("{subtitle}", re.sub(r"\[(.*?)\]\(.*?\)", r"\1", edition.subtitle())).replace("{edition}", edition.version())
+    about = [text_markdown(block, book.by_id) for block in book.title.blocks]
+    parts = [head, book.summary + "\n", *about, notation_markdown(book.first, book), rules.as_markdown(), differences.as_markdown()]
     parts += [chapter_markdown(chapter, book) for chapter in book.chapters] + [notation_markdown(book.last, book), index_markdown(book.found)]
     return without_mathematics("\n".join(parts))

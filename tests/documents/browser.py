@@ -38,6 +38,8 @@ ASKED = {
     "code keeps its spaces": "all('code').every((it) => style(it).whiteSpace === 'pre-wrap' || style(it).whiteSpace === 'pre')",
     "code is nearly as large as text": "all('p code').slice(0, 300).every((it) => parseFloat(style(it).fontSize) >= 0.8 * parseFloat(style(it.parentElement).fontSize))",
     "comments in code don't hang": "all('pre .c').every((it) => style(it).textIndent === '0px')",
+    "comments in code keep their line's indent": """all('pre .l.c').every((it) => parseFloat(style(it).paddingLeft) >= parseFloat(style(it).fontSize) * 0.55 *
+        Number(it.style.getPropertyValue('--i') || 0))""",
     "names in the first column of tables are whole": "all('.wide td:first-child > span > code').every((it) => it.getClientRects().length === 1)",
     "options are whole": "all('code.whole').every((it) => it.getClientRects().length <= 1)",
     "questions stand out": "all('.asked td:first-child').every((it) => style(it).fontWeight >= 600)",
@@ -53,13 +55,29 @@ ASKED_OF_BOOK = {
         page.getSelection().selectAllChildren(shown);
         return page.getSelection().toString().includes('byte "{" then Open') && /\\n {4}else/.test(page.getSelection().toString());
     })()""",
-    "a name is found by the search field": """['substring$', 'ITERATE', '--budget', 'is_wanted', 'bad cross reference'].every((name) => {
+    "what is typed is found by the search field": """['substring$', 'ITERATE', '--budget', 'is_wanted', 'bad cross reference', 'special character', 'line length', '79', 'exit status',
+            'whitespace', 'abbreviation', 'last name', 'and others', 'utf-8', 'Unicode', 'accent', 'memory', 'byte-order mark', 'carriage return', 'line breaking', 'equal keys',
+            'IsProduct', 'Ties in formatted names'].every((name) => {
         const field = page.document.getElementById('find');
         field.value = name;
         field.dispatchEvent(new page.Event('input'));
         const first = page.document.querySelector('#met a');
         return first && page.document.getElementById(decodeURIComponent(first.hash.slice(1)));
     })""",
+    "rules are found before terms, differences, questions and names, and what has to be believed before the rest": """['brace', 'key', 'line', 'quote'].every((typed) => {
+        const field = page.document.getElementById('find'), order = ['Rules', 'Terms', 'Differences', 'Questions', 'Definitions', 'Definitions that nobody has to believe'];
+        field.value = typed;
+        field.dispatchEvent(new page.Event('input'));
+        const found = all('#met b').map((it) => order.indexOf(it.textContent));
+        return found.length > 3 && found.every((it, at) => it > (at ? found[at - 1] : -1));
+    })""",
+    "a name of BibTeX is found first": """['substring$', 'quote$', 'crossref', 'if$', 'READ'].every((name) => {
+        const field = page.document.getElementById('find');
+        field.value = name;
+        field.dispatchEvent(new page.Event('input'));
+        return page.document.querySelector('#met a').textContent === name;
+    })""",
+    "the field is above the contents": "page.document.getElementById('find').compareDocumentPosition(page.document.getElementById('contents')) === 4",
     "Enter goes to what was found": """(() => {
         const field = page.document.getElementById('find');
         field.value = 'while$';
@@ -134,6 +152,7 @@ def check_structure(checks):
         checks.check("**" not in prose, f"{name}: a bold mark isn't rendered: {prose[max(0, prose.find('**') - 40):][:80]}")
         checks.check(not re.search(r"(==|\|\||&amp;&amp;)(</a>)?</span><span class=l\b", text), f"{name}: a line of code ends behind a sign that joins")
         checks.check("prefers-color-scheme:dark" in text, f"{name} has no colours for the dark")
+        checks.check(re.search(r"version \d[\w.]*, \d{4}-\d\d-\d\d", prose), f"{name} doesn't say its version and day")
         checks.check("carried by" not in prose, f"{name} names what carries each definition")
         ids = found_in(ANCHOR, text)
         checks.check(len(ids) == len(set(ids)), f"{name}: an anchor stands twice: {sorted(it for it in set(ids) if ids.count(it) > 1)[:3]}")
@@ -205,7 +224,8 @@ def check_print(checks, program, room, is_busy):
     checks.check(len(pages) > 50, f"the book has {len(pages)} pages on paper")
     numbered = sum(bool(re.search(rf"(?m)^\s*{number}\s*$", page)) for number, page in enumerate(pages, 1))
     checks.check(numbered >= len(pages) - 2, f"{numbered} of {len(pages)} pages have their number")
-    checks.check(sum("the book of definitions" in page for page in pages) >= len(pages) - 2, "pages have no running head")
+    headed = sum(bool(re.search(r"the book of definitions .*version \d[\w.]*, \d{4}-\d\d-\d\d", page)) for page in pages)
+    checks.check(headed >= len(pages) - 2, f"{headed} of {len(pages)} pages have the book's name, its version and its day above them")
     check_core(checks, pages)
 
 
