@@ -24,7 +24,7 @@ class Section:
 
     def __init__(self, title):
         self.title, self.modules, self.rules, self.examples, self.reason, self.parts = title, [], [], [], None, []
-        self.believed, self.table, self.first = set(), None, None
+        self.believed, self.table, self.first, self.manuals = set(), None, None, []
         self.captions, self.number = {}, None
 
     @property
@@ -90,6 +90,8 @@ def read_line(chapter, line):
         section.believed.update(rest.split(", "))
     elif word == "table":
         section.table = rest.strip()
+    elif word == "manual":
+        section.manuals += rest.split("; ")
     elif word == "first":
         section.first = rest.strip()
     elif word == "rule":

@@ -11,6 +11,8 @@ SIGNS = pathlib.Path(__file__).with_name("differs.txt")
 TITLE = "Differences from BibTeX"
 # How many words of a row its anchor has.
 WORDS = 5
+# What a line of differs.txt for functions of styles begins with: all of them, or one of a name.
+FUNCTIONS, FUNCTION = "functions", "function "
 # A line of differs.txt for rows that meet no definition: these words, and the reason.
 NONE = "none: "
 # The words in bold at a row's front.
@@ -50,9 +52,11 @@ def signs():
 def wrong_in(by_id):
     """What is wrong with the table of signs, as messages."""
     anchors, known = set(rules.headings().values()), leads()
-    yield from (f"differs.txt: the book has no `{place}`" for place in signs() if place not in anchors and place not in by_id and not place.startswith(NONE))
+    of_functions = {place for place in signs() if place == FUNCTIONS or place.startswith(FUNCTION)}
+    yield from (f"differs.txt: the book has no `{place}`" for place in signs() if place not in anchors and place not in by_id and place not in of_functions and not place.startswith(NONE))
     of_rules = {lead for place, found in signs().items() if place in anchors for lead in found}
-    others = {lead for place, found in signs().items() if place not in anchors for lead in found}
+    others = {lead for place, found in signs().items() if place not in anchors and place not in of_functions for lead in found}
+    yield from (f"differs.txt: docs/DIFFERENCES.md has no row `{lead}`" for place in of_functions for lead in signs()[place] if lead not in known)
     yield from (f"differs.txt: docs/DIFFERENCES.md has no row `{lead}`" for lead in of_rules | others if lead not in known)
     yield from (f"differs.txt: no rule has the row `{lead}` of docs/DIFFERENCES.md" for lead in known if lead not in of_rules)
     yield from (f"differs.txt: no definition has the row `{lead}` of docs/DIFFERENCES.md, and no line `{NONE}REASON`" for lead in known if lead not in others)
@@ -61,13 +65,20 @@ def wrong_in(by_id):
 
 def sign_html(place):
     """The sign at a rule or a definition, if a row is about it."""
-    found = signs().get(place, [])
+    return signs_html(signs().get(place, []))
+
+
+def signs_html(found):
+    """A sign with its rows, if there are any."""
     rows = "; ".join(f'<a href="#{anchor(lead)}">{rules.inline(lead)}</a>' for lead in found)
     return f'<p class="differs"><b>Differs from the original:</b> {rows}</p>' if found else ""
 
 
 def sign_markdown(place):
-    found = signs().get(place, [])
+    return signs_markdown(signs().get(place, []))
+
+
+def signs_markdown(found):
     return "**Differs from the original:** " + "; ".join(f"[{lead}](#{anchor(lead)})" for lead in found) + "\n\n" if found else ""
 
 

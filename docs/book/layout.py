@@ -2,6 +2,8 @@
 
 import re
 
+import modules
+
 WIDE = 88
 # How wide a field is at most with its comment beside it, and what stands between the two.
 NARROW = 66
@@ -239,6 +241,7 @@ def foot_of(definition, references, text=str):
     uses, users, compared = uses_elsewhere(definition), users_of(definition), bytes_in(definition)
     foot = [text(", ".join(compared))] * bool(compared)
     foot += [text(f"`{written}` is {what}") + references([target]) for written, what, target in renamed_in(definition)]
+    foot += [modules.sentence(definition.id)] * bool(modules.sentence(definition.id))
     return foot + [f"uses {references(uses, 99)}"] * bool(uses) + [f"used in {references(users)}"] * bool(users)
 
 

@@ -33,6 +33,8 @@ import functions
 import glossary
 import layout
 import links
+import manuals
+import modules
 import own_rules
 import reach
 import rules
@@ -140,7 +142,8 @@ class Book:
         lacking = bibtex_names.lacking() + functions.lacking(self.by_id)
         self.check(not lacking, "; ".join(lacking))
         wrong = list(differences.wrong_in(self.by_id)) + list(own_rules.wrong_in(self.by_id)) + list(edition.wrong_in_renamed())
-        self.passed += len(differences.leads()) + len(own_rules.by_definition()) + len(edition.renamed())
+        wrong += list(modules.wrong_in(self.by_id, [row[0].strip("`") for row in functions.rows_of_rules()])) + list(manuals.wrong_in(self.sections))
+        self.passed += len(differences.leads()) + len(own_rules.by_definition()) + len(edition.renamed()) + len(modules.table())
         self.wrong += wrong
 
     def check_folders(self):

@@ -13,6 +13,7 @@ import glossary
 import layout
 import links
 import manuals
+import modules
 import own_rules
 import rules
 from blocks import Blocks, Sections
@@ -129,12 +130,18 @@ def example_html(example, said, known):
 
 
 def functions_html(by_id):
-    """The table of the functions of styles, with a number, a sentence, the operands and an example for each."""
-    rows = "".join(f'<tr id="function-{it.number}"><td><a href="#function-{it.number}">{it.number}</a></td><td><a href="#{rules.row_anchor(it.name.strip("`"))}">{text(it.name)}</a></td>'
-                   f"<td>{text(it.operands)}</td><td>{text(it.does)}{'. <i>Errors:</i> ' + text(it.errors) if it.errors else ''}</td><td>{text(it.default)}</td><td>{text(it.example)}</td></tr>"
-                   for it in functions.table(by_id))
-    return ('<div class="functions"><p>The built-in functions of styles. Operands are named from the top: I an integer, S a string, F a function, M a string or a missing field, L any literal.</p>'
-            f'<div class="wide"><table><tr><th></th><th>function</th><th>operands</th><th>what it does, and errors of its own</th><th>default</th><th>example</th></tr>{rows}</table></div></div>')
+    """A block for each function of styles, below a line of links to them."""
+    found = functions.table(by_id)
+    links_ = " ".join(f'<a href="#{it.anchor}"><code>{html.escape(it.plain)}</code></a>' for it in found)
+    return f'<div class="functions"><p>The {len(found)} built-in functions of styles. {functions.OPERANDS}</p><p>{links_}</p>{differences.sign_html(differences.FUNCTIONS)}{"".join(map(function_html, found))}</div>'
+
+
+def function_html(it):
+    """A function of styles: its rule, its equations in the core, its example, its differences from the original, and where the manual and the original's source have it."""
+    said = "".join(f"<li><i>{head}:</i> {text(words)}</li>" for head, words in it.sentences)
+    equations = "".join(code_line(line, definition) for definition, lines in it.equations for line in lines)
+    return (f'<div class="function" id="{it.anchor}"><h4><a class="number" href="#{it.anchor}">{it.number}</a> <a href="#{rules.row_anchor(it.plain)}"><code>{html.escape(it.plain)}</code></a></h4>'
+            f'<p>{text(it.does[0].upper() + it.does[1:])}.</p><ul>{said}</ul><pre>{equations}</pre>{differences.signs_html(it.rows)}<footer>{it.sources}</footer></div>')
 
 
 def opening_html(section, linked, of_manuals):

@@ -73,9 +73,14 @@ def definition_markdown(it):
 
 
 def functions_markdown(by_id):
-    """The table of the functions of styles."""
-    rows = "".join(f"| {it.number} | {it.name} | {it.operands} | {it.does}{'. Errors: ' + it.errors if it.errors else ''} | {it.default} | {it.example} |\n" for it in functions.table(by_id))
-    return f"| | function | operands | what it does, and errors of its own | default | example |\n|---|---|---|---|---|---|\n{rows}"
+    """A block for each function of styles."""
+    return f"{functions.OPERANDS}\n\n{differences.sign_markdown(differences.FUNCTIONS)}" + "\n".join(map(function_markdown, functions.table(by_id)))
+
+
+def function_markdown(it):
+    said = "".join(f"- *{head}:* {words}\n" for head, words in it.sentences)
+    equations = "\n".join(part for _, lines in it.equations for line in lines for part in on_page(line))
+    return f"**{it.number}** []{{#{it.anchor}}} {it.name}: {it.does}.\n\n{said}\n```\n{equations}\n```\n\n{differences.signs_markdown(it.rows)}*{it.sources}*\n"
 
 
 def opening_markdown(section, linked, of_manuals):
