@@ -22,7 +22,7 @@ UNFINISHED = re.compile(r"(==|\|\||&&|\+\+|→|\()$")
 # What is said of a definition by who needs it.
 REACHES = {"believed": "to be believed", "language": "how it is computed", "laws": "only in laws"}
 # What stands behind the core's sections.
-NAMES_ELSEWHERE, WORDS_USED = "What the core names of the chapters behind it", "Words of the library that the core uses"
+NAMES_ELSEWHERE, WORDS_USED = "What the core names of the chapters after it", "Words of the library that the core uses"
 CODES = re.compile(r'\(codes ("(?:[^"\\]|\\.)*")\)|codes (?=")')
 
 

@@ -4,7 +4,7 @@
 
 It reads README.md and the .md files of docs/, .ci/, crates/, tests/, examples/, contrib/, library/, python/, lua/ and web/. A table says what its columns hold by their heads. Each
 failure is a line; the last line is 'N passed, M failed', of citations, and the exit status is 0 only where M is 0. The user's reference also has the
-words that people search for, README is short and has the right sizes; and where there is `rt`, README names the kit that `rt version` prints among those that the program is
+words that people search for, README is short and has the right sizes; no document has more long sentences than it may (sentences.py); and where there is `rt`, README names the kit that `rt version` prints among those that the program is
 proved with.
 
 Each crate has a README with the parts that one looks for. It names each wrong body of its crate, and its examples of Rattle are lines of the file that it
@@ -24,6 +24,7 @@ import shutil
 import subprocess
 
 import places
+import sentences
 
 ROOT = pathlib.Path(__file__).resolve().parents[2]
 DOCUMENTS = sorted(path for pattern in ("README.md", "docs/*.md", "docs/book/README.md", ".ci/*.md", "crates/*/README.md", "crates/*/docs/*.md", "tests/**/*.md",
@@ -334,7 +335,7 @@ def main():
             passed, failed = passed + (wrong is None), failed + (wrong is not None)
             if wrong:
                 print(f"{path.relative_to(ROOT)}, line {number}: `{cited}`: {wrong}")
-    for message, is_right in (*unnamed_bodies(), *missing_parts(), *examples(), *recipes(), *names(), *gate_numbers(), *gate_parts(), *is_short()):
+    for message, is_right in (*unnamed_bodies(), *missing_parts(), *examples(), *recipes(), *names(), *gate_numbers(), *gate_parts(), *is_short(), *sentences.verdicts()):
         passed, failed = passed + is_right, failed + (not is_right)
         if not is_right:
             print(message)
