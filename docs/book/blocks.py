@@ -2,8 +2,10 @@
 
 from typing import Callable, NamedTuple
 
+import carried
 import chapters
 import edition
+import evidence
 import glossary
 import layout
 import manuals
@@ -19,6 +21,7 @@ class Sections(NamedTuple):
     definition: Callable
     named: Callable
     listed: Callable
+    evidence: Callable
     text: Callable = str
 
     def woven(self, section, book, known):
@@ -27,6 +30,7 @@ class Sections(NamedTuple):
         anchors = rules.headings()
         of_manuals = f" The manuals: {manuals.sentence(section)}." if manuals.followed_by(section) else ""
         out = self.opening(section, [(rule, anchors[rule]) for rule in section.rules if rule in anchors], of_manuals)
+        out += [self.evidence(evidence.sentence(section))] * bool(evidence.sentence(section))
         for name in section.examples:
             if name in book.examples:
                 example = book.examples[name]
@@ -53,6 +57,9 @@ class Blocks(NamedTuple):
     rows: Callable
     manuals: Callable
     renamed: Callable
+    picture: Callable
+    computed: Callable
+    steps: Callable
     text: Callable
 
     def woven(self, front, book):
@@ -71,6 +78,14 @@ class Blocks(NamedTuple):
             return self.rows(f"{block[1:]}.txt", book.by_id)
         if block == "@manuals":
             return self.manuals(book.sections)
+        if block == "@picture":
+            return self.picture(book.by_id)
+        if block == "@files":
+            return self.text("\n".join("    " + line for line in carried.file_lines()), book.by_id)
+        if block in carried.COMPUTED:
+            return self.computed(carried.as_definition(carried.COMPUTED[block](book.by_id), book.by_id))
+        if block == "@steps":
+            return self.steps(carried.step_rows())
         if block == "@renamed":
             return self.renamed(edition.renamed(), book.by_id)
         return self.text(block, book.by_id)

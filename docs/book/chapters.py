@@ -25,7 +25,7 @@ class Section:
     def __init__(self, title):
         self.title, self.modules, self.rules, self.examples, self.reason, self.parts = title, [], [], [], None, []
         self.believed, self.table, self.first, self.manuals = set(), None, None, []
-        self.captions, self.number = {}, None
+        self.captions, self.number, self.is_believed = {}, None, False
 
     @property
     def definitions(self):
@@ -72,6 +72,8 @@ def mark_believed(chapters):
     for chapter in chapters:
         part = chapter.part or part
         chapter.is_believed = part == BELIEVED
+        for section in chapter.sections:
+            section.is_believed = chapter.is_believed
 
 
 def read_line(chapter, line):

@@ -1,7 +1,9 @@
 """How the text of a definition is laid out: what only the checker needs is left out, long lines are broken, equations stand one below another."""
 
+import collections
 import re
 
+import cases
 import modules
 
 WIDE = 88
@@ -35,10 +37,31 @@ def shown(definition):
     if definition.kind == "job":
         return definition.lines
     lines, is_table = [], definition.kind == "equations" and len(definition.lines) > LONG_TABLE
-    for line in map(plain, rejoined(definition.lines)):
+    for line in by_cases(definition):
         # (the rows of a table stay one line each, and wrap where a page is narrow)
         lines += [line] if is_table and not line.startswith(" ") else broken(line, re.match(r"\s*", line)[0])
     return aligned(lines) if definition.kind == "equations" else lines
+
+
+def by_cases(definition):
+    """The lines of a definition without what only the checker needs, and with cases where an equation has them outermost."""
+    found = []
+    for equation in equations(definition):
+        text = " ".join(line.strip() for line in equation)
+        made = None if definition.kind != "equations" or any(line.lstrip().startswith("--") for line in equation) else cases.equation(text, broken)
+        found += made or equation
+    return found
+
+
+def equations(definition):
+    """The equations of a definition, each with its lines; what is no equation, by itself."""
+    found = []
+    for line in map(plain, rejoined(definition.lines)):
+        if found and line.startswith(" ") and found[-1][0].startswith(definition.name + " ") and not found[-1][0].startswith(definition.name + " : "):
+            found[-1].append(line)
+        else:
+            found.append([line])
+    return found
 
 
 def plain(line):
@@ -49,8 +72,17 @@ def plain(line):
 
 def is_whole(definition):
     """Whether all of a definition's text is printed, but for spaces and ends of lines."""
-    printed, source = "".join(shown(definition)), "".join(map(plain, rejoined(definition.lines)))
-    return definition.kind not in ("equations", "record", "data") or re.sub(r"\s", "", printed) == re.sub(r"\s", "", source)
+    printed, source = "\n".join(shown(definition)), "\n".join(by_cases(definition))
+    if definition.kind not in ("equations", "record", "data"):
+        return True
+    return re.sub(r"\s", "", printed) == re.sub(r"\s", "", source) and has_all_words(source, "\n".join(map(plain, rejoined(definition.lines))))
+
+
+def has_all_words(printed, source):
+    """Whether each word of a definition's text is printed as often as it stands there, but for what cases replace."""
+    wanted = collections.Counter(re.findall(r"\w+", cases.TYPED.sub(r"(λ \1.", source).replace(cases.WORD.strip(), " ").replace("λ", " ")))
+    found = collections.Counter(re.findall(r"\w+", cases.TYPED.sub(r"(λ \1.", printed).replace(cases.WORD.strip(), " ").replace("λ", " ")))
+    return all(found[word] >= number for word, number in wanted.items())
 
 
 def rejoined(lines):

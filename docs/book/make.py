@@ -24,10 +24,13 @@ import tempfile
 
 import believed
 import bibtex_names
+import carried
+import cases
 import chapters
 import definitions
 import differences
 import edition
+import evidence
 import examples
 import functions
 import glossary
@@ -72,6 +75,7 @@ class Book:
         self.by_id = {name: it for it in self.found for name in (it.id, it.id.removesuffix("-type"))}
         self.title = Front("title.md", edition.TITLE, "title")
         self.first = Front("notation.md", "How to read this book", "notation")
+        self.carried = Front("carried.md", "One job, carried through the relation", "carried")
         self.signs = Front("signs.md", "The notation in short", links.heading_id("The notation in short"))
         self.last = Front("appendix.md", "The notation, sign by sign, questions and words", "appendix")
 
@@ -135,7 +139,7 @@ class Book:
                 numbered = [file for file, intro in chapters.files_of(module, found) if re.search(chapters.NUMBER_OF_FILE, "\n".join(intro))]
                 self.check(not numbered, f"chapters.txt, `{section.title}`: the number of {numbered} is printed")
         for it in self.reach.believed:
-            self.check(not any(line.endswith("→") for line in layout.shown(it)[1:]), f"{where(it)}: a line of `{it.name}` ends with an arrow")
+            self.check(not any(line.endswith("→") and not cases.OPEN.match(line) for line in layout.shown(it)[1:]), f"{where(it)}: a line of `{it.name}` ends with an arrow")
 
     def check_tables(self):
         """The tables of docs/RULES.md from which the index and the table of functions are made."""
@@ -143,7 +147,9 @@ class Book:
         self.check(not lacking, "; ".join(lacking))
         wrong = list(differences.wrong_in(self.by_id)) + list(own_rules.wrong_in(self.by_id)) + list(edition.wrong_in_renamed())
         wrong += list(modules.wrong_in(self.by_id, [row[0].strip("`") for row in functions.rows_of_rules()])) + list(manuals.wrong_in(self.sections))
-        self.passed += len(differences.leads()) + len(own_rules.by_definition()) + len(edition.renamed()) + len(modules.table())
+        wrong += list(carried.wrong())
+        wrong += list(evidence.wrong_in([section for section in self.sections if section.is_believed], own_rules.names_in))
+        self.passed += len(differences.leads()) + len(own_rules.by_definition()) + len(edition.renamed()) + len(modules.table()) + len(evidence.rows())
         self.wrong += wrong
 
     def check_folders(self):
@@ -169,12 +175,21 @@ class Book:
                 self.check(rule in self.rules, f"chapters.txt, `{section.title}`: docs/RULES.md has no heading `{rule}`")
             for name in section.examples:
                 self.check_example(section, name)
+        self.check_examples()
         for what, has in (("rule", lambda section: section.rules), ("example", lambda section: section.examples)):
             without = [section for section in self.sections if not has(section)]
             self.check_few(f"sections without {'an' if what == 'example' else 'a'} {what}",
                            [f"chapters.txt, `{section.title}`: no {what}" for section in without], len(self.sections))
             for section in without:
                 self.check(section.reason, f"chapters.txt, `{section.title}`: a line `none: REASON` is to say why it has no {what}")
+
+    def check_examples(self):
+        """Among what has to be believed each example stands once and has a caption."""
+        found = [(section, name) for section in self.sections if section.is_believed for name in section.examples if name in self.examples]
+        names = [name for _, name in found]
+        for section, name in found:
+            self.check(names.count(name) == 1, f"chapters.txt, `{section.title}`: the example `{name}` stands in another section that has to be believed, too")
+            self.check(layout.caption(section, name, self.examples[name]), f"chapters.txt, `{section.title}`: the example `{name}` has no caption")
 
     def check_example(self, section, name):
         try:
@@ -203,7 +218,7 @@ class Book:
 
     def check_links(self):
         """The definitions that the front matter and the openings of chapters name, and the words that the front matter explains."""
-        texts = {front.file: "\n".join(front.blocks) for front in (self.title, self.first, self.signs, self.last)}
+        texts = {front.file: "\n".join(front.blocks) for front in (self.title, self.first, self.carried, self.signs, self.last)}
         texts |= {f"chapters.txt, `{chapter.title}`": " ".join(chapter.opening) for chapter in self.chapters}
         found = [(place, name) for place, text in texts.items() for name in links.named_in(text)]
         found += [(file, name) for file in ("terms.txt", "questions.txt") for row in links.rows(file) for name in row.names]

@@ -6,6 +6,7 @@ import pathlib
 import re
 
 import bibtex_names
+import carried
 import differences
 import edition
 import functions
@@ -33,6 +34,8 @@ WHOLE = 12
 # A tag with attributes, and a value that needs no quotes there.
 TAG = re.compile(r"<\w+ [^<>]*>")
 QUOTED = re.compile(r'=("([\w.#:-]+)")(?=[ >])')
+# The words of the notation that stand out, with those of cases.
+PRINTED = KEYWORDS | {"case", "of"}
 # The signs of the library that a stranger looks up.
 LINKED_SIGN = re.compile(r"\+\+|&&|\|\||[≡≢×⊎∷⊥ℕℤ↔≤]")
 
@@ -56,7 +59,7 @@ def linked(word, definition, is_head):
     if word.startswith('"'):
         return f'<span class="{"q k" if len(word) <= WHOLE else "q"}">{html.escape(word, quote=False)}</span>'
     first, _, rest = word.partition(".")
-    if first in KEYWORDS and not rest and (definition.kind, first) != ("rust", "Type"):
+    if first in PRINTED and not rest and (definition.kind, first) != ("rust", "Type"):
         return f"<b>{word}</b>"
     if is_head:
         return f'<span class=n>{html.escape(word)}</span>'
@@ -66,8 +69,13 @@ def linked(word, definition, is_head):
     if isinstance(target, Word):
         return f'<a href="#{word_id(target.name)}">{html.escape(written)}</a>{behind}'
     if target is not None and target.place:
-        return f'<a href="#{target.anchor}">{html.escape(written)}</a>{behind}'
+        return f'<a href="#{target.anchor}"{on_paper(definition, target)}>{html.escape(written)}</a>{behind}'
     return html.escape(word)
+
+
+def on_paper(definition, target):
+    """The number of a definition of another chapter, which stands behind its name on paper, where the text has to be believed and has no links."""
+    return f' data-n="{target.number}"' if definition.is_believed and definition.place and definition.place[0] != target.place[0] else ""
 
 
 def signs(between):
@@ -151,6 +159,10 @@ def opening_html(section, linked, of_manuals):
     return [heading] + [f'<p class="rule">The rule in words: {rules_}.{of_manuals}</p>'] * bool(linked)
 
 
+def evidence_html(sentence):
+    return '<p class="rule">' + text(sentence).replace("the differences", '<a href="#differences">the differences</a>') + "</p>"
+
+
 def intros_html(files):
     """What files say at their front."""
     intros = "".join(f'<p>{text(layout.prose(intro))} <span class="file">{file}</span></p>' for file, intro in files)
@@ -165,7 +177,7 @@ def listed_html(anchor, title, items):
     return f'<h3 id="{anchor}">{title}</h3><ul class="names">' + "".join(f"<li>{item}</li>" for item in items) + "</ul>"
 
 
-SECTIONS = Sections(opening_html, example_html, functions_html, intros_html, definition_html, named_html, listed_html, text)
+SECTIONS = Sections(opening_html, example_html, functions_html, intros_html, definition_html, named_html, listed_html, evidence_html, text)
 
 
 def chapter_html(chapter, book):
@@ -187,7 +199,7 @@ def contents_html(book):
     chapters_ = "".join(f'{f"</ul><h3>{text(chapter.part)}</h3><ul>" if chapter.part else ""}<li><a href="#ch{chapter.number}">{chapter.number} {text(chapter.title)}</a><ul>'
                         + "".join(item(anchor, title, number) for anchor, title, number in layout.headings_of(chapter, book.signs)) + "</ul></li>" for chapter in book.chapters)
     return (f'<nav id="contents"><h2>Contents</h2><ul><li><a href="#{book.first.anchor}">{book.first.title}</a><ul>{first}</ul></li>'
-            f'<li><a href="#rules">The rules in words</a><ul>{words}</ul></li><li><a href="#differences">{differences.TITLE}</a></li>{chapters_}</ul><h3>Beside the chapters</h3><ul><li><a href="#{book.last.anchor}">{book.last.title}</a><ul>{last}</ul></li><li><a href="#index">Index</a></li></ul></nav>')
+            f'<li><a href="#{book.carried.anchor}">{book.carried.title}</a></li><li><a href="#rules">The rules in words</a><ul>{words}</ul></li><li><a href="#differences">{differences.TITLE}</a></li>{chapters_}</ul><h3>Beside the chapters</h3><ul><li><a href="#{book.last.anchor}">{book.last.title}</a><ul>{last}</ul></li><li><a href="#index">Index</a></li></ul></nav>')
 
 
 def title_html(book):
@@ -280,7 +292,14 @@ def text_html(block, by_id):
     return items_html(block, by_id) if block.startswith(("- ", "1. ")) else f"<p>{text(links.linked(rules.joined(block), by_id))}</p>"
 
 
-BLOCKS = Blocks(heading_html, shown_html, words_html, rows_html, manuals_html, renamed_html, text_html)
+def steps_html(rows):
+    """The steps of a run: the word of each, and the state that it leaves."""
+    made = "".join(f"<tr><td>{number}</td><td><code>{html.escape(word)}</code></td><td><code>{html.escape(stack)}</code></td><td><code>{html.escape(pending)}</code></td><td>{lines}</td></tr>"
+                   for number, word, stack, pending, lines in rows)
+    return f'<div class="wide"><table><tr><th>step</th><th>word</th><th>stack, top first</th><th>pending line</th><th>lines ended</th></tr>{made}</table></div>'
+
+
+BLOCKS = Blocks(heading_html, shown_html, words_html, rows_html, manuals_html, renamed_html, carried.picture_svg, code, steps_html, text_html)
 
 
 def notation_html(front, book, level=2):
@@ -320,7 +339,7 @@ def book_html(book):
     """The book, and its worked examples, as two pages: their files' names with their texts."""
     worked = [chapter for chapter in book.chapters if chapter.title == WORKED]
     body = [title_html(book), contents_html(book),
-            notation_html(book.first, book), rules.as_html(followers(book.sections), differences.sign_html), differences.as_html()]
+            notation_html(book.first, book), notation_html(book.carried, book), rules.as_html(followers(book.sections), differences.sign_html), differences.as_html()]
     body += [chapter_html(chapter, book) for chapter in book.chapters if chapter not in worked]
     body = "\n".join(body) + notation_html(book.last, book) + index_html(book.found)
     examples = (f'<h1>{edition.TITLE}: worked examples</h1><p class="subtitle">{edition.version()}</p><p class="opening"><a href="{BOOK}">The book</a></p>'

@@ -4,6 +4,7 @@ import re
 import textwrap
 
 import bibtex_names
+import carried
 import differences
 import edition
 import functions
@@ -96,6 +97,10 @@ def example_markdown(example, said, known):
     return f"**Example**{caption}\n\n{code(example.row)}\n\n{words}\n*{example.shown}, which is checked*\n"
 
 
+def evidence_markdown(sentence):
+    return sentence.replace("the differences", "[the differences](#differences)") + "\n"
+
+
 def intros_markdown(files):
     """What files say at their front."""
     return " ".join(f"{layout.prose(intro)} (`{file}`)" for file, intro in files) + "\n"
@@ -109,7 +114,7 @@ def listed_markdown(anchor, title, items):
     return f"## {title} {{#{anchor} .unnumbered}}\n\n" + "\n".join(f"- {item}" for item in items) + "\n"
 
 
-SECTIONS = Sections(opening_markdown, example_markdown, functions_markdown, intros_markdown, definition_markdown, named_markdown, listed_markdown)
+SECTIONS = Sections(opening_markdown, example_markdown, functions_markdown, intros_markdown, definition_markdown, named_markdown, listed_markdown, evidence_markdown)
 
 
 def chapter_markdown(chapter, book):
@@ -162,7 +167,17 @@ def text_markdown(block, by_id):
     return links.linked(re.sub(r"\n(?!- |\d+\. )", " ", block), by_id, True) + "\n"
 
 
-BLOCKS = Blocks(heading_markdown, shown_markdown, words_markdown, rows_markdown, manuals_markdown, renamed_markdown, text_markdown)
+def steps_markdown(rows):
+    """The steps of a run: the word of each, and the state that it leaves."""
+    return "| step | word | stack, top first | pending line | lines ended |\n|---|---|---|---|---|\n" + "".join(
+        f"| {number} | `{word}` | `{stack}` | `{pending}` | {lines} |\n" for number, word, stack, pending, lines in rows)
+
+
+def computed_markdown(definition):
+    return code(definition) + "\n"
+
+
+BLOCKS = Blocks(heading_markdown, shown_markdown, words_markdown, rows_markdown, manuals_markdown, renamed_markdown, carried.picture_text, computed_markdown, steps_markdown, text_markdown)
 
 
 def notation_markdown(front, book, level=1):
@@ -192,6 +207,6 @@ def book_markdown(book):
     """The whole book."""
     head = HEAD.replace("{title}", edition.TITLE).replace("{subtitle}", re.sub(r"\[(.*?)\]\(.*?\)", r"\1", edition.subtitle())).replace("{edition}", edition.version())
     about = [text_markdown(block, book.by_id) for block in book.title.blocks]
-    parts = [head, book.summary + "\n", *about, notation_markdown(book.first, book), rules.as_markdown(), differences.as_markdown()]
+    parts = [head, book.summary + "\n", *about, notation_markdown(book.first, book), notation_markdown(book.carried, book), rules.as_markdown(), differences.as_markdown()]
     parts += [chapter_markdown(chapter, book) for chapter in book.chapters] + [notation_markdown(book.last, book), index_markdown(book.found)]
     return without_mathematics("\n".join(parts))
