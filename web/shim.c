@@ -4,9 +4,10 @@
    of that size that is handed out. Nothing of a call of the library stays behind, so `btx_reset` takes all blocks back at once: the caller calls it before
    each job. One call runs at a time. */
 
-typedef unsigned long u64;
+typedef unsigned long long u64;
+typedef unsigned long size; /* (of 32 bits, as an address is) */
 
-/* An answer of a request for memory: whether it was granted, and the address. */
+/* An answer of a request for memory: whether it was granted, and the address, as the library keeps it. */
 typedef struct {
     u64 granted, address;
 } answer;
@@ -20,7 +21,7 @@ typedef struct block {
     struct block *next;
 } block;
 
-static u64 top, most = ~0ul;
+static u64 top, most = ~0ull;
 static block *kept[CLASSES];
 
 /* Takes all memory back. */
@@ -36,14 +37,14 @@ void btx_limit(u64 bytes) {
 }
 
 /* The class of a size: the least power of two that is as great, from 16 bytes up. */
-static int class_of(u64 size) {
-    return size <= 1ul << LEAST ? LEAST : 64 - __builtin_clzl(size - 1);
+static int class_of(u64 bytes) {
+    return bytes <= 1ull << LEAST ? LEAST : 64 - __builtin_clzll(bytes - 1);
 }
 
 /* Grows the memory until it ends at this address or after it. */
 static int reach(u64 end) {
-    u64 base = (u64)&__heap_base, pages = __builtin_wasm_memory_size(0);
-    if (end < base || end - base > most)
+    u64 base = (size)&__heap_base, pages = __builtin_wasm_memory_size(0);
+    if (end > 1ull << 32 || end - base > most)
         return 0;
     if (end <= pages * PAGE)
         return 1;
@@ -53,32 +54,32 @@ static int reach(u64 end) {
 }
 
 /* Takes a block of this many bytes; null if memory is refused. */
-void *btx_alloc(u64 size) {
-    if (size > 1ul << 40)
+void *btx_alloc(u64 bytes) {
+    if (bytes > 1ull << 32)
         return 0;
-    int class = class_of(size);
+    int class = class_of(bytes);
     block *found = kept[class];
     if (found) {
         kept[class] = found->next;
         return found;
     }
     if (!top)
-        top = ((u64)&__heap_base + HEADER - 1) / HEADER * HEADER;
-    u64 at = top + HEADER, end = at + (1ul << class);
+        top = ((size)&__heap_base + HEADER - 1) / HEADER * HEADER;
+    u64 at = top + HEADER, end = at + (1ull << class);
     if (!reach(end))
         return 0;
-    *(int *)(at - HEADER) = class;
+    *(int *)(size)(at - HEADER) = class;
     top = end;
-    return (void *)at;
+    return (void *)(size)at;
 }
 
 static answer answer_of(void *at) {
-    answer given = {at != 0, (u64)at};
+    answer given = {at != 0, (size)at};
     return given;
 }
 
-answer rattle_alloc(u64 size, u64 align) {
-    return answer_of(btx_alloc(size));
+answer rattle_alloc(u64 bytes, u64 align) {
+    return answer_of(btx_alloc(bytes));
 }
 
 void rattle_dealloc(void *at) {
@@ -87,10 +88,10 @@ void rattle_dealloc(void *at) {
     kept[class] = at;
 }
 
-answer rattle_realloc(void *at, u64 old, u64 size, u64 align) {
-    if (size <= 1ul << *(int *)((char *)at - HEADER))
+answer rattle_realloc(void *at, u64 old, u64 bytes, u64 align) {
+    if (bytes <= 1ull << *(int *)((char *)at - HEADER))
         return answer_of(at);
-    void *more = btx_alloc(size);
+    void *more = btx_alloc(bytes);
     if (more) {
         __builtin_memcpy(more, at, old);
         rattle_dealloc(at);
@@ -98,19 +99,19 @@ answer rattle_realloc(void *at, u64 old, u64 size, u64 align) {
     return answer_of(more);
 }
 
-void *memcpy(void *to, const void *from, u64 count) {
+void *memcpy(void *to, const void *from, size count) {
     return __builtin_memcpy(to, from, count);
 }
 
-void *memmove(void *to, const void *from, u64 count) {
+void *memmove(void *to, const void *from, size count) {
     return __builtin_memmove(to, from, count);
 }
 
-void *memset(void *to, int byte, u64 count) {
+void *memset(void *to, int byte, size count) {
     return __builtin_memset(to, byte, count);
 }
 
-int memcmp(const void *one, const void *other, u64 count) {
+int memcmp(const void *one, const void *other, size count) {
     const unsigned char *a = one, *b = other;
     for (; count; a++, b++, count--)
         if (*a != *b)
@@ -118,15 +119,13 @@ int memcmp(const void *one, const void *other, u64 count) {
     return 0;
 }
 
-/* The product of two integers of 128 bits, by their halves. */
-typedef struct {
-    u64 low, high;
-} wide;
+typedef unsigned __int128 wide;
 
-void __multi3(wide *product, u64 a, u64 a_high, u64 b, u64 b_high) {
-    u64 a0 = a & 0xffffffff, a1 = a >> 32, b0 = b & 0xffffffff, b1 = b >> 32;
+/* The product of two integers of 128 bits, by their halves. */
+wide __multi3(wide a, wide b) {
+    u64 a_low = a, b_low = b, a0 = a_low & 0xffffffff, a1 = a_low >> 32, b0 = b_low & 0xffffffff, b1 = b_low >> 32;
     u64 low = a0 * b0, one = a0 * b1, other = a1 * b0;
     u64 middle = (low >> 32) + (one & 0xffffffff) + (other & 0xffffffff);
-    product->low = (low & 0xffffffff) | middle << 32;
-    product->high = a1 * b1 + (one >> 32) + (other >> 32) + (middle >> 32) + a * b_high + a_high * b;
+    u64 high = a1 * b1 + (one >> 32) + (other >> 32) + (middle >> 32) + a_low * (u64)(b >> 64) + (u64)(a >> 64) * b_low;
+    return (wide)high << 64 | (low & 0xffffffff) | middle << 32;
 }

@@ -1,4 +1,4 @@
-// BibTeX, proved: `run` makes a list of references, `check` says of a style whether it is clean. The module lies beside this file.
+// BibTeX, proved: `run` makes a list of references, `read` gives a database as data, `check` says of a style whether it is clean. The module lies beside this file.
 import { readFileSync } from 'node:fs';
 import { Library, proofOf } from './library.js';
 
@@ -22,4 +22,5 @@ export function library() {
 export const proof = () => proofOf(compiled());
 
 export const run = (job, find, options) => library().run(job, find, options);
+export const read = (text, given) => library().read(text, given);
 export const check = (style, name, steps) => library().check(style, name, steps);

@@ -26,8 +26,24 @@ export interface Options {
   mostLog?: number;
 }
 
+/** Where a line of the log was met: in the `.aux` files or the search for the others, in the style's text, in the databases, in the style's execution, or at the end. */
+export type Met = 'files' | 'style' | 'databases' | 'execution' | 'end';
+
+/** A line of the log, as the library notes it: no text of a style is taken for an error. */
+export interface Event {
+  /** How many bytes of the log are before the line, and how many the line has without its line feed. */
+  at: number;
+  length: number;
+  /** The number of the current entry, from 0, while the style is executed for one. */
+  entry: number | null;
+  kind: 'plain' | 'warning' | 'error';
+  met: Met;
+}
+
+/** An event with what its line says. Whether it is a warning or an error, and where it was met, is the event's word; the rest is read from the line, whose shape the library gives it. */
 export interface Message {
   kind: 'file' | 'warning' | 'error' | 'shown' | 'ended';
+  met: Met;
   /** What it says, without its place and without what was executed. */
   text: string;
   /** The place in a file that it names, the line counted from 1. */
@@ -51,10 +67,65 @@ export interface Report {
 export interface Result {
   list: Uint8Array;
   log: Uint8Array;
+  /** The lines of the log, in order, and a message for each. */
+  events: Event[];
   messages: Message[];
   report: Report;
   /** The files that were asked for, in order. */
   files: { name: string; isThere: boolean }[];
+}
+
+/** A part of a database: its first byte, the byte after its last, and the line of its first byte, from 1. */
+export interface Span {
+  start: number;
+  end: number;
+  line: number;
+}
+
+/** A text is the value as a run stores it, after strings and `#`; null if it has more than 1,000,000 bytes. */
+export interface NamedText extends Span {
+  name: string;
+  text: string | null;
+}
+
+/** An entry with its fields, in order; type, key and names as the database spells them. One whose key is there before is among the others. */
+export interface Entry extends Span {
+  type: string;
+  key: string | null;
+  fields: NamedText[];
+}
+
+/** What is wrong in a database, with the place where it was met; the texts are those of a run. */
+export interface DatabaseMessage {
+  kind: 'warning' | 'error';
+  text: string;
+  file?: string;
+  line?: number;
+  start: number;
+  end: number;
+}
+
+export interface Database {
+  entries: Entry[];
+  strings: NamedText[];
+  preambles: (Span & { text: string | null })[];
+  comments: Span[];
+  messages: DatabaseMessage[];
+}
+
+/** A record of a database, as the library has it (`btx.3`). */
+export interface DatabaseRecord extends Span {
+  kind: 'comment' | 'preamble' | 'string' | 'entry' | 'field' | 'end' | 'wrong';
+  isWhole: boolean;
+  name: Uint8Array;
+  text: Uint8Array;
+}
+
+export interface Reading {
+  /** The name of the database's file, for messages; `refs.bib`. */
+  file?: Content;
+  /** The strings that are known before the database, as a style's macros: from a name to a text. */
+  strings?: Record<string, Content>;
 }
 
 export interface Place {
@@ -110,6 +181,9 @@ export class Library {
   /** Bounds the memory of a call, in bytes, from 0 to 2^53 - 1. */
   limitMemory(bytes: number): void;
   run(job: Content, find: Files, options?: Options): Result;
+  /** A database as data, whatever a document cites. Throws a RangeError for one of more than 2,147,483,647 bytes. */
+  read(text: Content, given?: Reading): Database;
+  records(text: Content, given?: Reading): DatabaseRecord[];
   check(style: Content, name?: string, steps?: number | bigint): Verdict;
 }
 
@@ -120,6 +194,6 @@ export function bytesOf(text: Content, what?: string): Uint8Array;
 /** The options with those that aren't given. */
 export function optionsOf(given?: Options): Required<Options>;
 export function textOf(bytes: Uint8Array): string;
-export function messagesOf(log: Uint8Array): Message[];
+export function messagesOf(log: Uint8Array, events: Event[]): Message[];
 /** What the prover said of the library of which a compiled module was made. */
 export function proofOf(module: WebAssembly.Module): string;

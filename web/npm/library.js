@@ -1,4 +1,4 @@
-// The calls of the library over its WebAssembly module: what a job needs, its run, where its style stands, whether a style is clean.
+// The calls of the library over its WebAssembly module: what a job needs, its run, a database as data, whether a style is clean.
 //
 // Nothing of a call stays in the module's memory. So each job begins with all of it free, and one call runs at a time.
 
@@ -43,9 +43,15 @@ export const TEX_LIVE = Object.freeze({ ...DEFAULTS, entryMax: 500, globalMax: 2
 const MOST_OUTPUT = 64_000_000;
 const FIRST_ROOM = 1_000_000;
 const FIRST_NAMES = 4096;
+const FIRST_EVENTS = 16_384;
+// Of a database the texts are rarely longer than it is, and a record has a dozen bytes at least in the usual ones.
+const BYTES_A_RECORD = 12;
 const FILE_SIZE = 40;
 const OPTIONS_SIZE = 32;
 const REPORT_SIZE = 56;
+const EVENT_SIZE = 32;
+const STRING_SIZE = 32;
+const RECORD_SIZE = 64;
 const VERDICT_SIZE = 40;
 const CHECK_STEPS = 2_000_000;
 
@@ -54,7 +60,13 @@ const ENDS = [
   'finished', 'stopped', 'no top file', 'limit literals', 'limit calls', 'limit loops', 'limit string', 'limit file', 'limit files',
   'no memory', 'unknown file', 'list full', 'log full',
 ];
+// What each call takes: addresses, and numbers of 64 bits.
+const WORDS = { btx_needs: 'ananana', btx_run_events: 'ananaananaana', btx_read: 'ananananana', btx_check: 'anannanana', rattle_dealloc: 'a' };
 const LIST_FULL = ENDS.indexOf('list full');
+const NO_ENTRY = 2n ** 64n - 1n;
+const EVENT_KINDS = ['plain', 'warning', 'error'];
+const EVENT_PLACES = ['files', 'style', 'databases', 'execution', 'end'];
+const RECORD_KINDS = ['comment', 'preamble', 'string', 'entry', 'field', 'end', 'wrong'];
 const VERDICTS = ['clean', 'warnings', 'incomplete'];
 const RANGES = {
   minCrossrefs: [0, 2 ** 32 - 1], line: [20, 1000], entryMax: [1, 1_000_000], globalMax: [1, 1_000_000],
@@ -123,26 +135,67 @@ function nameOf(job) {
   return name;
 }
 
-// A line of the log as data, by its shape.
-function messageOf(line) {
-  const file = /^(?:The (top-level auxiliary) file|(A level-\d+ auxiliary) file|The (style) file|(Database) file #\d+): (.*)$/s.exec(line);
-  if (file) return { kind: 'file', text: line, file: file[5] };
-  const ended = /^Ended: (.*)$/s.exec(line);
-  if (ended) return { kind: 'ended', text: line };
-  const message = /^(Warning|Error)--(.*)$/s.exec(line);
-  if (!message) return { kind: 'shown', text: line };
-  const found = { kind: message[1].toLowerCase(), text: message[2] };
-  const place = /^(.*)--line (\d+) of file (.*)$/s.exec(found.text);
-  if (place) return { ...found, text: place[1], line: Number(place[2]), file: place[3] };
-  const executed = /^(.*) while executing (\S+?)(?: for entry (.*))?$/s.exec(found.text);
-  if (executed) return { ...found, text: executed[1], function: executed[2], entry: executed[3] };
-  return found;
+// The place that a line's text ends with: the text before it, the line and the file.
+const PLACED = /^(.*)--line (\d+) of file (.*)$/s;
+// What was executed, at the end of a text: of an error, and of the only warning that a run itself logs there. Any other warning is a text of the style.
+const EXECUTED = /^(.*) while executing (\S+?)(?: for entry (.*))?$/s;
+const CUT = /^string of \d+ bytes cut to \d+ while executing /;
+const FILE = /^(?:The (?:top-level auxiliary|style) file|A level-\d+ auxiliary file|Database file #\d+): (.*)$/s;
+
+// What a warning or an error says: its text, and the place or what was executed, by where it was met.
+function partsOf(text, { kind, met }) {
+  if (met !== 'execution') {
+    const place = PLACED.exec(text);
+    return place ? { text: place[1], line: Number(place[2]), file: place[3] } : { text };
+  }
+  const executed = kind === 'error' || CUT.test(text) ? EXECUTED.exec(text) : null;
+  return executed ? { text: executed[1], function: executed[2], ...(executed[3] === undefined ? {} : { entry: executed[3] }) } : { text };
 }
 
-/** The messages of a log, a line each, by their shapes. A style can write lines of any shape itself. */
-export function messagesOf(log) {
-  const lines = textOf(log).split('\n');
-  return lines.slice(0, -1).map(messageOf);
+// An event of a run as a message, with the line of the log that it is.
+function messageOf(line, event) {
+  const { kind, met } = event;
+  if (kind !== 'plain') return { kind, met, ...partsOf(line.slice(line.indexOf('--') + 2), event) };
+  const file = met === 'execution' ? null : FILE.exec(line);
+  if (file) return { kind: 'file', met, text: line, file: file[1] };
+  return { kind: met === 'end' ? 'ended' : 'shown', met, text: line };
+}
+
+/** The messages of a run: for each event of its log one. What is a warning or an error, and where it was met, is the event's word, whatever the line looks like. */
+export function messagesOf(log, events) {
+  return events.map((event) => messageOf(textOf(log.subarray(event.at, event.at + event.length)), event));
+}
+
+// The records of a database as items: entries with their fields, strings, preambles, comments and messages.
+function itemsOf(records) {
+  const made = { entries: [], strings: [], preambles: [], comments: [], messages: [] };
+  const kept = { entry: made.entries, string: made.strings, preamble: made.preambles, comment: made.comments };
+  let open = null;
+  for (const { kind, isWhole, start, end, line, name, text } of records) {
+    const place = { start, end, line };
+    const shown = isWhole ? textOf(text) : null;
+    if (kind === 'field') open.fields.push({ name: textOf(name), text: shown, ...place });
+    else if (kind === 'end') open.end = end;
+    else if (kind === 'wrong') made.messages.push({ ...wrongOf(shown), start, end });
+    else {
+      open = { ...place, ...ITEMS[kind](textOf(name), shown) };
+      kept[kind].push(open);
+    }
+  }
+  return made;
+}
+
+const ITEMS = {
+  entry: (type, key) => ({ type, key, fields: [] }),
+  string: (name, text) => ({ name, text }),
+  preamble: (_name, text) => ({ text }),
+  comment: () => ({}),
+};
+
+// The message of a record of what is wrong, whose text is the line that a run logs.
+function wrongOf(line) {
+  const kind = line.startsWith('Error--') ? 'error' : 'warning';
+  return { kind, ...partsOf(line.slice(line.indexOf('--') + 2), { kind, met: 'databases' }) };
 }
 
 // The lines of notes as the library writes them, a record for each that begins with `head`.
@@ -176,6 +229,8 @@ function warningOf(record) {
   }
   return warning;
 }
+
+const sizeOf = (files) => files.reduce((sum, { bytes }) => sum + bytes.length, 0);
 
 export class Library {
   #calls;
@@ -215,16 +270,23 @@ export class Library {
     }
   }
 
+  // A call of the library; memory that it was refused is an error.
+  #call(name, ...words) {
+    const answer = this.#calls[name](...words.map((word, place) => (WORDS[name][place] === 'a' ? word : BigInt(word))));
+    if (answer === ANSWERS.memory) throw new MemoryRefused();
+    return answer;
+  }
+
   #room(size) {
-    const at = this.#calls.btx_alloc(BigInt(size));
-    if (at === 0n) throw new MemoryRefused();
-    return Number(at);
+    const at = this.#calls.btx_alloc(BigInt(size)) >>> 0;
+    if (at === 0) throw new MemoryRefused();
+    return at;
   }
 
   #put(bytes) {
     const at = this.#room(bytes.length);
     new Uint8Array(this.#calls.memory.buffer).set(bytes, at);
-    return { at: BigInt(at), length: BigInt(bytes.length) };
+    return { at, length: bytes.length };
   }
 
   #view() {
@@ -232,7 +294,7 @@ export class Library {
   }
 
   #bytes(at, length) {
-    return new Uint8Array(this.#calls.memory.buffer).slice(Number(at), Number(at) + length);
+    return new Uint8Array(this.#calls.memory.buffer).slice(at, at + length);
   }
 
   #number(at) {
@@ -245,10 +307,10 @@ export class Library {
     const view = this.#view();
     files.forEach(({ name, bytes, isThere }, number) => {
       const at = table + number * FILE_SIZE;
-      [name.at, name.length, bytes.at, bytes.length].forEach((value, word) => view.setBigUint64(at + 8 * word, value, true));
+      [name.at, name.length, bytes.at, bytes.length].forEach((value, word) => view.setBigUint64(at + 8 * word, BigInt(value), true));
       view.setUint8(at + 32, isThere ? 1 : 0);
     });
-    return BigInt(table);
+    return table;
   }
 
   #file(name, content) {
@@ -262,8 +324,7 @@ export class Library {
     const length = this.#room(8);
     for (let most = FIRST_NAMES; ;) {
       const names = this.#room(most);
-      const answer = this.#calls.btx_needs(job.at, job.length, table, BigInt(files.length), BigInt(names), BigInt(most), BigInt(length));
-      if (answer === ANSWERS.memory) throw new MemoryRefused();
+      this.#call('btx_needs', job.at, job.length, table, files.length, names, most, length);
       const found = this.#number(length);
       if (found <= most) return this.#bytes(names, found);
       most = found;
@@ -294,7 +355,7 @@ export class Library {
     view.setBigUint64(at, BigInt(options.budget), true);
     [options.minCrossrefs, options.line, options.entryMax, options.globalMax].forEach((value, word) => view.setUint32(at + 8 + 4 * word, value, true));
     view.setUint8(at + 24, options.text === 'utf8' ? 1 : 0);
-    return BigInt(at);
+    return at;
   }
 
   #report(at) {
@@ -314,24 +375,89 @@ export class Library {
     });
   }
 
+  // Runs the job with rooms for what it writes, and with more where that was too little. Memory that isn't written isn't taken.
   #runOver(job, files, options, mostList, mostLog) {
-    const words = [job.at, job.length, this.#table(files), BigInt(files.length), this.#options(options)];
-    const report = this.#room(REPORT_SIZE);
-    let rooms = [Math.min(FIRST_ROOM, mostList), Math.min(FIRST_ROOM, mostLog)];
+    const words = [job.at, job.length, this.#table(files), files.length, this.#options(options)];
+    const [report, count] = [this.#room(REPORT_SIZE), this.#room(8)];
+    const rooms = { list: Math.min(FIRST_ROOM + sizeOf(files), mostList), log: Math.min(FIRST_ROOM, mostLog), events: FIRST_EVENTS };
     for (;;) {
-      const [list, log] = rooms.map((room) => this.#room(room));
-      const answer = this.#calls.btx_run(...words, BigInt(list), BigInt(rooms[0]), BigInt(log), BigInt(rooms[1]), BigInt(report));
-      if (answer === ANSWERS.memory) throw new MemoryRefused();
-      if (answer === ANSWERS.done) {
-        const logged = this.#bytes(log, this.#number(report + 48));
-        return { list: this.#bytes(list, this.#number(report + 40)), log: logged, messages: messagesOf(logged), report: this.#report(report) };
-      }
-      const full = this.#view().getUint32(report + 4, true) === LIST_FULL ? 0 : 1;
-      const most = [mostList, mostLog][full];
-      if (rooms[full] >= most) throw new OutputTooLong(['list', 'log'][full], most);
-      this.#calls.rattle_dealloc?.(BigInt([list, log][full]));
-      rooms[full] = Math.min(rooms[full] * 8, most);
+      const at = { list: this.#room(rooms.list), log: this.#room(rooms.log), events: this.#room(rooms.events * EVENT_SIZE) };
+      const answer = this.#call('btx_run_events', ...words, at.list, rooms.list, at.log, rooms.log, report, at.events, rooms.events, count);
+      const events = this.#number(count);
+      if (answer === ANSWERS.done && events <= rooms.events) return this.#result(at, report, events);
+      if (answer === ANSWERS.done) rooms.events = events;
+      else this.#widen(rooms, report, { list: mostList, log: mostLog });
+      Object.values(at).forEach((room) => this.#call('rattle_dealloc', room));
     }
+  }
+
+  // Widens the room that was full.
+  #widen(rooms, report, most) {
+    const full = this.#view().getUint32(report + 4, true) === LIST_FULL ? 'list' : 'log';
+    if (rooms[full] >= most[full]) throw new OutputTooLong(full, most[full]);
+    rooms[full] = Math.min(rooms[full] * 8, most[full]);
+  }
+
+  #result(at, report, count) {
+    const [list, log] = [this.#bytes(at.list, this.#number(report + 40)), this.#bytes(at.log, this.#number(report + 48))];
+    const events = this.#events(at.events, count);
+    return { list, log, events, messages: messagesOf(log, events), report: this.#report(report) };
+  }
+
+  #events(at, count) {
+    const view = this.#view();
+    return Array.from({ length: count }, (_, number) => {
+      const place = at + number * EVENT_SIZE;
+      const entry = view.getBigUint64(place + 16, true);
+      const [kind, met] = [EVENT_KINDS[view.getUint32(place + 24, true)], EVENT_PLACES[view.getUint32(place + 28, true)]];
+      return { at: this.#number(place), length: this.#number(place + 8), entry: entry === NO_ENTRY ? null : Number(entry), kind, met };
+    });
+  }
+
+  /** A database as data, whatever a document cites: its entries, strings, preambles, comments and messages. */
+  read(text, given = {}) {
+    return itemsOf(this.records(text, given));
+  }
+
+  /** The records of a database, as the library has them. */
+  records(text, { file = 'refs.bib', strings = {} } = {}) {
+    const [name, bytes] = [bytesOf(file, "the database's name"), bytesOf(text, 'the database')];
+    const known = Object.entries(strings).map((pair) => pair.map((it) => bytesOf(it, `the string ${pair[0]}`)));
+    return this.#alone(() => this.#recordsOver(this.#put(name), this.#put(bytes), this.#strings(known), known.length));
+  }
+
+  #strings(known) {
+    const table = this.#room(known.length * STRING_SIZE);
+    known.forEach((pair, number) => {
+      const words = pair.map((bytes) => this.#put(bytes)).flatMap(({ at, length }) => [at, length]);
+      words.forEach((value, word) => this.#view().setBigUint64(table + number * STRING_SIZE + 8 * word, BigInt(value), true));
+    });
+    return table;
+  }
+
+  #recordsOver(file, text, strings, count) {
+    const sizes = this.#room(16);
+    for (let [most, room] = [Math.ceil(text.length / BYTES_A_RECORD) + 1, text.length]; ;) {
+      const [records, texts] = [this.#room(most * RECORD_SIZE), this.#room(room)];
+      const answer = this.#call('btx_read', file.at, file.length, text.at, text.length, strings, count, records, most, texts, room, sizes);
+      if (answer === ANSWERS.refused) throw new RangeError('the database has more than 2,147,483,647 bytes');
+      const needed = [this.#number(sizes), this.#number(sizes + 8)];
+      if (answer === ANSWERS.done) return this.#records(records, needed[0], this.#bytes(texts, needed[1]));
+      [most, room] = needed;
+      [records, texts].forEach((at) => this.#call('rattle_dealloc', at));
+    }
+  }
+
+  #records(at, count, texts) {
+    const view = this.#view();
+    return Array.from({ length: count }, (_, number) => {
+      const place = at + number * RECORD_SIZE;
+      const [start, end, line, nameAt, nameLength, textAt, textLength] = [8, 16, 24, 32, 40, 48, 56].map((field) => Number(view.getBigUint64(place + field, true)));
+      return {
+        kind: RECORD_KINDS[view.getUint32(place, true)], isWhole: view.getUint8(place + 4) === 1, start, end, line,
+        name: texts.subarray(nameAt, nameAt + nameLength), text: texts.subarray(textAt, textAt + textLength),
+      };
+    });
   }
 
   /** Says of a style whether it is clean, and where it may go wrong. */
@@ -346,9 +472,7 @@ export class Library {
     for (let room = FIRST_ROOM; ; room *= 8) {
       if (room > MOST_OUTPUT) throw new OutputTooLong('notes', MOST_OUTPUT);
       const [types, notes] = [this.#room(room), this.#room(room)];
-      const answer = this.#calls.btx_check(file.at, file.length, text.at, text.length, BigInt(steps), BigInt(types), BigInt(room), BigInt(notes),
-        BigInt(room), BigInt(verdict));
-      if (answer === ANSWERS.memory) throw new MemoryRefused();
+      const answer = this.#call('btx_check', file.at, file.length, text.at, text.length, steps, types, room, notes, room, verdict);
       if (answer === ANSWERS.refused) throw new RangeError('the style has more than 2,147,483,647 bytes');
       if (answer === ANSWERS.full) continue;
       const lines = textOf(this.#bytes(types, this.#number(verdict + 24))).split('\n').slice(0, -1);

@@ -1,7 +1,7 @@
 import type { Message } from './library.js';
 
 /** A warning or an error as data. `kind` is 'missing entry', 'repeated entry', 'missing database', 'repeated database', 'missing style', 'missing auxiliary file',
- * 'cross reference', or else where it stands: 'document', 'database', 'style', 'execution', 'run'. */
+ * 'cross reference', or else where it was met: 'document', 'database', 'style', 'execution', 'run'. */
 export interface MessageData {
   severity: 'warning' | 'error';
   kind: string;
@@ -12,7 +12,7 @@ export interface MessageData {
   entry?: string;
 }
 
-export function kindOf(message: Omit<Message, 'kind'>): { kind: string; entry?: string; file?: string };
+export function kindOf(message: Pick<Message, 'met' | 'text'>): { kind: string; entry?: string; file?: string };
 export function asData(message: Message): MessageData;
 /** The messages of a run that are warnings or errors, as data. */
 export function dataOf(messages: Message[]): MessageData[];

@@ -10,28 +10,26 @@ const KINDS = [
   ['missing auxiliary file', /^I couldn't open auxiliary file (?<file>.*)$/s],
   ['cross reference', /^A bad cross reference--entry "(?<entry>.*?)" refers to entry /s],
 ];
-// The kinds of the others, by the endings of the files in which they stand.
-const BY_ENDING = { aux: 'document', bib: 'database', bst: 'style' };
+// The kinds of the others, by where they were met.
+const BY_PLACE = { files: 'document', databases: 'database', style: 'style', execution: 'execution', end: 'run' };
 // What is as bad as an error where nothing may be missing.
 const STRICT = new Set(['missing entry', 'repeated entry', 'missing database', 'repeated database', 'missing style', 'missing auxiliary file']);
 
-/** What a message is about, in a word or two, and what it names. */
-export function kindOf(message) {
-  for (const [kind, pattern] of KINDS) {
-    const found = pattern.exec(message.text);
+/** What a message is about, in a word or two, and what it names. A style's execution has no message of these kinds: what looks like one is its own text. */
+export function kindOf({ met, text }) {
+  for (const [kind, pattern] of met === 'execution' ? [] : KINDS) {
+    const found = pattern.exec(text);
     if (found) return { kind, ...found.groups };
   }
-  if (message.function) return { kind: 'execution' };
-  const ending = /\.(\w+)$/.exec(message.file ?? '')?.[1];
-  return { kind: BY_ENDING[ending] ?? 'run' };
+  return { kind: BY_PLACE[met] };
 }
 
 /** A warning or an error as data: its severity, kind and text, and what is known of its file, line, function and entry. */
-export function asData({ kind: severity, text, ...place }) {
-  return { severity, ...kindOf({ text, ...place }), text, ...place };
+export function asData({ kind: severity, met, text, ...place }) {
+  return { severity, ...kindOf({ met, text }), text, ...place };
 }
 
-/** The messages of a run that are warnings or errors, as data. A style can write lines of any shape itself. */
+/** The messages of a run that are warnings or errors, as data. */
 export function dataOf(messages) {
   return messages.filter(({ kind }) => kind === 'warning' || kind === 'error').map(asData);
 }

@@ -12,6 +12,7 @@ const GOOD = { 'a.aux': '\\citation{k}\n\\bibdata{d}\n\\bibstyle{s}\n', 's.bst':
 const lines = ({ stdout }) => stdout.split('\n').slice(0, -1).map((line) => JSON.parse(line));
 const aux = (text) => ({ ...GOOD, 'a.aux': text });
 const bib = (text) => ({ ...GOOD, 'd.bib': text });
+const says = (body) => ({ ...GOOD, 's.bst': STYLE.replace('newline$', `newline$ ${body}`) });
 
 test('each message is a line of JSON, and the last line is the report', () => inRoom({ ...GOOD, 'd.bib': '@misc{k,\n title x}\n', 's.bst': STYLE.replace('title write$', 'title #1 +') }, (room) => {
   const ran = btx(room, '--json', 'a');
@@ -30,7 +31,9 @@ const CASES = [
   ['a repeated entry', bib('@misc{k, title = {T}}\n@misc{K}\n'), { severity: 'error', kind: 'repeated entry', file: 'd.bib', line: 2 }, [2, 2]],
   ['a missing database', aux('\\citation{k}\n\\bibdata{d,gone}\n\\bibstyle{s}\n'), { severity: 'error', kind: 'missing database', file: 'gone.bib' }, [2, 2]],
   ['a missing style', aux('\\citation{k}\n\\bibdata{d}\n\\bibstyle{gone}\n'), { severity: 'error', kind: 'missing style', file: 'gone.bst' }, [2, 2]],
-  ['a warning of the style', { ...GOOD, 's.bst': STYLE.replace('newline$', 'newline$ "look" warning$') }, { severity: 'warning', kind: 'run', text: 'look' }, [0, 0]],
+  ['a warning of the style', { ...GOOD, 's.bst': STYLE.replace('newline$', 'newline$ "look" warning$') }, { severity: 'warning', kind: 'execution', text: 'look' }, [0, 0]],
+  ['a warning of the style that looks like another', says(`"I didn't find a database entry for " quote$ * "k" * quote$ * warning$`), { severity: 'warning', kind: 'execution' }, [0, 0]],
+  ['a line of the style that looks like an error', says('#10 int.to.chr$ "Error--Repeated entry--line 1 of file d.bib" * top$'), undefined, [0, 0]],
   ['an undefined string', bib('@misc{k, title = zz}\n'), { severity: 'warning', kind: 'database', file: 'd.bib', line: 1 }, [0, 0]],
   ['nothing', GOOD, undefined, [0, 0]],
 ];

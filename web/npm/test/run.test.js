@@ -5,7 +5,7 @@ import { cpSync, existsSync, readFileSync, readdirSync, writeFileSync } from 'no
 import path from 'node:path';
 import test from 'node:test';
 import { fileURLToPath } from 'node:url';
-import { DEFAULTS, Library, MemoryRefused, OptionRefused, OutputTooLong, check, library, proof, run, textOf } from '../index.js';
+import { DEFAULTS, Library, MemoryRefused, OptionRefused, OutputTooLong, check, library, proof, read, run, textOf } from '../index.js';
 import { finderIn } from '../search.js';
 import { COMMAND, inRoom } from '../testing.js';
 
@@ -45,9 +45,60 @@ test('a missing file is none, and a job may have none at all', () => {
 test('messages have their places, functions and entries', () => {
   const made = run('a', { ...SMALL, 's.bst': 'ENTRY {title}{}{}\nFUNCTION {misc} {title #1 + pop$}\nREAD\nITERATE {call.type$}\n', 'd.bib': '@misc{k,\n title x}' });
   assert.deepEqual(made.messages.filter(({ kind }) => kind === 'error'), [
-    { kind: 'error', text: 'I was expecting an =', line: 2, file: 'd.bib' },
-    { kind: 'error', text: 'missing field is not an integer', function: '+', entry: 'k' },
+    { kind: 'error', met: 'databases', text: 'I was expecting an =', line: 2, file: 'd.bib' },
+    { kind: 'error', met: 'execution', text: 'missing field is not an integer', function: '+', entry: 'k' },
   ]);
+});
+
+test('a line of the log is what its event says, whatever it looks like', () => {
+  const body = '#10 int.to.chr$ "Error--x--line 1 of file d.bib" * top$ "y--line 2 of file d.bib" warning$ "string of 5 bytes" warning$';
+  const { events, messages, log } = run('a', { ...SMALL, 's.bst': `ENTRY {title}{}{}\nFUNCTION {misc} {${body}}\nREAD\nITERATE {call.type$}\n` });
+  assert.deepEqual(messages.slice(3), [
+    { kind: 'shown', met: 'execution', text: '"\nError--x--line 1 of file d.bib"' }, { kind: 'warning', met: 'execution', text: 'y--line 2 of file d.bib' },
+    { kind: 'warning', met: 'execution', text: 'string of 5 bytes' }, { kind: 'ended', met: 'end', text: messages.at(-1).text },
+  ]);
+  assert.deepEqual(events.map(({ kind, met, entry }) => `${kind} ${met} ${entry}`), ['plain files null', 'plain files null', 'plain files null', 'plain execution 0',
+    'warning execution 0', 'warning execution 0', 'plain end null']);
+  const parts = events.map(({ at, length }) => `${textOf(log.subarray(at, at + length))}\n`);
+  assert.equal(parts.join(''), textOf(log));
+});
+
+test('a string that is cut names its function and its entry', () => {
+  const style = 'ENTRY {title}{}{v}\nFUNCTION {misc} {title \'v :=}\nREAD\nITERATE {call.type$}\n';
+  const { messages } = run('a', { ...SMALL, 's.bst': style }, { entryMax: 2 });
+  assert.deepEqual(messages.filter(({ kind }) => kind === 'warning'), [{ kind: 'warning', met: 'execution', text: 'string of 6 bytes cut to 2', function: ':=', entry: 'k' }]);
+});
+
+test('a job with more lines than the first room has them all', () => {
+  const count = 20_000;
+  const style = `ENTRY {}{}{}\nINTEGERS {i}\nFUNCTION {f} {#0 'i := {i #${count} <} {"x" warning$ i #1 + 'i :=} while$}\nREAD\nEXECUTE {f}\n`;
+  const { events, messages, report } = run('a', { ...SMALL, 's.bst': style });
+  assert.equal(messages.filter(({ kind, text }) => kind === 'warning' && text === 'x').length, count);
+  assert.equal(events.filter(({ kind }) => kind === 'warning').length, report.warnings);
+});
+
+test('a database is data', () => {
+  const text = '@comment text\n@preamble{"p"}\n@string{s = "S"}\n@Book{Key,\n  Title = {A  title} # s,\n  month = m\n}\n@misc{key}\n@misc{z, title}\n';
+  const { entries, strings, preambles, comments, messages } = read(text, { file: 'd.bib', strings: { m: 'May' } });
+  assert.deepEqual(entries.map(({ type, key, line, fields }) => [type, key, line, fields.map((it) => [it.name, it.text, it.line])]), [
+    ['Book', 'Key', 4, [['Title', 'A titleS', 5], ['month', 'May', 6]]], ['misc', 'key', 8, []], ['misc', 'z', 9, []],
+  ]);
+  assert.equal(text.slice(entries[0].start, entries[0].end), text.slice(text.indexOf('@Book'), text.indexOf('\n@misc')));
+  const [title] = entries[0].fields;
+  assert.equal(text.slice(title.start, title.end), 'Title = {A  title} # s');
+  assert.deepEqual([strings, preambles].map(([it]) => [it.name, it.text, it.line]), [['s', 'S', 3], [undefined, 'p', 2]]);
+  assert.equal(comments[0].start, 0);
+  const at = text.lastIndexOf('}');
+  assert.deepEqual(messages, [{ kind: 'error', text: 'I was expecting an =', line: 9, file: 'd.bib', start: at, end: at }]);
+});
+
+test('a database of long values, of many records, and of none', () => {
+  const long = read(`@string{s = "${'x'.repeat(60_000)}"}\n${'@misc{a, t = s, u = s # s}\n'.repeat(10)}@misc{b, t = {${'y'.repeat(1_000_001)}}}`);
+  assert.deepEqual(long.entries.map(({ fields }) => fields.map((it) => it.text?.length)), [...Array(10).fill([60_000, 120_000]), [undefined]]);
+  assert.equal(read('@a{,b=1}'.repeat(5000)).entries.length, 5000);
+  assert.deepEqual(read(''), { entries: [], strings: [], preambles: [], comments: [], messages: [] });
+  assert.throws(() => read(5), { name: 'TypeError', message: /^the database has to be/ });
+  assert.throws(() => read('', { strings: { a: 5 } }), { name: 'TypeError', message: /^the string a has to be/ });
 });
 
 test('options out of their ranges are refused', () => {
