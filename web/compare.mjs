@@ -1,13 +1,23 @@
-// Runs the jobs of standard input, each a line of JSON, and writes what comes of each: for compare.py.
+// Runs the jobs and reads the databases of standard input, each a line of JSON, and writes what comes of each: for compare.py.
 import { createInterface } from 'node:readline';
 import { library } from './npm/index.js';
 
 const coded = (bytes) => Buffer.from(bytes).toString('base64');
+const decoded = (text) => Buffer.from(text, 'base64');
+
+function ran({ files, options }) {
+  const known = new Map(files.map(([name, text]) => [name, decoded(text)]));
+  const find = (_name, bytes) => known.get(coded(bytes));
+  const { list, log, events, report } = library().run('job', find, { ...options, budget: BigInt(options.budget) });
+  return { list: coded(list), log: coded(log), ...report, events: events.map(({ at, length, entry, kind, met }) => [at, length, entry, kind, met]) };
+}
+
+function read({ database, strings }) {
+  const records = library().records(decoded(database), { file: 'd.bib', strings });
+  return { records: records.map(({ kind, isWhole, start, end, line, name, text }) => [kind, isWhole, start, end, line, coded(name), coded(text)]) };
+}
 
 for await (const line of createInterface({ input: process.stdin })) {
-  const { files, options } = JSON.parse(line);
-  const known = new Map(files.map(([name, text]) => [name, Buffer.from(text, 'base64')]));
-  const find = (_name, bytes) => known.get(coded(bytes));
-  const { list, log, report } = library().run('job', find, { ...options, budget: BigInt(options.budget) });
-  console.log(JSON.stringify({ list: coded(list), log: coded(log), ...report }));
+  const asked = JSON.parse(line);
+  console.log(JSON.stringify(asked.files ? ran(asked) : read(asked)));
 }
