@@ -25,6 +25,14 @@ CLAIMS = {
     True: ("The list is the proved library's.", "BibTeX, proved: @VERSION@. The library's contract is proved; that this page shows it, and its compilation for WebAssembly, are tested."),
     False: ("NOTHING OF THIS PAGE IS PROVED: it was made for trying.", "BibTeX, unproved: @VERSION@, a page made for trying, of whose library nothing is proved."),
 }
+# How the page begins: the module is compiled while it is unpacked.
+BEGIN = """
+let MODULE;
+WebAssembly.compileStreaming(new Response(unpacking(), { headers: { 'Content-Type': 'application/wasm' } })).then((module) => {
+  MODULE = module;
+  begin();
+});
+"""
 DOCUMENT = "\\documentclass{article}\n\\begin{document}\nSee \\cite{%s}.\n\\bibliographystyle{article}\n\\bibliography{article}\n\\end{document}\n"
 
 
@@ -65,13 +73,21 @@ def first_job():
 
 def machine(module):
     """The lines of a script that have what runs jobs: WORKER, the address of the worker's script, and `unpacked`, a promise of the module's bytes. Both are texts in it."""
+    return [*streamed(module), "const unpacked = new Response(unpacking()).arrayBuffer();"]
+
+
+def streamed(module):
+    """The lines of a script that have WORKER, and `unpacking`, which answers a stream of the module's bytes."""
     library = without_exports((ROOT / "web/npm/library.js").read_text(encoding="utf8"))
     worker = library + (HERE / "worker.js").read_text(encoding="utf8")
     return [
         f"const WORKER = URL.createObjectURL(new Blob([{in_script(worker)}], {{ type: 'text/javascript' }}));",
         f"const PACKED = {in_script(base64.b64encode(gzip.compress(module, 9, mtime=0)).decode('ascii'))};",
-        "const unpacked = new Response(new Blob([Uint8Array.from(atob(PACKED), (letter) => letter.charCodeAt(0))]).stream()",
-        "  .pipeThrough(new DecompressionStream('gzip'))).arrayBuffer();",
+        "const unpacking = () => {",
+        "  const [letters, packed] = [atob(PACKED), new Uint8Array(PACKED.length)];",
+        "  for (let place = 0; place < letters.length; place++) packed[place] = letters.charCodeAt(place);",
+        "  return new Blob([packed.subarray(0, letters.length)]).stream().pipeThrough(new DecompressionStream('gzip'));",
+        "};",
     ]
 
 
@@ -84,9 +100,9 @@ def script_of(module):
         f"const STYLES = {in_script(styles)};",
         f"const FIRST_JOB = {in_script(first_job())};",
         f"const ADVICE = [{rows}];",
-        *machine(module),
+        *streamed(module),
         (HERE / "latex.js").read_text(encoding="utf8").replace("/** ", "// ").replace(" */", ""),
-        (HERE / "page.js").read_text(encoding="utf8").replace("\nbegin();\n", "\nlet MODULE;\nunpacked.then(async (bytes) => { MODULE = await WebAssembly.compile(bytes); begin(); });\n"),
+        (HERE / "page.js").read_text(encoding="utf8").replace("\nbegin();\n", BEGIN),
     ])
 
 

@@ -151,6 +151,8 @@ function goTo(role, number, line) {
 // ---- a run
 
 let worker;
+// The first job's worker is made while the module is compiled.
+let ready = new Worker(WORKER);
 let asked = 0;
 let waiting;
 
@@ -205,7 +207,8 @@ function run() {
     return;
   }
   const { job, all } = jobOf();
-  worker = new Worker(WORKER);
+  worker = ready ?? new Worker(WORKER);
+  ready = undefined;
   worker.onmessage = ({ data }) => data.number === asked && (data.verdict || data.unchecked ? showChecked(data) : showResult(data));
   worker.onerror = ({ message }) => showFailure(`It broke off: ${message}`);
   find('stop').disabled = false;
