@@ -11,6 +11,7 @@ const MOST_LINK_TEXT = 4_000_000;
 const MOST_LINK_FILES = 40;
 const MOST_FILE = 20_000_000;
 const MOST_PLACES = 2;
+const MOST_CAUSES = 50;
 const STEPS = 10_000_000n;
 const HINT = 'Drop .tex, .aux, .bib and .bst files anywhere on the page.';
 
@@ -20,12 +21,18 @@ const PAGE_ADVICE = [
   [/^I couldn't open database file (.*)$/s, 'put the database on this page: open or drop $1, or let the name in `\\bibliography` and the name of the database agree'],
   [/^I found no \\citation commands$/, 'write a `\\cite` or `\\nocite`. Files that the document includes are not read: for them, drop the `.aux` file that LaTeX wrote'],
   [/^I was expecting a , or a [)}]$/, 'put a comma after the key and between fields, often at the end of the line above; write a key without whitespace; or close a `{` that the entry above leaves open'],
+  [/^(?:\S+ has no|empty) (\S+)(?: in \S+)?$/, 'write the field $1 into the entry; the list is made without it otherwise'],
   [/^string of .* bytes cut to /, 'the value is longer than a variable keeps: shorten it, or cut it in the style'],
   [/^Ended: stopped/, 'the style took as many steps as it may: raise "Steps at most". If it is stopped again with ten times as many, it loops'],
   [/^the (?:list|log) has more than /, 'the style writes without end, or more than this page takes: lower "Steps at most" to see the beginning of it'],
 ];
 // Messages of a database whose cause may be a brace that the entry above leaves open.
 const OPEN_BRACE = /^(?:I was expecting|Unbalanced braces|Illegal end of database file)/;
+
+// Messages of a word that isn't there, for which one with nearly the same letters may be meant; and how a style defines a function.
+const MISSING_KEY = /^I didn't find a database entry for "(.*)"$/s;
+const UNKNOWN_FUNCTION = /^(\S+) is an unknown function$/;
+const FUNCTION_NAME = /\bFUNCTION\s*\{\s*([^\s{}]+)\s*\}/gi;
 
 // A text as a line shows it: characters that aren't seen or turn the line round are shown by their numbers.
 const visible = (text) => text.replace(/[\u0000-\u0008\u000b-\u001f\u007f-\u009f\u061c\u200b-\u200f\u202a-\u202e\u2060-\u2069\ufeff]/g,
@@ -259,10 +266,55 @@ function statedPlace({ file, line }) {
   return null;
 }
 
-// The last entry that begins above a place of a database.
+// The last entry that begins above a place of a database, which may have a brace open: its first line with more `{` than `}`, or else its beginning.
 function entryAbove({ number, line }, { entries }) {
   const above = entries[number].filter((entry) => entry.line < line).pop();
-  return above && { role: 'database', number, line: above.line, key: above.key };
+  if (!above) return undefined;
+  const count = (text, sign) => text.split(sign).length;
+  const inside = files.database[number].text.split('\n').slice(above.line, line - 1);
+  const open = inside.findIndex((text) => count(text, '{') > count(text, '}'));
+  const place = { role: 'database', number, line: open < 0 ? above.line : above.line + 1 + open, key: above.key };
+  return { place, words: open < 0 ? '' : `is each { closed in line ${place.line}?` };
+}
+
+// How many letters have to be changed, put in or left out between two words.
+function distance(one, other) {
+  let row = Array.from({ length: other.length + 1 }, (_, place) => place);
+  for (let from = 1; from <= one.length; from++) {
+    const next = [from];
+    for (let to = 1; to <= other.length; to++) {
+      next.push(Math.min(row[to] + 1, next[to - 1] + 1, row[to - 1] + (one[from - 1] === other[to - 1] ? 0 : 1)));
+    }
+    row = next;
+  }
+  return row[other.length];
+}
+
+// The word that is spelt most nearly like this one; nothing where none is.
+function nearest(word, words) {
+  let [best, least] = [undefined, word.length < 5 ? 2 : 3];
+  for (const other of words) {
+    const far = Math.abs(other.length - word.length) < least ? distance(word, other) : least;
+    if (far > 0 && far < least) [best, least] = [other, far];
+  }
+  return best;
+}
+
+// What may be the cause of a message: words, and a place, if there is one.
+function causeOf(message, index) {
+  const { text, met } = message;
+  if (met === 'databases' && message.line && OPEN_BRACE.test(text)) {
+    const place = statedPlace(message);
+    return place?.role === 'database' ? entryAbove(place, index) : undefined;
+  }
+  const [, key] = met === 'execution' ? [] : MISSING_KEY.exec(text) ?? [];
+  if (key) {
+    const place = index.defined.get(nearest(key.toLowerCase(), index.defined.keys()));
+    return place && { place, words: `do you mean ${place.key}?` };
+  }
+  const [, name] = met === 'style' ? UNKNOWN_FUNCTION.exec(text) ?? [] : [];
+  const found = name && nearest(name.toLowerCase(), [...current('style').text.matchAll(FUNCTION_NAME)].map(([, each]) => each.toLowerCase()));
+  return found && { words: `do you mean ${found}?` };
 }
 
 // The words of a message that may be keys: the entry of an execution, what stands in quotes, or else the first word and the last, as styles have it.
@@ -275,10 +327,7 @@ function keysOf({ text, entry }) {
 // The places of a message: what it states, or where the keys that it names stand.
 function placesOf(message, index) {
   if (message.line) {
-    const place = statedPlace(message);
-    if (!place) return [];
-    const above = place.role === 'database' && OPEN_BRACE.test(message.text) ? entryAbove(place, index) : null;
-    return above ? [place, above] : [place];
+    return [statedPlace(message)].filter(Boolean);
   }
   const words = keysOf(message);
   const found = new Set(words.map((word) => index.defined.get(word)).filter(Boolean));
@@ -305,7 +354,7 @@ function wordsOf(name, text) {
   return words;
 }
 
-function messageItem(message, found) {
+function messageItem(message, found, cause) {
   const item = document.createElement('li');
   item.className = message.kind;
   if (KINDS[message.kind]) item.append(wordsOf('b', KINDS[message.kind]));
@@ -318,7 +367,7 @@ function messageItem(message, found) {
     place.className = 'place';
     item.append(place);
   }
-  const advice = adviceOf(message.text);
+  const advice = [cause?.words, adviceOf(message.text)].filter(Boolean).join(' If it isn\'t that: ');
   if (advice) item.append(wordsOf('small', advice));
   return item;
 }
@@ -327,8 +376,11 @@ function showMessages(messages) {
   const told = messages.filter(({ kind }) => kind === 'error' || kind === 'warning' || kind === 'ended');
   const index = indexOfKeys();
   const first = told.slice(0, MOST_MESSAGES).filter(({ kind, text }) => kind !== 'ended' || adviceOf(text));
-  const placed = first.map((message) => [message, placesOf(message, index)]);
-  const items = placed.map(([message, found]) => messageItem(message, found));
+  const placed = first.map((message, number) => {
+    const cause = number < MOST_CAUSES ? causeOf(message, index) : undefined;
+    return [message, [...placesOf(message, index), ...(cause?.place ? [cause.place] : [])], cause];
+  });
+  const items = placed.map((row) => messageItem(...row));
   if (told.length > MOST_MESSAGES) {
     const rest = document.createElement('li');
     rest.textContent = `and ${told.length - MOST_MESSAGES} more, in the log`;
