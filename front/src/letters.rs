@@ -20,10 +20,19 @@ pub fn line_of_half_letter(list: &[u8], is_stopped: bool) -> Option<usize> {
     Some(1 + list[..fault.valid_up_to()].iter().filter(|byte| **byte == b'\n').count())
 }
 
-/// Whether the style and all databases of a job are UTF-8.
-pub fn are_whole(files: &Files) -> bool {
-    let read = files.with_ending(".bst").chain(files.with_ending(".bib"));
-    read.filter_map(|file| file.bytes.as_deref()).all(|bytes| std::str::from_utf8(bytes).is_ok())
+/// Whether all files of a job with this ending are UTF-8.
+fn are_whole(files: &Files, ending: &str) -> bool {
+    files.with_ending(ending).filter_map(|file| file.bytes.as_deref()).all(|bytes| std::str::from_utf8(bytes).is_ok())
+}
+
+/// Whether all databases of a job are UTF-8.
+pub fn databases_are_whole(files: &Files) -> bool {
+    are_whole(files, ".bib")
+}
+
+/// Whether the style of a job is UTF-8.
+pub fn style_is_whole(files: &Files) -> bool {
+    are_whole(files, ".bst")
 }
 
 #[cfg(test)]
@@ -48,9 +57,13 @@ mod tests {
     #[test]
     fn a_job_is_whole_by_its_style_and_its_databases() {
         let file = |name: &str, bytes: &[u8]| File { name: name.into(), bytes: Some(bytes.to_vec()), path: Vec::new() };
-        let job = |all: Vec<File>| Files { top: b"a.aux".to_vec(), all };
-        assert!(are_whole(&job(vec![file("a.aux", b"\xE9"), file("s.bst", b"x"), file("d.bib", "é".as_bytes())])));
-        assert!(!are_whole(&job(vec![file("s.bst", b"x"), file("d.bib", b"\xE9")])));
-        assert!(!are_whole(&job(vec![file("s.bst", b"\xE9"), file("d.bib", b"")])));
+        let are_whole = |all: Vec<File>| {
+            let files = Files { top: b"a.aux".to_vec(), all };
+            (style_is_whole(&files), databases_are_whole(&files))
+        };
+        let whole = vec![file("a.aux", b"\xE9"), file("s.bst", b"x"), file("d.bib", "é".as_bytes())];
+        assert_eq!(are_whole(whole), (true, true));
+        assert_eq!(are_whole(vec![file("s.bst", b"x"), file("d.bib", b"\xE9")]), (true, false));
+        assert_eq!(are_whole(vec![file("s.bst", b"\xE9"), file("d.bib", b"")]), (false, true));
     }
 }

@@ -3,7 +3,7 @@
 use crate::btx::{Answer, Ran};
 use crate::explain;
 use crate::job::Files;
-use crate::letters::{TextMode, are_whole};
+use crate::letters::{TextMode, databases_are_whole, style_is_whole};
 use crate::log::Log;
 use crate::scene::{End, Scenes};
 use crate::shapes::{self, Part};
@@ -74,8 +74,12 @@ impl RunLog<'_> {
                 "The list is made with -text=utf8: read by bytes, it would have half a letter, which LaTeX refuses.\n",
             );
         }
-        if let Some(line) = self.ran.line_of_half_letter().filter(|_| are_whole(self.files)) {
-            let remedy = if self.ran.utf8 { "the style cuts text by bytes" } else { "try -text=utf8" };
+        if let Some(line) = self.ran.line_of_half_letter().filter(|_| databases_are_whole(self.files)) {
+            let remedy = match (self.ran.utf8, style_is_whole(self.files)) {
+                (_, false) => "the style isn't UTF-8",
+                (true, true) => "the style cuts text by bytes",
+                (false, true) => "try -text=utf8",
+            };
             notes.push_str(&format!("Line {line} of the list has half a letter, which LaTeX refuses: {remedy}.\n"));
         }
         notes.into_bytes()

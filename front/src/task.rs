@@ -4,7 +4,7 @@ use crate::btx::{self, Answer, Options, Ran};
 use crate::exit::{Failure, Name, Status};
 use crate::interrupt::{Tries, Watch};
 use crate::job::Files;
-use crate::letters::{TextMode, are_whole};
+use crate::letters::{TextMode, databases_are_whole, style_is_whole};
 use crate::outputs::Outputs;
 use crate::places;
 use crate::run_log::{Interrupted, RunLog};
@@ -91,11 +91,19 @@ impl Task {
         match self.words.text {
             TextMode::Utf8 => run(true),
             TextMode::Bytes => run(false),
-            TextMode::Auto => {
-                let ran = run(false);
-                if ran.line_of_half_letter().is_some() && are_whole(&self.files) { run(true) } else { ran }
-            }
+            TextMode::Auto => self.without_half_letters(run(false), run),
         }
+    }
+
+    /// A run by bytes, or in its place the one by letters where its list has half a letter of a database in UTF-8. A style in another encoding may write bytes of its own, which
+    /// no way of reading makes whole.
+    fn without_half_letters(&self, by_bytes: Ran, run: impl Fn(bool) -> Ran) -> Ran {
+        if by_bytes.line_of_half_letter().is_none() || !databases_are_whole(&self.files) {
+            return by_bytes;
+        }
+        let by_letters = run(true);
+        let is_better = style_is_whole(&self.files) || by_letters.line_of_half_letter().is_none();
+        if is_better { by_letters } else { by_bytes }
     }
 
     /// Where the style stood at the errors of a run: the job is run again to find it.

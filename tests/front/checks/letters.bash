@@ -68,3 +68,15 @@ letters_job 'Émile Zola' "$piece write\$ author #2 #1 substring\$"
 run_search -no-explain -budget=20 job
 ! grep -q 'half a letter' "$folder/stdout" job.blg || complaints+=('something is said of letters')
 end
+
+begin half_letter_of_a_style_in_another_encoding
+letters_job 'Émile Zola' "$prefix"
+printf '%% \xE9\n' >>s.bst
+run_search -no-explain job
+wants_text job.bbl $'plain\nÉ\n'
+says_of_letters "$read_anew"
+letters_job 'Émile Zola' "$prefix \"$(printf '\xE9')\" *"
+run_search -no-explain job
+wants_text job.bbl $'plain\n\xC3\xE9\n'
+says_of_letters "Line 2 of the list has half a letter, which LaTeX refuses: the style isn't UTF-8."
+end
