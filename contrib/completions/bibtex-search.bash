@@ -4,7 +4,7 @@
 _bibtex_options() {
     local kept='min-crossrefs= text= line= entry-max= global-max= help version'
     case $1 in
-    bibtex-search) echo "$kept terse strict explain no-explain explain-only budget= log-room= list-room=" ;;
+    bibtex-search) echo "$kept terse strict explain no-explain explain-only letters= budget= log-room= list-room=" ;;
     bibtex-confined)
         echo "$kept limit-memory= limit-aux= limit-input= limit-output= limit-processor= limit-clock= limit-steps= limit-names="
         ;;
@@ -61,6 +61,7 @@ _bibtex() {
         *) _bibtex_complete words "$word" 'bytes utf8' ;;
         esac
         ;;
+    letters:*) _bibtex_complete words "$word" 'no plain de de-phonebook en es fr it nl pt pl cs sk hu sv da nb fi tr hr' ;;
     dir:*) _bibtex_complete folders "$word" ;;
     ?*:*) ;;
     :-*) _bibtex_complete words "$word" "$hyphens${options// / $hyphens}" ;;

@@ -31,6 +31,7 @@ __bibtex_option bibtex-search o strict 'End with status 2 where a cited key has 
 __bibtex_option bibtex-search o explain 'Say where each message stands and what to do'
 __bibtex_option bibtex-search o no-explain 'Print the log as it is'
 __bibtex_option bibtex-search o explain-only 'Explain what a run says, and write nothing'
+__bibtex_option bibtex-search o letters 'The language by which letters outside ASCII are sorted' no plain de de-phonebook en es fr it nl pt pl cs sk hu sv da nb fi tr hr
 __bibtex_option bibtex-search o budget 'Steps that the style may take' 1000000000
 __bibtex_option bibtex-search o log-room 'Bytes of the log' 64M
 __bibtex_option bibtex-search o list-room 'Bytes of the list' 1G

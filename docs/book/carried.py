@@ -14,7 +14,7 @@ from definitions import Definition
 ROW = "btx_core.WorkedJobs.cross_references"
 # The types from the files of a job to its product: a definition, the relation that leads to it, and what that takes.
 FLOW = (("btx_aux.Files.Files", None, "the files of a job, by their names"),
-        ("btx_core.AuxFiles.AuxSaid", "btx_core.AuxFiles.IsSaid", "what the .aux files say"),
+        ("btx_core.AuxFiles.AuxContents", "btx_core.AuxFiles.AreAuxContents", "what the .aux files say"),
         ("btx_core.Styles.Style", "btx_core.StyleTexts.IsStyle", "the commands and functions of the style"),
         ("btx_core.Styles.Library", "btx_core.Lists.IsLibrary", "the entries of the list, with their fields"),
         ("btx_core.Meanings.Outcome", "btx_core.Runs.CommandsCome", "the state at the end of the style"),

@@ -1,6 +1,7 @@
 //! The calls of the proved library, made safe. `library/btx.h` says what each call does; `crates/btx_c` has their contracts.
 
 use crate::job::File;
+use crate::letter_run::Letters;
 use crate::letters::line_of_half_letter;
 use crate::log::{Log, looks_like_message};
 use crate::system::trying;
@@ -140,6 +141,53 @@ unsafe extern "C" {
         notes_room: usize,
         verdict: *mut CVerdict,
     ) -> u32;
+    fn btx_read(
+        file: *const u8,
+        file_len: usize,
+        text: *const u8,
+        text_len: usize,
+        strings: *const CString,
+        strings_len: usize,
+        records: *mut Record,
+        records_room: usize,
+        texts: *mut u8,
+        texts_room: usize,
+        sizes: *mut CSizes,
+    ) -> u32;
+}
+
+#[repr(C)]
+struct CString {
+    name: Text,
+    text: Text,
+}
+
+/// A record of a database.
+#[repr(C)]
+#[derive(Debug, Clone, Copy, PartialEq, Eq)]
+pub struct Record {
+    /// What it is, by the numbers of the header.
+    pub kind: u32,
+    pub is_whole: bool,
+    /// Its bytes of the database.
+    pub start: usize,
+    pub end: usize,
+    pub line: usize,
+    name_at: usize,
+    pub name_len: usize,
+    text_at: usize,
+    pub text_len: usize,
+}
+
+// What a record may be that has a value.
+pub const STRING: u32 = 2;
+pub const FIELD: u32 = 4;
+
+#[repr(C)]
+#[derive(Debug, Clone, Copy, Default)]
+struct CSizes {
+    records: usize,
+    texts: usize,
 }
 
 #[repr(C)]
@@ -210,6 +258,8 @@ pub struct Ran {
     pub answer: Answer,
     /// Whether text was read as UTF-8.
     pub utf8: bool,
+    /// What became of the letters of a language.
+    pub letters: Letters,
 }
 
 impl Ran {
@@ -312,7 +362,14 @@ fn printed_parts(log: &[u8], events: &[Event]) -> Vec<Range<usize>> {
 /// Runs a job over these files.
 pub fn run(job: &[u8], files: &[File], options: &Options, rooms: &Rooms) -> Ran {
     let (Ok(mut list), Ok(mut log)) = (room(rooms.list), room(rooms.log)) else {
-        return Ran { list: Vec::new(), log: Vec::new(), printed: Vec::new(), answer: Answer::Memory, utf8: options.utf8 };
+        return Ran {
+            list: Vec::new(),
+            log: Vec::new(),
+            printed: Vec::new(),
+            answer: Answer::Memory,
+            utf8: options.utf8,
+            letters: Letters::AsTheyAre,
+        };
     };
     let given = for_c(files);
     let (wanted, rooms) = (*rooms, Rooms { list: list.capacity().min(rooms.list), log: log.capacity().min(rooms.log) });
@@ -353,7 +410,7 @@ pub fn run(job: &[u8], files: &[File], options: &Options, rooms: &Rooms) -> Ran 
         _ => Answer::Memory,
     };
     let printed = printed_parts(&log, &events);
-    Ran { list, log, printed, answer, utf8: options.utf8 }
+    Ran { list, log, printed, answer, utf8: options.utf8, letters: Letters::AsTheyAre }
 }
 
 /// The room for notes that is tried first.
@@ -447,6 +504,44 @@ fn check_in(name: &[u8], style: &[u8], steps: u64, room: usize) -> Result<Option
     }))
 }
 
+/// The records of a database, whatever a document cites, without their texts.
+pub fn read(text: &[u8]) -> Result<Vec<Record>, MemoryRefused> {
+    read_in(text, text.len() / BYTES_OF_RECORD + 16)
+}
+
+/// How many bytes of a database a record has at least in most of them. Room that isn't written costs nothing.
+const BYTES_OF_RECORD: usize = 12;
+
+fn read_in(text: &[u8], room: usize) -> Result<Vec<Record>, MemoryRefused> {
+    let (mut records, mut texts, mut sizes) = (Vec::<Record>::new(), [0; 1], CSizes::default());
+    trying(|| records.try_reserve_exact(room)).map_err(|_| MemoryRefused)?;
+    let strings: &[CString] = &[];
+    // SAFETY: each pointer is that of a slice or a reference that outlives the call, with its length; the records have that much room of their own, which is only
+    // written to; and at DONE and FULL as many of them as the sizes say, or as there is room for, have been written.
+    let answer = unsafe {
+        let answer = btx_read(
+            b"".as_ptr(),
+            0,
+            text.as_ptr(),
+            text.len(),
+            strings.as_ptr(),
+            strings.len(),
+            records.as_mut_ptr(),
+            room,
+            texts.as_mut_ptr(),
+            0,
+            &mut sizes,
+        );
+        records.set_len(if matches!(answer, DONE | FULL) { sizes.records.min(room) } else { 0 });
+        answer
+    };
+    match answer {
+        DONE | FULL if sizes.records <= room => Ok(records),
+        FULL => read_in(text, sizes.records),
+        _ => Err(MemoryRefused),
+    }
+}
+
 #[cfg(test)]
 mod tests {
     use super::*;
@@ -528,6 +623,25 @@ mod tests {
         assert!(matches!(ran.answer, Answer::Done(Report { warnings: 1, errors: 1, .. })), "{:?}", ran.answer);
         assert_eq!(errors, [b"Error--= needs two integers or two strings while executing = for entry k"]);
         assert_eq!(ran.printed.len(), 2);
+    }
+
+    #[test]
+    fn a_database_is_read() {
+        let text = b"@string{s = {x}} @misc{k, title = s # {T}, note=\"N\"} @comment";
+        let records = read(text).unwrap();
+        let shown: Vec<_> = records.iter().map(|it| (it.kind, &text[it.start..it.end], it.name_len)).collect();
+        let wanted: [(u32, &[u8], usize); 7] = [
+            (STRING, b"@string{s = {x}", 1),
+            (5, b"}", 0),
+            (3, b"@misc{k", 4),
+            (FIELD, b"title = s # {T}", 5),
+            (FIELD, b"note=\"N\"", 4),
+            (5, b"}", 0),
+            (0, b"@comment", 0),
+        ];
+        assert_eq!(shown, wanted);
+        assert_eq!(read_in(text, 1).unwrap(), records);
+        assert_eq!(read(b"").unwrap(), []);
     }
 
     #[test]

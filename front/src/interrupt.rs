@@ -137,12 +137,20 @@ fn try_all(whole: u64, run: impl Fn(u64) -> Ran, done: &Sender<Try>) {
 mod tests {
     use super::*;
     use crate::btx::Report;
+    use crate::letter_run::Letters;
 
     /// A run of this budget, which is stopped there.
     fn stopped(budget: u64) -> Ran {
         let mut report = Report::default();
         (report.status, report.steps) = (btx::STOPPED, budget);
-        Ran { list: Vec::new(), log: Vec::new(), printed: Vec::new(), answer: Answer::Done(report), utf8: false }
+        Ran {
+            list: Vec::new(),
+            log: Vec::new(),
+            printed: Vec::new(),
+            answer: Answer::Done(report),
+            utf8: false,
+            letters: Letters::AsTheyAre,
+        }
     }
 
     fn steps(ran: &Ran) -> u64 {

@@ -23,6 +23,7 @@
 //! | [`shapes`] | a log in the original's shapes |
 //! | [`explain`], [`entries`], [`shown_line`], [`advice`] | what follows a message for its reader: where it stands, and what to do |
 //! | [`missing_entry`], [`nearest`] | where an entry may be that wasn't found, and which name may be meant by one that isn't known |
+//! | [`letters`], [`languages`], [`letter_codes`], [`letter_run`] | letters outside ASCII: half letters in a list, and the order of a language |
 //! | [`run_log`] | the log of a run as it is written and printed |
 //! | [`terminal`] | what is safe to print on a terminal, and how wide it is |
 //! | [`exit`] | the exit statuses |
@@ -52,6 +53,9 @@ pub mod hints;
 pub mod interrupt;
 pub mod job;
 pub mod kpathsea;
+pub mod languages;
+pub mod letter_codes;
+pub mod letter_run;
 pub mod letters;
 pub mod lint_entry;
 pub mod lint_forms;

@@ -4,6 +4,8 @@
 
 use crate::btx::{self, Answer, Options, Ran, Rooms};
 use crate::job::Files;
+use crate::letter_codes::Codes;
+use crate::letter_run::Letters;
 use crate::log::{Content, Line, Log, Message, Place, Severity};
 use crate::notes::{self, Note, Spot, What};
 use crate::scene::{Call, End, Held, Scene, Scenes};
@@ -106,12 +108,18 @@ struct Search<'a> {
     /// The style's name and its text.
     style: &'a [u8],
     text: &'a [u8],
+    /// The codes of letters in what is noted, if there are any.
+    codes: Option<&'a Codes>,
 }
 
 /// Where the style stood at the errors of a run, and at its end where it didn't come to an end of its own.
 pub fn scenes(files: &Files, options: &Options, rooms: &Rooms, ran: &Ran) -> Scenes {
+    let (files, codes) = match &ran.letters {
+        Letters::Coded(coded) => (&coded.files, Some(&coded.codes)),
+        Letters::AsTheyAre | Letters::LeftOut(_) => (files, None),
+    };
     let Some(style) = files.with_ending(".bst").next() else { return Scenes::default() };
-    let search = Search { files, options, style: &style.name, text: style.bytes.as_deref().unwrap_or(b"") };
+    let search = Search { files, options, style: &style.name, text: style.bytes.as_deref().unwrap_or(b""), codes };
     match ran.answer {
         Answer::Done(report) if report.has_finished() && report.errors == 0 => Scenes::default(),
         Answer::Done(report) => {
@@ -185,8 +193,9 @@ impl Search<'_> {
     /// The notes of the first `most` events, and of the end, of a run with this budget.
     fn notes(&self, budget: u64, most: u64) -> Vec<Note> {
         let options = Options { budget, ..*self.options };
-        let noted = btx::notes(&self.files.top, &self.files.all, &options, most as u32);
-        notes::read(&noted.unwrap_or_default(), self.style)
+        let noted = btx::notes(&self.files.top, &self.files.all, &options, most as u32).unwrap_or_default();
+        let noted = self.codes.map_or_else(|| noted.clone(), |codes| codes.turn_back(&noted).text);
+        notes::read(&noted, self.style)
     }
 
     /// The scenes of a run; `has_end` where the end is to be found too.

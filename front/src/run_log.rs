@@ -3,6 +3,7 @@
 use crate::btx::{Answer, Ran};
 use crate::explain;
 use crate::job::Files;
+use crate::letter_run::Letters;
 use crate::letters::{TextMode, databases_are_whole, style_is_whole};
 use crate::log::Log;
 use crate::scene::{End, Scenes};
@@ -69,7 +70,11 @@ impl RunLog<'_> {
     /// What is to be said of the list's letters of UTF-8: that it was made by reading letters though nobody asked for that, and that it has half a letter.
     fn letter_notes(&self) -> Vec<u8> {
         let mut notes = String::new();
-        if self.ran.utf8 && self.words.text == TextMode::Auto {
+        if let Letters::LeftOut(why) = self.ran.letters {
+            notes.push_str(&format!("The list is made without -letters: {}.\n", why.reason()));
+        }
+        let is_coded = matches!(self.ran.letters, Letters::Coded(_));
+        if self.ran.utf8 && self.words.text == TextMode::Auto && !is_coded {
             notes.push_str(
                 "The list is made with -text=utf8: read by bytes, it would have half a letter, which LaTeX refuses.\n",
             );

@@ -35,6 +35,8 @@ const HELP: &str = "  Styles are found along BSTINPUTS, databases along BIBINPUT
 -budget=N         how many steps the style may take (1000000000)
 -text=WORD        how text is read: bytes, utf8, or auto: by letters only where
                   bytes would leave half a letter in the list (auto)
+-letters=LANG     sort letters outside ASCII as a language does, and change
+                  their case: plain, de, de-phonebook, fr, es, pl, cs, .. (no)
 -line=N           how long a line of the list may be, 20 to 1000 (79)
 -entry-max=N      how many bytes of a string a variable of an entry keeps
 -global-max=N     the same of a global variable; TeX's set-up has both numbers

@@ -4,6 +4,7 @@ use crate::btx::{self, Answer, Options, Ran};
 use crate::exit::{Failure, Name, Status};
 use crate::interrupt::{Tries, Watch};
 use crate::job::Files;
+use crate::letter_run::{self, Letters};
 use crate::letters::{TextMode, databases_are_whole, style_is_whole};
 use crate::outputs::Outputs;
 use crate::places;
@@ -83,9 +84,27 @@ impl Task {
         })
     }
 
-    /// What the job gives with this budget. Where nothing is said of how text is read, it is read by bytes, as the original does; and once more by letters where that would leave
-    /// half a letter in the list.
+    /// What the job gives with this budget: with the letters of a language where they are asked for and the list can be made so.
     fn run_with(&self, budget: u64) -> Ran {
+        let Some(language) = self.words.language.as_ref().filter(|_| letter_run::has_letters(&self.files)) else {
+            return self.run_as_it_is(budget);
+        };
+        let options = self.options_of_letters(budget);
+        let run = |files: &Files| btx::run(&files.top, &files.all, &options, &self.words.rooms);
+        letter_run::run(&self.files, language, run)
+            .unwrap_or_else(|why| Ran { letters: Letters::LeftOut(why), ..self.run_as_it_is(budget) })
+    }
+
+    /// The options of a run with the letters of a language.
+    fn options_of_letters(&self, budget: u64) -> Options {
+        let options = &self.words.options;
+        let (entry_max, global_max) = (letter_run::longer(options.entry_max), letter_run::longer(options.global_max));
+        Options { budget, entry_max, global_max, utf8: self.words.text != TextMode::Bytes, ..*options }
+    }
+
+    /// What the job gives with this budget by its files as they are. Where nothing is said of how text is read, it is read by bytes, as the original does; and once more by letters where
+    /// that would leave half a letter in the list.
+    fn run_as_it_is(&self, budget: u64) -> Ran {
         let options = Options { budget, ..self.words.options };
         let run = |utf8| btx::run(&self.files.top, &self.files.all, &Options { utf8, ..options }, &self.words.rooms);
         match self.words.text {
@@ -108,7 +127,10 @@ impl Task {
 
     /// Where the style stood at the errors of a run: the job is run again to find it.
     fn scenes(&self, ran: &Ran) -> Scenes {
-        let options = Options { utf8: ran.utf8, ..self.words.options };
+        let options = match ran.letters {
+            Letters::Coded(_) => self.options_of_letters(self.words.options.budget),
+            Letters::AsTheyAre | Letters::LeftOut(_) => Options { utf8: ran.utf8, ..self.words.options },
+        };
         places::scenes(&self.files, &options, &self.words.rooms, ran)
     }
 

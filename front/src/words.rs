@@ -2,8 +2,10 @@
 //! hyphen or two, and may be shortened to a beginning that no other option has; its value follows a `=` or is the next word.
 
 use crate::btx::{Options, Rooms};
+use crate::languages::{self, Language};
 use crate::letters::TextMode;
 use std::ops::RangeInclusive;
+use std::sync::Arc;
 
 /// Whether messages are explained.
 #[derive(Debug, Clone, Copy, PartialEq, Eq)]
@@ -27,6 +29,8 @@ pub struct Words {
     pub options: Options,
     /// How text is read; the options of a run follow it.
     pub text: TextMode,
+    /// Whose letters are sorted and changed in case by rules of their own; None where all bytes are as the original takes them.
+    pub language: Option<Arc<Language>>,
     /// Whether the limits of variables were given; else TeX's set-up gives them.
     pub has_entry_max: bool,
     pub has_global_max: bool,
@@ -57,6 +61,7 @@ enum Choice {
     ExplainOnly,
     Budget,
     Text,
+    Letters,
     Line,
     EntryMax,
     GlobalMax,
@@ -81,12 +86,13 @@ const ORIGINAL: [Row; 4] = [
 ];
 
 /// Our own options.
-const OWN: [Row; 12] = [
+const OWN: [Row; 13] = [
     ("explain", Choice::Explain, false),
     ("no-explain", Choice::NoExplain, false),
     ("explain-only", Choice::ExplainOnly, false),
     ("budget", Choice::Budget, true),
     ("text", Choice::Text, true),
+    ("letters", Choice::Letters, true),
     ("line", Choice::Line, true),
     ("entry-max", Choice::EntryMax, true),
     ("global-max", Choice::GlobalMax, true),
@@ -194,6 +200,7 @@ impl Words {
             explain,
             options,
             text: TextMode::Auto,
+            language: None,
             has_entry_max: false,
             has_global_max: false,
             rooms: Rooms { list: 1 << 30, log: 64 << 20 },
@@ -223,6 +230,7 @@ impl Words {
             Choice::LogRoom => self.rooms.log = size(name, value)?,
             Choice::ListRoom => self.rooms.list = size(name, value)?,
             Choice::Text => self.text = text_mode(value)?,
+            Choice::Letters => self.language = language_named(value)?,
             Choice::Folder => {
                 return Err(
                     b"the files are searched for, so there is no option -dir: name the job with its folder".into()
@@ -242,6 +250,18 @@ fn text_mode(value: &[u8]) -> Result<TextMode, Vec<u8>> {
         b"utf8" => Ok(TextMode::Utf8),
         _ => Err([b"the value of -text is auto, bytes or utf8, not '", value, b"'"].concat()),
     }
+}
+
+/// The language whose letters are asked for; None where none is.
+fn language_named(value: &[u8]) -> Result<Option<Arc<Language>>, Vec<u8>> {
+    if value == b"no" {
+        return Ok(None);
+    }
+    let refused = || {
+        let wanted = format!("the value of -letters is no or one of {}, not '", languages::names());
+        [wanted.as_bytes(), value, b"'"].concat()
+    };
+    Ok(Some(Arc::new(Language::named(value).ok_or_else(refused)?)))
 }
 
 /// A word that is an option: how many hyphens it has, its name, and its value where a `=` is in the word.

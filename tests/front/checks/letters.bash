@@ -7,11 +7,12 @@ letters_job() {
     printf '%s\n' 'ENTRY {author}{}{}' "FUNCTION {misc} {\"plain\" write\$ newline\$ $2 write\$ newline\$}" READ 'ITERATE {call.type$}' >s.bst
 }
 
-# says_of_letters TEXT..: standard output and the log have these lines on letters, and no others.
+# says_of_letters [TEXT..]: standard output and the log have these lines on letters, and no others.
 says_of_letters() {
-    local file
+    local file said
     for file in "$folder/stdout" job.blg; do
-        grep -E 'half a letter' "$file" | cmp -s - <(printf '%s\n' "$@") || complaints+=("$file says of letters: $(grep -E 'half a letter' "$file")")
+        said=$(grep -E 'half a letter|-letters' "$file" || true)
+        [ "$said" = "$(printf '%s\n' "$@")" ] || complaints+=("$file says of letters: $said")
     done
 }
 
@@ -80,3 +81,80 @@ run_search -no-explain job
 wants_text job.bbl $'plain\n\xC3\xE9\n'
 says_of_letters "Line 2 of the list has half a letter, which LaTeX refuses: the style isn't UTF-8."
 end
+
+# The letters of a language.
+
+begin letters_sort_as_the_language_does
+python3 "$here/letters.py" orders "$search" >said || complaints+=("letters.py: $(cat said)")
+wants_text said $'1997\n'
+end
+
+begin letters_have_their_case
+letters_job 'Über die ÄSTHETIK' 'author "t" change.case$ write$ newline$ author "u" change.case$'
+run_search -no-explain -letters=de job
+wants_text job.bbl $'plain\nÜber die ästhetik\nÜBER DIE ÄSTHETIK\n'
+says_of_letters
+letters_job 'IŞIK İnan' 'author "l" change.case$ write$ newline$ author "u" change.case$'
+run_search -no-explain -letters=tr job
+wants_text job.bbl $'plain\nışık inan\nIŞIK İNAN\n'
+end
+
+begin first_names_begin_with_any_letter
+letters_job 'Émile Zola' 'author #1 "{f.}|{vv}|{ll}" format.name$'
+run_search -no-explain -letters=plain job
+wants_text job.bbl $'plain\nÉ.||Zola\n'
+end
+
+begin letters_are_left_out_where_they_would_be_seen
+for row in 'purify$|the style prints text that it made for sorting' '#1 #3 substring$|the style cuts text by bytes'; do
+    letters_job 'é' "author ${row%%|*}"
+    run_search -no-explain -letters=fr job
+    wants_text job.bbl $'plain\né\n'
+    says_of_letters "The list is made without -letters: ${row#*|}."
+done
+letters_job $'\xE9' author
+run_search -no-explain -letters=fr job
+wants_text job.bbl $'plain\n\xE9\n'
+says_of_letters "The list is made without -letters: a database isn't UTF-8."
+letters_job $'é\x01' author
+run_search -no-explain -letters=fr job
+says_of_letters 'The list is made without -letters: the style or a database has control characters.'
+letters_job 'é' 'author write$ {#1} {} while$'
+run_search -no-explain -letters=fr -budget=1000 job
+wants_status 4
+says_of_letters "The list is made without -letters: the run didn't finish."
+end
+
+begin a_database_of_ascii_is_as_it_was
+letters_job 'Charles I and Aaron Chvatal' 'author purify$ write$ newline$ author "l" change.case$'
+for language in no plain cs da tr; do
+    run_search -no-explain -letters=$language job
+    wants_text job.bbl $'plain\nCharles I and Aaron Chvatal\ncharles i and aaron chvatal\n'
+    says_of_letters
+done
+end
+
+begin messages_have_the_letters_too
+letters_job 'Émile {É}, , , Zola' 'author #1 "{ll}" format.name$ author top$ "ö" #1 +'
+run_search -explain -letters=sv job
+wants_status 2
+! grep -q $'[\x01-\x08\x0e-\x1f\xfe\xff]' "$folder/stdout" job.blg || complaints+=("codes are seen: $(cat -v job.blg)")
+wants_words job.blg 'Émile {É}, , , Zola'
+end
+
+begin letters_of_no_language
+for language in xx '' DE; do
+    run_search "-letters=$language" job
+    wants_status 1
+    wants_error_like "^bibtex-search: the value of -letters is no or one of plain, de, .*, not '$language'"
+done
+end
+
+# What docs/DIFFERENCES.md says of TeX Live's styles.
+if has kpsewhich && [ -z "$few" ]; then
+    begin half_letters_of_tex_live
+    python3 "$here/letters.py" styles "$search" "$(kpsewhich -expand-var='$TEXMFDIST')/bibtex/bst" >said || complaints+=("letters.py: $(cat said)")
+    ! grep -qE '^(half a letter in silence|left over|braces)' said || complaints+=("$(cat said)")
+    grep '^half a letter: \(auto\|letters\):' said | grep -qv ': [0-2]\( \|$\)' && complaints+=("$(cat said)")
+    end
+fi

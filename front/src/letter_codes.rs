@@ -1,0 +1,257 @@
+//! Letters of a language as special characters, and back. A letter of a value is written as `{\xy{key}}`: `x` and `y` are control characters that say which letter it is, and the key is what
+//! it sorts as. For BibTeX that is one letter: `purify$` keeps the key alone, `change.case$` changes the key's case, and names and prefixes keep it whole. In braces, where BibTeX knows no
+//! special characters, `purify$` keeps the key as well. So a run over such values sorts and counts letters as the language does, and what it writes is turned back.
+
+use crate::languages::Language;
+use std::collections::HashMap;
+use std::sync::Arc;
+
+/// The control characters of a code: those that are no whitespace.
+const DIGITS: [u8; 26] = [
+    0x01, 0x02, 0x03, 0x04, 0x05, 0x06, 0x07, 0x08, 0x0E, 0x0F, 0x10, 0x11, 0x12, 0x13, 0x14, 0x15, 0x16, 0x17, 0x18,
+    0x19, 0x1A, 0x1B, 0x1C, 0x1D, 0x1E, 0x1F,
+];
+
+/// A byte at the end of each key of a run that is made to see whether keys are printed; `purify$` keeps it.
+pub const MARK: u8 = 0xFE;
+
+/// How many letters have a code.
+const MOST_LETTERS: usize = DIGITS.len() * DIGITS.len();
+
+/// Whether a byte is one of a code, so that a file which has it can't be coded.
+pub fn is_digit(byte: u8) -> bool {
+    matches!(byte, 0x01..=0x08 | 0x0E..=0x1F)
+}
+
+fn value_of(digit: u8) -> Option<usize> {
+    DIGITS.iter().position(|byte| *byte == digit)
+}
+
+/// A letter that has a code.
+#[derive(Debug)]
+struct Letter {
+    itself: char,
+    /// It in the other case.
+    other: String,
+    is_capital: bool,
+}
+
+impl Letter {
+    /// A letter in a text of a language; `is_foreign` where the text has no letter outside ASCII, so that its `I` may be one of another language.
+    fn new(itself: char, language: &Language, is_foreign: bool) -> Letter {
+        let is_capital = itself.is_uppercase();
+        let other = match itself {
+            'I' if language.is_dotless() && !is_foreign => "ı".into(),
+            'i' if language.is_dotless() => "İ".into(),
+            'İ' => "i".into(),
+            _ if is_capital => itself.to_lowercase().collect(),
+            _ => itself.to_uppercase().collect(),
+        };
+        Letter { itself, other, is_capital }
+    }
+}
+
+/// Where letters in braces are coded too. A style may cut a text in braces after any byte, and a code with it.
+#[derive(Debug, Clone, Copy, PartialEq, Eq)]
+pub enum InBraces {
+    Coded,
+    AsTheyAre,
+}
+
+/// A text that was turned back.
+#[derive(Debug, PartialEq, Eq)]
+pub struct Turned {
+    pub text: Vec<u8>,
+    /// Whether nothing is left of a code that was cut, or of a key outside a code.
+    pub is_whole: bool,
+}
+
+/// The letters of a job that have codes.
+#[derive(Debug)]
+pub struct Codes {
+    language: Arc<Language>,
+    in_braces: InBraces,
+    /// What ends each key.
+    mark: &'static [u8],
+    letters: Vec<Letter>,
+    /// Their numbers, by themselves; the `I` of a foreign text is another one.
+    numbers: HashMap<(char, bool), usize>,
+}
+
+impl Codes {
+    pub fn new(language: &Arc<Language>, in_braces: InBraces, are_marked: bool) -> Codes {
+        let mark: &[u8] = if are_marked { &[MARK] } else { &[] };
+        Codes { language: language.clone(), in_braces, mark, letters: Vec::new(), numbers: HashMap::new() }
+    }
+
+    /// Writes a text of a value with its letters coded.
+    pub fn code(&mut self, text: &str, out: &mut Vec<u8>) {
+        let (mut depth, mut copied, is_foreign) = (0, 0, text.is_ascii());
+        let has_rules_for_ascii = self.language.has_rules_for_ascii();
+        for (at, itself) in text.char_indices().filter(|_| has_rules_for_ascii || !is_foreign) {
+            depth += i64::from(itself == '{') - i64::from(itself == '}');
+            let may_be_coded = has_rules_for_ascii || !itself.is_ascii();
+            if !may_be_coded || depth > 0 && self.in_braces == InBraces::AsTheyAre {
+                continue;
+            }
+            let Some(key) = self.key(itself, &text[at..], is_foreign).map(<[u8]>::to_vec) else { continue };
+            let Some(number) = self.number(itself, is_foreign) else { continue };
+            out.extend_from_slice(&text.as_bytes()[copied..at]);
+            self.put(&key, number, out);
+            copied = at + itself.len_utf8();
+        }
+        out.extend_from_slice(&text.as_bytes()[copied..]);
+    }
+
+    /// What a letter sorts as with which `rest` begins; None where that is itself.
+    fn key(&self, itself: char, rest: &str, is_foreign: bool) -> Option<&[u8]> {
+        let language = &self.language;
+        match itself {
+            'I' if language.is_dotless() => language.key('ı'),
+            'i' if language.is_dotless() && !is_foreign => Some(b"i"),
+            'İ' => Some(b"i"),
+            _ if itself.is_ascii_alphabetic() => language.key_of_several(rest),
+            _ if itself.is_ascii() => None,
+            _ => language.key(itself.to_lowercase().next()?),
+        }
+    }
+
+    /// The number of a letter; None where there are too many.
+    fn number(&mut self, itself: char, is_foreign: bool) -> Option<usize> {
+        let known = (itself, is_foreign && itself == 'I');
+        if let Some(number) = self.numbers.get(&known) {
+            return Some(*number);
+        }
+        let number = Some(self.letters.len()).filter(|number| *number < MOST_LETTERS)?;
+        self.letters.push(Letter::new(itself, &self.language, is_foreign));
+        self.numbers.insert(known, number);
+        Some(number)
+    }
+
+    fn put(&self, key: &[u8], number: usize, out: &mut Vec<u8>) {
+        let digits = [DIGITS[number / DIGITS.len()], DIGITS[number % DIGITS.len()]];
+        out.extend_from_slice(&[b'{', b'\\', digits[0], digits[1], b'{']);
+        let start = out.len();
+        out.extend_from_slice(key);
+        if self.letters[number].is_capital {
+            out[start..].make_ascii_uppercase();
+        }
+        out.extend_from_slice(self.mark);
+        out.extend_from_slice(b"}}");
+    }
+
+    /// What a run wrote, with each code turned back into its letter, in the case that the run gave it.
+    pub fn turn_back(&self, text: &[u8]) -> Turned {
+        let mut turned = Turned { text: Vec::with_capacity(text.len()), is_whole: true };
+        let mut at = 0;
+        while at < text.len() {
+            let code = if text[at] == b'{' { self.code_at(&text[at..]) } else { None };
+            if let Some(code) = code {
+                turned.text.extend_from_slice(self.letter(&code).as_bytes());
+                at += code.len;
+            } else {
+                turned.is_whole &= !is_digit(text[at]) && text[at] < MARK;
+                turned.text.push(text[at]);
+                at += 1;
+            }
+        }
+        turned
+    }
+
+    /// The code with which a text begins.
+    fn code_at<'t>(&self, text: &'t [u8]) -> Option<Code<'t>> {
+        let [b'{', b'\\', first, second, b'{', rest @ ..] = text else { return None };
+        let number = value_of(*first)? * DIGITS.len() + value_of(*second)?;
+        let len = rest.iter().take_while(|byte| byte.is_ascii_alphabetic() || **byte >= MARK).count();
+        let is_whole = number < self.letters.len() && rest[len..].starts_with(b"}}");
+        is_whole.then_some(Code { number, key: &rest[..len], len: len + 7 })
+    }
+
+    /// The letter that a code stands for: in the other case where its key has another case than it was given.
+    fn letter(&self, code: &Code<'_>) -> String {
+        let letter = &self.letters[code.number];
+        match code.key.iter().find(|byte| byte.is_ascii_alphabetic()) {
+            Some(byte) if byte.is_ascii_uppercase() != letter.is_capital => letter.other.clone(),
+            _ => letter.itself.into(),
+        }
+    }
+}
+
+/// A code in a text.
+struct Code<'t> {
+    number: usize,
+    key: &'t [u8],
+    len: usize,
+}
+
+#[cfg(test)]
+mod tests {
+    use super::*;
+    use crate::languages::AFTER;
+
+    fn coded(codes: &mut Codes, text: &str) -> Vec<u8> {
+        let mut out = Vec::new();
+        codes.code(text, &mut out);
+        out
+    }
+
+    /// A text there and back, with the keys changed on the way.
+    fn there_and_back(name: &str, text: &str, change: impl Fn(&mut [u8])) -> String {
+        let language = Arc::new(Language::named(name.as_bytes()).unwrap());
+        let mut codes = Codes::new(&language, InBraces::Coded, false);
+        let mut list = coded(&mut codes, text);
+        change(&mut list);
+        let turned = codes.turn_back(&list);
+        assert!(turned.is_whole, "{text}");
+        String::from_utf8(turned.text).unwrap()
+    }
+
+    #[test]
+    fn a_letter_is_a_special_character_with_its_key() {
+        let swedish = Arc::new(Language::named(b"sv").unwrap());
+        let mut codes = Codes::new(&swedish, InBraces::Coded, false);
+        assert_eq!(coded(&mut codes, "aö{É}"), b"a{\\\x01\x01{\xFFc}}{{\\\x01\x02{E}}}");
+        let mut codes = Codes::new(&swedish, InBraces::AsTheyAre, true);
+        assert_eq!(coded(&mut codes, "ö{É}"), "{\\\x01\x01{?c!}}{É}".bytes().map(marked).collect::<Vec<_>>());
+        assert_eq!(coded(&mut codes, "Я “x” ASCII"), "Я “x” ASCII".as_bytes());
+    }
+
+    fn marked(byte: u8) -> u8 {
+        match byte {
+            b'?' => AFTER,
+            b'!' => MARK,
+            other => other,
+        }
+    }
+
+    #[test]
+    fn each_letter_is_itself_again() {
+        let letters: String = ('\u{C0}'..='\u{24F}').chain('\u{1E00}'..='\u{1EFF}').collect();
+        for name in crate::languages::names().split(", ") {
+            for text in [&letters, &format!("{{{letters}}}"), "I i ch {Ch} CH aa Aa dzs"] {
+                assert_eq!(&there_and_back(name, text, |_| {}), text, "{name}");
+            }
+        }
+    }
+
+    #[test]
+    fn a_changed_case_of_a_key_is_that_of_its_letter() {
+        let lower = |name, text| there_and_back(name, text, <[u8]>::make_ascii_lowercase);
+        let upper = |name, text| there_and_back(name, text, <[u8]>::make_ascii_uppercase);
+        assert_eq!((lower("de", "ÄßÉœ"), upper("de", "äßéœ")), ("äßéœ".into(), "ÄSSÉŒ".into()));
+        assert_eq!((lower("tr", "IŞIK İnan"), upper("tr", "ışık inan")), ("ışık inan".into(), "IŞIK İNAN".into()));
+        assert_eq!(lower("tr", "In it"), "in it");
+        assert_eq!((lower("cs", "Chvátal"), upper("cs", "chvátal")), ("chvátal".into(), "CHVÁTAL".into()));
+    }
+
+    #[test]
+    fn what_is_left_of_a_code_is_seen() {
+        let language = Arc::new(Language::named(b"de").unwrap());
+        let mut codes = Codes::new(&language, InBraces::Coded, true);
+        let list = coded(&mut codes, "ö");
+        for part in [&list[..3], &list[..list.len() - 1], &list[3..], b"o\xFE", b"z\xFF", b"{\\\x01\x09{o}}"] {
+            assert!(!codes.turn_back(part).is_whole, "{part:?}");
+        }
+        assert_eq!(codes.turn_back(&list), Turned { text: "ö".into(), is_whole: true });
+    }
+}

@@ -1,0 +1,310 @@
+//! The run of a job with the letters of a language: over databases whose letters are coded, and what it writes turned back.
+
+use crate::btx::{self, Answer, FIELD, Ran, Record, STRING};
+use crate::job::{File, Files};
+use crate::languages::{AFTER, Language};
+use crate::letter_codes::{Codes, InBraces, MARK, is_digit};
+use crate::letters::databases_are_whole;
+use std::ops::Range;
+use std::sync::Arc;
+use std::thread;
+
+/// Fields whose values stay as they are: the key of another entry, where something is found, and what styles print as they would sort it.
+const NO_TEXT: [&str; 7] = ["crossref", "doi", "file", "month", "url", "xref", "year"];
+
+/// How many times as long the strings are that variables of a run with codes keep: a code has some four times the bytes of its letter.
+const LONGER: u32 = 4;
+
+/// What became of the letters of a language.
+#[derive(Debug)]
+pub enum Letters {
+    /// The run read the databases as they are.
+    AsTheyAre,
+    /// It read coded ones, and what it wrote is turned back.
+    Coded(Arc<Coded>),
+    /// It read the databases as they are though a language was asked for.
+    LeftOut(LeftOut),
+}
+
+/// Why the letters of a language were left out.
+#[derive(Debug, Clone, Copy, PartialEq, Eq)]
+pub enum LeftOut {
+    NotUtf8,
+    ControlCharacters,
+    PrintsKeys,
+    CutsLetters,
+    Unfinished,
+    Memory,
+}
+
+impl LeftOut {
+    /// The reason, as the log has it.
+    pub fn reason(self) -> &'static str {
+        match self {
+            LeftOut::NotUtf8 => "a database isn't UTF-8",
+            LeftOut::ControlCharacters => "the style or a database has control characters",
+            LeftOut::PrintsKeys => "the style prints text that it made for sorting",
+            LeftOut::CutsLetters => "the style cuts text by bytes",
+            LeftOut::Unfinished => "the run didn't finish",
+            LeftOut::Memory => "there is too little memory",
+        }
+    }
+}
+
+/// The files of a job with coded letters, and their codes.
+#[derive(Debug)]
+pub struct Coded {
+    pub files: Files,
+    pub codes: Codes,
+}
+
+/// The values of a file that may be coded.
+type Values = Vec<Range<usize>>;
+
+/// Whether a job has letters that a language may sort by rules of its own.
+pub fn has_letters(files: &Files) -> bool {
+    files.with_ending(".bib").any(|file| !bytes_of(file).is_ascii())
+}
+
+fn bytes_of(file: &File) -> &[u8] {
+    file.bytes.as_deref().unwrap_or(b"")
+}
+
+/// What a style may keep of a string in a run with coded letters.
+pub fn longer(most: u32) -> u32 {
+    most.saturating_mul(LONGER).min(1_000_000)
+}
+
+/// Runs a job with the letters of a language; an error says why its list can't be made so. Whether a style prints keys is seen by a run of its own.
+pub fn run(files: &Files, language: &Arc<Language>, run: impl Fn(&Files) -> Ran + Sync) -> Result<Ran, LeftOut> {
+    if !databases_are_whole(files) {
+        return Err(LeftOut::NotUtf8);
+    }
+    let mut read = files.with_ending(".bst").chain(files.with_ending(".bib")).map(bytes_of);
+    if read.any(has_digits) {
+        return Err(LeftOut::ControlCharacters);
+    }
+    let values = files.all.iter().map(|file| values_of(file, language)).collect::<Result<Vec<Values>, LeftOut>>()?;
+    let job = Job { files, values, language };
+    let sorts = files.with_ending(".bst").any(|file| has_word(bytes_of(file), b"purify$"));
+    thread::scope(|scope| {
+        let prints = sorts.then(|| scope.spawn(|| job.prints_keys(&run)));
+        let ran = job.run_with(InBraces::Coded, &run).or_else(|why| match why {
+            LeftOut::CutsLetters => job.run_with(InBraces::AsTheyAre, &run),
+            _ => Err(why),
+        });
+        match prints.map(|prints| prints.join().unwrap_or(true)) {
+            Some(true) => Err(LeftOut::PrintsKeys),
+            _ => ran,
+        }
+    })
+}
+
+/// Whether a text has a byte of a code. (Piece by piece, since that takes an eighth of the time.)
+fn has_digits(text: &[u8]) -> bool {
+    text.chunks(4096).any(|piece| piece.iter().fold(false, |has, byte| has | is_digit(*byte)))
+}
+
+/// Whether a text has a word of small letters, in any case.
+fn has_word(text: &[u8], word: &[u8]) -> bool {
+    text.windows(word.len()).any(|piece| piece.eq_ignore_ascii_case(word))
+}
+
+/// A job, the values of its files, and the language of their letters.
+struct Job<'a> {
+    files: &'a Files,
+    values: Vec<Values>,
+    language: &'a Arc<Language>,
+}
+
+impl Job<'_> {
+    /// The job with coded letters.
+    fn coded(&self, in_braces: InBraces, are_marked: bool) -> Coded {
+        let mut codes = Codes::new(self.language, in_braces, are_marked);
+        let mut code = |(file, values): (&File, &Values)| {
+            let bytes = file.bytes.as_deref().map(|bytes| coded_text(bytes, values, &mut codes));
+            File { name: file.name.clone(), bytes, path: file.path.clone() }
+        };
+        let all = self.files.all.iter().zip(&self.values).map(&mut code).collect();
+        Coded { files: Files { top: self.files.top.clone(), all }, codes }
+    }
+
+    /// The run over coded letters, turned back.
+    fn run_with(&self, in_braces: InBraces, run: impl Fn(&Files) -> Ran) -> Result<Ran, LeftOut> {
+        let coded = self.coded(in_braces, false);
+        let ran = run(&coded.files);
+        if !matches!(ran.answer, Answer::Done(report) if report.has_finished()) {
+            return Err(LeftOut::Unfinished);
+        }
+        let (list, log) = (coded.codes.turn_back(&ran.list), coded.codes.turn_back(&ran.log));
+        if !list.is_whole || !log.is_whole || !self.has_all_braces(&list.text, run) {
+            return Err(LeftOut::CutsLetters);
+        }
+        Ok(Ran { list: list.text, log: log.text, letters: Letters::Coded(Arc::new(coded)), ..ran })
+    }
+
+    /// Whether no brace of a list is left over from a code that was cut. A style may leave out braces of its own.
+    fn has_all_braces(&self, list: &[u8], run: impl Fn(&Files) -> Ran) -> bool {
+        const CUT: &[u8] = b"{\\}";
+        let is_cut = has_word(list, CUT) && !self.files.all.iter().any(|file| has_word(bytes_of(file), CUT));
+        let depths = depths(list);
+        !is_cut && (depths == (0, 0) || depths == self::depths(&run(self.files).list))
+    }
+
+    /// Whether the style prints what letters sort as.
+    fn prints_keys(&self, run: impl Fn(&Files) -> Ran) -> bool {
+        let coded = self.coded(InBraces::Coded, true);
+        let turned = coded.codes.turn_back(&run(&coded.files).list);
+        turned.text.iter().any(|byte| matches!(*byte, MARK | AFTER))
+    }
+}
+
+/// The values of a file whose letters may be coded.
+fn values_of(file: &File, language: &Language) -> Result<Values, LeftOut> {
+    let text = bytes_of(file);
+    if !file.name.ends_with(b".bib") || text.is_ascii() && !language.has_rules_for_ascii() {
+        return Ok(Values::new());
+    }
+    let has_letters = |value: &Range<usize>| language.has_rules_for_ascii() || !text[value.clone()].is_ascii();
+    let records = btx::read(text).map_err(|_| LeftOut::Memory)?;
+    Ok(records.iter().filter_map(|record| value_of(record, text)).filter(has_letters).collect())
+}
+
+/// Where the value of a string or a field stands; None where it has none, or none that is text.
+fn value_of(record: &Record, text: &[u8]) -> Option<Range<usize>> {
+    let name = &text[record.start..record.end.min(record.start + record.name_len)];
+    let has_text = match record.kind {
+        STRING => true,
+        FIELD => !NO_TEXT.iter().any(|field| name.eq_ignore_ascii_case(field.as_bytes())),
+        _ => false,
+    };
+    let sign = text[record.start..record.end].iter().position(|byte| *byte == b'=').filter(|_| has_text)?;
+    Some(record.start + sign + 1..record.end)
+}
+
+/// A database whose values are coded.
+fn coded_text(text: &[u8], values: &Values, codes: &mut Codes) -> Vec<u8> {
+    let mut out = Vec::with_capacity(text.len() + text.len() / 4);
+    let mut at = 0;
+    for value in values {
+        for part in parts(&text[value.clone()]) {
+            let (start, end) = (value.start + part.start, value.start + part.end);
+            out.extend_from_slice(&text[at..start]);
+            codes.code(std::str::from_utf8(&text[start..end]).unwrap_or_default(), &mut out);
+            at = end;
+        }
+    }
+    out.extend_from_slice(&text[at..]);
+    out
+}
+
+/// The texts in a value, which stand in braces or quotes; round them stand numbers, names of strings and `#`.
+fn parts(value: &[u8]) -> Vec<Range<usize>> {
+    let (mut parts, mut at) = (Vec::new(), 0);
+    while let Some(before) = value[at..].iter().position(|byte| matches!(byte, b'{' | b'"')) {
+        let start = at + before + 1;
+        let end = start + length(&value[start..], value[start - 1] == b'"');
+        parts.push(start..end);
+        at = value.len().min(end + 1);
+    }
+    parts
+}
+
+/// How long a text is up to the brace or the quote that ends it.
+fn length(rest: &[u8], is_quoted: bool) -> usize {
+    let mut depth = 0;
+    let ends = |byte: &u8| {
+        let is_end = depth == 0 && (*byte == b'}' || is_quoted && *byte == b'"');
+        depth += i64::from(*byte == b'{') - i64::from(*byte == b'}');
+        is_end
+    };
+    rest.iter().position(ends).unwrap_or(rest.len())
+}
+
+/// How many braces are open at the end of a text, and at least anywhere in it.
+fn depths(text: &[u8]) -> (i64, i64) {
+    text.iter().fold((0, 0), |(depth, least), byte| {
+        let depth = depth + i64::from(*byte == b'{') - i64::from(*byte == b'}');
+        (depth, depth.min(least))
+    })
+}
+
+#[cfg(test)]
+mod tests {
+    use super::*;
+    use crate::btx::{Options, Rooms};
+
+    fn file(name: &str, bytes: &str) -> File {
+        File { name: name.into(), bytes: Some(bytes.into()), path: Vec::new() }
+    }
+
+    /// A job whose style does this for its one entry, which has these fields.
+    fn job(body: &str, fields: &str) -> Files {
+        let style = format!(
+            "ENTRY {{author title url}} {{}} {{}}\nFUNCTION {{misc}} {{ {body} newline$ }}\nREAD\nITERATE {{call.type$}}\n"
+        );
+        let top = file("a.aux", "\\citation{k}\n\\bibdata{b}\n\\bibstyle{s}\n");
+        let all = vec![top, file("s.bst", &style), file("b.bib", &format!("@misc{{k, {fields}}}\n"))];
+        Files { top: b"a.aux".to_vec(), all }
+    }
+
+    fn list(body: &str, fields: &str, name: &str) -> Result<String, LeftOut> {
+        let rooms = Rooms { list: 1 << 16, log: 1 << 16 };
+        let options = Options { utf8: true, ..Options::usual(10_000) };
+        let language = Arc::new(Language::named(name.as_bytes()).unwrap());
+        let ran = run(&job(body, fields), &language, |files| btx::run(&files.top, &files.all, &options, &rooms))?;
+        Ok(String::from_utf8(ran.list).unwrap())
+    }
+
+    #[test]
+    fn letters_have_a_case_and_names_their_parts() {
+        let listed = |body, fields| list(body, fields, "de").unwrap();
+        assert_eq!(listed("title \"t\" change.case$ write$", "title = {Über die ÄSTHETIK}"), "Über die ästhetik\n");
+        assert_eq!(listed("title \"u\" change.case$ write$", "title = \"Über {die} ß\""), "ÜBER {die} SS\n");
+        assert_eq!(listed("author #1 \"{f.} {vv} {ll}\" format.name$ write$", "author = {Émile Zola}"), "É.  Zola\n");
+        assert_eq!(listed("title #2 text.prefix$ write$", "title = {äöü}"), "äö\n");
+    }
+
+    #[test]
+    fn only_texts_are_coded() {
+        let fields = "title = \"ö\" # {ö} # ö # 12, URL = {ö}, ö = 1";
+        let files = job("title write$", fields);
+        let german = Arc::new(Language::named(b"de").unwrap());
+        let values = files.all.iter().map(|file| values_of(file, &german).unwrap()).collect();
+        let coded = Job { files: &files, values, language: &german }.coded(InBraces::Coded, false);
+        let code = "{\\\u{1}\u{1}{o}}";
+        let wanted = format!("@misc{{k, title = \"{code}\" # {{{code}}} # ö # 12, URL = {{ö}}, ö = 1}}\n");
+        assert_eq!(String::from_utf8_lossy(bytes_of(&coded.files.all[2])), wanted);
+        assert_eq!(coded.files.all[..2], files.all[..2]);
+        let strings = "@string{ö = {ö}}\n@string(p = \"ö\")";
+        let file = file("b.bib", strings);
+        let values = values_of(&file, &german).unwrap();
+        assert_eq!(
+            coded_text(strings.as_bytes(), &values, &mut Codes::new(&german, InBraces::Coded, false)),
+            format!("@string{{ö = {{{code}}}}}\n@string(p = \"{code}\")").into_bytes()
+        );
+    }
+
+    #[test]
+    fn what_cannot_be_turned_back_is_left_out() {
+        let left_out = |body, fields| list(body, fields, "sv").unwrap_err();
+        assert_eq!(left_out("title purify$ write$", "title = {ö}"), LeftOut::PrintsKeys);
+        assert_eq!(left_out("title purify$ write$", "title = {é}"), LeftOut::PrintsKeys);
+        assert_eq!(left_out("title #1 #1 substring$ write$", "title = {ö}"), LeftOut::CutsLetters);
+        assert_eq!(left_out("title #1 #3 substring$ write$", "title = {ö}"), LeftOut::CutsLetters);
+        assert_eq!(left_out("title write$ {#1} {} while$", "title = {ö}"), LeftOut::Unfinished);
+        assert_eq!(left_out("title write$", "title = {ö\u{1}}"), LeftOut::ControlCharacters);
+        assert_eq!(list("title purify$ pop$ title write$", "title = {ö}", "sv"), Ok("ö\n".into()));
+    }
+
+    #[test]
+    fn letters_in_braces_stay_where_they_would_be_cut() {
+        for (body, fields, wanted) in [
+            ("title #3 text.prefix$ write$", "title = {{Öster}}", "{Öst}\n"),
+            ("title #3 text.prefix$ write$", "title = {{ABÖster}}", "{ABÖ}\n"),
+            ("title #3 text.prefix$ write$ \"}\" write$", "title = {ö{ABÖster}}", "ö{AB}}\n"),
+        ] {
+            assert_eq!(list(body, fields, "de").as_deref(), Ok(wanted), "{fields}");
+        }
+    }
+}

@@ -1,0 +1,156 @@
+"""Letters outside ASCII in lists of references.
+
+    python3 letters.py orders SEARCH             names of each language, sorted by -letters: prints each pair in another order than the language's, and each label of other letters
+    python3 letters.py styles SEARCH FOLDER..    a database full of such letters by each style below the folders: in how many lists there is half a letter, and what else is odd
+
+SEARCH is the program bibtex-search. The last line of `orders` is the number of pairs.
+"""
+
+import collections
+import itertools
+import os
+import pathlib
+import re
+import subprocess
+import sys
+import tempfile
+
+# Names by their language, each in the order that it wants: CLDR's, as Perl's Unicode::Collate::Locale 1.31 has it, but that a comma counts, and `w` isn't `v`.
+NAMES = {
+    "de": "Gauß, Carl Friedrich|Gauss, Christian|Gödel, Kurt|Goethe, Johann|Götz, Karl|Möbius, August|Moser, Jürgen|Mozart, Wolfgang|Mueller, Ferdinand von|Muller, Hermann Joseph|Müller, Johannes|Ohm, Georg|Ömer, Ali|Österreicher, Max|Schröder, Ernst|Schrödinger, Erwin|Schroeder, Manfred",
+    "pl": "Cybulski, Zbigniew|Czech, Jan|Ćwik, Anna|Luszczki, Zygmunt|Lwów, Adam|Ładny, Jan|Łukasiewicz, Jan|Sierpiński, Wacław|Sikorski, Roman|Szymański, Piotr|Śniadecki, Jan|Świerczek, Antoni|Zaremba, Stanisław|Zygmund, Antoni|Źródłowski, Piotr|Żeromski, Stefan",
+    "cs": "Cibulka, Josef|Čapek, Karel|Čech, Eduard|Hájek, Petr|Hus, Jan|Chvátal, Václav|Chytil, Jan|Ivan, Josef|Rychlík, Karel|Řehák, Jan|Svoboda, Jan|Sýkora, Jan|Šimša, Jaromír|Zelenka, Jan|Žák, Václav",
+    "es": "Alonso, Ana|Álvarez, Luis|Ibáñez, Vicente|Nuñes, Pedro|Núñez, Rafael|Nuza, Ana|Nzambi, Luis|Ñáñez, Alfredo|Oller, Joan|Ordóñez, José|Penzo, Luis|Peña, Daniel|Perea, Ana|Pérez, Juan",
+    "fr": "Ça, Jean|Cartan, Élie|Cézanne, Paul|Cuvier, Georges|Élie, Émile|Eliot, Jean|Étienne, Luc|Eulard, Marc|Évrard, Paul|Levi, Beppo|Lévy, Paul|Lewy, Hans|Odier, Antoine|Œuvrard, Pierre|Ozanam, Jacques|Poincaré, Henri|Poincelet, Anne",
+    "tr": "Cansever, Edip|Cumalı, Necati|Çelik, Ömer|Dağlarca, Fazıl|Dalan, Bedri|Gutman, Ali|Gürsey, Feza|Güven, İsmail|Irmak, Sadi|Işık, Ahmet|Izgi, Cevat|İnan, Afet|İnönü, Erdal|Orbay, Kazım|Oz, Amos|Öz, Tahsin|Özal, Turgut|Sayın, Aydın|Soysal, Mümtaz|Süreya, Cemal|Şahin, Uğur|Uçar, Hasan|Ülken, Hilmi",
+    "sv": "Ahlfors, Lars|Almqvist, Carl|Ekström, Per|Oseen, Carl|Vogt, Nils|Wahl, Ulf|Wärn, Eva|Zachrisson, Jan|Zorn, Anders|Åkesson, Birgit|Ångström, Anders|Ärlig, Nils|Öberg, Erik|Östlund, Per",
+    "de-phonebook": "Gauß, Carl Friedrich|Gauss, Christian|Gödel, Kurt|Goethe, Johann|Götz, Karl|Möbius, August|Moser, Jürgen|Mozart, Wolfgang|Mueller, Ferdinand von|Müller, Johannes|Muller, Hermann Joseph|Ömer, Ali|Österreicher, Max|Ohm, Georg|Schröder, Ernst|Schroeder, Manfred|Schrödinger, Erwin",
+    "sk": "Cibula, Ján|Čech, Eduard|Dubček, Alexander|Ďurica, Milan|Hronský, Jozef|Chalupka, Samo|Ivan, Ján|Lipa, Peter|Ľudovít, Karol|Oravec, Ján|Ôsmy, Ján|Palárik, Ján|Pazderka, Ján|Päťka, Juraj|Sládkovič, Andrej|Šafárik, Pavel|Tajovský, Jozef|Ťažký, Ladislav|Zelenay, Pavol|Žáry, Štefan",
+    "hu": "Cukor, György|Czuczor, Gergely|Csiky, Gergely|Dugonics, András|Dzsida, Jenő|Gárdonyi, Géza|Gulyás, Pál|Győri, Ervin|Gyulai, Pál|Ligeti, György|Lyka, Károly|Nagy, László|Németh, László|Nyíri, Tamás|Ody, Árpád|Orbán, Ottó|Őry, Norbert|Ötvös, József|Sárosi, Gyula|Sütő, András|Szabó, Magda|Turán, Pál|Tyukodi, Márton|Ujfalvi, Pál|Üveges, Ödön|Zrínyi, Miklós|Zsoldos, Péter",
+    "da": "Andersen, Hans|Bohr, Niels|Ydun, Kaj|Üxküll, Otto|Zahle, Carl|Ærø, Per|Ørsted, Hans|Øster, Ib|Ågren, Ole|Aagaard, Knud|Åkjær, Ib|Aakjær, Jeppe",
+    "nb": "Abel, Niels|Ibsen, Henrik|Sars, Georg|Zapffe, Peter|Ærlig, Jo|Østby, Leif|Øverland, Arnulf|Ådland, Per|Ås, Berit|Aasen, Ivar",
+    "fi": "Aalto, Alvar|Ahlfors, Lars|Nevanlinna, Rolf|Ylinen, Kari|Üxküll, Otto|Zilliacus, Konni|Åström, Elin|Ärje, Liisa|Öhman, Carl|Östberg, Pia",
+    "hr": "Cesarić, Dobriša|Čavlek, Ivan|Ćosić, Ante|Drašković, Janko|Dukić, Petar|Džamonja, Dušan|Đalski, Ksaver|Lovrić, Mato|Lukić, Ana|Ljubić, Šime|Novak, Vjenceslav|Nušić, Ivo|Njegoš, Petar|Supek, Ivan|Šenoa, August|Zoranić, Petar|Žagar, Mate",
+    "pt": "Água, Rui|Agualusa, José|Andrade, Mário|Ângelo, Ivan|Avelar, Rita|Ávila, Ana|Camões, Luís|Ção, Diogo|Órfão, Luís|Orta, Garcia",
+    "it": "Albani, Ada|Àlbori, Ugo|Eco, Umberto|Èrcoli, Pia|Ùbaldi, Gino|Ungaretti, Giuseppe",
+    "nl": "Bolk, Lodewijk|Bölke, Jan|Elsschot, Willem|Éluard, Piet|Ïsaak, Jan|Isings, Ans",
+    "en": "Bronson, Bo|Brontë, Anne|Brontz, Al|Eiffel, Guy|Éire, Sean|Opie, Iona|Öpik, Ernst",
+}
+
+# A style that sorts as plain does, and makes the labels of alpha's lists of one author.
+STYLE = """ENTRY {author} {} {label}
+FUNCTION {book} {"\\bibitem[" label * "]{" * cite$ * "}" * write$ newline$}
+FUNCTION {presort}
+{ author #1 "{ll}" format.name$ #3 text.prefix$ 'label :=
+  author #1 "{vv{ } }{ll{ }}{  ff{ }}" format.name$ purify$ "l" change.case$ 'sort.key$ := }
+READ
+ITERATE {presort}
+SORT
+ITERATE {call.type$}
+"""
+
+TITLES = [
+    "Über die Ästhetik: Öffentliche Räume", "Études sur l'Œuvre de Évariste", "Łąka i Źródło: Świat", "İstanbul'da Işık ve Şehir", "Ñandú: Écologie", "Änglar och Öar", "Čeština: Řeč a Žánr",
+    "{Ölçüm} und {GÄ}-Theorie",
+]
+TYPES = "article book inbook incollection inproceedings manual mastersthesis misc phdthesis proceedings techreport unpublished booklet".split()
+FIELDS = {
+    "journal": "Zeitschrift für Ökologie", "volume": "3", "number": "4", "pages": "1--9", "publisher": "Ämter Verlag", "school": "Universität Łódź", "institution": "Çağ Enstitüsü", "address": "Łódź",
+    "note": "Éd. spéciale", "organization": "Österreichische Akademie", "month": "März", "series": "Überblick", "edition": "Zweite",
+}
+WAYS = {"bytes": ["-text=bytes"], "auto": [], "letters": ["-letters=de"]}
+
+
+def aux(keys, style):
+    return "\\citation{%s}\n\\bibdata{d}\n\\bibstyle{%s}\n" % (",".join(keys), style)
+
+
+def run(search, *words):
+    """The list that a run of the job in this folder makes, and what it prints."""
+    done = subprocess.run([search, "-no-explain", "-budget=20000000", *words, "job"], stdin=subprocess.DEVNULL, capture_output=True)
+    return pathlib.Path("job.bbl").read_bytes(), done.stdout.decode("utf-8", "replace")
+
+
+def check_orders(search):
+    pathlib.Path("s.bst").write_text(STYLE)
+    pairs = 0
+    for language, row in NAMES.items():
+        names = row.split("|")
+        # (in another order than the one that is wanted)
+        keys = ["k%d" % number for number in range(len(names))]
+        pathlib.Path("job.aux").write_text(aux(sorted(keys, key=lambda key: key[::-1]), "s"))
+        pathlib.Path("d.bib").write_text("".join('@book{%s, author = "%s"}\n' % pair for pair in zip(keys, names)))
+        listed, printed = run(search, "-letters=" + language)
+        items = re.findall(r"\\bibitem\[(.*)\]\{k(\d+)\}", listed.decode())
+        if len(items) != len(names) or "without -letters" in printed:
+            print(f"{language}: {printed}")
+        for (_, first), (_, second) in itertools.combinations(items, 2):
+            pairs += 1
+            if int(first) > int(second):
+                print(f"{language}: {names[int(first)]} before {names[int(second)]}")
+        for label, number in items:
+            if label != names[int(number)].split(",")[0][:3]:
+                print(f"{language}: the label of {names[int(number)]} is {label}")
+    print(pairs)
+
+
+def is_whole(listed):
+    try:
+        listed.decode()
+        return True
+    except UnicodeDecodeError:
+        return False
+
+
+def database():
+    names = sum((row.split("|") for row in list(NAMES.values())[:7]), [])
+    entries = []
+    for number in range(39):
+        authors = " and ".join(names[(number * 7 + other * 3) % len(names)] for other in range(1 + number % 4))
+        own = {"author": authors, "editor": names[number], "title": TITLES[number % 8], "booktitle": TITLES[(number + 3) % 8], "year": str(1990 + number % 20), **FIELDS}
+        entries.append("@%s{k%d,\n%s}\n" % (TYPES[number % 13], number, "".join("  %s = {%s},\n" % field for field in own.items())))
+    return "".join(entries)
+
+
+def oddities(lists, said):
+    """What is odd in the lists of a style, by the ways in which they were made."""
+    yield from ("half a letter: " + way for way, listed in lists.items() if not is_whole(listed))
+    yield from ("half a letter in silence: " + way for way, listed in lists.items() if not is_whole(listed) and "half a letter" not in said[way])
+    if re.search(rb"[\x01-\x08\x0e-\x1f\xfe\xff]", lists["letters"]):
+        yield "left over of a code"
+    if lists["letters"].count(b"{") - lists["letters"].count(b"}") != lists["auto"].count(b"{") - lists["auto"].count(b"}"):
+        yield "braces"
+    reason = re.search(r"made without -letters: (.*)\.", said["letters"])
+    if reason:
+        yield reason[1]
+
+
+def check_styles(search, folders):
+    pathlib.Path("d.bib").write_text(database())
+    pathlib.Path("job.aux").write_text(aux(["k%d" % number for number in range(39)], "s"))
+    styles = {path.name: path for folder in folders for path in pathlib.Path(folder).rglob("*.bst")}
+    count, found = 0, collections.defaultdict(list)
+    for name, path in sorted(styles.items()):
+        pathlib.Path("s.bst").write_bytes(path.read_bytes())
+        runs = {way: run(search, *words) for way, words in WAYS.items()}
+        lists, said = {way: it[0] for way, it in runs.items()}, {way: it[1] for way, it in runs.items()}
+        # (a style that writes next to nothing of these entries tells nothing)
+        if len(lists["bytes"]) >= 500:
+            count += 1
+            for odd in oddities(lists, said):
+                found[odd].append(path.stem)
+    print(f"styles that write a list: {count}")
+    for odd, names in found.items():
+        print(f"{odd}: {len(names)}" + (f" ({', '.join(names)})" if len(names) < 20 else ""))
+
+
+def main(what, search, *folders):
+    search, folders = pathlib.Path(search).resolve(), [pathlib.Path(folder).resolve() for folder in folders]
+    with tempfile.TemporaryDirectory() as room:
+        os.chdir(room)
+        check_orders(search) if what == "orders" else check_styles(search, folders)
+        os.chdir("/")
+
+
+if __name__ == "__main__":
+    main(*sys.argv[1:])
