@@ -110,6 +110,17 @@ fn has_word(text: &[u8], word: &[u8]) -> bool {
     text.windows(word.len()).any(|piece| piece.eq_ignore_ascii_case(word))
 }
 
+/// Where these parts of a log are once it is turned back. No code has an end of a line in it.
+fn moved(codes: &Codes, log: &[u8], parts: &[Range<usize>]) -> Vec<Range<usize>> {
+    let (mut at, mut turned) = (0, 0);
+    let mut place = |end: usize| {
+        turned += codes.turn_back(&log[at..end]).text.len();
+        at = end;
+        turned
+    };
+    parts.iter().map(|part| place(part.start)..place(part.end)).collect()
+}
+
 /// A job, the values of its files, and the language of their letters.
 struct Job<'a> {
     files: &'a Files,
@@ -140,7 +151,8 @@ impl Job<'_> {
         if !list.is_whole || !log.is_whole || !self.has_all_braces(&list.text, run) {
             return Err(LeftOut::CutsLetters);
         }
-        Ok(Ran { list: list.text, log: log.text, letters: Letters::Coded(Arc::new(coded)), ..ran })
+        let printed = moved(&coded.codes, &ran.log, &ran.printed);
+        Ok(Ran { list: list.text, log: log.text, printed, letters: Letters::Coded(Arc::new(coded)), ..ran })
     }
 
     /// Whether no brace of a list is left over from a code that was cut. A style may leave out braces of its own.
@@ -283,6 +295,17 @@ mod tests {
             coded_text(strings.as_bytes(), &values, &mut Codes::new(&german, InBraces::Coded, false)),
             format!("@string{{ö = {{{code}}}}}\n@string(p = \"{code}\")").into_bytes()
         );
+    }
+
+    #[test]
+    fn what_a_style_prints_is_no_message_with_letters_either() {
+        let rooms = Rooms { list: 1 << 16, log: 1 << 16 };
+        let options = Options { utf8: true, ..Options::usual(10_000) };
+        let language = Arc::new(Language::named(b"de").unwrap());
+        let job = job("title #10 int.to.chr$ * \"Error--\" * title * warning$ title write$", "title = {Ö}");
+        let ran = run(&job, &language, |files| btx::run(&files.top, &files.all, &options, &rooms)).unwrap();
+        let printed: Vec<&[u8]> = ran.printed.iter().map(|part| &ran.log[part.clone()]).collect();
+        assert_eq!(printed, ["Error--Ö".as_bytes()]);
     }
 
     #[test]
