@@ -1,10 +1,14 @@
 -- The events of the lines of a log.
 use Rattle.std.proofs.Common.{arith, ◌≡◌, ℕ, suc, ◌+◌, ◌≤◌, List, [], ◌∷◌, ◌++◌, Option, None, Some, length, min, map, take, drop, refl, sym, ap, subst, ◌∙◌, append-nil}
-use Rattle.std.specs.Prelude.{IfSome, Result, Ok, Err, OnOk}
+use Rattle.std.specs.Prelude.{IfSome, Result, Ok, Err, IfOk, OnOk}
 use Rattle.std.proofs.lemmas.List.{length-append, length-map, map_push, length_push, take_all, take-append-le}
 use Rattle.btx_text.specs.language.LogLines.{Line}
+use Rattle.btx_machine.specs.declared.report.LogCounts.{LogCounts}
 use Rattle.btx_machine.specs.declared.report.Report.{Report}
 use Rattle.btx_machine.specs.laws.Noting.{Printed, printed}
+use Rattle.btx_machine.specs.laws.Reports.{log_counts}
+use Rattle.btx_core.specs.language.Files.Counts.{counts_of}
+use Rattle.btx_run.specs.laws.Noted.{CountsOfNoted}
 use Rattle.btx_c.specs.declared.cause.Cause.{Cause}
 use Rattle.btx_c.specs.declared.event.BtxEvent.{BtxEvent}
 use Rattle.btx_c.specs.declared.noted.Events.{Events}
@@ -87,16 +91,29 @@ pub logged_of : (ended : Result Report Cause) (notes_before notes : List Line) (
 logged_of (Ok report) notes_before notes log_before log is no_notes no_log = printed_of notes_before notes log_before log is no_notes no_log
 logged_of (Err cause) notes_before notes log_before log is no_notes no_log = tt
 
+-- what its report counts
+counts_in : (notes_before notes : List Line) (report : Report) → CountsOfNoted (Some notes_before, Some notes) report → notes_before ≡ []
+    → log_counts report.warnings report.errors ≡ counts_of notes
+counts_in notes_before notes report is no_notes =
+    let lines : notes ≡ is.lines = rw no_notes at is.are_noted in
+    is.counts_are ∙ ap counts_of (sym lines)
+
+pub counted_of : (ended : Result Report Cause) (notes_before notes : List Line) → IfOk ended (λ report. CountsOfNoted (Some notes_before, Some notes) report)
+    → notes_before ≡ [] → IfOk ended (λ report. log_counts report.warnings report.errors ≡ counts_of notes)
+counted_of (Ok report) notes_before notes is no_notes = counts_in notes_before notes report is no_notes
+counted_of (Err cause) notes_before notes is no_notes = tt
+
 -- events of a log's lines, put into a room
-pub divided_of : (log : List ℕ) (len : ℕ) (events : Events) (room into : List BtxEvent) → AreInLog log (length room) events → len ≡ events.count
-    → into ≡ take (length room) events.first.items ++ drop (length events.first.items) room → Divided log len (room, into)
-divided_of log len events room into has len_is into_is =
+pub divided_of : (log : List ℕ) (counts : LogCounts) (len : ℕ) (events : Events) (room into : List BtxEvent) → AreInLog log counts (length room) events
+    → len ≡ events.count → into ≡ take (length room) events.first.items ++ drop (length events.first.items) room → Divided log counts len (room, into)
+divided_of log counts len events room into has len_is into_is =
     let are = has.are_all.are in
     let items = events.first.items in
     let fits : length items ≤ length room = rw has.are_all.as_many (omega arith) in
     record {
       lines = has.lines;
       log_is = has.log_is;
+      counts_are = has.counts_are;
       len_is = len_is ∙ are.count_is;
       written = items;
       as_many = has.are_all.as_many ∙ ap (λ (n : ℕ). min n (length room)) (sym len_is);

@@ -5,6 +5,8 @@ use Rattle.btx_text.specs.language.LogLines.{Line}
 use Rattle.btx_machine.specs.declared.report.Report.{Report}
 use Rattle.btx_machine.specs.language.KeepingStep.{AtFault}
 use Rattle.btx_machine.specs.laws.Noting.{printed}
+use Rattle.btx_machine.specs.laws.Reports.{log_counts}
+use Rattle.btx_core.specs.language.Files.Counts.{counts_of}
 use Rattle.btx_machine.specs.language.Product.{log_of}
 use Rattle.btx_core.specs.declared.options.Options.{Options}
 use Rattle.btx_core.specs.refinement.ComputedProduct.{product_with}
@@ -80,13 +82,15 @@ asks_of ended false false false is = is
 
 -- events were left out of no run that ended
 pub events_of : (ended : Result Report Cause) (a b c : Bool) (events : Option Events) (log : List ℕ) (lines : List Line) (most : ℕ) → is_some events ≡ not c
-    → OnOk ended (log ≡ printed lines) → IfSome events (AreAll lines most) → OnOk (outcome ended a b c) (HasEvents log most events)
-events_of ended true b c events log lines most short whole are = tt
-events_of ended false true c events log lines most short whole are = tt
-events_of ended false false true events log lines most short whole are = tt
-events_of (Err cause) false false false events log lines most short whole are = tt
-events_of (Ok report) false false false None log lines most short whole are = cc
-events_of (Ok report) false false false (Some events) log lines most short whole are = record { lines = lines; log_is = whole; are_all = are }
+    → OnOk ended (log ≡ printed lines) → IfOk ended (λ report. log_counts report.warnings report.errors ≡ counts_of lines) → IfSome events (AreAll lines most)
+    → IfOk (outcome ended a b c) (λ report. HasEvents log (log_counts report.warnings report.errors) most events)
+events_of ended true b c events log lines most short whole counted are = tt
+events_of ended false true c events log lines most short whole counted are = tt
+events_of ended false false true events log lines most short whole counted are = tt
+events_of (Err cause) false false false events log lines most short whole counted are = tt
+events_of (Ok report) false false false None log lines most short whole counted are = cc
+events_of (Ok report) false false false (Some events) log lines most short whole counted are =
+    record { lines = lines; log_is = whole; counts_are = counted; are_all = are }
 
 -- ---- a room that is too small
 

@@ -3,7 +3,9 @@ use Rattle.std.specs.Prelude.{◌≡◌, ℕ, ◌+◌, List, [], ◌∷◌, ◌+
 use Rattle.btx_text.specs.declared.log_line.LineKind.{LineKind}
 use Rattle.btx_text.specs.declared.log_line.LineKind.TheVariants.{Plain, Warning, Error}
 use Rattle.btx_text.specs.language.LogLines.{Line}
+use Rattle.btx_machine.specs.declared.report.LogCounts.{LogCounts}
 use Rattle.btx_machine.specs.laws.Noting.{printed}
+use Rattle.btx_core.specs.language.Files.Counts.{counts_of}
 use Rattle.btx_c.specs.declared.event.BtxEvent.{BtxEvent}
 
 -- what is promised of an event: where its line stands in the log, how long it is without its line feed, and the number of its kind
@@ -32,11 +34,13 @@ marks_from at (line ∷ lines) =
 abbrev pub marks : List Line → List Mark
 marks lines = marks_from 0 lines
 
--- the log is some lines, each with its line feed, and the events divide it into these: `len` says how many there are. The first ones are written, as many as there
+-- the log is some lines, each with its line feed, among which there are as many warnings and errors as are counted, and the events divide it into these: `len` says
+-- how many there are. The first ones are written, as many as there
 -- is room for: each has the mark of its line. The rest of the room stays
-pub record Divided (log : List ℕ) (len : ℕ) (room : List BtxEvent × List BtxEvent) : Type 0 where
+pub record Divided (log : List ℕ) (counts : LogCounts) (len : ℕ) (room : List BtxEvent × List BtxEvent) : Type 0 where
   pub lines : List Line
   pub log_is : log ≡ printed lines
+  pub counts_are : counts ≡ counts_of lines
   pub len_is : len ≡ length lines
   pub written : List BtxEvent
   pub as_many : length written ≡ min len (length room.0)

@@ -1,7 +1,9 @@
 -- What is kept of the lines that a run notes.
 use Rattle.std.specs.Prelude.{◌≡◌, ℕ, ◌+◌, ◌≤◌, List, [], ◌∷◌, ◌++◌, Option, None, Some, IfSome, map, length, min, take}
 use Rattle.btx_text.specs.language.LogLines.{Line}
+use Rattle.btx_machine.specs.declared.report.LogCounts.{LogCounts}
 use Rattle.btx_machine.specs.laws.Noting.{printed}
+use Rattle.btx_core.specs.language.Files.Counts.{counts_of}
 use Rattle.btx_c.specs.declared.noted.Events.{Events}
 use Rattle.btx_c.specs.declared.event.BtxEvent.{BtxEvent}
 use Rattle.btx_c.specs.Events.{Divided, mark, marks}
@@ -27,17 +29,18 @@ pub record AreAll (lines : List Line) (most : ℕ) (events : Events) : Type 0 wh
   pub are : AreOf lines events
   pub as_many : length events.first.items ≡ min events.count most
 
--- the log is some lines, and these are their events
-pub record AreInLog (log : List ℕ) (most : ℕ) (events : Events) : Type 0 where
+-- the log is some lines, which are counted so, and these are their events
+pub record AreInLog (log : List ℕ) (counts : LogCounts) (most : ℕ) (events : Events) : Type 0 where
   pub lines : List Line
   pub log_is : log ≡ printed lines
+  pub counts_are : counts ≡ counts_of lines
   pub are_all : AreAll lines most events
 
 -- there are events of the log's lines
-abbrev pub HasEvents : List ℕ → ℕ → Option Events → Type 0
-HasEvents log most None = ⊥
-HasEvents log most (Some events) = AreInLog log most events
+abbrev pub HasEvents : List ℕ → LogCounts → ℕ → Option Events → Type 0
+HasEvents log counts most None = ⊥
+HasEvents log counts most (Some events) = AreInLog log counts most events
 
 -- events are put into a room: where they are those of a log's lines, they divide it
 abbrev pub PutsEvents : Option Events → ℕ → List BtxEvent × List BtxEvent → Type 0
-PutsEvents events len room = (log : List ℕ) → HasEvents log (length room.0) events → Divided log len room
+PutsEvents events len room = (log : List ℕ) (counts : LogCounts) → HasEvents log counts (length room.0) events → Divided log counts len room

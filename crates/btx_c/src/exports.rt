@@ -3,6 +3,7 @@ ghost use Rattle.std.specs.Prelude.{◌≡◌, ◌<◌, ◌≤◌, ◌⊎◌, le
 ghost use Rattle.btx_machine.specs.language.Product.{log_of};
 ghost use Rattle.btx_core.specs.refinement.ComputedProduct.{product};
 ghost use Rattle.btx_c.specs.Checks.{SaidClean};
+ghost use Rattle.btx_machine.specs.laws.Reports.{log_counts};
 ghost use Rattle.btx_c.specs.Events.{Divided};
 ghost use Rattle.btx_c.specs.Handed.{OtherFiles};
 ghost use Rattle.btx_c.specs.Needs.{EndsWithAuxFiles, NeedsAnother, NeedsNoOther, ReadsAuxFiles};
@@ -175,10 +176,10 @@ pub extern "C" fn btx_run_events(
     // and keep step.
     ensures broke { REFUSED < result → Broke files.now others job.now options.now report.new (list.old, list.new) (log.old, log.new) }
 
-    // At `DONE` the log is the lines that the events divide it into, and the first events are written, as many as there is room for. After a greater answer
-    // there is none.
-    ensures events { result ≡ DONE → Divided (log_of (product (all_files files.now others) job.now (asked options.now))) events_len.new
-        (events.old, events.new) }
+    // At `DONE` the log is the lines that the events divide it into, as many of them are warnings and errors as the report counts, and the first events are
+    // written, as many as there is room for. After a greater answer there is none.
+    ensures events { result ≡ DONE → Divided (log_of (product (all_files files.now others) job.now (asked options.now)))
+        (log_counts report.new.warnings report.new.errors) events_len.new (events.old, events.new) }
     ensures no_events { REFUSED < result → (events.new ≡ events.old) × (events_len.new ≡ 0) }
 {
     let Some(options) = read_options(options) else {

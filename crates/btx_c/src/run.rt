@@ -2,6 +2,8 @@
 ghost use Rattle.std.specs.Prelude.{◌≡◌, ◌<◌, ◌≤◌, ◌⊎◌, [], Some, Err, IfOk, IfErr, OnErr, OnOk, length};
 ghost use Rattle.btx_machine.specs.language.KeepingStep.{AtFault, Completes};
 ghost use Rattle.btx_machine.specs.laws.Noting.{Printed};
+ghost use Rattle.btx_machine.specs.laws.Reports.{log_counts};
+ghost use Rattle.btx_run.specs.laws.Noted.{CountsOfNoted};
 ghost use Rattle.btx_core.specs.refinement.ComputedProduct.{product, product_with};
 ghost use Rattle.btx_c.specs.Handed.{OtherFiles};
 ghost use Rattle.btx_c.specs.Needs.{NeedsAnother};
@@ -67,6 +69,7 @@ fn run_into(
     ensures bound { IfOk result (λ report. report.steps ≤ options.now.budget) }
     ensures deep { IfOk result (λ report. report.deepest ≤ 4096) }
     ensures noted { OnOk result (Printed (Some notes.old, Some notes.new) (Some log.old.bytes.items, Some log.new.bytes.items)) }
+    ensures counted { IfOk result (λ report. CountsOfNoted (Some notes.old, Some notes.new) report) }
 {
     let Ok(index) = Index::new(alloc, &*files) else {
         return Err(Cause::Memory);
@@ -118,7 +121,7 @@ pub fn run_handed(
     ensures fits { OnOk result.outcome ((length result.list.items ≤ most_list) × (length result.log.items ≤ most_log)) }
     ensures list_full { result.outcome ≡ Err Cause.ListFull → most_list < length result.list.items }
     ensures log_full { result.outcome ≡ Err Cause.LogFull → most_log < length result.log.items }
-    ensures events { OnOk result.outcome (HasEvents result.log.items most_events result.events) }
+    ensures events { IfOk result.outcome (λ report. HasEvents result.log.items (log_counts report.warnings report.errors) most_events result.events) }
     ensures asks { result.outcome ≡ Err Cause.UnknownFile → NeedsAnother files.now name.now }
     ensures bound { IfOk result.outcome (λ report. report.steps ≤ options.now.budget) }
     ensures deep { IfOk result.outcome (λ report. report.deepest ≤ 4096) }

@@ -2,12 +2,13 @@ use Rattle.std.proofs.Common.{sym, subst, Some, []}
 use Rattle.std.specs.Prelude.{Result, IfOk, OnErr, OnOk}
 use Rattle.btx_machine.specs.declared.report.Report.{Report}
 use Rattle.btx_machine.specs.language.KeepingStep.{AtFault, Completes, Received}
+use Rattle.btx_machine.specs.laws.Reports.{log_counts}
 use Rattle.btx_core.specs.refinement.ComputedProduct.{product, product_with}
 use Rattle.btx_c.specs.declared.cause.Cause.{Cause}
 use Rattle.btx_c.specs.Noted.{HasEvents}
 use Rattle.btx_c.specs.Outcomes.{all_files}
 use Rattle.btx_c.proofs.FullLemmas.{whole_at_fault}
-use Rattle.btx_c.proofs.EventLemmas.{logged_of}
+use Rattle.btx_c.proofs.EventLemmas.{counted_of, logged_of}
 use Rattle.btx_c.proofs.OutcomeLemmas.{err_of, events_of, ok_of}
 use Rattle.btx_c.proofs.run.run_handed.Goals as goal
 
@@ -37,7 +38,10 @@ returns-clause-err g c =
 pub returns-clause-events : goal.returns-clause-events
 returns-clause-events g c =
     let log = c.run_into-ended.new.log.bytes.items in
-    subst (λ (outcome : Result Report Cause). OnOk outcome (HasEvents log c.args.most_events c.into_events-events.result)) (sym c.outcome_of-outcome.ensures)
+    subst (λ (outcome : Result Report Cause).
+    IfOk outcome (λ report. HasEvents log (log_counts report.warnings report.errors) c.args.most_events c.into_events-events.result))
+    (sym c.outcome_of-outcome.ensures)
     (events_of c.run_into-ended.result _ _ _ c.into_events-events.result log c.run_into-ended.new.notes c.args.most_events c.is_none.ensures
     (logged_of c.run_into-ended.result _ c.run_into-ended.new.notes _ log c.run_into-ended.ensures.noted c.new-notes.ensures c.new-log.ensures)
+    (counted_of c.run_into-ended.result _ c.run_into-ended.new.notes c.run_into-ended.ensures.counted c.new-notes.ensures)
     c.into_events-events.ensures)
