@@ -20,8 +20,15 @@ local function load_library()
         typedef struct { uint64_t budget; uint32_t min_crossrefs, line, entry_max, global_max; bool utf8; } btx_options;
         typedef struct { uint32_t status, end_; uint64_t steps, deepest, warnings, errors; size_t list_len, log_len; } btx_report;
         uint32_t btx_needs(const char *job, size_t job_len, const btx_file *files, size_t files_len, char *names, size_t room, size_t *len);
-        uint32_t btx_run(const char *job, size_t job_len, const btx_file *files, size_t files_len, const btx_options *options,
-                         char *list, size_t list_room, char *log, size_t log_room, btx_report *report);
+        typedef struct { uint64_t at, len, entry; uint32_t kind, met; } btx_event;
+        uint32_t btx_run_events(const char *job, size_t job_len, const btx_file *files, size_t files_len, const btx_options *options,
+                                char *list, size_t list_room, char *log, size_t log_room, btx_report *report,
+                                btx_event *events, size_t events_room, size_t *events_len);
+        typedef struct { btx_text name, text; } btx_string;
+        typedef struct { uint32_t kind; bool is_whole; size_t start, end_, line, name_at, name_len, text_at, text_len; } btx_record;
+        typedef struct { size_t records, texts; } btx_sizes;
+        uint32_t btx_read(const char *file, size_t file_len, const char *text, size_t text_len, const btx_string *strings, size_t strings_len,
+                          btx_record *records, size_t records_room, char *texts, size_t texts_room, btx_sizes *sizes);
     ]]
     local is_loaded, library = pcall(ffi.load, os.getenv("BTX_LIBRARY") or "libbtx.so.1")
     if not is_loaded then
@@ -31,7 +38,17 @@ local function load_library()
 end
 
 -- What the library answers.
-local DONE, FULL, ENDS = 0, 4, 5
+local DONE, REFUSED, FULL, ENDS = 0, 1, 4, 5
+-- What a line of the log is, and where it was met.
+local KINDS = { [0] = "plain", "warning", "error" }
+local MET = { [0] = "files", "style", "databases", "execution", "end" }
+-- What a record of a database is.
+local PREAMBLE, STRING, ENTRY, FIELD, WRONG = 1, 2, 3, 4, 6
+-- What the standard styles write for the months.
+local MONTHS = {}
+for month in ("January February March April May June July August September October November December"):gmatch("%a+") do
+    MONTHS[month:sub(1, 3):lower()] = month
+end
 -- How many bytes an output may have at first and at most.
 local FIRST_ROOM, MOST_ROOM = 65536, 1073741824
 
@@ -67,10 +84,12 @@ local function needed(ffi, library, job, files)
     end
 end
 
--- btx.run(job, finder, options) -> list, log, report
+-- btx.run(job, finder, options) -> list, log, report, events
 --
 -- finder(name) gives the bytes of the file of a name, or nil where there is none. options may have budget, min_crossrefs, line, entry_max,
--- global_max and utf8. The report has status (0 without errors, 2 with some, 3 at a limit, 4 stopped), steps, warnings and errors.
+-- global_max and utf8. The report has status (0 without errors, 2 with some, 3 at a limit, 4 stopped), steps, warnings and errors. An event is
+-- a line of the log: its text; its kind, which is "plain", "warning" or "error"; where it was met, which is "files", "style", "databases",
+-- "execution" or "end"; and the number of the current entry, from 1, if there is one. The library says what a line is, whatever its text.
 function btx.run(job, finder, options)
     if job:find("\n", 1, true) then
         error("btx: the name of a job has no line end", 0)
@@ -92,22 +111,103 @@ end
 
 -- Runs the job over files that are all known; where an output is longer than its room, it gets more.
 function btx.run_over(ffi, library, job, files, asked)
-    local report, room = ffi.new("btx_report"), FIRST_ROOM
-    local array = array_of(ffi, files)
+    local report, room, events_len = ffi.new("btx_report"), FIRST_ROOM, ffi.new("size_t[1]")
+    local array, events_room = array_of(ffi, files), 1024
     while true do
-        local list, log = ffi.new("char[?]", room), ffi.new("char[?]", room)
-        local answer = library.btx_run(job, #job, array, #files, asked, list, room, log, room, report)
-        if answer == DONE then
+        local list, log, events = ffi.new("char[?]", room), ffi.new("char[?]", room), ffi.new("btx_event[?]", events_room)
+        local answer = library.btx_run_events(job, #job, array, #files, asked, list, room, log, room, report, events, events_room, events_len)
+        local count = answer == DONE and tonumber(events_len[0]) or 0
+        if answer == DONE and count <= events_room then
             return ffi.string(list, report.list_len), ffi.string(log, report.log_len), {
                 status = tonumber(report.status), steps = tonumber(report.steps), warnings = tonumber(report.warnings), errors = tonumber(report.errors),
-            }
+            }, btx.events_of(ffi.string(log, report.log_len), events, count)
+        elseif answer == DONE then
+            events_room = count
         elseif answer ~= FULL then
             error("btx: the library answered " .. tonumber(answer), 0)
         elseif room >= MOST_ROOM then
             error("btx: the list or the log is longer than " .. MOST_ROOM .. " bytes", 0)
+        else
+            room = math.min(room * 8, MOST_ROOM)
         end
-        room = math.min(room * 8, MOST_ROOM)
     end
+end
+
+-- The events of a log as tables.
+-- (a number that is none of an entry is the greatest of 64 bits, which is negative where numbers have a sign)
+function btx.events_of(log, events, count)
+    local found = {}
+    for number = 1, count do
+        local its = events[number - 1]
+        local at, entry = tonumber(its.at), tonumber(its.entry)
+        found[number] = {
+            text = log:sub(at + 1, at + tonumber(its.len)), kind = KINDS[tonumber(its.kind)], met = MET[tonumber(its.met)],
+            entry = entry >= 0 and entry < 2 ^ 53 and entry + 1 or nil,
+        }
+    end
+    return found
+end
+
+-- The strings that are known before a database as an array for C, and how many there are.
+local function strings_of(ffi, strings)
+    local names = {}
+    for name in pairs(strings) do
+        names[#names + 1] = name
+    end
+    local array = ffi.new("btx_string[?]", #names + 1)
+    for place, name in ipairs(names) do
+        local its = array[place - 1]
+        its.name.at, its.name.len, its.text.at, its.text.len = name, #name, strings[name], #strings[name]
+    end
+    return array, #names
+end
+
+-- btx.read(text, strings) -> {entries = .., strings = .., preamble = .., mistakes = ..}
+--
+-- Reads the text of a database, whatever a document cites. An entry has type, key, line and fields, by names in lower case; entries are in their order,
+-- and base.by_key[key], with the key in lower case, is the first with that key. A value is as a run stores it. strings are known before the database: the names of months, if
+-- none are handed in. A mistake is the line that a run logs of it.
+function btx.read(text, strings)
+    local ffi, library = load_library()
+    local known, count = strings_of(ffi, strings or MONTHS)
+    local records_room, texts_room, sizes = math.floor(#text / 24) + 64, 2 * #text + 64, ffi.new("btx_sizes")
+    while true do
+        local records, texts = ffi.new("btx_record[?]", records_room), ffi.new("char[?]", texts_room)
+        local answer = library.btx_read("database.bib", 12, text, #text, known, count, records, records_room, texts, texts_room, sizes)
+        if answer == DONE then
+            return btx.base_of(ffi, records, tonumber(sizes.records), texts)
+        elseif answer == REFUSED then
+            error("btx: a database has at most 2147483647 bytes", 0)
+        elseif answer ~= FULL then
+            error("btx was refused memory", 0)
+        end
+        records_room, texts_room = math.max(records_room, tonumber(sizes.records)), math.max(texts_room, tonumber(sizes.texts))
+    end
+end
+
+-- The database that records are of.
+function btx.base_of(ffi, records, count, texts)
+    local base, entry = { entries = {}, by_key = {}, strings = {}, preamble = "", mistakes = {} }, nil
+    for number = 0, count - 1 do
+        local its = records[number]
+        local kind = tonumber(its.kind)
+        local name = ffi.string(texts + its.name_at, its.name_len):lower()
+        local text = ffi.string(texts + its.text_at, its.text_len)
+        if kind == ENTRY then
+            entry = { type = name, key = text, line = tonumber(its.line), fields = {} }
+            base.entries[#base.entries + 1] = entry
+            base.by_key[text:lower()] = base.by_key[text:lower()] or entry
+        elseif kind == FIELD and its.is_whole then
+            entry.fields[name] = entry.fields[name] or text
+        elseif kind == STRING and its.is_whole then
+            base.strings[name] = text
+        elseif kind == PREAMBLE then
+            base.preamble = base.preamble .. text
+        elseif kind == WRONG then
+            base.mistakes[#base.mistakes + 1] = text
+        end
+    end
+    return base
 end
 
 -- Where TeX finds a file. kpse.in_name_ok obeys openin_any.
@@ -136,9 +236,13 @@ function btx.find(name)
     return bytes_of(path_of(name))
 end
 
--- The first error of a log, if it has one.
-local function first_error(log)
-    return ("\n" .. log):match("\n(Error%-%-[^\n]*)")
+-- The text of the first error, if there is one.
+local function first_error(events)
+    for _, event in ipairs(events) do
+        if event.kind == "error" then
+            return event.text
+        end
+    end
 end
 
 -- btx.bibliography{style = .., databases = {..}, keys = {..}, options = {..}}: typesets the list.
@@ -155,12 +259,12 @@ function btx.bibliography(wanted)
     lines[#lines + 1] = "\\bibdata{" .. table.concat(wanted.databases, ",") .. "}"
     lines[#lines + 1] = "\\bibstyle{" .. wanted.style .. "}"
     local aux = table.concat(lines, "\n") .. "\n"
-    local list, log, report = btx.run(job, function(name)
+    local list, log, report, events = btx.run(job, function(name)
         return name == job .. ".aux" and aux or btx.find(name)
     end, wanted.options)
     texio.write_nl("log", log)
     if report.status ~= 0 then
-        tex.error("btx: " .. (first_error(log) or log:match("(Ended: [^,\n]*)") or "no list"))
+        tex.error("btx: " .. (first_error(events) or log:match("(Ended: [^,\n]*)") or "no list"))
     end
     tex.print(btx.lines(list))
 end
