@@ -26,6 +26,7 @@ MOST_AGAIN = 50
 
 SKIPS_WHITE = re.compile(rb"[ \t\r\n]*")
 NAME = rb"[^\x00- \"#%'(),={}0-9][^\x00- \"#%'(),={}]*"
+IS_NAME = re.compile(rb"[ \t\r\n]*(" + NAME + rb")")
 BEGINS_ITEM = re.compile(rb"@[ \t\r\n]*(" + NAME + rb")?")
 OPENS_ITEM = re.compile(rb"[ \t\r\n]*[{(][ \t\r\n]*")
 # A text ends with one of these, if no name ends there.
@@ -59,10 +60,10 @@ class Item:
     """An item of a database.
 
     start: where its `@` is. kind: its type in lower case; kind_end: where that ends. key: that of an entry, or the name of a string; None if it has none.
-    key_end: where that ends. fields: those of an entry; of a string or a preamble its value, whose name is empty. end: where its reading ended.
+    key_end: where that ends. fields: those of an entry; of a string or a preamble its value, whose name is empty. is_plain: whether each of these is. end: where its reading ended.
     slip: the mistake that ended it."""
 
-    __slots__ = ("start", "kind", "kind_end", "key", "key_end", "fields", "end", "slip")
+    __slots__ = ("start", "kind", "kind_end", "key", "key_end", "fields", "is_plain", "end", "slip")
 
     def __init__(self, start: int, kind: bytes, kind_end: int, key: Optional[bytes], end: int) -> None:
         self.start = start
@@ -71,6 +72,7 @@ class Item:
         self.key = key
         self.key_end = self.end = end
         self.fields: List[Field] = []
+        self.is_plain = True
         self.slip: Optional[Slip] = None
 
     @property
@@ -130,8 +132,11 @@ class Database:
 
     def names(self, field: Field) -> List[Part]:
         """The names of strings in a value."""
-        if self.is_text(field):
+        if field.is_plain:
             return []
+        alone = IS_NAME.fullmatch(self.text, field.after, field.end)
+        if alone is not None:
+            return [Part(*alone.span(1), True)]
         return [part for part in parts_of(self.text, self.start(field), field.end) if part.is_name]
 
 
@@ -193,15 +198,23 @@ class Reader:
         if kind == WRONG:
             # (nothing of it was read whole: it begins with the first `@` after the item before it)
             start = self.text.find(b"@", max(base, self.items[-1].end if self.items else 0))
+        if kind == ENTRY:
+            written = texts[name_at : name_at + name_len]
+            return Item(start, self.lowered(written), self.text.index(written, start) + name_len, texts[text_at : text_at + text_len], end)
         found = BEGINS_ITEM.match(self.text, start)
         assert found is not None
         name, key = (found[1] or b"").lower(), None
-        if kind == ENTRY:
-            key = texts[text_at : text_at + text_len]
-        elif kind == STRING:
+        if kind == STRING:
             key = texts[name_at : name_at + name_len]
             end = self.opened(found.end()) + name_len
         return Item(start, name, found.end(), key, end)
+
+    def lowered(self, written: bytes) -> bytes:
+        """A name in lower case, which is made once."""
+        name = self.names.get(written)
+        if name is None:
+            name = self.names[written] = written.lower()
+        return name
 
     def opened(self, place: int) -> int:
         """The first byte after the brace of an item whose type ends here, and after whitespace."""
@@ -215,12 +228,13 @@ class Reader:
             value = texts[text_at : text_at + text_len]
             after = self.text.index(b"=", item.key_end) + 1 if kind == STRING else self.opened(item.kind_end)
             item.fields.append(Field(b"", after, after, value, after, base + end, False))
+            item.is_plain = False
             if kind == STRING and is_whole and item.key is not None:
                 self.strings[item.key.lower()] = value
         if kind == COMMENT:
             return at + 1
         if kind != WRONG:
-            at = self.fields(base, [] if is_repeated else item.fields, records, at + 1, texts)
+            at = self.fields(base, item, [] if is_repeated else item.fields, records, at + 1, texts)
         kind, _, start, end, _, _, _, text_at, text_len = records[at]
         if is_repeated:
             item.slip, item.end = Slip(item.key_end, REPEATED), item.key_end
@@ -231,21 +245,21 @@ class Reader:
             item.end = base + end
         return at + 1
 
-    def fields(self, base: int, into: List[Field], records: List[Record], at: int, texts: bytes) -> int:
+    def fields(self, base: int, item: Item, into: List[Field], records: List[Record], at: int, texts: bytes) -> int:
         """Adds the fields whose records begin here; the number of the record after them."""
-        text, names, index, find = self.text, self.names, self.text.index, self.text.find
+        text, names, index, find, add = self.text, self.names, self.text.index, self.text.find, into.append
         while True:
             kind, _, start, end, _, name_at, name_len, text_at, text_len = records[at]
             if kind != FIELD:
                 return at
             written = texts[name_at : name_at + name_len]
-            name = names.get(written)
-            if name is None:
-                name = names[written] = written.lower()
+            name = names.get(written) or self.lowered(written)
             start, end = base + start, base + end
             after = index(b"=", start + name_len) + 1
             is_plain = text[end - 1] in ENDS_TEXT and find(b"#", after, end) < 0
-            into.append(Field(name, start, start + name_len, texts[text_at : text_at + text_len], after, end, is_plain))
+            add(Field(name, start, start + name_len, texts[text_at : text_at + text_len], after, end, is_plain))
+            if not is_plain:
+                item.is_plain = False
             at += 1
 
 
@@ -261,7 +275,7 @@ def undefined_strings(database: Database, strings: Set[bytes]) -> Iterator[Undef
     """The names without a string, in the order of the text. strings: the names, in lower case, that are defined before the database; those that it defines are added."""
     for item in database.items:
         own = item.key.lower() if item.key is not None and item.kind == b"string" else None
-        if not all(field.is_plain for field in item.fields):
+        if not item.is_plain:
             yield from undefined_of(database, item, own, strings)
         if own is not None and item.fields:
             strings.add(own)

@@ -144,7 +144,8 @@ class SearchFrom(Search):
             return next((path for path in (os.path.join(folder, name) for folder in folders) if os.path.isfile(os.path.join(self.folder, path))), None)
         if b"\0" in name:
             return None
-        words = [b"kpsewhich", b"-progname=bibtex", b"-format=" + ending[1:], b"--", name]
+        kpsewhich = os.path.abspath(os.fsencode(shutil.which("kpsewhich") or "kpsewhich"))
+        words = [kpsewhich, b"-progname=bibtex", b"-format=" + ending[1:], b"--", name]
         done = subprocess.run(words, cwd=self.folder, stdin=subprocess.DEVNULL, stdout=subprocess.PIPE, stderr=subprocess.DEVNULL)
         return done.stdout[:-1] or None
 
