@@ -31,7 +31,7 @@ class Function:
 
     @property
     def anchor(self):
-        return anchor(self.plain)
+        return rules.function_anchor(self.plain)
 
     @property
     def sentences(self):
@@ -49,11 +49,6 @@ class Function:
     def sources(self):
         """Where the manual and the original's source have it."""
         return f"{OWN_SECTION.get(self.plain, MANUAL)}; {modules.sentence(modules.FUNCTION + self.plain)}"
-
-
-def anchor(name):
-    """The address of a function's block."""
-    return "function-" + rules.row_anchor(name).removeprefix("name-")
 
 
 def rows_of_rules():

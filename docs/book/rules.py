@@ -23,6 +23,11 @@ def row_anchor(name):
     return "name-" + "-".join(re.findall(r"\w+", name)) if re.search(r"\w", name) else "name-" + "-".join(f"{ord(sign):x}" for sign in name)
 
 
+def function_anchor(name):
+    """The anchor of a function's block."""
+    return "function-" + row_anchor(name).removeprefix("name-")
+
+
 def source():
     """The rules without their title and their table of contents, and with links to places of the book."""
     text = FILE.read_text(encoding="utf-8")
@@ -72,13 +77,17 @@ def table(lines):
     rows = [[cell.strip() for cell in re.split(r"(?<!\\)\|", line.strip().strip("|"))] for line in lines if not re.match(r"\|[-| ]+$", line)]
     head, *body = rows
     marks = "".join(f"<th>{inline(cell)}</th>" for cell in head)
-    found = "".join(f"<tr>{''.join(f'<td>{anchors(cell) if head[0] in NAMED and not at else inline(cell)}</td>' for at, cell in enumerate(row))}</tr>" for row in body)
+    found = "".join(f"<tr>{''.join(f'<td>{anchors(cell, head[0]) if head[0] in NAMED and not at else inline(cell)}</td>' for at, cell in enumerate(row))}</tr>" for row in body)
     return f'<div class="wide"><table><tr>{marks}</tr>{found}</table></div>'
 
 
-def anchors(cell):
-    """The names of a row's first cell, each with its anchor."""
-    return re.sub(CODE, lambda found: f'<span id="{row_anchor(found[0][1:-1])}">{inline(found[0])}</span>', cell)
+def anchors(cell, kind):
+    """The names of a row's first cell, each with its anchor; a function is a link to its block."""
+    def named(found):
+        name, shown = found[0][1:-1], inline(found[0])
+        shown = f'<a href="#{function_anchor(name)}">{shown}</a>' if kind == "function" else shown
+        return f'<span id="{row_anchor(name)}">{shown}</span>'
+    return re.sub(CODE, named, cell)
 
 
 def items(block, mark, tag):

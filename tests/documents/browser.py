@@ -40,7 +40,7 @@ ASKED = {
     "comments in code don't hang": "all('pre .c').every((it) => style(it).textIndent === '0px')",
     "comments in code keep their line's indent": """all('pre .l.c').every((it) => parseFloat(style(it).paddingLeft) >= parseFloat(style(it).fontSize) * 0.55 *
         Number(it.style.getPropertyValue('--i') || 0))""",
-    "names in the first column of tables are whole": "all('.wide td:first-child > span > code').every((it) => it.getClientRects().length === 1)",
+    "names in the first column of tables are whole": "all('.wide td:first-child > span code').every((it) => it.getClientRects().length === 1)",
     "options are whole": "all('code.whole').every((it) => it.getClientRects().length <= 1)",
     "questions stand out": "all('.asked td:first-child').every((it) => style(it).fontWeight >= 600)",
     "all that can be clicked can be reached by keyboard": "all('a, input').every((it) => it.tabIndex === 0) && !all('[tabindex]').length",
@@ -77,6 +77,11 @@ ASKED_OF_BOOK = {
         field.dispatchEvent(new page.Event('input'));
         return page.document.querySelector('#met a').textContent === name;
     })""",
+    "each function of styles has a block, to which its rule leads": """all('.rules td:first-child > span > a').length === 37 && all('.rules td:first-child > span > a').every((it) => {
+        const block = page.document.getElementById(it.hash.slice(1));
+        return block && block.querySelector('h4 code').textContent === it.textContent && block.querySelector('pre') && /bibtex.web \\d/.test(block.textContent);
+    })""",
+    "what has to be believed has its evidence beside it": "all('.rule').filter((it) => /^Compared with the original: [1-9]/.test(it.textContent)).length >= 17",
     "the field is above the contents": "page.document.getElementById('find').compareDocumentPosition(page.document.getElementById('contents')) === 4",
     "Enter goes to what was found": """(() => {
         const field = page.document.getElementById('find');
