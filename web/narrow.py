@@ -22,7 +22,7 @@ BY_BYTES = re.compile(r" getelementptr (?:inbounds |nuw |nusw )*i8, ")
 GLOBAL = re.compile(r"(@\S+ = [a-z_ ]*constant <\{ )(.*?)( \}> <\{ )(.*)", re.DOTALL)
 POINTER = re.compile(r"ptr (?:getelementptr \(i8, ptr @[\w.]+, i64 \d+\)|@[\w.]+)(?=, | \}>)")
 TEXT = re.compile(r'(c"[^"]*")')
-STORE = re.compile(r"  store ptr (\S+), ptr (\S+), align 8\b")
+STORE = re.compile(r"  store ptr (\S+), ptr (\S+), align (\d+)\b")
 LOAD = re.compile(r"  (%\S+) = load \{ ([^{}]*\bptr\b[^{}]*) \}, ptr (\S+), align (\d+)\b")
 ADDRESS = re.compile(r"  (%\S+) = ptrtoaddr ptr (\S+) to i64\b")
 INSTRUCTION = re.compile(r"  (?:(%\S+) = )?(?:(?:tail|musttail|notail) )?(\w+)\b")
@@ -74,7 +74,7 @@ def loaded(found, number):
 def instruction(line, number):
     """An instruction with a pointer."""
     if found := STORE.match(line):
-        return f"{line}  %narrow.{number} = getelementptr i8, ptr {found[2]}, i32 4\n  store i32 0, ptr %narrow.{number}, align 4\n"
+        return f"{line}  %narrow.{number} = getelementptr i8, ptr {found[2]}, i32 4\n  store i32 0, ptr %narrow.{number}, align {min(int(found[3]), 4)}\n"
     if found := LOAD.match(line):
         return loaded(found, number)
     if found := ADDRESS.match(line):
@@ -89,8 +89,8 @@ def instruction(line, number):
 
 def is_access(line, what):
     """Whether it is an access of a value that has the same layout whatever a pointer's size is; or the load of one pointer, of which the lower four bytes are read."""
-    accessed, _, at = line.partition(f" {what} ")[2].rpartition(", ptr ")
-    return what in ("load", "store") and (not re.search(r"\bptr\b", accessed) or (what == "load" and accessed == "ptr" and ", align 8" in at))
+    accessed = line.partition(f" {what} ")[2].rpartition(", ptr ")[0]
+    return what in ("load", "store") and (not re.search(r"\bptr\b", accessed) or (what == "load" and accessed == "ptr"))
 
 
 def narrowed(lines):

@@ -10,6 +10,8 @@ import narrow
 CASES = (
     ("  %v = load ptr, ptr %p, align 8, !noundef !1", "  %v = load ptr, ptr %p, align 8, !noundef !1"),
     ("  store ptr %v, ptr %p, align 8", "  store ptr %v, ptr %p, align 8\n  %narrow.0 = getelementptr i8, ptr %p, i32 4\n  store i32 0, ptr %narrow.0, align 4"),
+    ("  %v = load ptr, ptr %p, align 1", "  %v = load ptr, ptr %p, align 1"),
+    ("  store ptr @s, ptr %p, align 1", "  store ptr @s, ptr %p, align 1\n  %narrow.0 = getelementptr i8, ptr %p, i32 4\n  store i32 0, ptr %narrow.0, align 1"),
     ("  store i64 %v, ptr %p, align 8", "  store i64 %v, ptr %p, align 8"),
     ("  store { i64, i64 } %v, ptr %p, align 8", "  store { i64, i64 } %v, ptr %p, align 8"),
     ("  %v = load { i8, i64 }, ptr %p, align 8", "  %v = load { i8, i64 }, ptr %p, align 8"),
@@ -33,7 +35,7 @@ CASES = (
 # What might have another layout.
 REFUSED = (
     "  %v = ptrtoint ptr %p to i64", "  %v = inttoptr i64 %n to ptr", "  store { ptr, i64 } %v, ptr %p, align 8", "  %v = alloca { ptr, i64 }, align 8", "  %v = alloca [2 x ptr], align 8",
-    "  %v = getelementptr ptr, ptr %p, i64 1", "  %v = getelementptr { i8, ptr }, ptr %p, i64 1", "  %v = load ptr, ptr %p, align 4", "  store ptr %v, ptr %p, align 1",
+    "  %v = getelementptr ptr, ptr %p, i64 1", "  %v = getelementptr { i8, ptr }, ptr %p, i64 1",
     "  %v = load <2 x ptr>, ptr %p, align 8", "  store <2 x ptr> %v, ptr %p, align 16", "  %v = atomicrmw xchg ptr %p, ptr %q seq_cst", "  %v = freeze ptr %p",
     "  %v = load { i8, { ptr, i8 } }, ptr %p, align 8", "  %v = load [2 x ptr], ptr %p, align 8",
     "@s = global ptr @t, align 8", "@s = private constant [1 x ptr] [ptr @t], align 8", "@s = private constant <{ { ptr } }> <{ { ptr } { ptr null } }>, align 8",
