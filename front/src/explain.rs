@@ -10,7 +10,7 @@ use crate::log::{Content, Ended, Line, Log, Message, Place, Severity};
 use crate::missing_entry::{self, begun_value, lost_fields, meant_field, meant_string, what_is_missing};
 use crate::nearest::nearest;
 use crate::operands::{TEST_LEAVES, advice_at, is_of_test_in};
-use crate::origins::{Frame, MissingField, missing_field};
+use crate::origins::{MissingField, missing_field_of};
 use crate::repeats::Repeats;
 use crate::scene::{Call, End, Scene};
 use crate::shapes::{Part, counted, went_well};
@@ -599,11 +599,8 @@ impl<'a, W: Write> Explainer<'a, W> {
     /// Which field is missing where a function takes one that is, or which may be.
     fn missing_field(&mut self, message: &Message<'a>, function: &[u8]) -> Option<String> {
         let scene = message.scene?;
-        let is_of_one = message.text.starts_with(b"missing field is not ") || function == b"=";
-        let takes = advice::operands(function).filter(|_| is_of_one)?.split(' ').count();
-        let position = scene.stack.iter().take(takes).position(|held| held.literal == b"missing field")?;
         let path = plain(self.sources.file(&scene.at.file).map_or(&scene.at.file[..], shown_path));
-        let found = missing_field(self.code_of(scene)?, function, &Frame::of_scene(scene), position)?;
+        let found = missing_field_of(self.code_of(scene)?, scene, message.text, function)?;
         Some(match found {
             MissingField::Is(field, line) => {
                 format!("the missing field is `{}`, pushed at {path}:{line}", plain(field))

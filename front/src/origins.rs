@@ -100,6 +100,26 @@ pub fn missing_field<'a>(
     left.or_else(|| frames.iter().find_map(|frame| read_by(code, frame.owner)))
 }
 
+/// How the log begins that a function found a missing field.
+pub const IS_MISSING: &[u8] = b"missing field is not ";
+
+/// What the text shows of the missing field that a function took for an operand, where an error of its execution says that it did.
+pub fn missing_field_of<'a>(code: &Code<'a>, scene: &Scene, error: &[u8], function: &[u8]) -> Option<MissingField<'a>> {
+    let is_of_one = error.starts_with(IS_MISSING) || function == b"=";
+    let takes = advice::operands(function).filter(|_| is_of_one)?.split(' ').count();
+    let position = scene.stack.iter().take(takes).position(|held| held.literal == b"missing field")?;
+    missing_field(code, function, &Frame::of_scene(scene), position)
+}
+
+/// The text of an error of an execution with the field named that is missing, as the original names it. None where it is about something else, or the field isn't known.
+pub fn with_field_named(code: &Code<'_>, scene: &Scene, error: &[u8], function: &[u8]) -> Option<Vec<u8>> {
+    let wanted = error.strip_prefix(IS_MISSING)?;
+    match missing_field_of(code, scene, error, function)? {
+        MissingField::Is(field, _) => Some([b"`", field, b"' is a missing field, not ", wanted].concat()),
+        MissingField::LeftBy(..) | MissingField::ReadBy(..) => None,
+    }
+}
+
 /// The fields that a function reads, if it reads some.
 fn read_by<'a>(code: &Code<'a>, function: &[u8]) -> Option<MissingField<'a>> {
     let (name, tokens) = code.function(function)?;

@@ -1,8 +1,10 @@
 //! A log in the shapes of the original's, which editors and other tools look for.
 
 use crate::aux_text::without_white_at_end;
+use crate::code_places::Code;
 use crate::job::Files;
 use crate::log::{Content, Ended, Line, Log, Message, Place, Severity};
+use crate::origins::{IS_MISSING, with_field_named};
 use crate::scene::{Call, End};
 use crate::sources::{Sources, Spot};
 use crate::style_text;
@@ -36,6 +38,7 @@ pub fn write(log: &Log<'_>, files: &Files, part: Part, room: usize, out: &mut Ve
         shown: 0,
         unplaced: 0,
         last_places: None,
+        code: None,
         room,
         scene_of_end,
         is_interrupted,
@@ -129,6 +132,8 @@ struct Shapes<'a, 'o> {
     /// How many errors of the style's execution had no scene.
     unplaced: usize,
     last_places: Option<LastPlaces>,
+    /// The code of the style, once a field is to be named.
+    code: Option<Code<'a>>,
     /// How many bytes the places of the style's commands may still take.
     room: usize,
     scene_of_end: Option<&'a End>,
@@ -191,7 +196,9 @@ impl<'a> Shapes<'a, '_> {
     /// An error while a style was executed.
     fn executed(&mut self, message: &Message<'a>, function: &[u8], entry: Option<&[u8]>) {
         let for_entry = if entry.is_some() { &b" for entry "[..] } else { b"" };
-        self.put(&[message.text, b" (", function, b")", for_entry, entry.unwrap_or(b"")]);
+        let named = self.with_field_named(message, function);
+        let text = named.as_deref().unwrap_or(message.text);
+        self.put(&[text, b" (", function, b")", for_entry, entry.unwrap_or(b"")]);
         if let Some(at) = message.scene.and_then(|scene| scene.placed()) {
             return write_place(at, self.out);
         }
@@ -203,6 +210,13 @@ impl<'a> Shapes<'a, '_> {
             self.room = room;
             self.out.extend_from_slice(place);
         }
+    }
+
+    /// The text of an error with the field named that is missing.
+    fn with_field_named(&mut self, message: &Message<'a>, function: &[u8]) -> Option<Vec<u8>> {
+        let scene = message.scene.filter(|_| message.text.starts_with(IS_MISSING))?;
+        let bytes = self.sources.file(&scene.at.file)?.bytes.as_deref()?;
+        with_field_named(self.code.get_or_insert_with(|| Code::new(bytes)), scene, message.text, function)
     }
 
     /// Says of how many errors of the style's execution the place isn't known, if there are any.

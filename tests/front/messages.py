@@ -11,6 +11,8 @@ import sys
 FOUND = re.compile(rb"The top-level auxiliary file: |A level-\d+ auxiliary file: |The style file: |Database file #\d+: |Reallocated |Capacity: ")
 PLACE = re.compile(rb"--line (\d+) of file (.*)", re.S)
 EXECUTED = re.compile(rb"(?s)(.*) \(([^() ]+)\)( for entry .*)?")
+# (the program's log doesn't name a field that is missing)
+NAMED = re.compile(rb"`[^' ]*' is a missing field, not ")
 COUNTS = re.compile(rb"\(There (was|were) \d+ (warning|error message)s?\)|\(Where the style stood isn't known of \d+ errors?: it is looked for at the first ones alone\.\)")
 SKIPPED = re.compile(rb"I'm skipping whatever remains of this (command|entry)")
 # A run's end: at a limit, and how it ended.
@@ -76,7 +78,7 @@ class Reader:
         executed = EXECUTED.fullmatch(line)
         if executed and self.peek().startswith(b"while executing---line "):
             self.take()
-            return b"Error--" + executed[1] + b" while executing " + executed[2] + (executed[3] or b"")
+            return b"Error--" + NAMED.sub(b"missing field is not ", executed[1]) + b" while executing " + executed[2] + (executed[3] or b"")
         return self.error(line)
 
     def warning(self, line):

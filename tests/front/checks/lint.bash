@@ -307,7 +307,7 @@ cp clean.bst s.bst
 cite key
 run_search job
 wants_status 2
-grep -qxF 'missing field is not a string (write$) for entry key' job.blg || complaints+=("the log is $(cat job.blg)")
+grep -qxF '`title'"'"' is a missing field, not a string (write$) for entry key' job.blg || complaints+=("the log is $(cat job.blg)")
 end
 
 begin lint_shows_what_is_left

@@ -181,6 +181,10 @@ for wanted in '`title`, pushed at s.bst:5' '`note`, pushed at s.bst:6' '`journal
     wants_line "$folder/stdout" "    the missing field is $wanted"
 done
 wants_line "$folder/stdout" '    the missing field may be what `half` at s.bst:8 leaves, which reads `note`, `title`'
+wants_line job.blg "\`title' is a missing field, not a string (*) for entry k"
+wants_line job.blg "\`note' is a missing field, not a string (write\$) for entry k"
+wants_line job.blg 'missing field is not a string (write$) for entry k'
+wants_messages job.blg "$(python3 "$here/messages.py" <(sed -n '/^Error--/p;/^Warning--/p' "$folder/stdout" | sed '1i The top-level auxiliary file: job.aux'))"
 [ "$(grep -c 'the missing field' "$folder/stdout")" -eq 4 ] || complaints+=("printed is $(cat "$folder/stdout")")
 end
 
