@@ -41,6 +41,14 @@ pub fn find<'a>(sections: &[Section], text: &'a [u8]) -> Option<Advice<'a>> {
     found.next().map(|(number, names)| Advice { number, names })
 }
 
+impl<'a> Advice<'a> {
+    /// The string that isn't defined, if the message is about one.
+    pub fn undefined_string(&self) -> Option<&'a [u8]> {
+        let is_undefined = ROWS[self.number].1 == "string name \"*\" is undefined";
+        self.names.first().copied().filter(|_| is_undefined)
+    }
+}
+
 impl Advice<'_> {
     /// What to do.
     pub fn text(&self) -> String {
@@ -54,6 +62,11 @@ impl Advice<'_> {
     pub fn is_of_code(&self) -> bool {
         let of_code = ["You can't pop ", "= needs ", "You can't assign ", "You can't mess ", "The literal stack "];
         self.is_of_operands() || of_code.iter().any(|begin| ROWS[self.number].1.starts_with(begin))
+    }
+
+    /// Whether the message is about a name in a value of a database.
+    pub fn is_of_name(&self) -> bool {
+        ["Name ~ in ", "Too many commas "].iter().any(|begin| ROWS[self.number].1.starts_with(begin))
     }
 
     /// Whether the message is about a type of entry that the style doesn't know.

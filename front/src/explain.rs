@@ -1,6 +1,6 @@
 //! A log for its reader: each message, the line and the entry that it is about, and what to do.
 
-use crate::advice::{self, Section};
+use crate::advice::{self, Advice, Section};
 use crate::code_places::{Code, DEFAULT_TYPE};
 use crate::database::Item;
 use crate::entries::{Entries, Stored};
@@ -11,7 +11,7 @@ use crate::missing_entry::{self, begun_value, lost_fields, meant_field, meant_st
 use crate::nearest::nearest;
 use crate::operands::{TEST_LEAVES, advice_at, is_of_test_in};
 use crate::origins::{MissingField, missing_field_of};
-use crate::repeats::Repeats;
+use crate::repeats::{Repeats, Strings};
 use crate::scene::{Call, End, Scene};
 use crate::shapes::{Part, counted, went_well};
 use crate::shown_line::{ShownLine, first_columns};
@@ -20,7 +20,7 @@ use crate::style_text::{
     Command, Defined, costs_a_token, end_of_skipped, is_command, last_token, lines_of_name, nearest_word, unclosed,
 };
 use crate::terminal::{ERROR_COLOUR, PLACE_COLOUR, Terminal, WARNING_COLOUR, in_lines, plain};
-use crate::text::{Text, split_first};
+use crate::text::{Text, find, split_first};
 use std::collections::HashSet;
 use std::io::{self, BufWriter, Write};
 
@@ -97,6 +97,7 @@ struct Explainer<'a, W: Write> {
     said_of_missing: HashSet<String>,
     causes: Vec<Cause<'a>>,
     repeats: Repeats<'a>,
+    strings: Strings<'a>,
     /// Whether the last error wasn't printed since it repeats: then the literals that the log lists below it aren't either.
     is_repeated: bool,
     /// The code of the style, once an error of its execution was met, and where the first mistake of its text is.
@@ -127,6 +128,7 @@ impl<'a, W: Write> Explainer<'a, W> {
             said_of_missing: HashSet::new(),
             causes: Vec::new(),
             repeats: Repeats::default(),
+            strings: Strings::default(),
             is_repeated: false,
             code: None,
             first_of_style: None,
@@ -164,7 +166,7 @@ impl<'a, W: Write> Explainer<'a, W> {
     fn line(&mut self, line: &Line<'a>) -> io::Result<()> {
         let was_repeated = std::mem::take(&mut self.is_repeated);
         match &line.content {
-            Content::Message(message) if self.follows(message) => Ok(()),
+            Content::Message(message) if self.follows(message) || self.strings.has(message) => Ok(()),
             Content::Message(message) if self.repeats.has(line.bytes, message, self.first_of_style.is_some()) => {
                 self.explained += 1;
                 self.is_repeated = true;
@@ -212,7 +214,7 @@ impl<'a, W: Write> Explainer<'a, W> {
         let Content::Ended(end) = &line.content else {
             return writeln!(self.out, "(The messages behind these stand in the .blg.)");
         };
-        match (end.errors + end.warnings).saturating_sub(self.explained) {
+        match (end.errors + end.warnings).saturating_sub(self.explained + self.strings.count()) {
             0 => {}
             1 => writeln!(self.out, "(1 more message stands in the .blg.)")?,
             more => writeln!(self.out, "({more} more messages stand in the .blg.)")?,
@@ -245,7 +247,8 @@ impl<'a, W: Write> Explainer<'a, W> {
 
     /// Says of errors of the execution how often they repeat.
     fn end_repeats(&mut self) -> io::Result<()> {
-        self.repeats.texts().iter().try_for_each(|text| writeln!(self.out, "{text}"))
+        let texts = [self.strings.texts(), self.repeats.texts()].concat();
+        texts.iter().try_for_each(|text| writeln!(self.out, "{text}"))
     }
 
     // ---- messages ----
@@ -539,11 +542,33 @@ impl<'a, W: Write> Explainer<'a, W> {
         Ok(true)
     }
 
+    /// The line of an entry with the names that a message of the execution is about, as it is shown; where they stand on several lines, that of the first word.
+    fn line_of_names(&mut self, message: &[u8], key: &[u8]) -> Option<Vec<String>> {
+        let terminal = self.terminal;
+        advice::find(&[Section::Execution], message).filter(Advice::is_of_name)?;
+        let (_, quoted) = split_first(message, b"\"")?;
+        let names = &quoted[..quoted.iter().rposition(|byte| *byte == b'"')?];
+        let Stored { database, item } = self.entries().entry(key)?;
+        let first = &names[..names.iter().position(|byte| *byte == b' ').unwrap_or(names.len())];
+        let bytes = &database.text.bytes[item.start..item.end];
+        let place = item.start + find(bytes, names).or_else(|| find(bytes, first))?;
+        let number = database.text.line_of(place);
+        let mark = Some(place - database.text.span(number).0);
+        let name = plain(shown_path(database.file));
+        Some(ShownLine { name: &name, number, line: database.text.line(number), mark }.lines(terminal))
+    }
+
     // ---- the execution of a style ----
 
     fn executed(&mut self, message: &Message<'a>, function: &'a [u8], entry: Option<&[u8]>) -> io::Result<()> {
-        if let Some(scene) = message.scene {
-            self.scene(scene)?;
+        let shown = entry.and_then(|key| self.line_of_names(message.text, key));
+        let is_of_database = shown.is_some();
+        shown.iter().flatten().try_for_each(|line| self.coloured(PLACE_COLOUR, &format!("{INDENT}{line}")))?;
+        match message.scene {
+            // (the way through the style has nothing to do with a name)
+            Some(scene) if is_of_database => self.put_place(&format!("in {}", self.call(&scene.at)))?,
+            Some(scene) => self.scene(scene)?,
+            None => {}
         }
         if let Some(key) = entry {
             self.show_entry("for", key)?;

@@ -78,6 +78,51 @@ impl<'a> Repeats<'a> {
     }
 }
 
+/// Strings that aren't defined, in values of a database: of each name the first message is explained, and the others are counted.
+#[derive(Debug, Clone, Default)]
+pub struct Strings<'a> {
+    /// How many messages there are of a name, and the last one's place.
+    by_name: HashMap<&'a [u8], (u64, Place<'a>)>,
+    /// The names in their order.
+    names: Vec<&'a [u8]>,
+}
+
+impl<'a> Strings<'a> {
+    /// Whether a string was said before not to be defined; then it is counted.
+    pub fn has(&mut self, message: &Message<'a>) -> bool {
+        if !message.text.starts_with(b"string name ") {
+            return false;
+        }
+        let advice = advice::find(&[Section::Entries], message.text);
+        let Some(name) = advice.and_then(|advice| advice.undefined_string()) else { return false };
+        let known = self.by_name.entry(name).or_insert((0, message.place));
+        *known = (known.0 + 1, message.place);
+        if known.0 == 1 {
+            self.names.push(name);
+        }
+        known.0 > 1
+    }
+
+    /// How many messages weren't printed.
+    pub fn count(&self) -> u64 {
+        self.by_name.values().map(|(count, _)| count - 1).sum()
+    }
+
+    /// What is said of those that weren't printed, for each name; once.
+    pub fn texts(&mut self) -> Vec<String> {
+        let text = |name: &&[u8]| {
+            let (count, place) = self.by_name[name];
+            let last = match place {
+                Place::Line { number, file } => format!(", the last in line {number} of {}", plain(file)),
+                Place::Execution { .. } | Place::Nowhere => String::new(),
+            };
+            let times = if count == 2 { "once more".into() } else { format!("{} times more", count - 1) };
+            (count > 1).then(|| format!("The string `{}` isn't defined {times}{last}.", plain(name)))
+        };
+        std::mem::take(&mut self.names).iter().filter_map(text).collect()
+    }
+}
+
 impl<'a> Repeated<'a> {
     /// Counts one more, for this entry. No line is said where they aren't all at one place, or aren't known to be.
     fn add(&mut self, entry: Option<&'a [u8]>, place: Option<&'a Call>) {

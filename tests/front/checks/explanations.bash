@@ -421,3 +421,37 @@ if there_is cargo 'the words of RULES' && [ -f "$library/libbtx_c.a" ]; then
 else
     echo 'left out: the words of RULES (without cargo and the library)'
 fi
+
+# A message about a name shows the line of the database, and not the way through the style.
+begin names_are_shown_in_their_database
+cat >s.bst <<'END'
+ENTRY {author} {} {}
+FUNCTION {names} { author #1 "{ll}" format.name$ write$ newline$ }
+FUNCTION {misc} { names }
+READ
+ITERATE {call.type$}
+END
+cite 'k,l,m'
+printf '@misc{k,\n  author = {Smith, John, Jr., PhD}}\n@misc{l,\n  author = "Doe,"}\n@misc{m, author = {A, B,\n  C, D}}\n' >d.bib
+run_search -explain job
+wants_status 2
+for line in '    d.bib:2:   author = {Smith, John, Jr., PhD}}' '    d.bib:4:   author = "Doe,"}' '    d.bib:5: @misc{m, author = {A, B,' '    in FUNCTION {names}, s.bst:2' \
+    '    for @misc{k}, which begins at d.bib:1'; do
+    wants_line "$folder/stdout" "$line"
+done
+! grep -qE 'called from|on the stack' "$folder/stdout" || complaints+=("printed is $(cat "$folder/stdout")")
+end
+
+# Of a string that isn't defined the first message is shown, and the others are counted: what stands among them isn't hidden.
+begin undefined_strings_are_counted_by_name
+cite "$(seq -s , -f 'k%g' 1200),gone"
+{ seq -f '@misc{k%g, title = jn}' 1200; echo '@misc{other, title = other}'; } >d.bib
+run_search -explain job
+[ "$(grep -c 'string name "jn" is undefined' "$folder/stdout")" -eq 1 ] || complaints+=('the message is repeated')
+wants_line "$folder/stdout" 'The string `jn` isn'"'"'t defined 1199 times more, the last in line 1200 of d.bib.'
+wants_line "$folder/stdout" 'Warning--I didn'"'"'t find a database entry for "gone"'
+! grep -q 'more messages\?' "$folder/stdout" || complaints+=("printed is $(tail -n 5 "$folder/stdout")")
+cite 'k1,k2'
+run_search -explain job
+wants_line "$folder/stdout" 'The string `jn` isn'"'"'t defined once more, the last in line 2 of d.bib.'
+end
