@@ -57,7 +57,8 @@ NOT_TYPES = (b"comment", b"preamble", b"string")
 LOOKS_LIKE_FIELD = re.compile(rb"(?m)^[ \t,]*([A-Za-z][A-Za-z_-]*)[ \t]*=[ \t]*[{\"0-9]")
 RESOLVER = re.compile(rb"^(?:https?://(?:dx\.)?doi\.org/|doi:)[ \t]*")
 TEX_COMMAND = re.compile(rb"\\[A-Za-z]+")
-NOT_TITLE = re.compile(rb"[^a-z0-9\x80-\xff]+")
+# What doesn't tell titles: all but letters and digits.
+NOT_TITLE = bytes(byte for byte in range(128) if not chr(byte).isalnum())
 ONE_HYPHEN = re.compile(rb"[0-9] ?(?:-|\xe2\x80\x93|\xe2\x80\x94) ?[0-9]")
 MONTH_NAME = re.compile(rb"(?:jan|feb|mar|apr|may|jun|jul|aug|sep|oct|nov|dec)[a-z]*\.?", re.IGNORECASE)
 ET_AL = re.compile(rb"(?<![A-Za-z])et\.?[ ~]*al(?![a-z])", re.IGNORECASE)
@@ -237,7 +238,8 @@ class Examiner:
             doi = RESOLVER.sub(b"", values[b"doi"].value.lower())
             self.dois.setdefault(doi, []).append(work)
         if b"title" in values:
-            title = NOT_TITLE.sub(b"", TEX_COMMAND.sub(b"", values[b"title"].value).lower())
+            value = values[b"title"].value
+            title = (TEX_COMMAND.sub(b"", value) if b"\\" in value else value).lower().translate(None, NOT_TITLE)
             year = values[b"year"].value if b"year" in values else b""
             if len(title) >= LEAST_TITLE:
                 self.titles.setdefault((title, year), []).append(work)
