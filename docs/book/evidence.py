@@ -40,7 +40,7 @@ class Row(NamedTuple):
         if self.reason:
             return ""
         papers = f", and {self.papers:,} papers of shipped styles, of which {differing(self.lists_of_papers)}" if self.papers else ""
-        return f"Compared with the original: {self.jobs:,} small jobs, many of them made for a difference, of which {differing(self.lists)}{papers}. Each has its row among the differences."
+        return f"Compared with the original: {self.jobs:,} small jobs, many of them made for a difference, of which {differing(self.lists)}{papers}. Their causes stand among the differences."
 
 
 def differing(lists):
