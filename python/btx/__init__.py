@@ -6,8 +6,9 @@
     btx.read("refs.bib")["knuth"]["title"]          # entries as data
     btx.run("paper", {"paper.aux": aux, "plain.bst": style, "refs.bib": database})
 
-`run` takes files that are handed in, and `run_in` those of a folder. What a call finds and how a run ends is logged by `logging`, under the name `btx`. `python3 -m btx JOB` runs a job as the program does, and `python3 -m btx compare FOLDER` compares the
-reference lists that old jobs have with those that they get now. `check` says of a style, before any run, whether it is clean.
+`run` takes files that are handed in, and `run_in` those of a folder. What a call finds and how a run ends is logged by `logging`, under the name `btx`. `check` says of a
+style, before any run, whether it is clean. `python3 -m btx JOB` runs a job as the program does; `compare`, `doctor`, `extract`, `fields` and `lsp` are commands of
+their own (README.md).
 
 What is proved is the library below, libbtx.so.1: that list, log and report are those of the definition of BibTeX's language for the files
 that were handed in. This package is ordinary Python around its calls."""

@@ -26,7 +26,10 @@ __all__ = ["AskedFields", "fields_of", "main"]
 
 STATUS_DEVICE = 6
 # A field's value in the entries that are tried; one that isn't here is its name and a word.
-VALUES = {"author": "Aa, Bb and Cc, Dd", "editor": "Ee, Ff and Gg, Hh", "year": "1999", "volume": "17", "number": "5", "pages": "11--22", "month": "May", "key": "Kk", "chapter": "3", "edition": "Second"}
+VALUES = {
+    **{"author": "Aa, Bb and Cc, Dd", "editor": "Ee, Ff and Gg, Hh", "key": "Kk", "year": "1999", "month": "May"},
+    **{"volume": "17", "number": "5", "pages": "11--22", "chapter": "3", "edition": "Second"},
+}
 AUX = b"\\citation{k}\n\\bibdata{d}\n\\bibstyle{s}\n"
 OPTIONS = Options(budget=2_000_000, utf8=True)
 
@@ -35,8 +38,8 @@ OPTIONS = Options(budget=2_000_000, utf8=True)
 class AskedFields:
     """The fields that a style asks for in entries of a type.
 
-    required: without one of these it warns. one_of: pairs, and without both fields of one it warns. beside: pairs, and it warns where the second field is given without the first. not_both: pairs
-    that it warns of. optional: what else counts in an entry. never_read: what counts in none of the entries that were tried."""
+    required: without one of these it warns. one_of: pairs, and without both fields of one it warns. beside: pairs, and it warns where the second field is given without the first.
+    not_both: pairs that it warns of. optional: what else counts in an entry. never_read: what counts in none of the entries that were tried."""
 
     type: str
     required: Tuple[str, ...]

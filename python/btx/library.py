@@ -167,7 +167,7 @@ def run_over(job: bytes, known: Known, options: Options, most_events: Optional[i
 
 
 def run_once(job: bytes, known: Known, options: Options, most_events: int) -> Result:
-    """Runs the job over these files, with room for so many events."""
+    """Runs the job over these files, with room for `most_events` events."""
     bbl, log, events = Room(options.most_list), Room(options.most_log), Room(most_events * EVENT.size)
     try:
         answer, answered, total = call(job, known, options, bbl, log, events)
