@@ -1,4 +1,4 @@
-/* BibTeX, proved, as a library for C. Nothing of a call stays behind: all that a call hands back lies in the caller's memory. So there is nothing to
+/* BibTeX, proved, as a library for C. Nothing of a call stays after: all that a call hands back lies in the caller's memory. So there is nothing to
    free, and calls in several threads don't touch one another.
 
    A text is a pointer and a length. A pointer is never null, not even of a text of length 0 (write ""); this holds of every pointer below. Memory in

@@ -140,7 +140,7 @@ wants_job() {
     wants_text job.blg "$3"
 }
 
-# wants_found STATUS LIST LINES: the same, where the log has these lines behind those of the first example's three files.
+# wants_found STATUS LIST LINES: the same, where the log has these lines after those of the first example's three files.
 wants_found() {
     wants_job "$1" "$2" "$found_log$3
 "

@@ -1,6 +1,6 @@
 # Completion in bash for bibtex-search, bibtex-confined, bibtex-lint and bibtex-proved: options, their values, jobs and styles.
 
-# _bibtex_options COMMAND: the names of its options, those with a value with a `=` behind them.
+# _bibtex_options COMMAND: the names of its options, those with a value with a `=` after them.
 _bibtex_options() {
     local kept='min-crossrefs= text= line= entry-max= global-max= help version'
     case $1 in

@@ -14,7 +14,7 @@ JOBS = ROOT / "tests/reference"
 BELIEVED = "What has to be believed"
 # What the types of the program stand below in a section that doesn't begin with them.
 TYPES = "types of the program"
-# A file's number among those of its folder, at its front, or behind its name in what another one says.
+# A file's number among those of its folder, at its front, or after its name in what another one says.
 NUMBER_OF_FILE = r"^\d+\. |(?<=`) \(\d+\)"
 ALLOWED = re.compile(r"// allowed: (\d+) (.+?)(?: -- .*)?$")
 

@@ -12,7 +12,7 @@ CRATES = ROOT / "crates"
 # The folders of specs/: what has to be believed, what is promised about it, and what ties the code to it. A program has no such folders.
 FOLDERS = ("language", "laws", "refinement")
 IDENTIFIER = r"[A-Za-z_][\w']*(?:-[A-Za-z][\w']*)*"
-# A text in quotes, a name with what it is the path of, or the name of a field behind a value.
+# A text in quotes, a name with what it is the path of, or the name of a field after a value.
 TOKEN = re.compile(rf'"(?:[^"\\]|\\.)*"|(?<![\w.]){IDENTIFIER}(?:\.{IDENTIFIER})*|\.{IDENTIFIER}(?:\.{IDENTIFIER})*')
 SIGN = re.compile(r"==|[ℕℤ]|[^\w\s\"(){}.,;:=λ→\[\]'@◌-]+|-(?=\s)")
 HEAD = re.compile(rf"^(?:abbrev |unfoldable )?(?:pub )?(?:(record|data) )?({IDENTIFIER})((?: [({{][^:=]*:.*)? :.*| : .*)$")

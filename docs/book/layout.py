@@ -19,11 +19,11 @@ TESTS, BOTH = r" (?=\|\| |&& )", r" (?=× )"
 JOINTS = [(r"(?<= in) ", False), (r" (?=else )", True), (r" (?=→ )", True), (r" (?=⊎ )", False), (BOTH, False), (TESTS, True), (ELEMENTS, True), (r" (?=\+\+ )", True)]
 # Tests in parentheses, with what stands before them.
 GROUP = re.compile(r"((?:&& |\|\| )?(?:not )?\()(.*)\)$")
-# A line that its author broke behind such a sign.
+# A line that its author broke after such a sign.
 UNFINISHED = re.compile(r"(==|\|\||&&|\+\+|→|\()$")
 # What is said of a definition by who needs it.
 REACHES = {"believed": "to be believed", "language": "how it is computed", "laws": "only in laws"}
-# What stands behind the core's sections.
+# What comes after the core's sections.
 NAMES_ELSEWHERE, WORDS_USED = "What the core names of the chapters after it", "Words of the library that the core uses"
 CODES = re.compile(r'\(codes ("(?:[^"\\]|\\.)*")\)|codes (?=")')
 

@@ -32,7 +32,7 @@ impl<'a> Command<'a> {
         COMMANDS.iter().find(|(word, _)| *word == self.word).map_or(b"", |(_, ending)| ending)
     }
 
-    /// The pieces of the argument up to its `}`, each with the place of its end in the line; only those behind the place `from`, where one ends.
+    /// The pieces of the argument up to its `}`, each with the place of its end in the line; only those after the place `from`, where one ends.
     fn pieces(&self, from: usize) -> impl Iterator<Item = (&'a [u8], usize)> + use<'a> {
         let is_list = self.word == b"\\citation" || self.word == b"\\bibdata";
         let mut at = self.start.max(from + 1);

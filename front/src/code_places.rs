@@ -59,7 +59,7 @@ pub struct Code<'a> {
     pub text: Text<'a>,
     tokens: Vec<Token>,
     declared: HashMap<Folded<'a>, Declaration>,
-    /// The tokens `:=` that stand behind each quoted name.
+    /// The tokens `:=` that come after each quoted name.
     assigned: HashMap<Folded<'a>, Vec<usize>>,
 }
 
@@ -70,7 +70,7 @@ struct Declaration {
     start: usize,
 }
 
-/// The tokens `:=` that stand behind each quoted name.
+/// The tokens `:=` that come after each quoted name.
 fn assigned<'a>(bytes: &'a [u8], tokens: &[Token]) -> HashMap<Folded<'a>, Vec<usize>> {
     let mut found: HashMap<Folded<'a>, Vec<usize>> = HashMap::new();
     for (index, pair) in tokens.windows(2).enumerate() {
@@ -242,7 +242,7 @@ impl<'a> Code<'a> {
             let Some(name) = command.name.filter(|_| command.is("function")) else { continue };
             let [first, behind] =
                 [command.start, end].map(|place| self.tokens.partition_point(|token| token.start < place));
-            // (behind the word FUNCTION, the brace, the name and the other brace)
+            // (after the word FUNCTION, the brace, the name and the other brace)
             let tokens = (first..behind).skip(4);
             let mut seen = HashSet::new();
             let named = tokens.filter_map(|index| self.named_function(index)).filter(|(_, name)| seen.insert(*name));
@@ -251,12 +251,12 @@ impl<'a> Code<'a> {
         found
     }
 
-    /// The function of this name, and its tokens behind its name.
+    /// The function of this name, and its tokens after its name.
     pub(crate) fn function(&self, name: &[u8]) -> Option<(&'a [u8], Range<usize>)> {
         let declaration = self.declared.get(&Folded(name))?;
         let start = self.tokens.partition_point(|token| token.start < declaration.start);
         let is_function = matches!(declaration.sort, Declared::Function { .. });
-        // (behind its name stands the brace that closes that)
+        // (after its name stands the brace that closes that)
         let (first, last) = (start + 2, self.closing(start + 2)?);
         is_function.then(|| (self.of(start), first..last + 1))
     }
@@ -376,7 +376,7 @@ impl<'a> CodePlace<'_, 'a> {
         Some((name, self.code.declared(name)?))
     }
 
-    /// The name behind the quote that stands directly before.
+    /// The name after the quote that stands directly before.
     pub fn quoted(self) -> Option<&'a [u8]> {
         self.before(1).filter(|(kind, _)| *kind == Kind::Quoted).map(|(_, name)| &name[1..])
     }
@@ -406,7 +406,7 @@ impl<'a> CodePlace<'_, 'a> {
     /// The function of the style that stands unquoted before an `if$` here, where its first (or its second) function is to stand, and its line.
     pub fn unquoted_branch(self, is_first: bool) -> Option<(&'a [u8], usize)> {
         let (no, last) = self.code.operand_before(self.index)?;
-        // (what stands behind the first function leaves one literal)
+        // (what comes after the first function leaves one literal)
         if is_first && self.code.tokens[last].kind == Kind::Name {
             return None;
         }
@@ -422,7 +422,7 @@ impl<'a> CodePlace<'_, 'a> {
         self.code.text.line_of(self.code.tokens[self.index].start)
     }
 
-    /// The names behind quotes around it, in the same function.
+    /// The names after quotes around it, in the same function.
     pub fn quoted_around(self) -> HashSet<Folded<'a>> {
         let is_inside = |index: &usize| {
             let begin = self.code.of(*index).get(..8);

@@ -105,7 +105,7 @@ impl<'a> Items<'a> {
         self.next
     }
 
-    /// Goes on with the first item that begins at this place or behind it.
+    /// Goes on with the first item that begins at this place or after it.
     pub fn go_on_at(&mut self, place: usize) {
         self.next = self.text[place..].iter().position(|byte| *byte == b'@').map(|at| place + at);
     }
@@ -197,7 +197,7 @@ impl<'a> Reader<'a> {
         taken
     }
 
-    /// The byte behind whitespace, which isn't taken.
+    /// The byte after whitespace, which isn't taken.
     fn next_byte(&mut self) -> Read<u8> {
         self.take(is_white);
         self.text.get(self.at).copied().ok_or(END_OF_FILE)
@@ -392,7 +392,7 @@ impl<'a> Faults<'a> {
         self.items.next_start().is_some_and(|start| text.line_of(start) <= number)
     }
 
-    /// A repeated entry, behind whose key the reading goes on.
+    /// A repeated entry, after whose key the reading goes on.
     fn without_body(&mut self, key: Key<'a>, mut item: Item<'a>) -> Fault<'a> {
         self.items.go_on_at(key.end);
         (item.end, item.fault) = (key.end, None);

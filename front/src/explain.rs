@@ -65,8 +65,8 @@ pub fn write(log: &Log<'_>, files: &Files, part: Part, terminal: &Terminal, out:
     explainer.out.flush()
 }
 
-/// An error of a style from which others follow: a function that isn't closed, so that what stands behind it is read as its body, or a
-/// command that is skipped, with what stands behind it.
+/// An error of a style from which others follow: a function that isn't closed, so that what comes after it is read as its body, or a
+/// command that is skipped, with what comes after it.
 struct Cause<'a> {
     /// The style's name.
     style: &'a [u8],

@@ -31,7 +31,7 @@ enum Sort {
 struct Uses {
     /// How often it is executed, or its value is taken.
     taken: usize,
-    /// How often it stands behind a quote.
+    /// How often it comes after a quote.
     quoted: usize,
     /// The integers that are assigned to it by `#N 'NAME :=`.
     given: Vec<i64>,
@@ -338,7 +338,7 @@ fn spans_of(style: &Read<'_>) -> Vec<Range<usize>> {
 struct Given<'a> {
     /// The function's tokens.
     function: Range<usize>,
-    /// For each name behind a quote the number of its first token, and whether there is another.
+    /// For each name after a quote the number of its first token, and whether there is another.
     places: HashMap<Folded<'a>, (usize, bool)>,
 }
 
@@ -452,7 +452,7 @@ impl<'a> Loops<'a> {
         (!test.is_empty()).then_some(read)
     }
 
-    /// Whether a variable stands behind a quote in these tokens, or in the functions that they name. It may do where `left` tokens don't suffice to see.
+    /// Whether a variable comes after a quote in these tokens, or in the functions that they name. It may do where `left` tokens don't suffice to see.
     fn may_change(&self, body: Range<usize>, wanted: Folded<'a>, left: &mut usize) -> bool {
         let (mut open, mut seen) = (vec![body], HashSet::new());
         while let Some(span) = open.pop() {

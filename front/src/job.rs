@@ -31,7 +31,7 @@ pub struct File {
 pub struct Files {
     /// The name of the top `.aux` file.
     pub top: Vec<u8>,
-    /// All files that the job names, in the order in which the run asks for them: the top file first, each included `.aux` file behind
+    /// All files that the job names, in the order in which the run asks for them: the top file first, each included `.aux` file after
     /// the file that names it, then the style and the databases.
     pub all: Vec<File>,
 }

@@ -14,7 +14,7 @@
 //! | [`search`] | where the files of a job are found, and which may be read and written |
 //! | [`btx`] | the proved library's calls |
 //! | [`job`] | the files of a job, found and read |
-//! | [`outputs`] | the list and the log: opened before a run, written behind it |
+//! | [`outputs`] | the list and the log: opened before a run, written after it |
 //! | [`interrupt`], [`task`] | a run that a signal can end, and what becomes of what it gives |
 //! | [`log`] | the messages of a log |
 //! | [`places`], [`notes`], [`scene`] | where in a style they were met: the library notes it in a run of its own |

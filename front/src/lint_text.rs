@@ -393,7 +393,7 @@ fn way_of(warning: &Warning) -> Option<String> {
     (!warning.places.is_empty()).then(|| shown.join(" > "))
 }
 
-/// By how many literals the stack grows behind a function, in words.
+/// By how many literals the stack grows after a function, in words.
 fn growth_text((least, most): Growth) -> String {
     match (least, most) {
         _ if least != most => format!("leaves {least} to {most}"),

@@ -12,7 +12,7 @@ use std::collections::HashSet;
 /// How many unequal `if$` are named with a warning at most.
 const MOST_TIES: usize = 8;
 
-/// How many names of functions are looked at for all warnings of a style. Behind these, an `if$` may be before each warning.
+/// How many names of functions are looked at for all warnings of a style. After these, an `if$` may be before each warning.
 const MOST_NAMES: usize = 20_000_000;
 
 /// The unequal `if$` of a style, and what its functions name.

@@ -267,7 +267,7 @@ impl Warnings {
         if first.is_empty() { self.warnings.iter().collect() } else { first }
     }
 
-    /// How many warnings aren't shown: they stand behind others in each visit that meets them.
+    /// How many warnings aren't shown: they come after others in each visit that meets them.
     pub fn hidden(&self) -> usize {
         self.warnings.len() - self.shown().len()
     }

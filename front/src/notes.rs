@@ -8,7 +8,7 @@ use std::ops::Range;
 pub enum What {
     /// A step that logged errors.
     Step,
-    /// The test of a loop that ended behind a step.
+    /// The test of a loop that ended after a step.
     Test,
     /// The end of a command that left literals on the stack.
     Left,
@@ -81,13 +81,13 @@ pub fn read(notes: &[u8], style: &[u8]) -> Vec<Note> {
     read
 }
 
-/// The first word of a line, and what stands behind the space.
+/// The first word of a line, and what comes after the space.
 pub(crate) fn word(line: &[u8]) -> (&[u8], &[u8]) {
     let end = line.iter().position(|byte| *byte == b' ').unwrap_or(line.len());
     (&line[..end], line.get(end + 1..).unwrap_or(b""))
 }
 
-/// The number that the first word is, and what stands behind it.
+/// The number that the first word is, and what comes after it.
 pub(crate) fn number(line: &[u8]) -> Option<(usize, &[u8])> {
     let (digits, rest) = word(line);
     Some((std::str::from_utf8(digits).ok()?.parse().ok()?, rest))

@@ -1,4 +1,4 @@
-//! The list and the log of a job: opened before its run, and written behind it.
+//! The list and the log of a job: opened before its run, and written after it.
 //!
 //! What stood there stays until both can be written: they are opened without being emptied, and before the first is emptied there is room
 //! on the disk for the whole of both. The log is written first, so that no new list ever stands beside an old log.

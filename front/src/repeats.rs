@@ -16,10 +16,10 @@ struct Repeated<'a> {
     /// The line of the log of the first, and its place in the style.
     first: &'a [u8],
     place: Option<&'a Call>,
-    /// How many there are behind the first, and for which entries.
+    /// How many there are after the first, and for which entries.
     count: u64,
     entries: Vec<&'a [u8]>,
-    /// How many errors of the same EXECUTE stand behind one that has no entry.
+    /// How many errors of the same EXECUTE come after one that has no entry.
     following: u64,
 }
 

@@ -90,7 +90,7 @@ pub struct Scenes {
 pub struct End {
     /// What was executed.
     pub scene: Scene,
-    /// Behind how many steps; a run that takes longer isn't looked at to its end.
+    /// After how many steps; a run that takes longer isn't looked at to its end.
     pub steps: u64,
     /// The `while$` of the loops that were open all the time, the innermost first: the run stays in one of them.
     pub loops: Vec<Call>,

@@ -101,7 +101,7 @@ fn end_by_panic(name: &Name, place: &PanicHookInfo<'_>) {
     process::exit(Status::Device as i32)
 }
 
-/// Finds all that a job needs. What was needed for the search is gone behind it.
+/// Finds all that a job needs. What was needed for the search is gone after it.
 fn prepare(name: &Name, mut words: Words) -> Result<Arc<Task>, Failure> {
     // (not for a check of styles: what it knows of 100,000 variables is made anew at each step, and took three times as long with new pages for it)
     keep_long_texts_apart();

@@ -262,7 +262,7 @@ impl<'a> Shapes<'a, '_> {
         }
     }
 
-    /// Whether the body of a function goes on behind this mistake.
+    /// Whether the body of a function goes on after this mistake.
     fn costs_a_token(&mut self, text: &[u8], spot: Option<&Spot<'a>>) -> bool {
         let Some(spot) = spot else { return style_text::costs_a_token(text, None) };
         let name = &spot.file.name;

@@ -202,7 +202,7 @@ fn is_of_a_second_one(text: &[u8]) -> bool {
 }
 
 impl Spot<'_> {
-    /// What stands before the place where the program stood, and what behind it, without whitespace at the line's end.
+    /// What stands before the place where the program stood, and what after it, without whitespace at the line's end.
     pub fn halves(&self) -> Option<(&[u8], &[u8])> {
         let line = without_white_at_end(self.line);
         self.part.map(|(_, end)| line.split_at(end.min(line.len())))

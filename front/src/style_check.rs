@@ -134,7 +134,7 @@ fn job_of(style: File) -> Files {
     Files { top: b"job.aux".to_vec(), all: vec![file(b"job.aux", top), style, database] }
 }
 
-/// A style's text without the functions that it executes behind READ: so a run of it reads it to its end, whatever they do.
+/// A style's text without the functions that it executes after READ: so a run of it reads it to its end, whatever they do.
 fn without_executions(text: &[u8]) -> Vec<u8> {
     let code = Code::new(text);
     let is_function =

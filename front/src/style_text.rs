@@ -1,7 +1,7 @@
 //! The text of a style: its tokens, its commands, and where in a line an error of it was met. `docs/RULES.md` has its rules, under Styles.
 //!
 //! This is no second reader of styles: it looks for what a person would look for. A command's word at the beginning of a line begins a
-//! command also where the braces above say that a body goes on, since then one of these braces is the mistake; and behind an empty line it
+//! command also where the braces above say that a body goes on, since then one of these braces is the mistake; and after an empty line it
 //! always does, since there the program goes on after a mistake.
 
 use crate::advice;
@@ -25,7 +25,7 @@ pub enum Kind {
     Integer,
     /// `#` and something else.
     NoInteger,
-    /// What stands directly behind a string or an integer.
+    /// What stands directly after a string or an integer.
     Stuff,
     /// `'` and a name.
     Quoted,
@@ -210,7 +210,7 @@ pub fn nearest_word(word: &[u8]) -> Option<&'static str> {
     differing.min().filter(|(distance, _)| *distance <= 2).map(|(_, command)| command)
 }
 
-/// Whether the body of a function goes on behind this error, which stands in the command `around`.
+/// Whether the body of a function goes on after this error, which stands in the command `around`.
 pub fn costs_a_token(error: &[u8], around: Option<&Command<'_>>) -> bool {
     let is_of_command =
         || around.is_some_and(|command| ["execute", "iterate", "reverse"].iter().any(|word| command.is(word)));
@@ -218,7 +218,7 @@ pub fn costs_a_token(error: &[u8], around: Option<&Command<'_>>) -> bool {
     is_of_token || error.ends_with(b" is an unknown function") && !is_of_command()
 }
 
-/// What is skipped behind an error of this line that ends its command: up to the next empty line, or to the end.
+/// What is skipped after an error of this line that ends its command: up to the next empty line, or to the end.
 pub fn end_of_skipped(text: &Text<'_>, number: usize) -> usize {
     let (_, mut at) = text.span(number);
     while let Some(rest) = text.bytes.get(at + 1..).filter(|rest| !rest.is_empty()) {
@@ -358,7 +358,7 @@ pub fn lines_of_name(text: &Text<'_>, name: &[u8]) -> (Vec<usize>, usize) {
     (lines, count)
 }
 
-/// Where in its line an error of a style was met, behind the place `from`; None where the line doesn't show it.
+/// Where in its line an error of a style was met, after the place `from`; None where the line doesn't show it.
 pub fn place_of_error(line: &[u8], error: &[u8], from: usize) -> Option<Token> {
     let mut tokens = Tokens::behind(line, from);
     if let Some(name) =

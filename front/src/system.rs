@@ -521,7 +521,7 @@ pub fn lock(file: &impl AsRawFd) -> bool {
 
 const STANDARD_ERROR: c_int = 2;
 
-/// What is said behind the program's name where memory is refused, and the longest name under which that is said.
+/// What is said after the program's name where memory is refused, and the longest name under which that is said.
 const OUT_OF_MEMORY: &[u8] = b": out of memory\n";
 const LONGEST_NAME: usize = 255;
 

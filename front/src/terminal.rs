@@ -130,7 +130,7 @@ pub fn columns_of(character: char) -> usize {
     }
 }
 
-/// An indented text in lines of at most `most` columns, broken at spaces; those behind the first begin with `indent`. A word that is longer
+/// An indented text in lines of at most `most` columns, broken at spaces; those after the first begin with `indent`. A word that is longer
 /// has a line of its own.
 pub fn in_lines(text: &str, most: usize, indent: &str) -> Vec<String> {
     let (first, words) = text.split_at(text.len() - text.trim_start().len());

@@ -75,7 +75,7 @@ fn last_of(text: &[u8], byte: u8) -> Option<usize> {
     text[..head.len() + behind].iter().rposition(|other| *other == byte)
 }
 
-/// The first line of a text, without its end, and the lines behind it.
+/// The first line of a text, without its end, and the lines after it.
 pub fn split_line(text: &[u8]) -> (&[u8], &[u8]) {
     let mut behind = text;
     // The standard library's reader of lines is what looks for a byte in many at a time; no reading of a slice fails.
@@ -84,13 +84,13 @@ pub fn split_line(text: &[u8]) -> (&[u8], &[u8]) {
     (line.strip_suffix(b"\n").unwrap_or(line), behind)
 }
 
-/// What stands before the first `what` in `text`, and what behind it.
+/// What stands before the first `what` in `text`, and what after it.
 pub fn split_first<'a>(text: &'a [u8], what: &[u8]) -> Option<(&'a [u8], &'a [u8])> {
     let at = find(text, what)?;
     Some((&text[..at], &text[at + what.len()..]))
 }
 
-/// What stands before the last `what` in `text`, and what behind it.
+/// What stands before the last `what` in `text`, and what after it.
 pub fn split_last<'a>(text: &'a [u8], what: &[u8]) -> Option<(&'a [u8], &'a [u8])> {
     let at = find_last(text, what)?;
     Some((&text[..at], &text[at + what.len()..]))

@@ -171,7 +171,7 @@ fn number(name: &str, value: &[u8], range: RangeInclusive<u64>) -> Result<u64, V
     })
 }
 
-/// A number of bytes: digits, and `K`, `M` or `G` behind them for their 1,024th powers.
+/// A number of bytes: digits, and `K`, `M` or `G` after them for their 1,024th powers.
 fn size(name: &str, value: &[u8]) -> Result<usize, Vec<u8>> {
     let (digits, unit) = match value.split_last() {
         Some((b'K' | b'k', digits)) => (digits, 1 << 10),
@@ -316,7 +316,7 @@ impl<'a> OptionWord<'a> {
     }
 }
 
-/// What these words ask for. `explain` is what holds where no word says more, and where `jobs_last` is set, no word behind the first job is
+/// What these words ask for. `explain` is what holds where no word says more, and where `jobs_last` is set, no word after the first job is
 /// an option.
 pub fn read(words: impl Iterator<Item = Vec<u8>>, explain: Explain, jobs_last: bool) -> Asked {
     read_words(words, explain, jobs_last).unwrap_or_else(Asked::Refused)

@@ -36,7 +36,7 @@ class Maker(Seeded):
         if kind == 3 and depth < 3:
             return self.pick(TESTS) + b" {" + self.body(depth + 1) + b"} {" + self.body(depth + 1) + b"} if$"
         if kind == 4 and depth < 2:
-            # what the test leaves below its integer the body pops, and once more what stands behind the loop
+            # what the test leaves below its integer the body pops, and once more what comes after the loop
             left = self.random.choice([0, 0, 1, 3])
             pushed, popped = b"".join(self.pick(STRINGS) + b" " for _ in range(left)), b"pop$ " * left
             return (b"#1 'i := {" + pushed + b"i #" + self.pick([b"3", b"5"]) + b" <} {" + popped + self.body(depth + 1) + b" i #1 + 'i :=} while$ " + popped)

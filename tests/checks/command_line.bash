@@ -11,7 +11,7 @@ refuses() {
     end
 }
 
-# An option of the original with its one hyphen, also one with a value behind it: a line behind the library's text says how it is spelt here.
+# An option of the original with its one hyphen, also one with a value after it: a line after the library's text says how it is spelt here.
 hint="bibtex: options have two hyphens here, as in '--min-crossrefs'; the script bibtex-search takes the original's"
 
 # is_hinted YES_OR_NO WORD..: these words are refused, and that line is printed last, or not at all.

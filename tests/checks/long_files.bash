@@ -84,7 +84,7 @@ truncate -s 2147483648 d.bib
 within 5000000 job
 is_too_long "$found_log"
 
-# So is a style, and a top file: it is one line of the byte 0, behind what stands there.
+# So is a style, and a top file: it is one line of the byte 0, after what stands there.
 begin greatest_style
 lines=$(wc -l <s.bst)
 truncate -s 2147483647 s.bst

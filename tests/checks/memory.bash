@@ -91,7 +91,7 @@ refuses_worked() {
     wants_status "$1"
 }
 
-# refused_in_worked NAME STATUS TEXT: a worked style behind the usual declarations, run for the usual entry, or for those that are cited.
+# refused_in_worked NAME STATUS TEXT: a worked style after the usual declarations, run for the usual entry, or for those that are cited.
 refused_in_worked() {
     begin "refused_memory_in_$1"
     use_style "$3"

@@ -184,7 +184,7 @@ kill_while_it_writes() {
     wait $! 2>/dev/null || true
 }
 
-# The run is killed while it writes: no old log stands beside the new list, be it behind a link.
+# The run is killed while it writes: no old log stands beside the new list, be it after a link.
 begin no_old_log_behind_a_link
 leave_old_files
 mv job.blg kept.blg

@@ -1,6 +1,6 @@
 # What each option changes, byte by byte, and that the ends of its range are taken.
 
-# A value may stand in the next word or behind a `=`, options behind the job, and a number behind a plus.
+# A value may stand in the next word or after a `=`, options after the job, and a number after a plus.
 for words in '--budget 3 job' '--budget=3 job' 'job --budget 3' '--budget=+3 job' '--budget 003 job' '--budget 3 -- job'; do
     begin "words_$((passed + failed))"
     run_program $words

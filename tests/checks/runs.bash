@@ -20,7 +20,7 @@ run_program job.aux
 wants_first_run
 end
 
-# Files are found behind links.
+# Files are found after links.
 begin behind_links
 mkdir kept
 mv d.bib job.aux s.bst kept
@@ -75,7 +75,7 @@ wants_text .bbl $'a\n'
 wants_text .blg "${first_log/job.aux/.aux}"
 end
 
-# Behind `--` a job may begin with a hyphen; and its name may lead into a folder.
+# After `--` a job may begin with a hyphen; and its name may lead into a folder.
 begin job_with_a_hyphen_in_front
 mv -- job.aux -terse.aux
 run_program -- -terse
@@ -188,7 +188,7 @@ wants_output "$no_top_file"
 wants_error ''
 end
 
-# A file is read to its last byte, however long it is: what matters stands behind more than 64 KiB.
+# A file is read to its last byte, however long it is: what matters comes after more than 64 KiB.
 begin long_top_file
 {
     printf '\\relax\n%.0s' {1..15000}

@@ -23,7 +23,7 @@ import causes
 import make_papers
 
 ROOT = pathlib.Path(__file__).resolve().parents[2]
-# The original keeps as many bytes of a sort key, so that none is cut behind its entry's key; so does the library, which asks TeX for the same number.
+# The original keeps as many bytes of a sort key, so that none is cut after its entry's key; so does the library, which asks TeX for the same number.
 ROOM_FOR_KEYS = {"ent_str_size": "5000"}
 # What `compare` says of the lists that a row makes differ.
 SAID = {

@@ -46,7 +46,7 @@ OF_BODIES = re.compile(r"wrong bod")
 A_LIST_OF_BODIES = re.compile(r"\*{0,2}Wrong bodies")
 # An example of a crate's README: the file that its lines are from, which the paragraph before it names last, and the lines.
 EXAMPLE = re.compile(r"`((?:crates|src)/[\w/]+\.rt)`[^`]*\n```rust\n(.*?)```", re.S)
-# A function of Rattle, a module that is read for tests alone, and tests that stand behind a module's own code.
+# A function of Rattle, a module that is read for tests alone, and tests that come after a module's own code.
 FUNCTION = re.compile(r"(?m)^ *(?:pub(?:\([^)]*\))? )?(?:const |unsafe |extern )*fn \w+")
 TEST_MODULE = re.compile(r"(?m)^#\[cfg\(test\)\]\n(?:pub )?mod (\w+);$")
 TESTS_IN_PLACE = re.compile(r"(?m)^#\[cfg\(test\)\]\nmod \w+ \{")

@@ -14,7 +14,7 @@ ROOT = pathlib.Path(__file__).resolve().parents[2]
 LONGEST = 25
 # How many sentences of a document may be longer.
 ALLOWED = {"docs/DIFFERENCES.md": 0, "docs/PROOFS.md": 0, "docs/DECISIONS.md": 106, "docs/RULES.md": 79, "docs/STYLES.md": 33, "docs/ASSUMPTIONS.md": 25}
-# Where a sentence ends: behind its stop, where the next one begins. Semicolons and colons end none.
+# Where a sentence ends: after its stop, where the next one begins. Semicolons and colons end none.
 END = re.compile(r"(?<=[.!?])[*)\"]*\s+(?=[*(\"]*[A-Z`_\[0-9])")
 
 

@@ -92,7 +92,7 @@ write_flood() {
     sed -i 's/^INTEGERS {count}/INTEGER {count}/' s.bst
 }
 
-# A body that isn't closed: the functions behind it are its own.
+# A body that isn't closed: the functions after it are its own.
 write_unclosed() {
     write_mini
     sed -i '/^  year empty/{n;d}' s.bst

@@ -75,7 +75,7 @@ def advised_rows():
         elif head[-1].startswith("what to do") and not line.startswith("|-"):
             row = cells(line)
             cell = row[1] if head[0] == "lines" else row[0]
-            # (what stands in parentheses behind a message is no message)
+            # (what stands in parentheses after a message is no message)
             yield section, re.findall(r"`([^`]+)`", re.split(r"(?<=`) \(", cell)[0]), row[-1]
 
 

@@ -1,5 +1,5 @@
 /* A library to be preloaded: of the calls that create, empty, write, sync, close or rename an output (a file whose name ends with .bbl or .blg, or begins so), that of
- * the number FAIL_AT, counted from 1, and those behind it fail for want of room. Where FAIL_HALF is set, a write of that number writes half of its bytes.
+ * the number FAIL_AT, counted from 1, and those after it fail for want of room. Where FAIL_HALF is set, a write of that number writes half of its bytes.
  * Where the number is met, the file FAIL_NOTE is made, so that its absence says that there are fewer such calls. */
 #define _GNU_SOURCE
 #include <dlfcn.h>
@@ -36,7 +36,7 @@ static int is_output(int file)
     return names_output(path);
 }
 
-/* 0 before that call, 1 at it, 2 behind it. */
+/* 0 before that call, 1 at it, 2 after it. */
 static int moment(void)
 {
     const char *number = getenv("FAIL_AT");

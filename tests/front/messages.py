@@ -103,7 +103,7 @@ class Reader:
             if FOUND.match(line) or COUNTS.fullmatch(line):
                 continue
             if line.startswith(ENDS):
-                # Behind a run's end stands where its style was, if it didn't come to its end.
+                # After a run's end stands where its style was, if it didn't come to its end.
                 self.second(b"while executing---line ")
                 continue
             yield self.message(line) or b"?" + line

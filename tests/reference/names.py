@@ -30,7 +30,7 @@ def names(text):
 
 class Token(NamedTuple):
     text: bytes
-    join: bytes     # the byte behind the token before it
+    join: bytes     # the byte after the token before it
 
 
 class Name(NamedTuple):

@@ -134,7 +134,7 @@ def bytes_that_are_made():
                   aux=citing(b"*"), database=b"@misc{k}@misc{j}")
 
 
-# ---- files that end early, and what stands behind a mistake ----
+# ---- files that end early, and what comes after a mistake ----
 
 ALL_OF_AUX = b"\\relax\n\\citation{a, b}\n\\citation{c,C} \n \\citation{d}\n\\citation{e}x\n\\@input{none.aux}\n\\@input{x}\n\\bibdata{d}\n\\bibstyle{s}\n\\citation{*}\n\\citation{f}"
 ALL_OF_DATABASES = (b'text @comment{x} @preamble{"P" # {q } # s}\n@STRING(T # = s)@string{ t = {T} # s # "u{"}" }\n@Misc { k , title = {A {b} c} # t # 12 ,\n title = "B" ,'

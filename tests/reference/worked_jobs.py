@@ -359,7 +359,7 @@ LIBRARIES = [
      [(b"b", {}), (b"a", {}), (b"c", {}), (b"d", {})], [b'I didn\'t find a database entry for "e"']),
 ]
 
-# ---- styles: the text behind READ, whether it is direct, how many functions it has ----
+# ---- styles: the text after READ, whether it is direct, how many functions it has ----
 
 STYLES = [
     (ONE_A, True, 2), (ENDLESS, True, 4), (b"FUNCTION {f} {{#1} {#7} while$} EXECUTE {f}", True, 4),

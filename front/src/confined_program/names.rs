@@ -1,5 +1,5 @@
 //! The names that an `.aux` file gives. They are at least those that the program asks for: a name is taken also where the program finds a fault
-//! with its line, as whitespace in it or text behind the `}`.
+//! with its line, as whitespace in it or text after the `}`.
 
 use super::stop::Stop;
 use crate::terminal::plain;

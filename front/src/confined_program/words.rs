@@ -68,7 +68,7 @@ impl Job {
     }
 }
 
-/// Reads the words behind the program's name.
+/// Reads the words after the program's name.
 pub fn read(mut words: impl Iterator<Item = OsString>) -> Result<Words, Stop> {
     let Some(first) = words.next().filter(|word| !word.is_empty()) else {
         return Err(Stop::refused("there is no job; see bibtex-confined --help"));

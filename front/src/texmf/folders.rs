@@ -18,7 +18,7 @@ pub fn folders_of(element: &[u8], unread: &mut Option<Unread>) -> Vec<Vec<u8>> {
     }
 }
 
-/// The folders that stand, behind `below`, in a folder and in those below it. Hidden folders don't count.
+/// The folders that stand, after `below`, in a folder and in those below it. Hidden folders don't count.
 fn folders_below(top: &[u8], below: &[u8], unread: &mut Option<Unread>) -> Vec<Vec<u8>> {
     let (mut found, mut left, mut seen) = (Vec::new(), vec![top.to_vec()], HashSet::new());
     while let Some(folder) = left.pop() {

@@ -126,7 +126,7 @@ fn length_of(texts: &[Vec<u8>]) -> usize {
     texts.iter().map(|text| text.len() + 1).sum()
 }
 
-/// Each of these texts with each of those behind it.
+/// Each of these texts with each of those after it.
 fn joined(texts: &[Vec<u8>], behind: &[Vec<u8>]) -> Vec<Vec<u8>> {
     texts.iter().flat_map(|text| behind.iter().map(move |more| [&text[..], more].concat())).collect()
 }

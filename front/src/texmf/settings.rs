@@ -41,7 +41,7 @@ fn joined_lines(text: &[u8]) -> Vec<Vec<u8>> {
     lines
 }
 
-/// A line without a comment: a `%` or `#` at its beginning or behind whitespace begins one.
+/// A line without a comment: a `%` or `#` at its beginning or after whitespace begins one.
 fn without_comment(line: &[u8]) -> &[u8] {
     let begins_comment =
         |at: &usize| matches!(line[*at], b'%' | b'#') && (*at == 0 || line[at - 1].is_ascii_whitespace());
@@ -64,7 +64,7 @@ fn setting(line: &[u8]) -> Option<(Vec<u8>, Vec<u8>)> {
     (!name.is_empty() && !value.is_empty()).then_some((name, value))
 }
 
-/// The word at the beginning of a text, up to whitespace or one of these bytes, and what follows behind whitespace.
+/// The word at the beginning of a text, up to whitespace or one of these bytes, and what follows after whitespace.
 fn word<'a>(text: &'a [u8], ends: &[u8]) -> (&'a [u8], &'a [u8]) {
     let ends_word = |byte: &u8| byte.is_ascii_whitespace() || ends.contains(byte);
     let (word, rest) = text.split_at(text.iter().position(ends_word).unwrap_or(text.len()));

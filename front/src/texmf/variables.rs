@@ -123,7 +123,7 @@ struct Reference<'a> {
 }
 
 impl<'a> Reference<'a> {
-    /// The reference that this text begins with, and what stands behind it. The text begins with a `$`.
+    /// The reference that this text begins with, and what comes after it. The text begins with a `$`.
     fn read(text: &'a [u8]) -> (Reference<'a>, &'a [u8]) {
         if text.get(1) == Some(&b'{') {
             let Some(end) = find(text, b"}") else { return (Reference { name: b"", unset: b"" }, b"") };

@@ -79,7 +79,7 @@ wants_text job.bbl $'old list\n'
 wants_clean
 end
 
-# Options stand behind the job.
+# Options come after the job.
 for words in '--line=30 job' --text=utf8; do
     begin "confined_option_first_$((passed + failed))"
     run_confined $words
@@ -527,7 +527,7 @@ wants_error 'bibtex-confined: d.bib has 100000 KB or more
 wants_old
 end
 
-# What a job may not name: each command with each kind of name, also behind a byte 0, in an included file.
+# What a job may not name: each command with each kind of name, also after a byte 0, in an included file.
 for name in ../d /d sub/d .d d/../d '..' 'a..b'; do
     for line in '\\bibdata{d,%s}\n' '\\bibdata{d}\n\\bibstyle{%s}\n' '\\@input{%s.aux}\n' '\\bibdata{a\0,%s}\n'; do
         begin "confined_name_$((passed + failed))"
@@ -568,7 +568,7 @@ wants_refusal 'name more than 1000 files'
 end
 
 # The attacks. Each writes its job into the present folder, over the files of the first example.
-# style TEXT: the style is this, behind a READ.
+# style TEXT: the style is this, after a READ.
 style() {
     printf 'ENTRY {title}{}{} FUNCTION {misc}{} STRINGS {s} READ %s\n' "$1" >s.bst
 }

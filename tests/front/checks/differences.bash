@@ -41,7 +41,7 @@ if has bibtex; then
     lists rest_behind_another_case $'k\n' $'k\nl\n' '\citation{k,K,l}' '\bibdata{d}'
     lists rest_behind_a_repeated_database $'k\n' $'k\nm\n' '\citation{k,m}' '\bibdata{d,d,e}'
     lists rest_behind_a_lost_database '' $'k\nm\n' '\citation{k,m}' '\bibdata{nosuch,d,e}'
-    # Both leave out what stands behind whitespace, and behind a brace too early.
+    # Both leave out what comes after whitespace, and after a brace too early.
     lists rest_behind_whitespace $'k\n' $'k\n' '\citation{k, m,l}' '\bibdata{d,e}'
     lists rest_behind_a_brace $'k\n' $'k\n' '\citation{k,l}m}' '\bibdata{d,e}'
     # A database may be named with its ending.

@@ -1,4 +1,4 @@
-# What bibtex-search -explain prints behind each message. tests/front/explanations.py compares the words with docs/RULES.md.
+# What bibtex-search -explain prints after each message. tests/front/explanations.py compares the words with docs/RULES.md.
 
 # wants_explained FILE FOLDER SPACES: what is printed of the job of write_explained with -terse, where style and database stand in FOLDER/ (or here, where it is empty), and
 # as many SPACES before the mark as FOLDER/ has letters.

@@ -5,7 +5,7 @@ LD_LIBRARY_PATH=$libraries python3 "$here/signals.py" --seed "${seed:-1}" --endl
 echo "        $(tail -n 1 found)"
 end
 
-# endless: a list that grows without end, some lines a millisecond, behind a message.
+# endless: a list that grows without end, some lines a millisecond, after a message.
 endless() {
     use_style 'FUNCTION {f} {#1 pop$ "begun" warning$ {#1} {"a line of the list" write$ newline$ #20000 {duplicate$ #0 >} {#1 -} while$ pop$} while$} EXECUTE {f}'
 }

@@ -91,7 +91,7 @@ run_lint clean.bst
 ! grep -q 'not covered' "$folder/stdout" || complaints+=("a style with mistakes has a verdict on types: $(cat "$folder/stdout")")
 end
 
-# Warnings that come up behind another one in each visit aren't shown, but counted.
+# Warnings that come up after another one in each visit aren't shown, but counted.
 begin lint_of_warnings_behind_others
 write_clean
 sed -i 's/title empty.*/#1 write$ write$ newline$ }/' clean.bst
@@ -102,7 +102,7 @@ run_lint --json clean.bst
 grep -qF '], "behind": 1, "hints"' "$folder/stdout" || complaints+=("printed is $(cat "$folder/stdout")")
 end
 
-# Behind a fault the stack is as the language leaves it: without an entry `cite$` pushes nothing, and `swap$` of one literal puts it back.
+# After a fault the stack is as the language leaves it: without an entry `cite$` pushes nothing, and `swap$` of one literal puts it back.
 begin lint_of_what_stands_behind_a_fault
 for row in 'cite$|1 place' 'cite$ pop$|1 place; 1 more behind it' '"a" swap$ pop$|1 place'; do
     printf 'ENTRY {title} {} {}\nREAD\nFUNCTION {f} {%s}\nEXECUTE {f}\n' "${row%|*}" >fault.bst

@@ -1,4 +1,4 @@
-# The original's options in each form that getopt_long_only takes: one hyphen or two, each beginning that no other option has, a value behind '=' or in the next word.
+# The original's options in each form that getopt_long_only takes: one hyphen or two, each beginning that no other option has, a value after '=' or in the next word.
 # Where the original is installed, it takes them too.
 
 # parents: a parent that two entries name, and that isn't cited: it is listed, unless it takes three.
@@ -104,7 +104,7 @@ prints() {
 prints help '^Usage: bibtex-search '
 prints version 'bibtex-search'
 
-# Numbers as the original reads them: digits behind whitespace and a sign, up to the first other sign.
+# Numbers as the original reads them: digits after whitespace and a sign, up to the first other sign.
 for value in 3 03 +3 ' 3' 3x 3.9 '3 4'; do
     begin "number_$((passed + failed))"
     parents
@@ -146,7 +146,7 @@ for words in '' 'job job' '-nosuch job' '-nosuch=1 job' '-terse=yes job' '---ter
     end
 done
 
-# Behind -- stand jobs alone; a hyphen by itself is a job.
+# After -- stand jobs alone; a hyphen by itself is a job.
 begin words_behind_two_hyphens
 mv job.aux ./-terse.aux
 run_search -- -terse
@@ -205,7 +205,7 @@ for words in '-M 3' '-M=3' '-M3'; do
     end
 done
 
-# Behind -M stands nothing but its number.
+# After -M stands nothing but its number.
 begin bibtex8_minimum_with_another_letter
 run_search -Mx3 job
 wants_refusal -Mx3

@@ -1,7 +1,7 @@
 # The log has the messages in the original's shapes, each once and at its place, and what other programs look for is found: in the .blg, and on standard output where
 # that is no terminal and nothing is explained.
 
-# messages_of LOG: what stands behind the names of the files.
+# messages_of LOG: what comes after the names of the files.
 messages_of() {
     log_of "$1" | grep -vE '^(The top-level auxiliary file|A level-[0-9]+ auxiliary file|The style file|Database file #[0-9]+|Ended): '
 }

@@ -9,7 +9,7 @@ wants_safe() {
     python3 "$here/unsafe.py" "$1" >"$folder/unsafe" || complaints+=("what was printed has $(cat "$folder/unsafe")")
 }
 
-# shows WORD..: bibtex-search on a terminal prints something, which goes behind what was shown before.
+# shows WORD..: bibtex-search on a terminal prints something, which goes after what was shown before.
 shows() {
     TERM=xterm on_terminal 80 "$@" >"$folder/one" || true
     [ -s "$folder/one" ] || complaints+=('nothing is printed')
