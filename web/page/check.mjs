@@ -112,9 +112,28 @@ async function stranger(page) {
   await put(page, { document: '\\cite{gone}', name: 'paper.tex', database: '@misc{a, title={T}}@misc{entry, title={T}}' });
   check('a word of a message is no key', has(await messages(page), 'warning', '"gone"', 'paper.tex:1') && !has(await messages(page), 'd.bib'));
   check('an empty list is said to be one', (await page.ask(text('panel-read'))) === 'The list is empty.');
+  await put(page, { document: '\\cite{gone}', name: 'paper.tex', style: SHOW.replace('READ', 'FUNCTION {around} {"\\providecommand{\\url}[1]{#1}\\begin{thebibliography}{0}" write$ newline$ newline$ "\\end{thebibliography}" write$ newline$}\nREAD\nEXECUTE {around}') });
+  check('so is one with what goes round its items', (await page.ask(text('panel-read'))) === 'The list is empty.' && (await list(page)).includes('thebibliography'));
   await put(page, { database: '@misc{a, title={T}}', document: AUX.replace('{s}', '{small}') });
   check('a style that the document does not name is said to be unused', (await page.ask(text('style-note'))) === 'Not used: the document names small.bst.');
   check('and the database is not', (await page.ask(text('database-note'))) === '');
+}
+
+// What the page says of a document by itself.
+async function remarks(page) {
+  const database = '@misc{a, title={T}}\n@misc{b, title={U}}\n';
+  const rest = '\n\\bibliography{d}\n\\bibliographystyle{s}\n';
+  await put(page, { document: `\\cite{a}\n\\citep[p.~1]{b, c${rest}`, name: 'paper.tex', database });
+  check('a citation that is not closed has a note, with its line', has(await messages(page), 'own', "\\citep isn't closed", 'paper.tex:2'));
+  check('and a mark', (await page.ask("[...document.querySelectorAll('[data-role=document] .gutter .own')].map((it) => it.textContent).join()")) === '2');
+  await put(page, { document: `\\cite{a}${rest}\\cite{b`, name: 'paper.tex', database });
+  check('so has the last one of the document', has(await messages(page), 'own', "\\cite isn't closed", 'paper.tex:4'));
+  await put(page, { document: `\\cite{a}% \\cite{b\n\\citestyle{x}${rest}`, name: 'paper.tex', database });
+  check('a document in which nothing is amiss has none', (await messages(page))[0][1] === 'None.');
+  await put(page, { document: '\\cite{a}\n', name: 'paper.tex', database });
+  const rows = await messages(page);
+  check('without \\bibliography a note says what is taken', has(rows, 'own', 'no \\bibliography.', 'the databases that are here (d)', 'BibTeX would log an error'));
+  check('and without \\bibliographystyle', has(rows, 'own', 'no \\bibliographystyle.', 'the style that is shown here (s)'));
 }
 
 async function places(page) {
@@ -347,7 +366,7 @@ async function main() {
     const page = await browser.open(pathToFileURL(PAGE).href);
     await page.width(1280);
     await firstSight(page);
-    for (const part of [documents, places, stranger, verdicts, budgets, hostile, drops, opened, keyboard, looks, sizes]) await part(page);
+    for (const part of [documents, remarks, places, stranger, verdicts, budgets, hostile, drops, opened, keyboard, looks, sizes]) await part(page);
     await links(browser, page);
   } finally {
     await browser.close();

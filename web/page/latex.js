@@ -5,7 +5,10 @@ const uncommented = (text) => text.replace(/(^|[^\\])((?:\\\\)*)%[^\n]*/g, '$1$2
 
 const names = (list) => list.split(',').map((name) => name.trim()).filter(Boolean);
 
-const CITATION = /\\(?:no|paren|text|auto|foot|full|smart|super)?[cC]ite(?!style|text|reset)[A-Za-z]*\*?\s*(?:\[[^\]]*\]\s*){0,2}\{([^{}]*)\}/g;
+const CITING = String.raw`\\(?:no|paren|text|auto|foot|full|smart|super)?[cC]ite(?!style|text|reset)[A-Za-z]*\*?\s*(?:\[[^\]]*\]\s*){0,2}\{([^{}]*)`;
+const CITATION = new RegExp(`${CITING}\\}`, 'g');
+// (without m: the end of the text)
+const OPEN_CITATION = new RegExp(`${CITING}(?:\\{|$)`, 'g');
 const NEXT_GROUP = /\s*(?:\[[^\]]*\]\s*){0,2}\{([^{}]*)\}/y;
 const DATABASES = /\\bibliography\s*\{([^{}]*)\}/g;
 const STYLE = /\\bibliographystyle\s*\{([^{}]*)\}/g;
@@ -36,6 +39,17 @@ function keysIn(body) {
   return keys;
 }
 
+// What the page has to say of a document itself: a citation that isn't closed, with its place, and what stands in for a command that isn't there.
+function* remarksOn(body, data, styles, databases, style) {
+  for (const { 0: whole, index } of body.matchAll(OPEN_CITATION)) {
+    yield { at: index, text: `${/^\\[A-Za-z]+/.exec(whole)[0]} isn't closed, so that its keys are left out: put a } after its last key.` };
+  }
+  const instead = (command, taken) => ({ at: -1, text: `The document has no \\${command}. The page takes ${taken}; BibTeX would log an error.` });
+  if (data.length === 0) yield instead('bibliography', `the databases that are here (${databases.join(', ')})`);
+  if (styles.length === 0) yield instead('bibliographystyle', `the style that is shown here (${style})`);
+}
+
+// `remarks` of what is made are what is amiss in the document itself, each with a text and a line.
 /** The `.aux` file that LaTeX would write for this document, as far as BibTeX reads it, and the document's line for each of its lines (0 where it has none). */
 function auxOf(text, databases, style) {
   const body = uncommented(text);
@@ -45,7 +59,8 @@ function auxOf(text, databases, style) {
   rows.push(...(data.length > 0 ? data : [[`\\bibdata{${databases.join(',')}}`, -1]]));
   rows.push(...(styles.length > 0 ? styles : [[`\\bibstyle{${style}}`, -1]]));
   const lineAt = lineCounter(body);
-  return { text: rows.map(([row]) => `${row}\n`).join(''), lines: rows.map(([, at]) => lineAt(at)) };
+  const remarks = [...remarksOn(body, data, styles, databases, style)].map(({ at, text: words }) => ({ text: words, line: lineAt(at) }));
+  return { text: rows.map(([row]) => `${row}\n`).join(''), lines: rows.map(([, at]) => lineAt(at)), remarks };
 }
 
 // From a place in a text to its line, from 1; 0 for a place before it. The text is counted once.
@@ -178,12 +193,16 @@ function command(element, reading, depth) {
   return element.append(whole);
 }
 
+// Whether a list has no items: nothing at all, or what goes round the items alone.
+const isEmptyList = (text) => text.trim() === '' || /\\begin\{thebibliography\}\s*(?:\{[^{}]*\})?\s*(?:\\end\{thebibliography\}|$)/.test(text);
+
 /** A list of references as it would read: a list, or what it has where it isn't one. */
 function readable(text) {
   const parts = text.split(/\\bibitem(?![A-Za-z])/);
   const shown = document.createElement('div');
   if (parts.length === 1) {
-    show(shown, text);
+    if (isEmptyList(text)) shown.append('The list is empty.');
+    else show(shown, text);
     return shown;
   }
   const list = document.createElement('ol');

@@ -180,17 +180,17 @@ function showNothing(words) {
   ROLES.forEach(drawGutter);
 }
 
-// The document's lines from which the lines of its .aux file were made, and that file's name.
-let made = { name: '', lines: [], rows: [] };
+// The document's lines from which the lines of its .aux file were made, that file's name, and what the page has to say of the document.
+let made = { name: '', lines: [], rows: [], remarks: [] };
 
 // The files of the job as the library is handed them, and the job's name.
 function jobOf() {
   const { name, text } = current('document');
   const job = name.replace(/\.[^.]*$/, '') || 'paper';
   const bare = (file) => file.name.replace(/\.[^.]*$/, '');
-  const aux = /\.aux$/i.test(name) ? { text, lines: [] } : auxOf(text, files.database.map(bare), bare(current('style')));
+  const aux = /\.aux$/i.test(name) ? { text, lines: [], remarks: [] } : auxOf(text, files.database.map(bare), bare(current('style')));
   const rows = aux.text.split('\n').map((row) => /^\\citation\{(.*)\}$/.exec(row)?.[1]);
-  made = { name: `${job}.aux`, lines: aux.lines.length > 0 ? aux.lines : rows.map((row, place) => place + 1), rows };
+  made = { name: `${job}.aux`, lines: aux.lines.length > 0 ? aux.lines : rows.map((row, place) => place + 1), rows, remarks: aux.remarks };
   const all = [[`${job}.aux`, aux.text], ...files.database.map((file) => [file.name, file.text]), ...files.style.map((file) => [file.name, file.text])];
   return { job, all };
 }
@@ -346,7 +346,7 @@ function placeButton({ role, number, line, key }) {
   return button;
 }
 
-const KINDS = { error: 'Error: ', warning: 'Warning: ' };
+const KINDS = { error: 'Error: ', warning: 'Warning: ', own: 'Note: ' };
 
 function wordsOf(name, text) {
   const words = document.createElement(name);
@@ -380,6 +380,8 @@ function showMessages(messages) {
     const cause = number < MOST_CAUSES ? causeOf(message, index) : undefined;
     return [message, [...placesOf(message, index), ...(cause?.place ? [cause.place] : [])], cause];
   });
+  const own = made.remarks.map(({ text, line }) => [{ kind: 'own', text }, line > 0 ? [{ role: 'document', number: 0, line }] : []]);
+  placed.unshift(...own);
   const items = placed.map((row) => messageItem(...row));
   if (told.length > MOST_MESSAGES) {
     const rest = document.createElement('li');
@@ -490,7 +492,7 @@ function showResult({ result, took, failed }) {
   const { report, messages } = result;
   find('panel-list').firstChild.textContent = cut(list);
   find('panel-log').firstChild.textContent = cut(decoder.decode(result.log));
-  find('panel-read').replaceChildren(list.trim() === '' ? 'The list is empty.' : readable(cut(list)));
+  find('panel-read').replaceChildren(readable(cut(list)));
   showMessages(messages);
   showUnused(result.files);
   if (checked.style === running) showChecked(checked);
