@@ -20,6 +20,11 @@ import verdict  # noqa: E402
 
 OUT = ROOT / "web/out/btx.html"
 STYLES = ["examples/article/article.bst", "examples/cross_reference/parents.bst", "examples/utf8_names/initials.bst", "examples/stopped/endless.bst"]
+# What each style is for, in a few words, as the page lists it.
+ABOUT = {
+    "article.bst": "for papers", "parents.bst": "shows parents", "initials.bst": "shows initials", "endless.bst": "a test: never ends",
+    "skeleton.bst": "a bare beginning", "small.bst": "a first style",
+}
 # What the page says of itself at its head and at its foot, where its module is of the proved library and where it isn't.
 CLAIMS = {
     True: ("The list is the proved library's.", "BibTeX, proved: @VERSION@. The library's contract is proved; that this page shows it, and its compilation for WebAssembly, are tested."),
@@ -94,6 +99,7 @@ def streamed(module):
 def script_of(module):
     """The page's one script."""
     styles = [{"name": pathlib.Path(path).name, "text": text_of(path)} for path in STYLES] + styles_of_tutorial()
+    styles = [{**style, "about": ABOUT[style["name"]]} for style in styles]
     rows = ", ".join(f"[new RegExp({in_script('^' + pattern)}), {in_script(words)}]" for pattern, words in advice())
     return "\n".join([
         "'use strict';",

@@ -54,6 +54,8 @@ async function firstSight(page) {
   check('its style is clean', (await page.ask(text('panel-verdict'))).startsWith('Clean:'));
   check('it has no message', (await messages(page))[0][1] === 'None.');
   check('the styles of the examples are there', (await page.ask("[...document.getElementById('style-which').options].map((it) => it.text).join()")).includes('small.bst'));
+  check('each style says what it is for', await page.ask("[...document.getElementById('style-which').options].every((it) => /^\\w+\\.bst \\(.+\\)$/.test(it.text))"));
+  check('the page says that it runs after each edit', (await page.ask("document.querySelector('.outputs').textContent")).includes('after each edit'));
   check('each field has a label', await page.ask("[...document.querySelectorAll('textarea, input, select')].every((it) => it.hidden || it.labels.length > 0 || it.ariaLabel)"));
   const verdict = proofOf(new WebAssembly.Module(readFileSync(path.resolve(HERE, '../out/btx.wasm'))));
   const said = await page.ask("document.querySelector('header').textContent + document.querySelector('footer').textContent");
@@ -75,9 +77,12 @@ async function documents(page) {
   await put(page, { document: '\\cite{a}', name: 'paper.tex', database });
   check('a document without \\bibliography gets what is there', (await list(page)).includes('\\bibitem{a}'));
   await put(page, { document: AUX.replace('{s}', '{nosuch}'), database });
-  check('a style that is not there', has(await messages(page), 'error', "I couldn't open style file nosuch.bst", 'put the style'));
+  check('a style that is not there', has(await messages(page), 'error', "I couldn't open style file nosuch.bst", 'a.aux:3', 'put the style', 'for example article'));
+  check('what advice has between backticks is code', (await page.ask("document.querySelector('#messages small code').textContent")) === '\\bibliographystyle' && !has(await messages(page), '`'));
+  await put(page, { document: '\\cite{a}\n\\bibliography{d}\n\n\\bibliographystyle{nosuch}\n', name: 'paper.tex', database });
+  check('and has its line in the document', has(await messages(page), 'error', 'nosuch.bst', 'paper.tex:4'));
   await put(page, { document: AUX.replace('{d}', '{nosuch}'), database });
-  check('a database that is not there', has(await messages(page), 'error', "I couldn't open database file nosuch.bib"));
+  check('a database that is not there', has(await messages(page), 'error', "I couldn't open database file nosuch.bib", 'a.aux:2'));
   await put(page, { document: AUX.replace('*', 'a,gone'), database });
   check('a key that is not there', has(await messages(page), 'warning', 'I didn\'t find a database entry for "gone"'));
 }
@@ -89,7 +94,8 @@ async function stranger(page) {
   const style = SHOW.replace('FUNCTION {misc} {', 'FUNCTION {misc} {"empty year in " cite$ * warning$ ');
   await put(page, { document, name: 'paper.tex', database, style });
   const rows = await messages(page);
-  check('an open brace names the entry above, and its line', has(rows, 'error', 'd.bib:6 d.bib:2, knuth84', 'is each { closed in line 2?'));
+  check('an open brace names the entry above, and its line', has(rows, 'error', 'd.bib:2, knuth84 d.bib:6', 'is each { and " closed in line 2?'));
+  check('and both lines are marked', (await page.ask("[...document.querySelectorAll('[data-role=database] .gutter .error')].map((it) => it.textContent).join()")).startsWith('2,6'));
   check('an unknown string has its line', has(rows, 'warning', '"addison" is undefined', 'd.bib:7'));
   check('a key without an entry has the line of its citation', has(rows, 'warning', '"patashnik88"', 'paper.tex:4'));
   check('a parent that is not there has the line of its child, and of its name', has(rows, 'error', 'bad cross reference', 'd.bib:10, chapter') && has(rows, 'warning', 'entry for "whole"', 'd.bib:11'));
@@ -134,6 +140,31 @@ async function remarks(page) {
   const rows = await messages(page);
   check('without \\bibliography a note says what is taken', has(rows, 'own', 'no \\bibliography.', 'the databases that are here (d)', 'BibTeX would log an error'));
   check('and without \\bibliographystyle', has(rows, 'own', 'no \\bibliographystyle.', 'the style that is shown here (s)'));
+}
+
+// Causes of messages that are to be mended first.
+async function causes(page) {
+  const style = SHOW.replace('FUNCTION {misc} {', 'FUNCTION {article} {}\nFUNCTION {misc} {cite$ " has no year" * warning$ ');
+  await put(page, { style, database: '@misc{a,\n  title = {A}\n  year = 1}\n@misc{b, title = {B}}\n' });
+  const comma = await messages(page);
+  check('a missing comma names the line above', has(comma, 'error', 'd.bib:3 d.bib:2', 'is there a comma at the end of line 2?'));
+  check('a field of an entry that was read in part is not to be written', has(comma, 'a has no year', 'the entry a was read only up to line 3: mend') && !has(comma, 'a has no year', 'write the field'));
+  check('one of a whole entry is', has(comma, 'b has no year', 'write the field year'));
+  for (const [what, sign] of [['', ''], [' after a comma', ',']]) {
+    await put(page, { style, database: `@misc{a,\n  title = {A}${sign}\n\n@misc{b, title = {B}}\n` });
+    check(`an entry that is not closed is named first${what}`, has(await messages(page), 'error', 'd.bib:1, a d.bib:4', "the entry a of line 1 isn't closed: put a } after line 2"));
+  }
+  await put(page, { style, database: '@misc{a,\n  note = {N},\n  title = {A,\n  year = 1\n}\n' });
+  const end = await messages(page);
+  check('a brace that is open to the end of the file has its line', has(end, 'error', 'Illegal end', 'd.bib:3, a d.bib:') && (await page.ask("document.querySelector('[data-role=database] .gutter .error').textContent")) === '3');
+  await put(page, { style, database: '@artcle{a, title = {A}}\n@zzz{b, title = {B}}\n' });
+  const types = await messages(page);
+  check('a type that is nearly right is shown the right one', has(types, 'warning', 'd.bib:1', '"artcle" is no type of this style; do you mean article?') && !has(types, 'default.type'));
+  check('and one that is near to none is named', has(types, 'warning', 'd.bib:2', '"zzz" is no type of this style; give'));
+  await put(page, { document: AUX.replace('*', 'b'), data: 'mine.bib', database: '@misc{b, title = {B}}\n' });
+  check('a key of a database that the document does not name', has(await messages(page), '"b"', 'mine.bib, in the pane "Database", has it, but the document names d.bib') && !has(await messages(page), 'no database has it'));
+  await put(page, { document: AUX.replace('*', 'b'), database: '@misc{a,\n  title = {{A,\n}\n@misc{b, title = {B}}\n' });
+  check('a key in a value that is not closed', has(await messages(page), '"b"', "line 4 of d.bib has it, and wasn't read"));
 }
 
 async function places(page) {
@@ -308,6 +339,7 @@ async function links(browser, page) {
   await put(page, { database: '@misc{a, title={In a link ä}}' });
   await page.ask("document.getElementById('link').click()");
   check('a link is made', await page.until("location.hash.startsWith('#job=')"));
+  check('and the end of the run is still shown', (await page.ask(text('status'))).startsWith('Ended') && (await page.ask(text('link-note'))).startsWith('The address'));
   const address = await page.ask('location.href');
   check('which is short', address.length < 3000);
   const other = await browser.open(address);
@@ -331,10 +363,16 @@ async function links(browser, page) {
     check(`a spoilt link shows the first job: ${hash.slice(0, 10)}`, await spoilt.until(ENDED));
     await spoilt.close();
   }
+  await page.ask("addFile('big.bib', Array.from({ length: 40000 }, () => String.fromCharCode(33 + Math.random() * 90)).join('')); history.replaceState(null, '', '#'); document.getElementById('run').click()");
+  await page.until(ENDED);
+  await page.ask("document.getElementById('link').click()");
+  check('a file that the job does not use is not in its link', await page.until("location.hash.startsWith('#job=')", 5000) && (await page.ask('location.href')).length < 3000);
+  await page.ask("document.querySelector('.remove').click(); document.getElementById('run').click()");
+  await page.until(ENDED);
   await page.ask("document.getElementById('database').value = Array.from({ length: 40000 }, () => String.fromCharCode(33 + Math.random() * 90)).join(''); document.getElementById('link').click()");
-  check('a job that is too long for a link is refused', await page.until(`${text('status')}.includes('too long')`));
-  await page.ask("document.getElementById('status').textContent = ''; document.getElementById('database').value = 'x'.repeat(4_000_000); document.getElementById('link').click()");
-  check('and one that no page would take from it', await page.until(`${text('status')}.includes('too long')`));
+  check('a job that is too long for a link is refused', await page.until(`${text('link-note')}.includes('too long')`));
+  await page.ask("document.getElementById('link-note').textContent = ''; document.getElementById('database').value = 'x'.repeat(4_000_000); document.getElementById('link').click()");
+  check('and one that no page would take from it', await page.until(`${text('link-note')}.includes('too long')`));
 }
 
 async function looks(page) {
@@ -366,7 +404,7 @@ async function main() {
     const page = await browser.open(pathToFileURL(PAGE).href);
     await page.width(1280);
     await firstSight(page);
-    for (const part of [documents, remarks, places, stranger, verdicts, budgets, hostile, drops, opened, keyboard, looks, sizes]) await part(page);
+    for (const part of [documents, remarks, causes, places, stranger, verdicts, budgets, hostile, drops, opened, keyboard, looks, sizes]) await part(page);
     await links(browser, page);
   } finally {
     await browser.close();

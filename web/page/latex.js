@@ -79,11 +79,11 @@ function lineCounter(text) {
   };
 }
 
-/** The entries of a database as a reader finds them, each with its key and line; text in `@comment`s may be among them. */
+/** The entries of a database as a reader finds them, each with its type, key and line; text in `@comment`s may be among them. */
 function entriesIn(text) {
   const lineAt = lineCounter(text);
   const found = text.matchAll(/@\s*([A-Za-z]+)\s*[{(]\s*([^\s,{}()"]+)/g);
-  return [...found].filter(([, type]) => !/^(?:string|preamble|comment)$/i.test(type)).map(({ 2: key, index }) => ({ key, line: lineAt(index) }));
+  return [...found].filter(([, type]) => !/^(?:string|preamble|comment)$/i.test(type)).map(({ 1: type, 2: key, index }) => ({ type, key, line: lineAt(index) }));
 }
 
 /** The lines of a database in which an entry names its parent, by the parent's key in small letters. */

@@ -6,7 +6,7 @@ const ENDINGS = { tex: 'document', aux: 'document', ltx: 'document', bib: 'datab
 const PATIENCE = 350;
 const MOST_MESSAGES = 500;
 const MOST_SHOWN = 400_000;
-const MOST_LINK = 12_000;
+const MOST_LINK = 24_000;
 const MOST_LINK_TEXT = 4_000_000;
 const MOST_LINK_FILES = 40;
 const MOST_FILE = 20_000_000;
@@ -17,7 +17,7 @@ const HINT = 'Drop .tex, .aux, .bib and .bst files anywhere on the page.';
 
 // What to do about messages that the page words otherwise than the command: it has no options of a command line and no folders.
 const PAGE_ADVICE = [
-  [/^I couldn't open style file (.*)$/s, 'put the style on this page: open or drop $1, or name one of the styles here in `\\bibliographystyle`'],
+  [/^I couldn't open style file (.*)$/s, 'put the style on this page: open or drop $1, or name one of the styles here in `\\bibliographystyle`, for example article'],
   [/^I couldn't open database file (.*)$/s, 'put the database on this page: open or drop $1, or let the name in `\\bibliography` and the name of the database agree'],
   [/^I found no \\citation commands$/, 'write a `\\cite` or `\\nocite`. Files that the document includes are not read: for them, drop the `.aux` file that LaTeX wrote'],
   [/^I was expecting a , or a [)}]$/, 'put a comma after the key and between fields, often at the end of the line above; write a key without whitespace; or close a `{` that the entry above leaves open'],
@@ -30,6 +30,9 @@ const PAGE_ADVICE = [
 const OPEN_BRACE = /^(?:I was expecting|Unbalanced braces|Illegal end of database file)/;
 
 // Messages of a word that isn't there, for which one with nearly the same letters may be meant; and how a style defines a function.
+const WANTS_COMMA = /^I was expecting a , or a [)}]$/;
+const UNKNOWN_TYPE = /^entry type for "(.*)" isn't style-file defined$/s;
+const MISSING_FILE = /^I couldn't open (style|database) file /;
 const MISSING_KEY = /^I didn't find a database entry for "(.*)"$/s;
 const UNKNOWN_FUNCTION = /^(\S+) is an unknown function$/;
 const FUNCTION_NAME = /\bFUNCTION\s*\{\s*([^\s{}]+)\s*\}/gi;
@@ -51,6 +54,9 @@ const shown = { document: 0, database: 0, style: 0 };
 
 const current = (role) => files[role][shown[role]];
 
+// A file as the list of files names it, with what it is for.
+const optionOf = ({ name, about }) => (about ? `${name} (${about})` : name);
+
 function showFile(role, number) {
   shown[role] = number;
   const { text, name, which } = panes[role];
@@ -58,15 +64,16 @@ function showFile(role, number) {
   text.value = file.text;
   name.value = file.name;
   if (which) {
-    which.replaceChildren(...files[role].map((each, place) => new Option(each.name, place, false, place === number)));
+    which.replaceChildren(...files[role].map((each, place) => new Option(optionOf(each), place, false, place === number)));
   }
   drawGutter(role);
 }
 
 function keepFile(role) {
   const { text, name, which } = panes[role];
-  Object.assign(current(role), { text: text.value, name: name.value });
-  if (which) which.options[shown[role]].text = name.value;
+  const file = current(role);
+  if (file.text !== text.value || file.name !== name.value) Object.assign(file, { text: text.value, name: name.value, about: '' });
+  if (which) which.options[shown[role]].text = optionOf(file);
 }
 
 // The pane of a file, by the ending of its name, or else the one that asked for it.
@@ -78,7 +85,7 @@ function roleOf(name, asking = 'document') {
 function addFile(name, text, role = roleOf(name)) {
   const same = files[role].findIndex((file) => file.name === name);
   if (role === 'document') files.document = [{ name, text }];
-  else if (same >= 0) files[role][same].text = text;
+  else if (same >= 0) Object.assign(files[role][same], { text, about: '' });
   else files[role].push({ name, text });
   showFile(role, role === 'document' ? 0 : same >= 0 ? same : files[role].length - 1);
 }
@@ -180,8 +187,8 @@ function showNothing(words) {
   ROLES.forEach(drawGutter);
 }
 
-// The document's lines from which the lines of its .aux file were made, that file's name, and what the page has to say of the document.
-let made = { name: '', lines: [], rows: [], remarks: [] };
+// The document's lines from which the lines of its .aux file were made, that file's name, what the page has to say of the document, and the lines of its commands.
+let made = { name: '', lines: [], rows: [], remarks: [], commands: {} };
 
 // The files of the job as the library is handed them, and the job's name.
 function jobOf() {
@@ -190,7 +197,9 @@ function jobOf() {
   const bare = (file) => file.name.replace(/\.[^.]*$/, '');
   const aux = /\.aux$/i.test(name) ? { text, lines: [], remarks: [] } : auxOf(text, files.database.map(bare), bare(current('style')));
   const rows = aux.text.split('\n').map((row) => /^\\citation\{(.*)\}$/.exec(row)?.[1]);
-  made = { name: `${job}.aux`, lines: aux.lines.length > 0 ? aux.lines : rows.map((row, place) => place + 1), rows, remarks: aux.remarks };
+  const lines = aux.lines.length > 0 ? aux.lines : rows.map((row, place) => place + 1);
+  const lineOf = (command) => lines[aux.text.split('\n').findIndex((row) => row.startsWith(command))];
+  made = { name: `${job}.aux`, lines, rows, remarks: aux.remarks, commands: { database: lineOf('\\bibdata{'), style: lineOf('\\bibstyle{') } };
   const all = [[`${job}.aux`, aux.text], ...files.database.map((file) => [file.name, file.text]), ...files.style.map((file) => [file.name, file.text])];
   return { job, all };
 }
@@ -220,6 +229,7 @@ function run() {
   worker.onerror = ({ message }) => showFailure(`It broke off: ${message}`);
   find('stop').disabled = false;
   find('status').textContent = 'Running ..';
+  find('link-note').textContent = '';
   const options = { budget, text: find('utf8').checked ? 'utf8' : 'bytes' };
   running = current('style').text;
   worker.postMessage({ number: asked, module: MODULE, job, files: all, options, style: checked.style === running ? undefined : running });
@@ -242,14 +252,14 @@ function adviceOf(text) {
 }
 
 // Where keys stand: entries by their keys, in order, and where they are cited or named as parents. Case doesn't count.
-function indexOfKeys() {
+function indexOfKeys({ files: asked, parts }) {
   const entries = files.database.map(({ text }) => entriesIn(text));
-  const index = { entries, defined: new Map(), named: new Map() };
+  const index = { entries, defined: new Map(), named: new Map(), asked, parts };
   files.database.forEach(({ text }, number) => {
     for (const [key, line] of parentsIn(text)) index.named.set(key, { role: 'database', number, line });
-    for (const { key, line } of entries[number]) {
+    for (const { key, line, type } of entries[number]) {
       const name = key.toLowerCase();
-      if (!index.defined.has(name)) index.defined.set(name, { role: 'database', number, line, key });
+      if (!index.defined.has(name)) index.defined.set(name, { role: 'database', number, line, key, type });
     }
   });
   made.rows.forEach((key, row) => key && index.named.set(key.toLowerCase(), { role: 'document', number: 0, line: made.lines[row] }));
@@ -274,7 +284,7 @@ function entryAbove({ number, line }, { entries }) {
   const inside = files.database[number].text.split('\n').slice(above.line, line - 1);
   const open = inside.findIndex((text) => count(text, '{') > count(text, '}'));
   const place = { role: 'database', number, line: open < 0 ? above.line : above.line + 1 + open, key: above.key };
-  return { place, words: open < 0 ? '' : `is each { closed in line ${place.line}?` };
+  return { place, isFirst: open >= 0, words: open < 0 ? '' : `is each { closed in line ${place.line}?` };
 }
 
 // How many letters have to be changed, put in or left out between two words.
@@ -300,21 +310,73 @@ function nearest(word, words) {
   return best;
 }
 
-// What may be the cause of a message: words, and a place, if there is one.
+// The cause of an error where a comma, a field or the end of an entry was expected: the brace of a field, the entry's own brace, or the comma above.
+function causeOfComma({ key, line, after, isItem, open }, { role, number }) {
+  if (open !== null) return { place: { role, number, line: open, key }, isFirst: true, words: `is each { and " closed in line ${open}?` };
+  if (isItem) return { place: { role, number, line, key }, isFirst: true, isAll: true, words: `the entry ${key} of line ${line} isn't closed: put a } after line ${after}` };
+  return { place: { role, number, line: after }, words: `is there a comma at the end of line ${after}?` };
+}
+
+// The cause of a style's warning on an entry that was read in part.
+function causeByPart(message, { parts }) {
+  const words = keysOf(message);
+  const part = parts.find(({ key }) => words.includes(key.toLowerCase()));
+  const number = part ? files.database.findIndex(({ name }) => name === part.file) : -1;
+  if (number < 0) return undefined;
+  return { place: { role: 'database', number, line: part.until }, isAll: true, words: `the entry ${part.key} was read only up to line ${part.until}: mend the error there first` };
+}
+
+// The cause of a key that isn't found: it stands where nothing was read, or another one is meant.
+function causeOfMissing(key, { defined, asked }) {
+  const there = defined.get(key);
+  if (!there) {
+    const place = defined.get(nearest(key, defined.keys()));
+    return place && { place, words: `do you mean ${place.key}?` };
+  }
+  const { name } = files.database[there.number];
+  const named = asked.map((file) => file.name).filter((each) => roleOf(each, '') === 'database');
+  if (named.includes(name)) return { isAll: true, words: `line ${there.line} of ${name} has it, and wasn't read as an entry: mend the errors above it first` };
+  return { isAll: true, words: `${name}, in the pane "Database", has it, but the document names ${named.join(', ')}: write one name in both places` };
+}
+
+// The names of the functions of the style that runs.
+function functionsOfStyle(asked) {
+  const style = files.style.find(({ name }) => asked.some((file) => file.name === name)) ?? current('style');
+  return [...style.text.matchAll(FUNCTION_NAME)].map(([, each]) => each.toLowerCase());
+}
+
+// The cause of a type that the style doesn't have.
+function causeOfType(key, { defined, asked }) {
+  const type = defined.get(key)?.type;
+  if (!type) return undefined;
+  const near = nearest(type.toLowerCase(), functionsOfStyle(asked).filter((name) => /^[a-z]+$/.test(name)));
+  return { isAll: true, words: `"${type}" is no type of this style; ${near ? `do you mean ${near}?` : 'give the entry a type that the style has'}` };
+}
+
+// What may be the cause of a message: words, and a place, if there is one. `isFirst` is whether the place is to be looked at before that of the message,
+// and `isAll` whether the words are to stand in place of the table's.
 function causeOf(message, index) {
   const { text, met } = message;
   if (met === 'databases' && message.line && OPEN_BRACE.test(text)) {
     const place = statedPlace(message);
-    return place?.role === 'database' ? entryAbove(place, index) : undefined;
+    if (place?.role !== 'database') return undefined;
+    const part = index.parts.find(({ file, until }) => file === message.file && until === message.line);
+    return part && (part.isItem || WANTS_COMMA.test(text)) ? causeOfComma(part, place) : entryAbove(place, index);
   }
-  const [, key] = met === 'execution' ? [] : MISSING_KEY.exec(text) ?? [];
-  if (key) {
-    const place = index.defined.get(nearest(key.toLowerCase(), index.defined.keys()));
-    return place && { place, words: `do you mean ${place.key}?` };
-  }
+  if (met === 'execution') return causeByPart(message, index);
+  const [, key] = MISSING_KEY.exec(text) ?? [];
+  if (key) return causeOfMissing(key.toLowerCase(), index);
+  const [, typed] = UNKNOWN_TYPE.exec(text) ?? [];
+  if (typed) return causeOfType(typed.toLowerCase(), index);
   const [, name] = met === 'style' ? UNKNOWN_FUNCTION.exec(text) ?? [] : [];
-  const found = name && nearest(name.toLowerCase(), [...current('style').text.matchAll(FUNCTION_NAME)].map(([, each]) => each.toLowerCase()));
+  const found = name && nearest(name.toLowerCase(), functionsOfStyle(index.asked));
   return found && { words: `do you mean ${found}?` };
+}
+
+// The place of the command that names a file which isn't there.
+function commandPlaces({ text, met }) {
+  const [, role] = met === 'execution' ? [] : MISSING_FILE.exec(text) ?? [];
+  return made.commands[role] > 0 ? [{ role: 'document', number: 0, line: made.commands[role] }] : [];
 }
 
 // The words of a message that may be keys: the entry of an execution, what stands in quotes, or else the first word and the last, as styles have it.
@@ -329,6 +391,8 @@ function placesOf(message, index) {
   if (message.line) {
     return [statedPlace(message)].filter(Boolean);
   }
+  const commands = commandPlaces(message);
+  if (commands.length > 0) return commands;
   const words = keysOf(message);
   const found = new Set(words.map((word) => index.defined.get(word)).filter(Boolean));
   if (found.size === 0) words.map((word) => index.named.get(word)).filter(Boolean).forEach((place) => found.add(place));
@@ -354,6 +418,13 @@ function wordsOf(name, text) {
   return words;
 }
 
+// Advice, in which what stands between backticks is code.
+function adviceItem(text) {
+  const item = document.createElement('small');
+  item.append(...text.split('`').map((part, place) => wordsOf(place % 2 === 1 ? 'code' : 'span', part)));
+  return item;
+}
+
 function messageItem(message, found, cause) {
   const item = document.createElement('li');
   item.className = message.kind;
@@ -367,22 +438,26 @@ function messageItem(message, found, cause) {
     place.className = 'place';
     item.append(place);
   }
-  const advice = [cause?.words, adviceOf(message.text)].filter(Boolean).join(' If it isn\'t that: ');
-  if (advice) item.append(wordsOf('small', advice));
+  const advice = [cause?.words, cause?.isAll ? '' : adviceOf(message.text)].filter(Boolean).join(' If it isn\'t that: ');
+  if (advice) item.append(adviceItem(advice));
   return item;
 }
 
-function showMessages(messages) {
+// A message with its places, of which the first ones are marked, and its cause.
+function placedMessage(message, index, hasCause) {
+  const cause = hasCause ? causeOf(message, index) : undefined;
+  const [found, more] = [placesOf(message, index), cause?.place ? [cause.place] : []];
+  const all = cause?.isFirst ? [...more, ...found] : [...found, ...more];
+  return { message, cause, found: all, marked: all.slice(0, cause?.isFirst ? 2 : 1) };
+}
+
+function showMessages({ messages, ...result }) {
   const told = messages.filter(({ kind }) => kind === 'error' || kind === 'warning' || kind === 'ended');
-  const index = indexOfKeys();
+  const index = indexOfKeys(result);
   const first = told.slice(0, MOST_MESSAGES).filter(({ kind, text }) => kind !== 'ended' || adviceOf(text));
-  const placed = first.map((message, number) => {
-    const cause = number < MOST_CAUSES ? causeOf(message, index) : undefined;
-    return [message, [...placesOf(message, index), ...(cause?.place ? [cause.place] : [])], cause];
-  });
-  const own = made.remarks.map(({ text, line }) => [{ kind: 'own', text }, line > 0 ? [{ role: 'document', number: 0, line }] : []]);
-  placed.unshift(...own);
-  const items = placed.map((row) => messageItem(...row));
+  const own = made.remarks.map(({ text, line }) => ({ message: { kind: 'own', text }, found: line > 0 ? [{ role: 'document', number: 0, line }] : [] }));
+  const placed = [...own, ...first.map((message, number) => placedMessage(message, index, number < MOST_CAUSES))];
+  const items = placed.map(({ message, found, cause }) => messageItem(message, found, cause));
   if (told.length > MOST_MESSAGES) {
     const rest = document.createElement('li');
     rest.textContent = `and ${told.length - MOST_MESSAGES} more, in the log`;
@@ -394,7 +469,7 @@ function showMessages(messages) {
     items.push(none);
   }
   find('messages').replaceChildren(...items);
-  places = placed.flatMap(([{ kind }, found]) => found.slice(0, 1).map((place) => ({ ...place, kind })));
+  places = placed.flatMap(({ message: { kind }, found, marked = found }) => marked.map((place) => ({ ...place, kind })));
   ROLES.forEach(drawGutter);
 }
 
@@ -462,6 +537,8 @@ function showUnused(asked) {
 // The style of the job that runs; and the one that was checked last, with what was said of it: most changes are of other files.
 let running = '';
 let checked = { style: null, verdict: null };
+// The names of the files that the last run asked for.
+let lastAsked = [];
 
 function endWorker() {
   find('stop').disabled = true;
@@ -480,7 +557,7 @@ function showChecked({ verdict, unchecked }) {
   showVerdict(verdict);
 }
 
-function showResult({ result, took, failed }) {
+function showResult({ result, took, failed, parts }) {
   find('stop').disabled = true;
   if (failed) {
     endWorker();
@@ -489,11 +566,12 @@ function showResult({ result, took, failed }) {
   }
   const decoder = new TextDecoder();
   const list = decoder.decode(result.list);
-  const { report, messages } = result;
+  const { report } = result;
   find('panel-list').firstChild.textContent = cut(list);
   find('panel-log').firstChild.textContent = cut(decoder.decode(result.log));
   find('panel-read').replaceChildren(readable(cut(list)));
-  showMessages(messages);
+  showMessages({ ...result, parts });
+  lastAsked = result.files.map(({ name }) => name);
   showUnused(result.files);
   if (checked.style === running) showChecked(checked);
   else find('panel-verdict').textContent = 'Checking ..';
@@ -507,9 +585,16 @@ async function throughStream(bytes, stream) {
   return new Uint8Array(await new Response(new Blob([bytes]).stream().pipeThrough(stream)).arrayBuffer());
 }
 
+// The files of a pane that the last run asked for; where it asked for none of them, the one that is shown.
+function filesAsked(role) {
+  const found = files[role].filter(({ name }) => lastAsked.includes(name));
+  return found.length > 0 ? found : [current(role)];
+}
+
 async function linkOf() {
   ROLES.forEach(keepFile);
-  const used = [['document', files.document[0]], ...files.database.map((file) => ['database', file]), ['style', current('style')]];
+  const [databases, styles] = ['database', 'style'].map((role) => filesAsked(role).map((file) => [role, file]));
+  const used = [['document', files.document[0]], ...databases, ...styles];
   const bytes = new TextEncoder().encode(JSON.stringify(used.map(([role, { name, text }]) => [name, text, role])));
   if (bytes.length > MOST_LINK_TEXT || used.length > MOST_LINK_FILES) return null;
   const packed = await throughStream(bytes, new CompressionStream('deflate-raw'));
@@ -547,7 +632,7 @@ function filesOfLink(text) {
 // Takes the job of the page's address, if it has one; answers whether it was taken, or null where there is none.
 async function takeLink() {
   if (!location.hash.startsWith('#job=')) return null;
-  const found = /^#job=([\w-]{1,20000})$/.exec(location.hash);
+  const found = /^#job=([\w-]{1,40000})$/.exec(location.hash);
   try {
     const bytes = Uint8Array.from(atob(found[1].replace(/-/g, '+').replace(/_/g, '/')), (letter) => letter.charCodeAt(0));
     const taken = filesOfLink(await unpackedText(bytes));
@@ -648,7 +733,7 @@ function listen() {
   find('link').onclick = async () => {
     const link = await linkOf();
     if (link) history.replaceState(null, '', link);
-    find('status').textContent = link ? 'The address of this page has the job in it now.' : 'The job is too long for a link.';
+    find('link-note').textContent = link ? 'The address of this page has the job in it now.' : 'The job is too long for a link.';
   };
   document.onkeydown = (event) => {
     if (event.key === 'Enter' && (event.ctrlKey || event.metaKey)) run();
@@ -657,7 +742,7 @@ function listen() {
 }
 
 async function begin() {
-  files.style = STYLES.map(({ name, text }) => ({ name, text }));
+  files.style = STYLES.map((style) => ({ ...style }));
   files.document = [{ ...FIRST_JOB.document }];
   files.database = FIRST_JOB.databases.map((file) => ({ ...file }));
   ROLES.forEach((role) => showFile(role, 0));
