@@ -78,7 +78,7 @@ async function documents(page) {
   check('a document without \\bibliography gets what is there', (await list(page)).includes('\\bibitem{a}'));
   await put(page, { document: AUX.replace('{s}', '{nosuch}'), database });
   check('a style that is not there', has(await messages(page), 'error', "I couldn't open style file nosuch.bst", 'a.aux:3', 'put the style', 'for example article'));
-  check('what advice has between backticks is code', (await page.ask("document.querySelector('#messages small code').textContent")) === '\\bibliographystyle' && !has(await messages(page), '`'));
+  check('what advice has between backticks is code', (await page.ask("document.querySelector('#messages small code')?.textContent")) === '\\bibliographystyle' && !has(await messages(page), '`'));
   await put(page, { document: '\\cite{a}\n\\bibliography{d}\n\n\\bibliographystyle{nosuch}\n', name: 'paper.tex', database });
   check('and has its line in the document', has(await messages(page), 'error', 'nosuch.bst', 'paper.tex:4'));
   await put(page, { document: AUX.replace('{d}', '{nosuch}'), database });
@@ -134,7 +134,7 @@ async function remarks(page) {
   check('and a mark', (await page.ask("[...document.querySelectorAll('[data-role=document] .gutter .own')].map((it) => it.textContent).join()")) === '2');
   await put(page, { document: `\\cite{a}${rest}\\cite{b`, name: 'paper.tex', database });
   check('so has the last one of the document', has(await messages(page), 'own', "\\cite isn't closed", 'paper.tex:4'));
-  await put(page, { document: `\\cite{a}% \\cite{b\n\\citestyle{x}${rest}`, name: 'paper.tex', database });
+  await put(page, { document: `\\def\\cites{\\emph{x}}\\cite{a}% \\cite{b\n\\citestyle{x}${rest}`, name: 'paper.tex', database });
   check('a document in which nothing is amiss has none', (await messages(page))[0][1] === 'None.');
   await put(page, { document: '\\cite{a}\n', name: 'paper.tex', database });
   const rows = await messages(page);
@@ -156,7 +156,7 @@ async function causes(page) {
   }
   await put(page, { style, database: '@misc{a,\n  note = {N},\n  title = {A,\n  year = 1\n}\n' });
   const end = await messages(page);
-  check('a brace that is open to the end of the file has its line', has(end, 'error', 'Illegal end', 'd.bib:3, a d.bib:') && (await page.ask("document.querySelector('[data-role=database] .gutter .error').textContent")) === '3');
+  check('a brace that is open to the end of the file has its line', has(end, 'error', 'Illegal end', 'd.bib:3, a d.bib:') && (await page.ask("document.querySelector('[data-role=database] .gutter .error')?.textContent")) === '3');
   await put(page, { style, database: '@artcle{a, title = {A}}\n@zzz{b, title = {B}}\n' });
   const types = await messages(page);
   check('a type that is nearly right is shown the right one', has(types, 'warning', 'd.bib:1', '"artcle" is no type of this style; do you mean article?') && !has(types, 'default.type'));
@@ -339,7 +339,7 @@ async function links(browser, page) {
   await put(page, { database: '@misc{a, title={In a link ä}}' });
   await page.ask("document.getElementById('link').click()");
   check('a link is made', await page.until("location.hash.startsWith('#job=')"));
-  check('and the end of the run is still shown', (await page.ask(text('status'))).startsWith('Ended') && (await page.ask(text('link-note'))).startsWith('The address'));
+  check('and the end of the run is still shown', (await page.ask(text('status'))).startsWith('Ended') && (await page.ask(text('link-note')).catch(() => '')).startsWith('The address'));
   const address = await page.ask('location.href');
   check('which is short', address.length < 3000);
   const other = await browser.open(address);
@@ -370,9 +370,9 @@ async function links(browser, page) {
   await page.ask("document.querySelector('.remove').click(); document.getElementById('run').click()");
   await page.until(ENDED);
   await page.ask("document.getElementById('database').value = Array.from({ length: 40000 }, () => String.fromCharCode(33 + Math.random() * 90)).join(''); document.getElementById('link').click()");
-  check('a job that is too long for a link is refused', await page.until(`${text('link-note')}.includes('too long')`));
-  await page.ask("document.getElementById('link-note').textContent = ''; document.getElementById('database').value = 'x'.repeat(4_000_000); document.getElementById('link').click()");
-  check('and one that no page would take from it', await page.until(`${text('link-note')}.includes('too long')`));
+  check('a job that is too long for a link is refused', await page.until(`(document.getElementById('link-note')?.textContent ?? '').includes('too long')`));
+  await page.ask("find('link-note').textContent = ''; document.getElementById('database').value = 'x'.repeat(4_000_000); document.getElementById('link').click()");
+  check('and one that no page would take from it', await page.until(`(document.getElementById('link-note')?.textContent ?? '').includes('too long')`));
 }
 
 async function looks(page) {

@@ -41,7 +41,9 @@ function keysIn(body) {
 
 // What the page has to say of a document itself: a citation that isn't closed, with its place, and what stands in for a command that isn't there.
 function* remarksOn(body, data, styles, databases, style) {
-  for (const { 0: whole, index } of body.matchAll(OPEN_CITATION)) {
+  for (const { 0: whole, 1: list, index } of body.matchAll(OPEN_CITATION)) {
+    // (a definition of such a command has another one first)
+    if (/^\s*\\/.test(list)) continue;
     yield { at: index, text: `${/^\\[A-Za-z]+/.exec(whole)[0]} isn't closed, so that its keys are left out: put a } after its last key.` };
   }
   const instead = (command, taken) => ({ at: -1, text: `The document has no \\${command}. The page takes ${taken}; BibTeX would log an error.` });
@@ -194,7 +196,7 @@ function command(element, reading, depth) {
 }
 
 // Whether a list has no items: nothing at all, or what goes round the items alone.
-const isEmptyList = (text) => text.trim() === '' || /\\begin\{thebibliography\}\s*(?:\{[^{}]*\})?\s*(?:\\end\{thebibliography\}|$)/.test(text);
+const isEmptyList = (text) => text.trim() === '' || /\\begin\{thebibliography\}\s*(?:\{[^{}]*\}\s*)?(?:\\end\{thebibliography\}|$)/.test(text);
 
 /** A list of references as it would read: a list, or what it has where it isn't one. */
 function readable(text) {

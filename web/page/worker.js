@@ -19,7 +19,7 @@ function lineOf(bytes, { start, line }, place) {
 }
 
 // A field of which a later line looks like a field: its brace or quote may be open.
-const SWALLOWS = /\n\s*[A-Za-z][\w-]*\s*=|\n\s*@/;
+const SWALLOWS = /\n[ \t]*(?:[A-Za-z][\w-]*[ \t]*=|@)/;
 
 // The entries of a database that were read in part: each with its line, the line of the error that ended it, the line in which what was read before that ends,
 // whether another item begins there, and the line of the last field if its brace or quote may be open.
@@ -33,7 +33,7 @@ function partsRead(file, text) {
       const isOpen = last.kind === 'field' && SWALLOWS.test(textOf(bytes.subarray(last.start, last.end)));
       found.push({
         file, key: textOf(entry.text), line: entry.line, until: Number(/--line (\d+) of file /.exec(textOf(record.text))[1]), after: lineOf(bytes, last, last.end),
-        isItem: /^\s*,?\s*@/.test(textOf(bytes.subarray(last.end, record.start + 1))), open: isOpen ? last.line : null,
+        isItem: /^[\s,]*@/.test(textOf(bytes.subarray(last.end, record.start + 1))), open: isOpen ? last.line : null,
       });
     }
     if (record.kind !== 'entry' && record.kind !== 'field') entry = undefined;
