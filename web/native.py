@@ -29,7 +29,8 @@ class Record(ctypes.Structure):
 
 def called(name, *words):
     """Calls the library. Python's integers are lengths, and its bytes are texts."""
-    answer = getattr(LIBRARY, name)(*(ctypes.c_size_t(word) if isinstance(word, int) else word for word in words))
+    # (by an index it is a function of its own, with no types of the Python library)
+    answer = LIBRARY[name](*(ctypes.c_size_t(word) if isinstance(word, int) else word for word in words))
     if answer != DONE:
         raise ValueError(f"{name} answered {answer}")
 
@@ -62,7 +63,7 @@ def records_of(file, text, strings):
         place.name, place.text = Text(name, len(name)), Text(value, len(value))
     sizes = (ctypes.c_size_t * 2)()
     asked = (file, len(file), text, len(text), known, len(strings))
-    LIBRARY.btx_read(*(ctypes.c_size_t(word) if isinstance(word, int) else word for word in asked), room_of(Record, 0), ctypes.c_size_t(0), b"", ctypes.c_size_t(0), sizes)
+    LIBRARY["btx_read"](*(ctypes.c_size_t(word) if isinstance(word, int) else word for word in asked), room_of(Record, 0), ctypes.c_size_t(0), b"", ctypes.c_size_t(0), sizes)
     records, texts = room_of(Record, sizes[0]), room_of(ctypes.c_char, sizes[1])
     called("btx_read", *asked, records, sizes[0], texts, sizes[1], sizes)
     whole = texts.raw
