@@ -148,8 +148,11 @@ async function causes(page) {
   await put(page, { style, database: '@misc{a,\n  title = {A}\n  year = 1}\n@misc{b, title = {B}}\n' });
   const comma = await messages(page);
   check('a missing comma names the line above', has(comma, 'error', 'd.bib:3 d.bib:2', 'is there a comma at the end of line 2?'));
+  check('and says it once', comma[0][3] === 'is there a comma at the end of line 2? Is each { above line 3 closed?');
   check('a field of an entry that was read in part is not to be written', has(comma, 'a has no year', 'the entry a was read only up to line 3: mend') && !has(comma, 'a has no year', 'write the field'));
   check('one of a whole entry is', has(comma, 'b has no year', 'write the field year'));
+  await put(page, { style, database: '@misc{a b,\n  title = {A}}\n' });
+  check('a key with whitespace is asked about', has(await messages(page), 'error', 'is there a comma after the key a, and no whitespace in it?'));
   for (const [what, sign] of [['', ''], [' after a comma', ',']]) {
     await put(page, { style, database: `@misc{a,\n  title = {A}${sign}\n\n@misc{b, title = {B}}\n` });
     check(`an entry that is not closed is named first${what}`, has(await messages(page), 'error', 'd.bib:1, a d.bib:4', "the entry a of line 1 isn't closed: put a } after line 2"));

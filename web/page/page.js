@@ -311,10 +311,11 @@ function nearest(word, words) {
 }
 
 // The cause of an error where a comma, a field or the end of an entry was expected: the brace of a field, the entry's own brace, or the comma above.
-function causeOfComma({ key, line, after, isItem, open }, { role, number }) {
+function causeOfComma({ key, line, after, isItem, open, isKey }, { role, number }) {
   if (open !== null) return { place: { role, number, line: open, key }, isFirst: true, words: `is each { and " closed in line ${open}?` };
   if (isItem) return { place: { role, number, line, key }, isFirst: true, isAll: true, words: `the entry ${key} of line ${line} isn't closed: put a } after line ${after}` };
-  return { place: { role, number, line: after }, words: `is there a comma at the end of line ${after}?` };
+  const words = isKey ? `is there a comma after the key ${key}, and no whitespace in it?` : `is there a comma at the end of line ${after}?`;
+  return { place: { role, number, line: after }, isAll: true, words: `${words} Is each { above line ${after + 1} closed?` };
 }
 
 // The cause of a style's warning on an entry that was read in part.

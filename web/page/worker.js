@@ -22,7 +22,7 @@ function lineOf(bytes, { start, line }, place) {
 const SWALLOWS = /\n[ \t]*(?:[A-Za-z][\w-]*[ \t]*=|@)/;
 
 // The entries of a database that were read in part: each with its line, the line of the error that ended it, the line in which what was read before that ends,
-// whether another item begins there, and the line of the last field if its brace or quote may be open.
+// whether another item begins there, the line of the last field if its brace or quote may be open, and whether nothing but the key was read.
 function partsRead(file, text) {
   const bytes = bytesOf(text, 'the database');
   const found = [];
@@ -33,7 +33,7 @@ function partsRead(file, text) {
       const isOpen = last.kind === 'field' && SWALLOWS.test(textOf(bytes.subarray(last.start, last.end)));
       found.push({
         file, key: textOf(entry.text), line: entry.line, until: Number(/--line (\d+) of file /.exec(textOf(record.text))[1]), after: lineOf(bytes, last, last.end),
-        isItem: /^[\s,]*@/.test(textOf(bytes.subarray(last.end, record.start + 1))), open: isOpen ? last.line : null,
+        isItem: /^[\s,]*@/.test(textOf(bytes.subarray(last.end, record.start + 1))), open: isOpen ? last.line : null, isKey: last.kind === 'entry',
       });
     }
     if (record.kind !== 'entry' && record.kind !== 'field') entry = undefined;
