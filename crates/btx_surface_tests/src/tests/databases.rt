@@ -65,6 +65,8 @@ fn gives_to(alloc: Global, job: Result<AuxJob, Fault>) -> Result<bool, Fault> {
 fn libraries(rt: HostRuntime) {
     let alloc = rt.alloc();
     let finder: Result<MemoryFinder, FetchFault> = MemoryFinder::new(alloc, &[(b"job.aux", AUX)]);
-    let job = finder.map_err(Fault::from).and_then(|finder| job_from(alloc, finder));
+    let job = finder
+        .map_err(Fault::from)
+        .and_then(|finder| job_from(alloc, finder));
     assert!(rt; gives_to(alloc, job) == Ok(true));
 }
