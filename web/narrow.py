@@ -25,6 +25,9 @@ TEXT = re.compile(r'(c"[^"]*")')
 STORE = re.compile(r"  store ptr (\S+), ptr (\S+), align (\d+)\b")
 LOAD = re.compile(r"  (%\S+) = load \{ ([^{}]*\bptr\b[^{}]*) \}, ptr (\S+), align (\d+)\b")
 ADDRESS = re.compile(r"  (%\S+) = ptrtoaddr ptr (\S+) to i64\b")
+# What would hide a pointer's size from this script: named types, aggregates that a call takes or gives by memory, names in quotes, vectors of pointers, and
+# constants made of addresses.
+HIDDEN = re.compile(r'^%\S+ = type |\b(?:byval|sret|inalloca|byref)\(|@"|<\d+ x ptr>|\b(?:ptrtoint|inttoptr) \(|getelementptr \(ptr\b')
 INSTRUCTION = re.compile(r"  (?:(%\S+) = )?(?:(?:tail|musttail|notail) )?(\w+)\b")
 
 
@@ -96,6 +99,8 @@ def is_access(line, what):
 def narrowed(lines):
     """The lines of the module with addresses of 32 bits."""
     for number, line in enumerate(lines):
+        if HIDDEN.search(TEXT.sub("", line)) or line.startswith("\t"):
+            raise Unknown(line)
         if line.startswith("target datalayout"):
             yield f'target datalayout = "{LAYOUT}"\n'
         elif line.startswith("target triple"):

@@ -25,6 +25,15 @@ CASES = (
     ("  %v = alloca [3 x i64], align 8", "  %v = alloca [3 x i64], align 8"),
     ("  %v = ptrtoaddr ptr %p to i64", "  %narrow.0 = ptrtoaddr ptr %p to i32\n  %v = zext i32 %narrow.0 to i64"),
     ("  %v = getelementptr i8, ptr %p, i64 %n", "  %v = getelementptr i8, ptr %p, i64 %n"),
+    ("  %v = load { i8, i64, ptr }, ptr %p, align 8", """  %narrow.0.0.at = getelementptr i8, ptr %p, i32 0
+  %narrow.0.0 = load i8, ptr %narrow.0.0.at, align 1
+  %narrow.0.0.with = insertvalue { i8, i64, ptr } poison, i8 %narrow.0.0, 0
+  %narrow.0.1.at = getelementptr i8, ptr %p, i32 8
+  %narrow.0.1 = load i64, ptr %narrow.0.1.at, align 8
+  %narrow.0.1.with = insertvalue { i8, i64, ptr } %narrow.0.0.with, i64 %narrow.0.1, 1
+  %narrow.0.2.at = getelementptr i8, ptr %p, i32 16
+  %narrow.0.2 = load ptr, ptr %narrow.0.2.at, align 8
+  %v = insertvalue { i8, i64, ptr } %narrow.0.1.with, ptr %narrow.0.2, 2"""),
     ("  %v = extractvalue { i8, ptr } %p, 1", "  %v = extractvalue { i8, ptr } %p, 1"),
     ("  ret { ptr, i64 } %v", "  ret { ptr, i64 } %v"),
     ("@s = private constant <{ ptr, [8 x i8] }> <{ ptr getelementptr (i8, ptr @s, i64 16), [8 x i8] c\"ptr @s, \" }>, align 8",
@@ -38,6 +47,8 @@ REFUSED = (
     "  %v = getelementptr ptr, ptr %p, i64 1", "  %v = getelementptr { i8, ptr }, ptr %p, i64 1",
     "  %v = load <2 x ptr>, ptr %p, align 8", "  store <2 x ptr> %v, ptr %p, align 16", "  %v = atomicrmw xchg ptr %p, ptr %q seq_cst", "  %v = freeze ptr %p",
     "  %v = load { i8, { ptr, i8 } }, ptr %p, align 8", "  %v = load [2 x ptr], ptr %p, align 8",
+    "%T = type { ptr, i64 }", "  call void @f(ptr byval({ ptr, i64 }) %p)", "  call void @f(ptr sret({ ptr, i64 }) %p)", '@"a b" = private constant [2 x ptr] [ptr @s, ptr @t]',
+    "  %v = call <4 x ptr> @llvm.masked.load.v4p0(ptr %p)", "  call void @f(i64 ptrtoint (ptr getelementptr (ptr, ptr null, i32 1) to i64))", "\t%v = load ptr, ptr %p",
     "@s = global ptr @t, align 8", "@s = private constant [1 x ptr] [ptr @t], align 8", "@s = private constant <{ { ptr } }> <{ { ptr } { ptr null } }>, align 8",
 )
 

@@ -237,7 +237,7 @@ async function hostile(page) {
   const titles = [script, '\u0000\u001b[2J\u202e', '{'.repeat(50) + 'x' + '}'.repeat(50), '\\'.repeat(500), '$x^2$ \\frac{a}{b} \\unknown{c}'];
   for (const [number, title] of titles.entries()) {
     const made = await put(page, { database: `@misc{k${number}, title = {${title}}}` });
-    check(`a hostile title, ${number}`, made && !(await page.ask('Boolean(window.hit)')));
+    check(`a hostile title, ${number}`, made && !(await page.ask("Boolean(window.hit) || document.querySelector('#panel-read img, #panel-read script, #notes img, #notes script') !== null")));
   }
   await put(page, { document: `\\citation{${script.replace(/\s/g, '')}}\n\\bibdata{d}\n\\bibstyle{s}\n` });
   check('a hostile key is text', has(await messages(page), 'warning', '<script>') && !(await page.ask("document.querySelector('#messages script, #messages img') !== null")));
@@ -249,6 +249,10 @@ async function hostile(page) {
   check('deep commands are shown', (await page.ask(text('panel-read'))).includes('x'));
   await put(page, { document: '\\cite{abc\u202egpj,esc\u001bx}', name: 'a\u2066.tex' });
   check('marks of direction and control characters are shown by numbers', has(await messages(page), '"abc<U+202E>gpj"', 'a<U+2066>.tex:1') && has(await messages(page), 'esc<U+001B>x'));
+  const began = Date.now();
+  await put(page, { document: `\\citation{${'a'.repeat(200_000)}}\n${AUX}`, database: `@misc{${'a'.repeat(199_999)}b}` });
+  await put(page, { document: `${'\\cite['.repeat(100_000)}`, name: 'paper.tex' });
+  check('long words and open brackets take no time', Date.now() - began < 20_000);
   check('no script of a text ran', !(await page.ask('Boolean(window.hit)')));
   check('the policy forbids other scripts', (await page.ask("new Promise((done) => { const made = document.createElement('script'); made.textContent = 'window.hit=2'; document.body.append(made); setTimeout(() => done(window.hit !== 2), 50); })")));
   check('and requests', await page.ask("fetch('https://example.invalid/').then(() => false, () => true)"));

@@ -5,11 +5,11 @@ const uncommented = (text) => text.replace(/(^|[^\\])((?:\\\\)*)%[^\n]*/g, '$1$2
 
 const names = (list) => list.split(',').map((name) => name.trim()).filter(Boolean);
 
-const CITING = String.raw`\\(?:no|paren|text|auto|foot|full|smart|super)?[cC]ite(?!style|text|reset)[A-Za-z]*\*?\s*(?:\[[^\]]*\]\s*){0,2}\{([^{}]*)`;
+const CITING = String.raw`\\(?:no|paren|text|auto|foot|full|smart|super)?[cC]ite(?!style|text|reset)[A-Za-z]{0,40}\*?\s{0,200}(?:\[[^\][]{0,2000}\]\s{0,200}){0,2}\{([^{}]*)`;
 const CITATION = new RegExp(`${CITING}\\}`, 'g');
 // (without m: the end of the text)
 const OPEN_CITATION = new RegExp(`${CITING}(?:\\{|$)`, 'g');
-const NEXT_GROUP = /\s*(?:\[[^\]]*\]\s*){0,2}\{([^{}]*)\}/y;
+const NEXT_GROUP = /\s*(?:\[[^\][]{0,2000}\]\s*){0,2}\{([^{}]*)\}/y;
 const DATABASES = /\\bibliography\s*\{([^{}]*)\}/g;
 const STYLE = /\\bibliographystyle\s*\{([^{}]*)\}/g;
 

@@ -300,9 +300,13 @@ function distance(one, other) {
   return row[other.length];
 }
 
+// Longer words are no slips of a letter, and comparing them would hold the page up.
+const LONGEST_WORD = 100;
+
 // The word that is spelt most nearly like this one; nothing where none is.
 function nearest(word, words) {
   let [best, least] = [undefined, word.length < 5 ? 2 : 3];
+  if (word.length > LONGEST_WORD) return best;
   for (const other of words) {
     const far = Math.abs(other.length - word.length) < least ? distance(word, other) : least;
     if (far > 0 && far < least) [best, least] = [other, far];
