@@ -68,6 +68,8 @@ function contentOfTeX(name, system) {
 export function finderIn(folder, environment = process.env, system = SYSTEM) {
   const { path } = system;
   return (name) => {
+    // (no system has a file of such a name)
+    if (name.includes('\0')) return undefined;
     const here = system.content(path.resolve(folder, name));
     if (here || path.isAbsolute(name)) return here;
     const variable = VARIABLES[path.extname(name)];

@@ -95,6 +95,8 @@ function resultOf(job, values) {
 }
 
 function main() {
+  // (who reads no further, as `head`, gets no more: the list and the log are written by then)
+  process.stdout.on('error', (error) => { if (error.code !== 'EPIPE') throw error; });
   const { values, positionals } = words();
   if (values.help) return console.log(USAGE);
   if (values.version) return console.log(`btx ${VERSION}, of a library of which the prover said:\n${proof()}`);
