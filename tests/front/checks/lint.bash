@@ -607,7 +607,7 @@ begin lint_with_little_memory
 run_lint --json --entry long.bst
 wants_status 2
 cp "$folder/stdout" whole
-for kilobytes in 4500 5500 6500 8192 10000 13000 16000 20000 24000 32000 48000; do
+for kilobytes in 5000 5700 6500 8192 10000 13000 16000 20000 24000 32000 48000; do
     status=0
     (
         ulimit -v "$kilobytes"

@@ -193,7 +193,8 @@ use_style 'FUNCTION {f} { "x" #10 int.to.chr$ * "Error--1 is not a string while 
 #1 write$ } ITERATE {f}'
 run_search -explain job
 wants_status 2
-! grep -q 'FUNCTION {f}' "$folder/stdout" || complaints+=('a place is shown of which nothing is certain')
+[ "$(grep -c '^    in FUNCTION {f}\|FUNCTION {f}' "$folder/stdout")" -ge 1 ] || complaints+=('the place of the true error is not shown')
+! grep -q '1 is not a string while executing write\$ for entry k$' <(head -3 "$folder/stdout" | grep '^Error') || complaints+=('what the style prints is taken for an error')
 end
 
 # The library's second run is made only where there is an error of the execution.
