@@ -25,9 +25,9 @@ TEXT = re.compile(r'(c"[^"]*")')
 STORE = re.compile(r"  store ptr (\S+), ptr (\S+), align (\d+)\b")
 LOAD = re.compile(r"  (%\S+) = load \{ ([^{}]*\bptr\b[^{}]*) \}, ptr (\S+), align (\d+)\b")
 ADDRESS = re.compile(r"  (%\S+) = ptrtoaddr ptr (\S+) to i64\b")
-# What would hide a pointer's size from this script: named types, aggregates that a call takes or gives by memory, names in quotes, vectors of pointers, and
-# constants made of addresses.
-HIDDEN = re.compile(r'^%\S+ = type |\b(?:byval|sret|inalloca|byref)\(|@"|<\d+ x ptr>|\b(?:ptrtoint|inttoptr) \(|getelementptr \(ptr\b')
+# What would hide a pointer's size from this script: named types, aggregates that a call takes or gives by memory, names with whitespace, vectors of pointers,
+# and constants made of addresses.
+HIDDEN = re.compile(r'^%\S+ = type |\b(?:byval|sret|inalloca|byref)\(|@"[^"]*\s|<\d+ x ptr>|\b(?:ptrtoint|inttoptr) \(|getelementptr \(ptr\b')
 INSTRUCTION = re.compile(r"  (?:(%\S+) = )?(?:(?:tail|musttail|notail) )?(\w+)\b")
 
 
