@@ -70,6 +70,8 @@ async function documents(page) {
   const made = await list(page);
   check('citations are taken from a document', ['a', 'b', 'c', 'd', 'e'].every((key) => made.includes(`\\bibitem{${key}}`)));
   check('and none of a comment', !made.includes('{no}'));
+  await put(page, { document: '\\cite{a} 50\\% of \\cite{b}', name: 'paper.tex', database });
+  check('a percent sign with a backslash begins no comment', (await list(page)).includes('\\bibitem{b}'));
   await put(page, { document: '\\parencites[1]{a}[see][2]{b,\n  d}\\cite{c} {e}\\supercite{gone}', name: 'paper.tex', database });
   const several = await list(page);
   check('commands with several groups have a citation in each', ['a', 'b', 'c', 'd'].every((key) => several.includes(`{${key}}`)) && !several.includes('{e}'));

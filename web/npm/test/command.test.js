@@ -35,6 +35,7 @@ const CASES = [
   ['a warning of the style that looks like another', says(`"I didn't find a database entry for " quote$ * "k" * quote$ * warning$`), { severity: 'warning', kind: 'execution' }, [0, 0]],
   ['a line of the style that looks like an error', says('#10 int.to.chr$ "Error--Repeated entry--line 1 of file d.bib" * top$'), undefined, [0, 0]],
   ['an undefined string', bib('@misc{k, title = zz}\n'), { severity: 'warning', kind: 'database', file: 'd.bib', line: 1 }, [0, 0]],
+  ['a bad cross reference', bib('@misc{k, title = {T}, crossref = {gone}}\n'), { severity: 'error', kind: 'cross reference', entry: 'k' }, [2, 2]],
   ['a name with a byte 0', aux('\\citation{k}\n\\bibdata{d,a\u0000b}\n\\bibstyle{s}\n'), { severity: 'error', kind: 'missing database' }, [2, 2]],
   ['nothing', GOOD, undefined, [0, 0]],
 ];

@@ -140,6 +140,8 @@ test('a finder that throws or calls the library spoils no job', () => {
   }
 });
 
+test('a budget may have more than 32 bits', () => assert.equal(run('a', SMALL, { budget: 2 ** 32 }).report.end, 'finished'));
+
 test('a style without end stops at its budget, and one that writes without end at its room', () => {
   const endless = (body) => ({ ...SMALL, 's.bst': `ENTRY {}{}{}\nFUNCTION {f} {{#1} {${body}} while$}\nREAD\nEXECUTE {f}\n` });
   assert.deepEqual(run('a', endless('skip$'), { budget: 1000 }).report.end, 'stopped');
