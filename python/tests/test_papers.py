@@ -86,10 +86,10 @@ class Papers(Folder):
 
     def test_without_tex(self):
         self.write({"job.aux": AUX}, "sub")
-        self.write({"s.bst": FILES["s.bst"], "d.bib": FILES["d.bib"]}, "shared")
-        with mock.patch.dict(os.environ, {"BIBINPUTS": ".:../shared", "BSTINPUTS": str(self.folder / "shared")}):
+        self.write({"s.bst": FILES["s.bst"], "d.bib": FILES["d.bib"]}, "common")
+        with mock.patch.dict(os.environ, {"BIBINPUTS": ".:../common", "BSTINPUTS": str(self.folder / "common")}):
             search = SearchFrom(b"sub", Search())
-            self.assertEqual([search.path_of(name) for name in (b"d.bib", b"job.aux", b"none.bst", b"none.aux")], [b"sub/../shared/d.bib", b"sub/job.aux", None, None])
+            self.assertEqual([search.path_of(name) for name in (b"d.bib", b"job.aux", b"none.bst", b"none.aux")], [b"sub/../common/d.bib", b"sub/job.aux", None, None])
 
     def test_words_of_the_log(self):
         self.write(FILES)
