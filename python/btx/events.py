@@ -1,7 +1,7 @@
 """The events of a run: what the library says of each line of its log, before anybody looks at the line's text.
 
-A style may print any text, so nothing that is printed tells what a line is. Proved is that a run's log is the lines that its events divide it into. Which severity a line has,
-where it was met and for which entry is tested."""
+A style may print any text, so nothing that is printed tells what a line is. Proved is that a run's log is the lines that its events divide it into, and that as many
+of them are warnings and errors as the report counts. Which line is which, where it was met and for which entry is tested."""
 
 from __future__ import annotations
 
