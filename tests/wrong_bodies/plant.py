@@ -41,6 +41,7 @@ import sys
 import tempfile
 import time
 
+from edits import WrongBody
 from stand_ins import stand_in
 from witnesses import FOLDERS, ROOT, report_lacking, witness_of
 
@@ -59,33 +60,6 @@ def load_kit():
     kit = importlib.util.module_from_spec(importlib.util.spec_from_loader("rt", loader))
     loader.exec_module(kit)
     return kit
-
-
-class WrongBody:
-    def __init__(self, path):
-        self.path, self.name, self.text = path, path.stem, path.read_text(encoding="utf-8")
-        self.function = "".join(re.findall(r"(?m)^function: (\S+)$", self.text))
-        self.changes_definitions = re.search(r"(?m)^file: (specs|proofs)/", self.text) is not None
-        self.files = set(re.findall(r"(?m)^file: (\S+)$", self.text))
-        self.is_rare = re.search(r"(?m)^rare: \S", self.text) is not None
-        self.is_slip = all(file.startswith("specs/") for file in self.files)
-
-    def planted_in(self, texts, folder):
-        """The texts of the files that this body changes, above those that others have changed."""
-        texts, file, old = dict(texts), None, None
-        for line in self.text.splitlines():
-            word, _, rest = line.partition(": ")
-            if word == "file":
-                file = rest
-                texts.setdefault(file, (folder / file).read_text(encoding="utf-8"))
-            elif word == "old":
-                old = rest
-            elif word == "new" or line == "new:":
-                found = texts[file].count(old)
-                if found != 1:
-                    raise ValueError(f"its old text stands in {file} {found} times, and not once")
-                texts[file] = texts[file].replace(old, rest)
-        return texts
 
 
 def in_rounds(bodies, alone):
@@ -199,6 +173,7 @@ def try_round(kit, crate, bodies, kept, over_stand_ins):
     for body in bodies:
         try:
             texts = body.planted_in(texts, folder)
+            body.see_function(folder)
             planted.append(body)
         except (OSError, ValueError) as error:
             results.append(Judged(body, str(error)))

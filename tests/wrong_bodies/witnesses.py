@@ -11,7 +11,7 @@ names the clause that the body breaks, where neither a job nor a test shows it, 
     python3 witnesses.py PROGRAM              the built program gives RIGHT, and so does the reference, where it knows the call
     python3 witnesses.py --wrong NAME PROGRAM    a program that was built with the wrong body NAME (or CRATE/NAME) gives WRONG
 
-The last line is 'N passed, M failed', of wrong bodies with a witness; the exit status is 0 only where M is 0."""
+It also sees that each can be planted: its old texts stand once in their files, and its function is there. The last line is 'N passed, M failed', of wrong bodies with a witness; the exit status is 0 only where M is 0."""
 
 import argparse
 import pathlib
@@ -23,6 +23,7 @@ import tempfile
 ROOT = pathlib.Path(__file__).resolve().parents[2]
 sys.path.insert(0, str(ROOT / "tests/reference"))
 import worked_jobs
+from edits import WrongBody
 from product import Options, run
 
 # The folders of a crate's wrong bodies. The kit's own gate tries those of the first as well, one by one.
@@ -120,9 +121,8 @@ def witness_of(text):
 
 
 def wrong_bodies():
-    """The crate, the name and the text of each, in order."""
-    for path in sorted(path for folder in FOLDERS for path in ROOT.glob(f"crates/*/{folder}/*.edit")):
-        yield path.parts[-3], path.stem, path.read_text(encoding="utf-8")
+    """The file of each, in order."""
+    return sorted(path for folder in FOLDERS for path in ROOT.glob(f"crates/*/{folder}/*.edit"))
 
 
 def read(line):
@@ -171,14 +171,22 @@ def report_lacking(names):
     return len(names)
 
 
+def see_edit(path):
+    """Raises what keeps a wrong body from being planted: a text that doesn't stand once in its file, a function that isn't there."""
+    body, folder = WrongBody(path), path.parents[1]
+    body.planted_in({}, folder)
+    body.see_function(folder)
+
+
 def check(chosen, program, complaints):
     failed, lacking = 0, []
-    for crate, name, text in chosen:
-        line = witness_of(text)
+    for path in chosen:
+        crate, name, line = path.parts[-3], path.stem, witness_of(path.read_text(encoding="utf-8"))
         if line is None:
             lacking.append(name)
             continue
         try:
+            see_edit(path)
             wrong = list(complaints(line, program))
         except Exception as error:
             wrong = [f"{type(error).__name__}: {error}"]
@@ -196,7 +204,7 @@ def main():
     parser.add_argument("--wrong", metavar="NAME")
     parser.add_argument("program", type=lambda path: str(pathlib.Path(path).resolve()))
     arguments = parser.parse_args()
-    chosen = [it for it in wrong_bodies() if not arguments.wrong or arguments.wrong in (it[1], f"{it[0]}/{it[1]}")]
+    chosen = [it for it in wrong_bodies() if not arguments.wrong or arguments.wrong in (it.stem, f"{it.parts[-3]}/{it.stem}")]
     return check(chosen, arguments.program, complaints_of_wrong if arguments.wrong else complaints)
 
 

@@ -7,7 +7,7 @@ use Rattle.std.specs.Option.{option_or}
 use Rattle.std.specs.Str.{bytes_eq}
 use Rattle.std.proofs.lemmas.Cmp.{nat_list_eq_equiv}
 use Rattle.std.proofs.lemmas.Map.Keys.{IsDistinct-push}
-use Rattle.btx_aux.specs.declared.draft.Draft.{Draft}
+use Rattle.btx_aux.specs.declared.draft.AuxJobBuilder.{AuxJobBuilder}
 use Rattle.btx_aux.specs.declared.command.Command.{Command}
 use Rattle.btx_aux.specs.declared.command.Command.TheVariants.{Citation, Bibdata, Bibstyle, Input}
 use Rattle.btx_aux.specs.refinement.Answers.{AsksTop, AsksTopAtMost}
@@ -63,12 +63,12 @@ Grows before None after = after ≡ before
 Grows before (Some name) after = (after ≡ before ++ name ∷ []) × (has_ending (codes ".aux") name ≡ true) × (is_among before name ≡ false)
 
 module _ (file : List ℕ) (line : ℕ) where
-  cites_names : (draft : Draft) (pieces : List Piece) → (learned_words file line draft (map Cites pieces)).files ≡ draft.files
+  cites_names : (draft : AuxJobBuilder) (pieces : List Piece) → (learned_words file line draft (map Cites pieces)).files ≡ draft.files
   unfolding learned
   cites_names draft [] = refl
   cites_names draft (piece ∷ pieces) = cites_names (learned draft (event_at file line (Cites piece))) pieces
 
-  input_grows : (draft : Draft) (piece : Piece) → Grows draft.files (option_or (asked_of draft.files (Includes piece)) None)
+  input_grows : (draft : AuxJobBuilder) (piece : Piece) → Grows draft.files (option_or (asked_of draft.files (Includes piece)) None)
       (learned draft (event_at file line (Includes piece))).files
   unfolding learned
   input_grows draft (Taken name) = by_ending (has_ending (codes ".aux") name) (is_among draft.files name) refl refl where
@@ -79,7 +79,7 @@ module _ (file : List ℕ) (line : ℕ) where
     by_ending false there ending among = refl
   input_grows draft (Cut slip) = refl
 
-  command_grows : (draft : Draft) (command : Option Command) (argument : List ℕ) → Grows draft.files (asked_in draft.files (words_of_command command argument))
+  command_grows : (draft : AuxJobBuilder) (command : Option Command) (argument : List ℕ) → Grows draft.files (asked_in draft.files (words_of_command command argument))
       (learned_words file line draft (words_of_command command argument)).files
   unfolding learned
   command_grows draft None argument = refl
@@ -90,30 +90,30 @@ module _ (file : List ℕ) (line : ℕ) where
   command_grows draft (Some Bibstyle) argument = refl
   command_grows draft (Some Input) argument = input_grows draft (piece_of argument)
 
-  grows_at : (draft : Draft) (brace : Option ℕ) (text : List ℕ)
+  grows_at : (draft : AuxJobBuilder) (brace : Option ℕ) (text : List ℕ)
       → Grows draft.files (asked_in draft.files (words_at brace text)) (learned_words file line draft (words_at brace text)).files
   grows_at draft None text = refl
   grows_at draft (Some brace) text = command_grows draft _ _
 
-  line_grows : (draft : Draft) (text : List ℕ) → Grows draft.files (asked_in draft.files (words_of text)) (learned_words file line draft (words_of text)).files
+  line_grows : (draft : AuxJobBuilder) (text : List ℕ) → Grows draft.files (asked_in draft.files (words_of text)) (learned_words file line draft (words_of text)).files
   unfolding words_of
   line_grows draft text = grows_at draft _ text
 
   -- a line that asks for no file
-  pub quiet_adds : (draft after : Draft) (text : List ℕ) → after ≡ learned_words file line draft (words_of text) → None ≡ asked_in draft.files (words_of text)
+  pub quiet_adds : (draft after : AuxJobBuilder) (text : List ℕ) → after ≡ learned_words file line draft (words_of text) → None ≡ asked_in draft.files (words_of text)
       → AddsNames draft.files after.files []
   quiet_adds draft after text is none =
       let grows : Grows draft.files None (learned_words file line draft (words_of text)).files =
       subst (λ (asked : Option (List ℕ)). Grows draft.files asked (learned_words file line draft (words_of text)).files) (sym none) (line_grows draft text) in
-      adds_none draft.files after.files (ap (λ (d : Draft). d.files) is ∙ grows)
+      adds_none draft.files after.files (ap (λ (d : AuxJobBuilder). d.files) is ∙ grows)
 
   -- a line that asks for one: its name is new
-  asking_one : (draft between : Draft) (text name : List ℕ) → between ≡ learned_words file line draft (words_of text)
+  asking_one : (draft between : AuxJobBuilder) (text name : List ℕ) → between ≡ learned_words file line draft (words_of text)
       → Some name ≡ asked_in draft.files (words_of text) → AddsNames draft.files between.files (name ∷ [])
   asking_one draft between text name is asked =
       let grows : Grows draft.files (Some name) (learned_words file line draft (words_of text)).files =
       subst (λ (asked : Option (List ℕ)). Grows draft.files asked (learned_words file line draft (words_of text)).files) (sym asked) (line_grows draft text) in
-      let named : between.files ≡ draft.files ++ name ∷ [] = ap (λ (d : Draft). d.files) is ∙ grows.0 in
+      let named : between.files ≡ draft.files ++ name ∷ [] = ap (λ (d : AuxJobBuilder). d.files) is ∙ grows.0 in
       record {
         added = named;
         once = λ distinct. subst (λ (names : Names). IsDistinct bytes_eq names) (sym named)
@@ -121,7 +121,7 @@ module _ (file : List ℕ) (line : ℕ) where
         endings = (grows.1, tt);
       }
 
-  pub asking_adds : (draft between after : Draft) (text name : List ℕ) → between ≡ learned_words file line draft (words_of text)
+  pub asking_adds : (draft between after : AuxJobBuilder) (text name : List ℕ) → between ≡ learned_words file line draft (words_of text)
       → Some name ≡ asked_in draft.files (words_of text)
       → (names : Names) → AsksFirst name between.files after.files names → AddsNames draft.files after.files names
   asking_adds draft between after text name is asked names first =
@@ -129,7 +129,7 @@ module _ (file : List ℕ) (line : ℕ) where
       (adds_both draft.files between.files after.files (name ∷ []) first.later (asking_one draft between text name is asked) first.adds)
 
   -- the same up to a fault
-  pub asking_new : (draft between : Draft) (text name : List ℕ) → between ≡ learned_words file line draft (words_of text)
+  pub asking_new : (draft between : AuxJobBuilder) (text name : List ℕ) → between ≡ learned_words file line draft (words_of text)
       → Some name ≡ asked_in draft.files (words_of text)
       → (names : Names) → AsksOneAtMost name between.files names → AsksNew draft.files names
   asking_new draft between text name is asked names (inl none) = subst (AsksNew draft.files) (sym none) (new_none draft.files)
@@ -140,11 +140,11 @@ module _ (file : List ℕ) (line : ℕ) where
 -- ---- a file
 
 -- a file that isn't there
-pub missing_asks : (draft after : Draft) (file : List ℕ) (line : ℕ) (name : List ℕ) → after ≡ learned draft (event_at file line (Absent name))
+pub missing_asks : (draft after : AuxJobBuilder) (file : List ℕ) (line : ℕ) (name : List ℕ) → after ≡ learned draft (event_at file line (Absent name))
     → (names : Names) → names ≡ name ∷ [] → AsksFirst name draft.files after.files names
 unfolding learned
 missing_asks draft after file line name is names asked =
-    record { later = []; is = asked; adds = adds_none draft.files after.files (ap (λ (d : Draft). d.files) is) }
+    record { later = []; is = asked; adds = adds_none draft.files after.files (ap (λ (d : AuxJobBuilder). d.files) is) }
 
 inside_opens : (before : Names) (name : List ℕ) (room : ℕ) → room ≤ 19 → names_opened before name room ≡ before
 inside_opens before name room le = by (20 - room) (omega arith) where
@@ -166,16 +166,16 @@ pub full_adds : (before : Names) (name : List ℕ) (room : ℕ) → room ≡ 0 �
 full_adds before name room none = adds_none (names_opened before name room) before (sym (inside_opens before name room (omega arith)))
 
 -- one that is opened
-pub opened_names : (draft after : Draft) (name : List ℕ) (room : ℕ) → after ≡ learned draft (event_at name 0 (Opens (20 - room)))
+pub opened_names : (draft after : AuxJobBuilder) (name : List ℕ) (room : ℕ) → after ≡ learned draft (event_at name 0 (Opens (20 - room)))
     → after.files ≡ names_opened draft.files name room
 unfolding learned
-opened_names draft after name room is = ap (λ (d : Draft). d.files) is
+opened_names draft after name room is = ap (λ (d : AuxJobBuilder). d.files) is
 
-pub long_adds : (draft after : Draft) (name : List ℕ) (room : ℕ) → after ≡ learned draft (event_at name 0 (Opens (20 - room)))
+pub long_adds : (draft after : AuxJobBuilder) (name : List ℕ) (room : ℕ) → after ≡ learned draft (event_at name 0 (Opens (20 - room)))
     → AddsNames (names_opened draft.files name room) after.files []
 long_adds draft after name room is = adds_none _ after.files (opened_names draft after name room is)
 
-pub read_adds : (draft between after : Draft) (name : List ℕ) (room : ℕ) → between ≡ learned draft (event_at name 0 (Opens (20 - room)))
+pub read_adds : (draft between after : AuxJobBuilder) (name : List ℕ) (room : ℕ) → between ≡ learned draft (event_at name 0 (Opens (20 - room)))
     → (names : Names) → AddsNames between.files after.files names → AddsNames (names_opened draft.files name room) after.files names
 read_adds draft between after name room is names adds = subst (λ (before : Names). AddsNames before after.files names) (opened_names draft between name room is)
     adds
@@ -192,7 +192,7 @@ one_found known name room le xs ys asked new = inr (record {
   new = subst (λ (known : Names). AsksNew known ys) (inside_opens known name room le) new;
 })
 
-pub read_new : (draft between : Draft) (name : List ℕ) (room : ℕ) → between ≡ learned draft (event_at name 0 (Opens (20 - room)))
+pub read_new : (draft between : AuxJobBuilder) (name : List ℕ) (room : ℕ) → between ≡ learned draft (event_at name 0 (Opens (20 - room)))
     → (names : Names) → AsksNew between.files names → AsksNew (names_opened draft.files name room) names
 read_new draft between name room is names new = subst (λ (known : Names). AsksNew known names) (opened_names draft between name room is) new
 
@@ -205,10 +205,10 @@ distinct-one name = (tt, tt)
 pub top_missing : (top : List ℕ) (names : Names) → names ≡ top ∷ [] → AsksTop top names
 top_missing top names is = record { later = []; is = is; once = subst (λ (names : Names). IsDistinct bytes_eq names) (sym is) (distinct-one top); endings = tt }
 
-pub top_found : (top : List ℕ) (draft : Draft) (after : Names) → draft ≡ blank
+pub top_found : (top : List ℕ) (draft : AuxJobBuilder) (after : Names) → draft ≡ blank
     → (xs ys : Names) → xs ≡ top ∷ [] → AddsNames (names_opened draft.files top 20) after ys → AsksTop top (xs ++ ys)
 top_found top draft after none xs ys asked adds =
-    let adds' : AddsNames (top ∷ []) after ys = subst (λ (d : Draft). AddsNames (names_opened d.files top 20) after ys) none adds in
+    let adds' : AddsNames (top ∷ []) after ys = subst (λ (d : AuxJobBuilder). AddsNames (names_opened d.files top 20) after ys) none adds in
     let whole : xs ++ ys ≡ top ∷ ys = ap (λ (names : Names). names ++ ys) asked in
     record {
       later = ys;
@@ -218,10 +218,10 @@ top_found top draft after none xs ys asked adds =
     }
 
 -- the same up to a fault
-pub top_begun : (top : List ℕ) (draft : Draft) → draft ≡ blank → (xs ys : Names) → xs ≡ top ∷ [] → AsksNew (names_opened draft.files top 20) ys
+pub top_begun : (top : List ℕ) (draft : AuxJobBuilder) → draft ≡ blank → (xs ys : Names) → xs ≡ top ∷ [] → AsksNew (names_opened draft.files top 20) ys
     → AsksTopAtMost top (xs ++ ys)
 top_begun top draft none xs ys asked new =
-    let new' : AsksNew (top ∷ []) ys = subst (λ (d : Draft). AsksNew (names_opened d.files top 20) ys) none new in
+    let new' : AsksNew (top ∷ []) ys = subst (λ (d : AuxJobBuilder). AsksNew (names_opened d.files top 20) ys) none new in
     let whole : xs ++ ys ≡ top ∷ ys = ap (λ (names : Names). names ++ ys) asked in
     inr (record {
       later = ys;

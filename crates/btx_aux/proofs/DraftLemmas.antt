@@ -4,7 +4,7 @@ use Rattle.std.proofs.Common.{ap, ◌∙◌, append_assoc, append-nil}
 use Rattle.std.specs.Prelude.{codes}
 use Rattle.std.specs.Str.{bytes_eq}
 use Rattle.std.specs.List.{find, list_any, flat_map}
-use Rattle.btx_aux.specs.declared.draft.Draft.{Draft}
+use Rattle.btx_aux.specs.declared.draft.AuxJobBuilder.{AuxJobBuilder}
 use Rattle.btx_aux.specs.language.Names.{listed_as, is_same_key, with_ending, with_name_once}
 use Rattle.btx_aux.specs.language.Grammar.{Piece, Taken, Cut, Cites, Databases, Opens}
 use Rattle.btx_aux.specs.language.Events.{event_at}
@@ -16,7 +16,7 @@ use Rattle.btx_text.specs.language.Lists.{only_if, is_among}
 use Rattle.btx_aux.specs.refinement.Notes.{aux_note_line}
 
 -- a draft with a further line in its log
-abbrev pub complained : Draft → AuxComplaint → ℕ → List ℕ → Draft
+abbrev pub complained : AuxJobBuilder → AuxComplaint → ℕ → List ℕ → AuxJobBuilder
 complained draft complaint line file = record draft { log = draft.log ++ aux_note_line (Wrong complaint line file) ∷ [] }
 
 -- ---- a `\citation`
@@ -28,7 +28,7 @@ is_listed test (x ∷ xs) = at (test x) (is_listed test xs) where
   at true h = refl
   at false h = h
 
-module _ (draft : Draft) (file : List ℕ) (line : ℕ) (key : List ℕ) where
+module _ (draft : AuxJobBuilder) (file : List ℕ) (line : ℕ) (key : List ℕ) where
   pub learned-key_new : is_star key ≡ false → None ≡ listed_as draft.keys key → learned draft (event_at file line (Cites (Taken key)))
       ≡ record draft { keys = draft.keys ++ key ∷ [] }
   unfolding learned
@@ -80,19 +80,19 @@ with_notes-append log (x ∷ xs) (y ∷ ys) =
     ∙ ap (λ (lines : List Line). log ++ aux_note_line x ∷ lines) (sym (lines_more xs (y ∷ ys)))
 
 -- the databases of some pieces at once
-abbrev all_at_once : List ℕ → ℕ → Draft → List Piece → Draft
+abbrev all_at_once : List ℕ → ℕ → AuxJobBuilder → List Piece → AuxJobBuilder
 all_at_once file line draft pieces =
     complaining file line (record draft { databases = fold with_name_once draft.databases (flat_map (taken_with (codes ".bib")) pieces) })
     (database_complaints draft.databases pieces)
 
-complaining_twice : (file : List ℕ) (line : ℕ) (draft : Draft) (xs ys : List AuxComplaint) → complaining file line (complaining file line draft xs) ys
+complaining_twice : (file : List ℕ) (line : ℕ) (draft : AuxJobBuilder) (xs ys : List AuxComplaint) → complaining file line (complaining file line draft xs) ys
     ≡ complaining file line draft (xs ++ ys)
 complaining_twice file line draft xs ys =
     ap (λ (log : List Line). record draft { log = log })
     (with_notes-append draft.log (map (λ (c : AuxComplaint). Wrong c line file) xs) (map (λ (c : AuxComplaint). Wrong c line file) ys)
     ∙ ap (with_notes draft.log) (sym (map_more file line xs ys)))
 
-with_databases-once : (file : List ℕ) (line : ℕ) (draft : Draft) (pieces : List Piece) → with_databases file line draft pieces
+with_databases-once : (file : List ℕ) (line : ℕ) (draft : AuxJobBuilder) (pieces : List Piece) → with_databases file line draft pieces
     ≡ all_at_once file line draft pieces
 with_databases-once file line draft [] = refl
 with_databases-once file line draft (Taken name ∷ pieces) =
@@ -106,7 +106,7 @@ with_databases-once file line draft (Cut slip ∷ pieces) =
     with_databases-once file line (complaining file line draft (Slipped slip ∷ [])) pieces
     ∙ complaining_twice file line after (Slipped slip ∷ []) (database_complaints draft.databases pieces)
 
-pub learned-bibdata : (file : List ℕ) (line : ℕ) (draft : Draft) (pieces : List Piece) (none : List (List ℕ)) → none ≡ [] → draft.has_bibdata ≡ false
+pub learned-bibdata : (file : List ℕ) (line : ℕ) (draft : AuxJobBuilder) (pieces : List Piece) (none : List (List ℕ)) → none ≡ [] → draft.has_bibdata ≡ false
     → with_databases file line (record draft { databases = none; has_bibdata = true }) pieces ≡ learned draft (event_at file line (Databases pieces))
 unfolding learned
 learned-bibdata file line draft pieces none empty first =
@@ -115,13 +115,13 @@ learned-bibdata file line draft pieces none empty first =
 
 -- ---- a file that is opened
 
-pub learned-Opens_top : (draft : Draft) (name : List ℕ) (level : ℕ) → level ≡ 0 → learned draft (event_at name 0 (Opens level))
+pub learned-Opens_top : (draft : AuxJobBuilder) (name : List ℕ) (level : ℕ) → level ≡ 0 → learned draft (event_at name 0 (Opens level))
     ≡ record draft { files = with_name_once draft.files name; log = draft.log ++ aux_note_line (TopFile name) ∷ [] }
 unfolding learned
 learned-Opens_top draft name zero is = refl
 learned-Opens_top draft name (suc level) is = absurd (omega arith)
 
-pub learned-Opens_level : (draft : Draft) (name : List ℕ) (level : ℕ) → (level ≡ 0 → ⊥) → learned draft (event_at name 0 (Opens level))
+pub learned-Opens_level : (draft : AuxJobBuilder) (name : List ℕ) (level : ℕ) → (level ≡ 0 → ⊥) → learned draft (event_at name 0 (Opens level))
     ≡ record draft { log = draft.log ++ aux_note_line (LevelFile level name) ∷ [] }
 unfolding learned
 learned-Opens_level draft name zero is = absurd (is refl)

@@ -4,7 +4,7 @@ use Rattle.std.proofs.Common.{is_some, refl, sym, ap, ◌∙◌, append_assoc, a
 use Rattle.std.specs.List.{flat_map}
 use Rattle.std.specs.Option.{option_or}
 use Rattle.std.proofs.lemmas.Grind.{fold-append}
-use Rattle.btx_aux.specs.declared.draft.Draft.{Draft}
+use Rattle.btx_aux.specs.declared.draft.AuxJobBuilder.{AuxJobBuilder}
 use Rattle.btx_aux.specs.declared.end.End.{End}
 use Rattle.btx_aux.specs.declared.end.End.TheVariants as end
 use Rattle.btx_aux.specs.language.Files.{Files}
@@ -91,7 +91,7 @@ end_of-push (x ∷ xs) event whole = end_by_test (end_by x.word) (is_whole (end_
     (end_of-push xs event) whole
 
 -- what the events come to, as what is known after them
-abbrev draft_of : List AuxEvent → Draft
+abbrev draft_of : List AuxEvent → AuxJobBuilder
 draft_of events = record {
   keys = cited_keys events;
   all = all_of events;
@@ -104,7 +104,7 @@ draft_of events = record {
   ending = end_of events;
 }
 
-abbrev draft_by : List (List ℕ) → Option ℕ → List (List ℕ) → Bool → Option (List ℕ) → Bool → List (List ℕ) → List Line → End → Draft
+abbrev draft_by : List (List ℕ) → Option ℕ → List (List ℕ) → Bool → Option (List ℕ) → Bool → List (List ℕ) → List Line → End → AuxJobBuilder
 draft_by keys all databases has_bibdata style has_bibstyle files log ending = record {
   keys = keys;
   all = all;
@@ -178,17 +178,17 @@ module _ (events : List AuxEvent) (event : AuxEvent) where
 
 -- ---- all events, where nothing counts after the first that ends the reading
 
-abbrev known : List AuxEvent → Draft
+abbrev known : List AuxEvent → AuxJobBuilder
 known events = fold after blank events
 
 known-push : (events : List AuxEvent) (event : AuxEvent) → after (known events) event ≡ known (events ++ event ∷ [])
 known-push events event = sym (fold-append after blank events (event ∷ []))
 
-still-ended : (draft : Draft) (events : List AuxEvent) → is_whole draft.ending ≡ false → fold after draft events ≡ draft
+still-ended : (draft : AuxJobBuilder) (events : List AuxEvent) → is_whole draft.ending ≡ false → fold after draft events ≡ draft
 still-ended draft [] ended = refl
 still-ended draft (event ∷ events) ended =
     let here : after draft event ≡ draft = rw ended refl in
-    ap (λ (d : Draft). fold after d events) here ∙ still-ended draft events ended
+    ap (λ (d : AuxJobBuilder). fold after d events) here ∙ still-ended draft events ended
 
 ended_by : (e : End) → is_whole e ≡ false → is_whole (ending_after e end.Whole) ≡ false
 ended_by end.Whole h = cc
@@ -228,7 +228,7 @@ stop_at false front events event ends whole more =
 known_from : (front events : List AuxEvent) → is_whole (end_of front) ≡ true → fold after (draft_of front) events ≡ draft_of (front ++ until_end events)
 known_from front [] whole = ap draft_of (sym (append-nil front))
 known_from front (event ∷ events) whole =
-    ap (λ (d : Draft). fold after d events) (after-draft_of front event whole)
+    ap (λ (d : AuxJobBuilder). fold after d events) (after-draft_of front event whole)
     ∙ stop_at (is_whole (end_by event.word)) front events event refl whole (known_from (front ++ event ∷ []) events)
 
 known-until_end : (events : List AuxEvent) → known events ≡ draft_of (until_end events)
@@ -248,8 +248,8 @@ until_end-whole (event ∷ events) whole = none_ended (is_whole (end_by event.wo
 known-files : (events : List AuxEvent) → is_whole (known events).ending ≡ true → (known events).files ≡ files_named events
 known-files events whole =
     let is = known-until_end events in
-    let goes : is_whole (end_of (until_end events)) ≡ true = ap (λ (d : Draft). is_whole d.ending) (sym is) ∙ whole in
-    ap (λ (d : Draft). d.files) is ∙ ap files_named (until_end-whole events goes)
+    let goes : is_whole (end_of (until_end events)) ≡ true = ap (λ (d : AuxJobBuilder). is_whole d.ending) (sym is) ∙ whole in
+    ap (λ (d : AuxJobBuilder). d.files) is ∙ ap files_named (until_end-whole events goes)
 
 -- ---- reading event by event is reading all events
 
@@ -259,7 +259,7 @@ Agrees opening reading = (events : List AuxEvent) (name text : List ℕ) → ope
 
 -- a reading that has ended stays as it is
 abbrev Still : Opening → Type 0
-Still opening = (draft : Draft) (name text : List ℕ) → is_whole draft.ending ≡ false → opening draft name text ≡ draft
+Still opening = (draft : AuxJobBuilder) (name text : List ℕ) → is_whole draft.ending ≡ false → opening draft name text ≡ draft
 
 in_row : (front : List AuxEvent) (event : AuxEvent) (more rest : List AuxEvent) → ((front ++ event ∷ []) ++ more) ++ rest ≡ front ++ ((event ∷ more) ++ rest)
 in_row front event more rest =
@@ -286,11 +286,11 @@ module _ (files : Files) (opening : Opening) (reading : FileEvents) (agrees : Ag
       let front = events ++ event ∷ [] in
       let asked = asked_of (files_named events) event.word in
       let more = followed files reading front event asked in
-      ap (λ (d : Draft). run files opening (asked_for files opening d event.file event.line (asked_of (known events).files event.word)) said)
+      ap (λ (d : AuxJobBuilder). run files opening (asked_for files opening d event.file event.line (asked_of (known events).files event.word)) said)
       (known-push events event)
       ∙ ap (λ (names : List (List ℕ)). run files opening (asked_for files opening (known front) event.file event.line (asked_of names event.word)) said)
       (known-files events whole)
-      ∙ ap (λ (d : Draft). run files opening d said) (followed-agrees front event asked)
+      ∙ ap (λ (d : AuxJobBuilder). run files opening d said) (followed-agrees front event asked)
       ∙ onward
       ∙ ap known (in_row events event more (expanded files reading (front ++ more) said))
   at_test false events event said ended onward =
@@ -318,7 +318,7 @@ opened-agrees files (suc room) events name text =
     let opening = event_at name 0 (Opens (19 - room)) in
     let front = events ++ opening ∷ [] in
     let rest = inside (is_too_long text) files (opened files room) front name text in
-    ap (λ (d : Draft). within (is_too_long text) files (opened_by files room) d name text) (known-push events opening)
+    ap (λ (d : AuxJobBuilder). within (is_too_long text) files (opened_by files room) d name text) (known-push events opening)
     ∙ inside-agrees (is_too_long text) files (opened_by files room) (opened files room) (opened-agrees files room) (opened_by-ended files room) front name text
     ∙ ap known (append_assoc events (opening ∷ []) rest)
 
@@ -343,13 +343,13 @@ closed-topped files top =
 
 -- ---- the top file
 
-pub topped-missing : (files : Files) (top : List ℕ) (draft : Draft) → draft ≡ blank → files top ≡ None → record draft { ending = end.TopMissing }
+pub topped-missing : (files : Files) (top : List ℕ) (draft : AuxJobBuilder) → draft ≡ blank → files top ≡ None → record draft { ending = end.TopMissing }
     ≡ topped files top (files top)
 unfolding topped learned
-topped-missing files top draft is missing = rw missing (ap (λ (d : Draft). record d { ending = end.TopMissing }) is)
+topped-missing files top draft is missing = rw missing (ap (λ (d : AuxJobBuilder). record d { ending = end.TopMissing }) is)
 
-pub topped-found : (files : Files) (top bytes text : List ℕ) (draft new : Draft) → draft ≡ blank → files top ≡ Some bytes → text ≡ bytes
+pub topped-found : (files : Files) (top bytes text : List ℕ) (draft new : AuxJobBuilder) → draft ≡ blank → files top ≡ Some bytes → text ≡ bytes
     → new ≡ opened_by files 20 draft top text → new ≡ topped files top (files top)
 unfolding topped
 topped-found files top bytes text draft new is there same goes =
-    rw there (goes ∙ ap (λ (d : Draft). opened_by files 20 d top text) is ∙ ap (opened_by files 20 blank top) same)
+    rw there (goes ∙ ap (λ (d : AuxJobBuilder). opened_by files 20 d top text) is ∙ ap (opened_by files 20 blank top) same)

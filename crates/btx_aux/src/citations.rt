@@ -10,7 +10,7 @@ ghost use Rattle.btx_text.specs.language.Lists.{only_if};
 ghost use Rattle.btx_aux.specs.refinement.Notes.{aux_note_line};
 ghost use Rattle.btx_aux.specs.refinement.Job.{missing_notes};
 
-use crate::draft::Draft;
+use crate::draft::AuxJobBuilder;
 use crate::end::End;
 use crate::finder::Finder;
 use crate::job::AuxJob;
@@ -32,7 +32,7 @@ pub fn read_aux<F: Finder>(alloc: Global, finder: &mut F, top: &[u8]) -> Result<
     ensures counts { CountsOfOne result (F.failures finder.old, F.failures finder.new) }
     ensures stays { F.content finder.new ≡ F.content finder.old }
 {
-    let mut draft = Draft::new(alloc);
+    let mut draft = AuxJobBuilder::new(alloc);
     read_top(alloc, finder, &mut draft, top)?;
     close(alloc, draft)
 }
@@ -41,7 +41,7 @@ pub fn read_aux<F: Finder>(alloc: Global, finder: &mut F, top: &[u8]) -> Result<
 fn read_top<F: Finder>(
     alloc: Global,
     finder: &mut F,
-    draft: &mut Draft,
+    draft: &mut AuxJobBuilder,
     top: &[u8],
 ) -> Result<(), Fault>
     requires { draft.old ≡ blank }
@@ -60,7 +60,7 @@ fn read_top<F: Finder>(
 }
 
 // What is known, with what is missing in the whole.
-fn close(alloc: Global, draft: Draft) -> Result<AuxJob, Fault>
+fn close(alloc: Global, draft: AuxJobBuilder) -> Result<AuxJob, Fault>
     ensures job { IfOk result (λ job. job ≡ closed draft) }
     ensures fault { IfErr result (λ fault. fault ≡ Fault.Memory) }
 {
@@ -68,7 +68,7 @@ fn close(alloc: Global, draft: Draft) -> Result<AuxJob, Fault>
     if draft.ending == End::Whole {
         log_missing(alloc, &mut draft)?;
     }
-    let Draft {
+    let AuxJobBuilder {
         keys,
         all,
         databases,
@@ -90,7 +90,7 @@ fn close(alloc: Global, draft: Draft) -> Result<AuxJob, Fault>
 }
 
 // Logs what is missing: keys and `*`, a `\bibdata` line, a `\bibstyle` line.
-fn log_missing(alloc: Global, draft: &mut Draft) -> Result<(), AllocError>
+fn log_missing(alloc: Global, draft: &mut AuxJobBuilder) -> Result<(), AllocError>
     ensures { OnOk result (draft.new ≡ record draft.old {
       log = draft.old.log
           ++ map aux_note_line (missing_notes draft.old.keys draft.old.all draft.old.has_bibdata draft.old.has_bibstyle);
@@ -107,7 +107,7 @@ fn log_missing(alloc: Global, draft: &mut Draft) -> Result<(), AllocError>
 // Logs that something is missing, unless it is there.
 fn log_unless(
     alloc: Global,
-    draft: &mut Draft,
+    draft: &mut AuxJobBuilder,
     is_there: bool,
     note: Note<'_>,
 ) -> Result<(), AllocError>

@@ -20,7 +20,7 @@ const BST: &[u8] = b".bst";
 
 /// What is known so far.
 #[derive(Drop)]
-pub struct Draft {
+pub struct AuxJobBuilder {
     /// The keys that are listed.
     pub keys: Keys,
     /// The number of keys that were listed before the first `*`.
@@ -41,7 +41,7 @@ pub struct Draft {
     pub ending: End,
 }
 
-impl Draft {
+impl AuxJobBuilder {
     ghost use Rattle.std.specs.Prelude.{◌≡◌, [], ◌∷◌, ◌++◌, OnOk, IfOk, option_copied, map, true, false, not};
     ghost use Rattle.btx_aux.specs.refinement.Drafts.{blank, learned, learned_words, asked_in, with_databases, with_database};
     ghost use Rattle.btx_aux.specs.language.Events.{event_at, asked_of};
@@ -57,7 +57,7 @@ impl Draft {
     pub fn new(alloc: Global) -> Self
         ensures { result ≡ blank }
     {
-        Draft {
+        AuxJobBuilder {
             keys: Keys::new(alloc),
             all: None,
             databases: NameSet::new(alloc),

@@ -7,7 +7,7 @@ ghost use Rattle.btx_aux.specs.language.Grammar.{is_whole, words_of};
 ghost use Rattle.btx_aux.specs.language.Events.{event_at, said};
 ghost use Rattle.btx_aux.specs.refinement.Reads.{AddsNames, AsksFirst, AsksNew, AsksOneAtMost, included, names_opened, opened_by, run};
 
-use crate::draft::Draft;
+use crate::draft::AuxJobBuilder;
 use crate::end::End;
 use crate::finder::Finder;
 use btx_text::{Fault, GREATEST_FILE, Place, lines};
@@ -21,7 +21,7 @@ pub const MOST_OPEN: usize = 20;
 fn include<F: Finder>(
     alloc: Global,
     finder: &mut F,
-    draft: &mut Draft,
+    draft: &mut AuxJobBuilder,
     name: &[u8],
     place: Place<'_>,
     room: usize,
@@ -48,7 +48,7 @@ fn include<F: Finder>(
 pub fn open_file<F: Finder>(
     alloc: Global,
     finder: &mut F,
-    draft: &mut Draft,
+    draft: &mut AuxJobBuilder,
     name: &[u8],
     text: &[u8],
     room: usize,
@@ -87,7 +87,7 @@ fn is_too_long(text: &[u8]) -> bool
 fn read_lines<F: Finder>(
     alloc: Global,
     finder: &mut F,
-    draft: &mut Draft,
+    draft: &mut AuxJobBuilder,
     name: &[u8],
     text: &[u8],
     room: usize,
@@ -121,7 +121,7 @@ fn read_lines<F: Finder>(
 fn read_line<F: Finder>(
     alloc: Global,
     finder: &mut F,
-    draft: &mut Draft,
+    draft: &mut AuxJobBuilder,
     line: &[u8],
     place: Place<'_>,
     room: usize,

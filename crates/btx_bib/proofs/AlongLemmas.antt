@@ -8,9 +8,9 @@ use Rattle.btx_bib.specs.declared.grammar.commands.Expected.{Expected as Next}
 use Rattle.btx_bib.specs.declared.grammar.commands.Expected.TheVariants.{Item}
 use Rattle.btx_bib.specs.declared.grammar.slip.SyntaxError.TheVariants.{Repeated}
 use Rattle.btx_bib.specs.declared.message.Message.{Message}
-use Rattle.btx_bib.specs.language.Grammar.Items.{Event, Comment, Preamble, Definition, Entry, FieldOf, End, Wrong, Placed, Step, events_from, is_repeated}
+use Rattle.btx_bib.specs.language.Grammar.Items.{Event, Comment, Preamble, Definition, Entry, FieldOf, ItemEnd, Wrong, Placed, Step, events_from, is_repeated}
 use Rattle.btx_bib.specs.language.Grammar.Items.{next_step, expected_step}
-use Rattle.btx_bib.specs.language.Known.{Known, known_after, after_event, with_current_stored, goes_on, keeping, stored_in}
+use Rattle.btx_bib.specs.language.Known.{Known, known_after, after_event, with_current_stored, goes_on, stored_keys, stored_in}
 use Rattle.btx_bib.specs.laws.Known.{after_all}
 use Rattle.btx_bib.specs.language.Stored.{entry_with_key}
 use Rattle.btx_bib.specs.language.Messages.{Database, event_messages}
@@ -54,7 +54,7 @@ repeated-same f g same (Preamble value) = refl
 repeated-same f g same (Definition name value) = refl
 repeated-same f g same (Entry kind key) = same key
 repeated-same f g same (FieldOf field) = refl
-repeated-same f g same End = refl
+repeated-same f g same ItemEnd = refl
 repeated-same f g same (Wrong slip) = refl
 
 -- by whether it is repeated, an event stays or is wrong
@@ -100,7 +100,7 @@ module _ (wanted : Request) where
 
   module _ (database : Database) where
     abbrev known_events : Known → Next → List ℕ → List Placed
-    known_events known w s = events_from (keeping wanted) known w s
+    known_events known w s = events_from (stored_keys wanted) known w s
 
     -- what is kept and logged of a text is what is known and logged of it
     abbrev Agrees : Known → Next → List ℕ → Type 0
@@ -129,7 +129,7 @@ module _ (wanted : Request) where
     step-agrees known w s None e sound whole others =
         let kept : next_step (is_kept (kept_of wanted known)) w s ≡ None =
         next-same (is_kept (kept_of wanted known)) (stored known) (λ key. stored-kept wanted known key sound) w s ∙ e in
-        let none : known_events known w s ≡ [] = events-none (keeping wanted) known w s e in (
+        let none : known_events known w s ≡ [] = events-none (stored_keys wanted) known w s e in (
           none-along wanted (kept_of wanted known) w s kept ∙ ap (λ (es : List Placed). kept_of wanted (after_all wanted known es)) (sym none),
           none-logged wanted (kept_of wanted known) w s database kept ∙ ap (messages_along wanted database known) (sym none),
           subst (λ (es : List Placed). Sound wanted (after_all wanted known es)) (sym none) sound,
@@ -143,7 +143,7 @@ module _ (wanted : Request) where
         let rest : Agrees next step.wanted step.rest = others next step.wanted step.rest (events-less (stored known) w s step e)
         (event-sound wanted known step.event sound fresh) in
         let goes : next ≡ known_after wanted known step.event = ap (λ (b : Bool). if b then after_event wanted known step.event else known) (sym whole) in
-        let some = sym (events-some (keeping wanted) known w s step e) in
+        let some = sym (events-some (stored_keys wanted) known w s step e) in
         let all : after_all wanted next (known_events next step.wanted step.rest) ≡ after_all wanted known (known_events known w s) =
         ap (λ (k : Known). after_all wanted k (known_events k step.wanted step.rest)) goes ∙ ap (after_all wanted known) some in
         let said = event_messages wanted database known step.event step.rest in (

@@ -8,8 +8,8 @@ use Rattle.std.proofs.lemmas.List.{length-append}
 use Rattle.btx_text.specs.language.Limits.{greatest_file, greatest_string, is_too_long}
 use Rattle.btx_bib.specs.declared.end.End.{End}
 use Rattle.btx_bib.specs.declared.end.End.TheVariants as end
-use Rattle.btx_bib.specs.declared.grammar.commands.Command.{Command}
-use Rattle.btx_bib.specs.declared.grammar.commands.Command.TheVariants as command
+use Rattle.btx_bib.specs.declared.grammar.commands.DatabaseCommand.{DatabaseCommand}
+use Rattle.btx_bib.specs.declared.grammar.commands.DatabaseCommand.TheVariants as command
 use Rattle.btx_bib.specs.declared.grammar.commands.Expected.{Expected as Next}
 use Rattle.btx_bib.specs.declared.grammar.commands.Expected.TheVariants.{Item, Closing, Fields}
 use Rattle.btx_bib.specs.declared.grammar.slip.SyntaxError.TheVariants.{NoEquals, Repeated}
@@ -18,7 +18,7 @@ use Rattle.btx_bib.specs.declared.grammar.value_ends.Ends.TheVariants.{Kept, Tri
 use Rattle.btx_bib.specs.declared.message.Message.{Message}
 use Rattle.btx_bib.specs.language.Grammar.Tokens.{Parsed, followed_by, name_at, open_at, sign_at, key_at}
 use Rattle.btx_bib.specs.language.Grammar.Fields.{Field}
-use Rattle.btx_bib.specs.language.Grammar.Items.{Event, Comment, Preamble, Definition, Entry, FieldOf, End as Close, Wrong, Placed, Step, Keeping, head_of}
+use Rattle.btx_bib.specs.language.Grammar.Items.{Event, Comment, Preamble, Definition, Entry, FieldOf, ItemEnd as Close, Wrong, Placed, Step, StoredKeys, head_of}
 use Rattle.btx_bib.specs.language.Grammar.Items.{head_at, command_of, step_by, behind_at, expected_step, is_repeated, next_step, events_within, events_from}
 use Rattle.btx_bib.specs.language.Grammar.Values.{Part, Braced, Quoted, Digits, Named, value_at}
 use Rattle.btx_bib.specs.language.Grammar.ValueTexts.{text_of_part, shaped, value_text}
@@ -26,7 +26,7 @@ use Rattle.btx_bib.specs.language.Request.{Request}
 use Rattle.btx_bib.specs.language.Strings.{string_value, other_value, defined}
 use Rattle.btx_bib.specs.language.Entries.{Given}
 use Rattle.btx_bib.specs.language.Stored.{entry_with_key}
-use Rattle.btx_bib.specs.language.Known.{Known, goes_on, stored_in, with_current_stored, if_fits, after_field, after_event, known_after, keeping}
+use Rattle.btx_bib.specs.language.Known.{Known, goes_on, stored_in, with_current_stored, if_fits, after_field, after_event, known_after, stored_keys}
 use Rattle.btx_bib.specs.laws.Known.{after_all}
 use Rattle.btx_bib.specs.language.Messages.{Database}
 use Rattle.btx_bib.specs.language.Databases.{library_of, library_by}
@@ -151,7 +151,7 @@ followed-none : {A : Type 0} (read : Parsed A) (next : A → List ℕ → Parsed
 followed-none (Ok got) next h = h got.0 got.1
 followed-none (Err wrong) next h = tt
 
-head-none : (c : Command) (name text : List ℕ) → ReadNone (head_of c name text)
+head-none : (c : DatabaseCommand) (name text : List ℕ) → ReadNone (head_of c name text)
 unfolding head_of
 head-none command.Comment name text = tt
 head-none command.Preamble name text = followed-none (open_at text) _ (λ delimiter behind. followed-none (value_at behind) _ (λ value rest. tt))
@@ -204,7 +204,7 @@ alone-first (FieldOf field) next others h rest = absurd h
 alone-first Close next others h rest = rest h
 alone-first (Wrong slip) next others h rest = rest h
 
-within-none : {S : Type 0} (kept : Keeping S) (turns : ℕ) (state : S) (next : Next) (text : List ℕ) → WantsNone next
+within-none : {S : Type 0} (kept : StoredKeys S) (turns : ℕ) (state : S) (next : Next) (text : List ℕ) → WantsNone next
     → NoFieldFirst (alone (events_within kept turns state next text))
 unfolding events_within
 within-none kept zero state next text none = tt
@@ -219,7 +219,7 @@ within-none {S} kept (suc turns) state next text none =
 
 read-none : (wanted : Request) (known : Known) (database : Database) → NoFieldFirst (read_in wanted known database)
 unfolding events_from
-read-none wanted known database = within-none (keeping wanted) _ known Item database.text tt
+read-none wanted known database = within-none (stored_keys wanted) _ known Item database.text tt
 
 -- ---- an entry that is at its end
 
@@ -351,52 +351,52 @@ closed-entry wanted known kind key on =
 -- at most `turns` events are the same if the current entry is stored before them
 abbrev SameEvents : Request → ℕ → Type 0
 SameEvents wanted turns = (known : Known) (next : Next) (text : List ℕ) → WantsNone next ⊎ (goes_on known.ending ≡ false)
-    → events_within (keeping wanted) turns (with_current_stored known) next text ≡ events_within (keeping wanted) turns known next text
+    → events_within (stored_keys wanted) turns (with_current_stored known) next text ≡ events_within (stored_keys wanted) turns known next text
 
 events-after : (wanted : Request) (turns : ℕ) (known : Known) (event : Event) (next : Next) (text : List ℕ) → SameEvents wanted turns
     → goes_on known.ending ≡ true → BeginsNone event next
-    → events_within (keeping wanted) turns (known_after wanted (with_current_stored known) event) next text
-    ≡ events_within (keeping wanted) turns (known_after wanted known event) next text
-events-after wanted turns known (Entry kind key) next text later on none = ap (λ (k : Known). events_within (keeping wanted) turns k next text)
+    → events_within (stored_keys wanted) turns (known_after wanted (with_current_stored known) event) next text
+    ≡ events_within (stored_keys wanted) turns (known_after wanted known event) next text
+events-after wanted turns known (Entry kind key) next text later on none = ap (λ (k : Known). events_within (stored_keys wanted) turns k next text)
     (closed-entry wanted known kind key on)
 events-after wanted turns known (FieldOf field) next text later on none = absurd none
 events-after wanted turns known Comment next text later on none =
-    ap (λ (k : Known). events_within (keeping wanted) turns k next text) (closed-after wanted known Comment on refl)
+    ap (λ (k : Known). events_within (stored_keys wanted) turns k next text) (closed-after wanted known Comment on refl)
     ∙ later (known_after wanted known Comment) next text (inl none)
 events-after wanted turns known (Preamble value) next text later on none =
     let whole = known.preamble ++ value_text Kept (string_value known.strings) value in
-    ap (λ (k : Known). events_within (keeping wanted) turns k next text)
+    ap (λ (k : Known). events_within (stored_keys wanted) turns k next text)
     (closed-after wanted known (Preamble value) on (closed-fits whole known (record known { preamble = whole })))
     ∙ later (known_after wanted known (Preamble value)) next text (inl none)
 events-after wanted turns known (Definition name value) next text later on none =
     let string = value_text Kept (other_value known.strings name) value in
-    ap (λ (k : Known). events_within (keeping wanted) turns k next text)
+    ap (λ (k : Known). events_within (stored_keys wanted) turns k next text)
     (closed-after wanted known (Definition name value) on (closed-fits string known (record known { strings = defined known.strings name string })))
     ∙ later (known_after wanted known (Definition name value)) next text (inl none)
 events-after wanted turns known Close next text later on none =
-    ap (λ (k : Known). events_within (keeping wanted) turns k next text) (closed-after wanted known Close on refl)
+    ap (λ (k : Known). events_within (stored_keys wanted) turns k next text) (closed-after wanted known Close on refl)
     ∙ later (known_after wanted known Close) next text (inl none)
 events-after wanted turns known (Wrong slip) next text later on none =
-    ap (λ (k : Known). events_within (keeping wanted) turns k next text) (closed-after wanted known (Wrong slip) on refl)
+    ap (λ (k : Known). events_within (stored_keys wanted) turns k next text) (closed-after wanted known (Wrong slip) on refl)
     ∙ later (known_after wanted known (Wrong slip)) next text (inl none)
 
 events-ended : (wanted : Request) (turns : ℕ) (known : Known) (event : Event) (next : Next) (text : List ℕ) → SameEvents wanted turns
     → goes_on known.ending ≡ false
-    → events_within (keeping wanted) turns (known_after wanted (with_current_stored known) event) next text
-    ≡ events_within (keeping wanted) turns (known_after wanted known event) next text
+    → events_within (stored_keys wanted) turns (known_after wanted (with_current_stored known) event) next text
+    ≡ events_within (stored_keys wanted) turns (known_after wanted known event) next text
 events-ended wanted turns known event next text later over =
-    ap (λ (k : Known). events_within (keeping wanted) turns k next text) (after-ended wanted (with_current_stored known) event over)
+    ap (λ (k : Known). events_within (stored_keys wanted) turns k next text) (after-ended wanted (with_current_stored known) event over)
     ∙ later known next text (inr over)
-    ∙ sym (ap (λ (k : Known). events_within (keeping wanted) turns k next text) (after-ended wanted known event over))
+    ∙ sym (ap (λ (k : Known). events_within (stored_keys wanted) turns k next text) (after-ended wanted known event over))
 
 events-behind : (wanted : Request) (turns : ℕ) (known : Known) (event : Event) (next : Next) (text : List ℕ) → SameEvents wanted turns → BeginsNone event next
     ⊎ (goes_on known.ending ≡ false)
-    → events_within (keeping wanted) turns (known_after wanted (with_current_stored known) event) next text
-    ≡ events_within (keeping wanted) turns (known_after wanted known event) next text
+    → events_within (stored_keys wanted) turns (known_after wanted (with_current_stored known) event) next text
+    ≡ events_within (stored_keys wanted) turns (known_after wanted known event) next text
 events-behind wanted turns known event next text later (inr over) = events-ended wanted turns known event next text later over
 events-behind wanted turns known event next text later (inl none) = by_end (goes_on known.ending) refl where
-  by_end : (b : Bool) → goes_on known.ending ≡ b → events_within (keeping wanted) turns (known_after wanted (with_current_stored known) event) next text
-      ≡ events_within (keeping wanted) turns (known_after wanted known event) next text
+  by_end : (b : Bool) → goes_on known.ending ≡ b → events_within (stored_keys wanted) turns (known_after wanted (with_current_stored known) event) next text
+      ≡ events_within (stored_keys wanted) turns (known_after wanted known event) next text
   by_end true on = events-after wanted turns known event next text later on none
   by_end false over = events-ended wanted turns known event next text later over
 
@@ -404,24 +404,24 @@ events-closed : (wanted : Request) (turns : ℕ) → SameEvents wanted turns
 unfolding events_within
 events-closed wanted zero known next text h = refl
 events-closed wanted (suc turns) known next text h =
-    ap (λ (entries : List Given). events_by (keeping wanted) (events_within (keeping wanted) turns) (with_current_stored known)
+    ap (λ (entries : List Given). events_by (stored_keys wanted) (events_within (stored_keys wanted) turns) (with_current_stored known)
     (next_step (λ key. is_some (entry_with_key entries key)) next text)) (append-nil (stored_in known))
-    ∙ by_step (next_step ((keeping wanted).is_stored known) next text) (steps h) (events-closed wanted turns) where
-      steps : WantsNone next ⊎ (goes_on known.ending ≡ false) → StepNone (next_step ((keeping wanted).is_stored known) next text)
+    ∙ by_step (next_step ((stored_keys wanted).is_stored known) next text) (steps h) (events-closed wanted turns) where
+      steps : WantsNone next ⊎ (goes_on known.ending ≡ false) → StepNone (next_step ((stored_keys wanted).is_stored known) next text)
           ⊎ (goes_on known.ending ≡ false)
-      steps (inl none) = inl (known-none ((keeping wanted).is_stored known) (expected_step next text) (step-none next text none))
+      steps (inl none) = inl (known-none ((stored_keys wanted).is_stored known) (expected_step next text) (step-none next text none))
       steps (inr over) = inr over
 
       by_step : (o : Option Step) → StepNone o ⊎ (goes_on known.ending ≡ false) → SameEvents wanted turns
-          → events_by (keeping wanted) (events_within (keeping wanted) turns) (with_current_stored known) o
-          ≡ events_by (keeping wanted) (events_within (keeping wanted) turns) known o
+          → events_by (stored_keys wanted) (events_within (stored_keys wanted) turns) (with_current_stored known) o
+          ≡ events_by (stored_keys wanted) (events_within (stored_keys wanted) turns) known o
       by_step None none later = refl
       by_step (Some step) none later =
           ap (λ (events : List Placed). record { event = step.event; rest = step.rest } ∷ events)
           (events-behind wanted turns known step.event step.wanted step.rest later none)
 
-events_from-closed : (wanted : Request) (known : Known) (text : List ℕ) → events_from (keeping wanted) (with_current_stored known) Item text
-    ≡ events_from (keeping wanted) known Item text
+events_from-closed : (wanted : Request) (known : Known) (text : List ℕ) → events_from (stored_keys wanted) (with_current_stored known) Item text
+    ≡ events_from (stored_keys wanted) known Item text
 unfolding events_from
 events_from-closed wanted known text = events-closed wanted _ known Item text (inl tt)
 
@@ -466,13 +466,13 @@ cut-is-read : (wanted : Request) (known : Known) (whole first second : Database)
 cut-is-read wanted known whole first second cut on short =
     let events = database_events wanted known first in
     let middle = after_all wanted known events in
-    let behind = events_from (keeping wanted) middle Item second.text in
-    let reading = reading-on second.text (keeping wanted) (after-on wanted second.text) events behind known Item first.text cut.1
-    (is_reading (keeping wanted) known Item first.text) (is_reading (keeping wanted) middle Item second.text) in
-    let is = one_reading (keeping wanted) (map (placed_on second.text) events ++ behind) known Item (first.text ++ second.text) reading in
+    let behind = events_from (stored_keys wanted) middle Item second.text in
+    let reading = reading-on second.text (stored_keys wanted) (after-on wanted second.text) events behind known Item first.text cut.1
+    (is_reading (stored_keys wanted) known Item first.text) (is_reading (stored_keys wanted) middle Item second.text) in
+    let is = one_reading (stored_keys wanted) (map (placed_on second.text) events ++ behind) known Item (first.text ++ second.text) reading in
     let left : known_one wanted known first ≡ with_current_stored middle = is-read wanted known first on short
     ∙ ap with_current_stored (alone-all wanted known events) in
-    ap (λ (text : List ℕ). alone (events_from (keeping wanted) known Item text)) cut.0
+    ap (λ (text : List ℕ). alone (events_from (stored_keys wanted) known Item text)) cut.0
     ∙ ap alone (sym is)
     ∙ alone-behind second.text events behind
     ∙ ap (λ (others : List Placed). alone events ++ alone others) (sym (events_from-closed wanted middle second.text))

@@ -9,7 +9,7 @@ use Rattle.std.proofs.lemmas.List.{length-map, map-append}
 use Rattle.btx_text.specs.language.Keys.{folded}
 use Rattle.btx_aux.specs.language.Names.{is_same_key}
 use Rattle.btx_aux.specs.refinement.Entries.{Bytes, texts_of}
-use Rattle.btx_bib.specs.declared.draft.Draft.{Draft}
+use Rattle.btx_bib.specs.declared.draft.ListBuilder.{ListBuilder}
 use Rattle.btx_bib.specs.declared.slots.Slot.{Slot}
 use Rattle.btx_bib.specs.language.Listing.{first_cited}
 use Rattle.btx_bib.specs.language.Request.{Request}
@@ -17,7 +17,7 @@ use Rattle.btx_bib.specs.refinement.Drafts.{cited_all, cited_at, empty, open_slo
 use Rattle.btx_bib.specs.refinement.Finding.{first_place}
 
 -- the list that has exactly these cited keys
-abbrev listed : Request → List (List ℕ) → Draft
+abbrev listed : Request → List (List ℕ) → ListBuilder
 listed wanted keys = record { names = map folded keys; slots = map (open_slot wanted true 0) keys }
 
 -- ---- no two keys are equal without case
@@ -66,7 +66,7 @@ cited-apart wanted before [] distinct = ap (listed wanted) (sym (append-nil befo
 cited-apart wanted before (key ∷ keys) distinct =
     let joined = append_assoc before (key ∷ []) keys in
     ap (λ (place : Option ℕ). cited_all wanted (cited_at wanted key (listed wanted before) place) keys) (apart before keys key distinct)
-    ∙ ap (λ (draft : Draft). cited_all wanted draft keys) (cited_at-new wanted before key)
+    ∙ ap (λ (draft : ListBuilder). cited_all wanted draft keys) (cited_at-new wanted before key)
     ∙ cited-apart wanted (before ++ key ∷ []) keys (subst (IsDistinct is_same_key) (sym joined) distinct)
     ∙ ap (listed wanted) joined
 

@@ -6,19 +6,19 @@ use Rattle.std.specs.Option.{option_map}
 use Rattle.btx_text.specs.language.Keys.{folded}
 use Rattle.btx_text.specs.language.Limits.{greatest_string}
 use Rattle.btx_aux.specs.language.Names.{is_same_key}
-use Rattle.btx_bib.specs.declared.draft.Draft.{Draft}
-use Rattle.btx_bib.specs.declared.draft.Standing.{Standing}
-use Rattle.btx_bib.specs.declared.draft.Standing.TheVariants as standing
+use Rattle.btx_bib.specs.declared.draft.ListBuilder.{ListBuilder}
+use Rattle.btx_bib.specs.declared.draft.StoreDecision.{StoreDecision}
+use Rattle.btx_bib.specs.declared.draft.StoreDecision.TheVariants as decision
 use Rattle.btx_bib.specs.declared.end.End.TheVariants.{StringLimit}
 use Rattle.btx_bib.specs.declared.gathering.Gathering.{Gathering}
 use Rattle.btx_bib.specs.declared.gathering.Pending.{Pending}
 use Rattle.btx_bib.specs.declared.grammar.value_ends.Ends.TheVariants.{Kept, Trimmed}
 use Rattle.btx_bib.specs.declared.message.Message.TheVariants as message
 use Rattle.btx_bib.specs.language.Grammar.Fields.{Field}
-use Rattle.btx_bib.specs.language.Grammar.Items.{Event, Comment, Preamble, Definition, Entry, FieldOf, End, Wrong, is_repeated}
+use Rattle.btx_bib.specs.language.Grammar.Items.{Event, Comment, Preamble, Definition, Entry, FieldOf, ItemEnd, Wrong, is_repeated}
 use Rattle.btx_bib.specs.language.Grammar.ValueTexts.{value_text}
 use Rattle.btx_bib.specs.language.Known.{Known, with_current_stored, after_event, after_field, if_fits, stored_in}
-use Rattle.btx_bib.specs.language.Messages.{Database, event_messages, field_messages, spot_at, spot_before, value_messages}
+use Rattle.btx_bib.specs.language.Messages.{Database, event_messages, field_messages, position_at, position_before, value_messages}
 use Rattle.btx_bib.specs.language.Request.{Request}
 use Rattle.btx_bib.specs.language.Entries.{Given, body_of, field_values}
 use Rattle.btx_bib.specs.refinement.Finding.{changed_at}
@@ -63,7 +63,7 @@ module _ (wanted : Request) where
       → closed_by wanted (kept_of (record known { current = current })) (option_map pending_of current)
       ≡ kept_of (record known { stored = known.stored ++ option_to_list current; current = None })
   closed-by known None covered new = ap (λ (stored : List Given). kept_of (record known { stored = stored; current = None })) (sym (append-nil known.stored))
-  closed-by known (Some given) covered new = ap (λ (d : Draft). record (kept_of known) { draft = d; current = None })
+  closed-by known (Some given) covered new = ap (λ (d : ListBuilder). record (kept_of known) { draft = d; current = None })
       (stored_at-draft wanted known.stored given new.1 covered new.0)
 
   pub closed-kept : (known : Known) → Sound known → closed wanted (kept_of known) ≡ kept_of (with_current_stored known)
@@ -78,21 +78,21 @@ module _ (wanted : Request) where
 
   -- ---- which keys are stored
 
-  is_repeated_standing : Standing → Bool
-  is_repeated_standing standing.Unwanted = false
-  is_repeated_standing standing.Expected = false
-  is_repeated_standing standing.Repeated = true
+  is_repeated_standing : StoreDecision → Bool
+  is_repeated_standing decision.Unwanted = false
+  is_repeated_standing decision.Expected = false
+  is_repeated_standing decision.Repeated = true
 
   new-standing : (all : Option ℕ) → is_repeated_standing (new_standing all) ≡ false
   unfolding is_repeated_standing
   new-standing None = refl
   new-standing (Some place) = refl
 
-  standing-has : (d : Draft) (o : Option ℕ) → is_repeated_standing (standing_at wanted d o) ≡ has_entry d o
+  standing-has : (d : ListBuilder) (o : Option ℕ) → is_repeated_standing (standing_at wanted d o) ≡ has_entry d o
   unfolding is_repeated_standing
   standing-has d None = new-standing wanted.all
   standing-has d (Some place) = at (has_body (slice_get d.slots place)) where
-    at : (b : Bool) → is_repeated_standing (if b then standing.Repeated else standing.Expected) ≡ b
+    at : (b : Bool) → is_repeated_standing (if b then decision.Repeated else decision.Expected) ≡ b
     at true = refl
     at false = refl
 
@@ -159,7 +159,7 @@ module _ (wanted : Request) where
   entered-logged database known kind key rest sound new = ap (messages_of_standing wanted database kind key rest) (standing-new known key sound new)
       ∙ at (is_wanted wanted (stored_in known) key) where
         at : (asks : Bool) → messages_of_standing wanted database kind key rest (standing_of wanted false asks)
-            ≡ (if asks then type_messages key (wanted.kind (folded kind)) (spot_at database rest) else [])
+            ≡ (if asks then type_messages key (wanted.kind (folded kind)) (position_at database rest) else [])
         at true = refl
         at false = refl
 
@@ -233,7 +233,7 @@ module _ (wanted : Request) where
   fielded-logged database strings field rest None = refl
   fielded-logged database strings field rest (Some given) = at (wanted.field (folded field.name)) where
     at : (o : Option ℕ) → messages_of_number database strings (pending_of given) field rest o
-        ≡ (if is_some (value_by o (field_values wanted given.fields)) then message.ExtraField given.key field.name (spot_before database rest)
+        ≡ (if is_some (value_by o (field_values wanted given.fields)) then message.ExtraField given.key field.name (position_before database rest)
         ∷ [] else if is_some o then value_messages database strings None field.value else [])
     at None = refl
     at (Some number) = refl
@@ -278,7 +278,7 @@ module _ (wanted : Request) where
       fits (nat_lt greatest_string (length text)) known (record known { strings = defined known.strings name text })
   event-kept known (Entry kind key) sound fresh = entered-kept known kind key sound fresh
   event-kept known (FieldOf field) sound fresh = fielded-kept known field known.current refl
-  event-kept known End sound fresh = refl
+  event-kept known ItemEnd sound fresh = refl
   event-kept known (Wrong slip) sound fresh = refl
 
   pub event-said : (database : Database) (known : Known) (event : Event) (rest : List ℕ) → Sound known → IsFresh known event
@@ -288,7 +288,7 @@ module _ (wanted : Request) where
   event-said database known (Definition name value) rest sound fresh = refl
   event-said database known (Entry kind key) rest sound fresh = entered-logged database known kind key rest sound fresh
   event-said database known (FieldOf field) rest sound fresh = fielded-logged database known.strings field rest known.current
-  event-said database known End rest sound fresh = refl
+  event-said database known ItemEnd rest sound fresh = refl
   event-said database known (Wrong slip) rest sound fresh = refl
 
   pub event-sound : (known : Known) (event : Event) → Sound known → IsFresh known event → Sound (after_event wanted known event)
@@ -301,5 +301,5 @@ module _ (wanted : Request) where
       sound-fits (nat_lt greatest_string (length text)) known (record known { strings = defined known.strings name text }) sound sound
   event-sound known (Entry kind key) sound fresh = entered-sound known kind key sound fresh
   event-sound known (FieldOf field) sound fresh = fielded-sound known field known.current refl sound
-  event-sound known End sound fresh = sound
+  event-sound known ItemEnd sound fresh = sound
   event-sound known (Wrong slip) sound fresh = sound

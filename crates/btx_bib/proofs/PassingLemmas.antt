@@ -1,6 +1,6 @@
 -- What isn't stored is passed over: nothing is kept of it, and nothing logged.
 use Rattle.std.proofs.Common.{◌≡◌, ℕ, ◌<◌, Bool, true, false, if◌then◌else◌, ◌||◌, List, [], ◌++◌, length, Option, None, Some, refl, sym, ap, ◌∙◌, arith}
-use Rattle.btx_bib.specs.declared.draft.Standing.TheVariants as standing
+use Rattle.btx_bib.specs.declared.draft.StoreDecision.TheVariants as decision
 use Rattle.btx_bib.specs.declared.gathering.Gathering.{Gathering}
 use Rattle.btx_bib.specs.declared.gathering.Pending.{Pending}
 use Rattle.btx_bib.specs.declared.grammar.commands.Expected.{Expected as Next}
@@ -8,7 +8,7 @@ use Rattle.btx_bib.specs.declared.grammar.commands.Expected.TheVariants.{Item}
 use Rattle.btx_bib.specs.declared.grammar.item_readers.EntryHead.{EntryHead}
 use Rattle.btx_bib.specs.declared.grammar.slip.SyntaxError.TheVariants.{Repeated}
 use Rattle.btx_bib.specs.declared.message.Message.{Message}
-use Rattle.btx_bib.specs.language.Grammar.Items.{Event, End, FieldOf, Wrong, Step, expected_step, next_step}
+use Rattle.btx_bib.specs.language.Grammar.Items.{Event, ItemEnd, FieldOf, Wrong, Step, expected_step, next_step}
 use Rattle.btx_bib.specs.language.Known.{goes_on}
 use Rattle.btx_bib.specs.language.Messages.{Database}
 use Rattle.btx_bib.specs.language.Request.{Request}
@@ -23,11 +23,11 @@ use Rattle.btx_bib.proofs.GatheringLemmas.{turn-along, turn-logged}
 use Rattle.btx_bib.proofs.GrammarLemmas.LengthLemmas.{events-less}
 
 -- an entry that isn't wanted isn't stored
-unwanted_unstored : (wanted : Request) (kept : Gathering) (place : Option ℕ) → standing_at wanted kept.draft place ≡ standing.Unwanted
+unwanted_unstored : (wanted : Request) (kept : Gathering) (place : Option ℕ) → standing_at wanted kept.draft place ≡ decision.Unwanted
     → has_entry kept.draft place ≡ false
 unwanted_unstored wanted kept None h = refl
 unwanted_unstored wanted kept (Some place) h = at (has_entry kept.draft (Some place)) h where
-  at : (t : Bool) → (if t then standing.Repeated else standing.Expected) ≡ standing.Unwanted → t ≡ false
+  at : (t : Bool) → (if t then decision.Repeated else decision.Expected) ≡ decision.Unwanted → t ≡ false
   at true h = cc
   at false h = refl
 
@@ -79,13 +79,13 @@ module _ (wanted : Request) (kept : Gathering) where
       -- the end of an entry, or nothing
       pub goes-end : (left : Bool) (from to : Next × List ℕ) → IsLeft left from to → GoesOn wanted kept from to
       goes-end true from to h =
-          let step : Step = record { event = End; wanted = Item; rest = to.1 } in
+          let step : Step = record { event = ItemEnd; wanted = Item; rest = to.1 } in
           let goes = goes-turn from step (ap (known_step (is_kept kept)) h.0) refl (λ database. refl) in
           rw h.1 goes
       goes-end false from to h = rw h (goes-none from)
 
       module _ (place : Next × List ℕ) (head : EntryHead) (stands : expected_step place.0 place.1 ≡ Some (entry_step head))
-          (unwanted : standing_at wanted kept.draft (place_in kept.draft head.key.now) ≡ standing.Unwanted) where
+          (unwanted : standing_at wanted kept.draft (place_in kept.draft head.key.now) ≡ decision.Unwanted) where
         unkept : is_kept kept head.key.now ≡ false
         unkept = ap (λ (c : Option Pending). is_pending c head.key.now || has_entry kept.draft (place_in kept.draft head.key.now)) none
             ∙ unwanted_unstored wanted kept (place_in kept.draft head.key.now) unwanted

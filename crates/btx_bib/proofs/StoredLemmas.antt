@@ -9,13 +9,13 @@ use Rattle.btx_bib.specs.declared.grammar.commands.Expected.TheVariants.{Item}
 use Rattle.btx_bib.specs.declared.grammar.slip.SyntaxError.TheVariants.{Repeated}
 use Rattle.btx_bib.specs.declared.grammar.value_ends.Ends.TheVariants.{Kept, Trimmed}
 use Rattle.btx_bib.specs.language.Grammar.Fields.{Field}
-use Rattle.btx_bib.specs.language.Grammar.Items.{Event, Comment, Preamble, Definition, Entry, FieldOf, End as Close, Wrong}
+use Rattle.btx_bib.specs.language.Grammar.Items.{Event, Comment, Preamble, Definition, Entry, FieldOf, ItemEnd as Close, Wrong}
 use Rattle.btx_bib.specs.language.Grammar.ValueTexts.{value_text}
 use Rattle.btx_bib.specs.language.Request.{Request}
 use Rattle.btx_bib.specs.language.Strings.{string_value, other_value, defined}
 use Rattle.btx_bib.specs.language.Entries.{Given}
 use Rattle.btx_bib.specs.language.Stored.{entry_with_key, is_wanted, parents_in}
-use Rattle.btx_bib.specs.language.Known.{Known, goes_on, stored_in, with_current_stored, if_fits, after_field, after_event, known_after, keeping}
+use Rattle.btx_bib.specs.language.Known.{Known, goes_on, stored_in, with_current_stored, if_fits, after_field, after_event, known_after, stored_keys}
 use Rattle.btx_bib.specs.laws.Storing.{is_asked_for, is_entry, WantedNewAreStored, OthersStoreNone}
 use Rattle.btx_bib.proofs.ListedKeyLemmas.{is_any_key-append}
 use Rattle.std.specs.Prelude.{option_to_list}
@@ -50,10 +50,10 @@ and-true false = refl
 
 -- the keys that are stored are those of the entries, with the one that is being read
 abbrev pub KnowsStored : Type 0
-KnowsStored = (wanted : Request) (known : Known) (key : List ℕ) → (keeping wanted).is_stored known key ≡ is_any_key (keys_in (stored_in known)) key
+KnowsStored = (wanted : Request) (known : Known) (key : List ℕ) → (stored_keys wanted).is_stored known key ≡ is_any_key (keys_in (stored_in known)) key
 
 pub wanted-new-are-stored : KnowsStored → WantedNewAreStored
-wanted-new-are-stored knows wanted known kind key next on = by_stored ((keeping wanted).is_stored known key) (knows wanted known key) where
+wanted-new-are-stored knows wanted known kind key next on = by_stored ((stored_keys wanted).is_stored known key) (knows wanted known key) where
   stored : List Given
   stored = stored_in known
 

@@ -9,9 +9,9 @@ use Rattle.std.proofs.lemmas.Bool.{or_parts}
 use Rattle.std.proofs.lemmas.Grind.{fold-append}
 use Rattle.btx_text.specs.language.Keys.{folded}
 use Rattle.btx_aux.specs.language.Names.{is_same_key, listed_as, with_key}
-use Rattle.btx_bib.specs.declared.draft.Draft.{Draft}
-use Rattle.btx_bib.specs.declared.draft.Standing.{Standing}
-use Rattle.btx_bib.specs.declared.draft.Standing.TheVariants as standing
+use Rattle.btx_bib.specs.declared.draft.ListBuilder.{ListBuilder}
+use Rattle.btx_bib.specs.declared.draft.StoreDecision.{StoreDecision}
+use Rattle.btx_bib.specs.declared.draft.StoreDecision.TheVariants as decision
 use Rattle.btx_bib.specs.declared.slots.Slot.{Slot as CodeSlot}
 use Rattle.btx_bib.specs.language.Request.{Request}
 use Rattle.btx_bib.specs.refinement.Finding.{first_place, changed_at}
@@ -125,7 +125,7 @@ module _ (wanted : Request) where
       let cited = listed_as wanted.cited key in
       slot_by wanted (is_some cited) key cited (entry_with_key stored key) (count_by (is_same_key key) (references wanted stored))
 
-  abbrev pub draft : List Given → Draft
+  abbrev pub draft : List Given → ListBuilder
   draft stored = record { names = map folded (keys stored); slots = map (slot stored) (keys stored) }
 
   -- the key of each stored entry was asked for
@@ -244,7 +244,7 @@ module _ (wanted : Request) where
         ∙ map-same (changed_key (slot stored) change entry.key) between filled-key (keys stored)
 
     -- what is kept, with these keys and references
-    abbrev shape : List (List ℕ) → List (List ℕ) → Draft
+    abbrev shape : List (List ℕ) → List (List ℕ) → ListBuilder
     shape ks parents = record { names = map folded ks; slots = map (by_parents parents) ks }
 
     -- ---- its parent, without `*`
@@ -432,17 +432,17 @@ module _ (wanted : Request) where
         by_entry (Some e) = refl
 
   -- how an entry stands, by whether one of its key is stored, and whether it is wanted
-  abbrev pub standing_of : Bool → Bool → Standing
-  standing_of repeated asks = if repeated then standing.Repeated else (if asks then standing.Expected else standing.Unwanted)
+  abbrev pub standing_of : Bool → Bool → StoreDecision
+  standing_of repeated asks = if repeated then decision.Repeated else (if asks then decision.Expected else decision.Unwanted)
 
   standing-new : (stored : List Given) (key : List ℕ) → (all : Option ℕ) → wanted.all ≡ all → is_any_key (asked stored) key ≡ false
-      → new_standing all ≡ (if is_wanted wanted stored key then standing.Expected else standing.Unwanted)
+      → new_standing all ≡ (if is_wanted wanted stored key then decision.Expected else decision.Unwanted)
   standing-new stored key None plain unasked =
       let same : is_wanted wanted stored key ≡ is_any_key (asked stored) key = rw plain refl in
-      ap (λ (b : Bool). if b then standing.Expected else standing.Unwanted) (sym unasked ∙ sym same)
+      ap (λ (b : Bool). if b then decision.Expected else decision.Unwanted) (sym unasked ∙ sym same)
   standing-new stored key (Some place) starred unasked =
       let asks : is_wanted wanted stored key ≡ true = rw starred refl in
-      ap (λ (b : Bool). if b then standing.Expected else standing.Unwanted) (sym asks)
+      ap (λ (b : Bool). if b then decision.Expected else decision.Unwanted) (sym asks)
 
   wanted-listed : (stored : List Given) (key : List ℕ) → (all : Option ℕ) → wanted.all ≡ all → is_any_key (asked stored) key ≡ true
       → is_wanted wanted stored key ≡ true
@@ -463,7 +463,7 @@ module _ (wanted : Request) where
       let found = at_place (slot stored) (keys stored) key place at in
       let there : is_any_key (asked stored) key ≡ true = sym (listed_keys stored key) ∙ place_of-some (keys stored) key place at in
       let asks : is_wanted wanted stored key ≡ true = wanted-listed stored key wanted.all refl there in
-      ap (λ (b : Bool). if b then standing.Repeated else standing.Expected) (ap has_body found.1.1 ∙ has-body stored key found.0 found.1.0)
+      ap (λ (b : Bool). if b then decision.Repeated else decision.Expected) (ap has_body found.1.1 ∙ has-body stored key found.0 found.1.0)
       ∙ ap (λ (w : Bool). standing_of (is_some (entry_with_key stored key)) w) (sym asks)
 
   pub standing-draft : (stored : List Given) (key : List ℕ) → Covered stored
@@ -479,7 +479,7 @@ module _ (wanted : Request) where
       ∙ listed_as-first done key rest (or_parts (is_same_key key k) (is_any_key done key) none).1
 
   -- the list with these keys, where no reference counts
-  abbrev pub listing : List Given → List (List ℕ) → Draft
+  abbrev pub listing : List Given → List (List ℕ) → ListBuilder
   listing stored ks = record { names = map folded ks; slots = map (slot stored) ks }
 
   module _ (stored : List Given) (uncounted : references wanted stored ≡ []) where
@@ -535,7 +535,7 @@ module _ (wanted : Request) where
         → cited_all wanted (listing stored ks) more ≡ listing stored (fold with_key ks more)
     cited_all-listing [] done ks rest parts begun = refl
     cited_all-listing (key ∷ more) done ks rest parts begun =
-        ap (λ (d : Draft). cited_all wanted d more) (cited-listing done ks (more ++ rest) key parts begun (place_in (listing stored ks) key) refl)
+        ap (λ (d : ListBuilder). cited_all wanted d more) (cited-listing done ks (more ++ rest) key parts begun (place_in (listing stored ks) key) refl)
         ∙ cited_all-listing more (done ++ key ∷ []) (with_key ks key) rest (parts ∙ sym (append_assoc done (key ∷ []) (more ++ rest)))
         (Begun-next done ks key begun)
 

@@ -3,7 +3,7 @@ use Rattle.std.proofs.Common.{◌≡◌, ℕ, zero, suc, Bool, true, false, if�
 use Rattle.std.proofs.Common.{◌∙◌}
 use Rattle.std.specs.Prelude.{nat_lt, slice_get}
 use Rattle.btx_text.specs.language.Limits.{greatest_string}
-use Rattle.btx_bib.specs.declared.draft.Draft.{Draft}
+use Rattle.btx_bib.specs.declared.draft.ListBuilder.{ListBuilder}
 use Rattle.btx_bib.specs.declared.end.End.{End}
 use Rattle.btx_bib.specs.declared.end.End.TheVariants as end
 use Rattle.btx_bib.specs.declared.gathering.Gathering.{Gathering}
@@ -50,7 +50,7 @@ macro-none macros i next before is at = ap (λ (n : ℕ). kept_macros before (dr
 
 module _ (wanted : Request) where
   start-kept : nothing_gathered wanted ≡ kept_of wanted nothing
-  start-kept = ap (λ (d : Draft). record { draft = d; strings = []; current = None; preamble = []; ending = end.Whole }) (first-draft wanted)
+  start-kept = ap (λ (d : ListBuilder). record { draft = d; strings = []; current = None; preamble = []; ending = end.Whole }) (first-draft wanted)
 
   macro-kept : (known : Known) (macro : List ℕ × List ℕ) → kept_macro (kept_of wanted known) macro ≡ kept_of wanted (with_macro known macro)
   macro-kept known macro = at (goes_on known.ending) (nat_lt greatest_string (length (squeezed macro.1))) where
@@ -93,7 +93,7 @@ module _ (wanted : Request) where
         ending =
             end.Whole;
       })
-      (ap (λ (d : Draft). settled_all d.slots) (last-draft wanted known.stored sound.0) ∙ slots-listing wanted known.stored)
+      (ap (λ (d : ListBuilder). settled_all d.slots) (last-draft wanted known.stored sound.0) ∙ slots-listing wanted known.stored)
   library-same known messages sound end.FileLimit = refl
   library-same known messages sound end.StringLimit = refl
 

@@ -10,7 +10,7 @@ use Rattle.btx_bib.specs.language.Grammar.ByteSets.{longest_run_len, enclosed_le
 use Rattle.btx_bib.specs.language.Grammar.Tokens.{name_here, open_in, sign_in, key_here}
 use Rattle.btx_bib.specs.language.Grammar.Values.{part_in, value_within, value_at}
 use Rattle.btx_bib.specs.language.Grammar.Fields.{field_at, after_comma, more_in}
-use Rattle.btx_bib.specs.language.Grammar.Items.{Comment, End, Wrong, command_of, head_of, head_at, behind_at, expected_step, events_within, events_from}
+use Rattle.btx_bib.specs.language.Grammar.Items.{Comment, ItemEnd, Wrong, command_of, head_of, head_at, behind_at, expected_step, events_within, events_from}
 use Rattle.btx_bib.specs.language.Grammar.ValueTexts.{squeezed}
 use Rattle.btx_bib.specs.language.Grammar.PlaceLines.{lines_begun}
 use Rattle.btx_bib.specs.laws.Grammar.WorkedTexts.{texts, value_texts, AreEvents, AreValueTexts}
@@ -85,12 +85,12 @@ unfolding events_from events_within expected_step behind_at head_at head_of comm
 cuts-worked = ((refl, inl refl), ((refl, tt), ((refl, inr (inl (omega arith))), ((refl, inr (inr (refl, refl))), ((refl, inr (inr (refl, refl))), tt)))))
 
 -- what was read last is open: at the end of the text a fault, or a comment whose name goes on
-fault-open : (text : List ℕ) → (Wrong EndOfFile ≡ End) ⊎ ((0 < 0) ⊎ ((Wrong EndOfFile ≡ Comment) × EndsName text)) → ⊥
+fault-open : (text : List ℕ) → (Wrong EndOfFile ≡ ItemEnd) ⊎ ((0 < 0) ⊎ ((Wrong EndOfFile ≡ Comment) × EndsName text)) → ⊥
 fault-open text (inl e) = cc
 fault-open text (inr (inl less)) = omega (arith, less)
 fault-open text (inr (inr (e, ends))) = cc
 
-comment-open : (Comment ≡ End) ⊎ ((0 < 0) ⊎ ((Comment ≡ Comment) × (true ≡ false))) → ⊥
+comment-open : (Comment ≡ ItemEnd) ⊎ ((0 < 0) ⊎ ((Comment ≡ Comment) × (true ≡ false))) → ⊥
 comment-open (inl e) = cc
 comment-open (inr (inl less)) = omega (arith, less)
 comment-open (inr (inr (e, goes_on))) = true≢false goes_on

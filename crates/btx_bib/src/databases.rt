@@ -1,5 +1,5 @@
 //! The reading of databases.
-use crate::draft::Draft;
+use crate::draft::ListBuilder;
 use crate::end::End;
 use crate::gathering::{Gathering, fitting};
 use crate::grammar::line_counter::LineCounter;
@@ -8,7 +8,7 @@ use crate::library::Library;
 use crate::message::Messages;
 use crate::reading::Reading;
 use crate::request::Request;
-use crate::site::Site;
+use crate::site::LineSource;
 use crate::spelling::Word;
 use crate::strings::StringTable;
 use btx_aux::AuxJob;
@@ -45,7 +45,7 @@ impl<'a> Gathering<'a> {
             (events_with (wanted request.now) self.old next.Item database.now.1.now)) }
     {
         let (name, text) = *database;
-        let site = Site {
+        let site = LineSource {
             file: Word::new(name),
             lines: LineCounter::of(text),
         };
@@ -108,7 +108,7 @@ impl<'a> Gathering<'a> {
         ensures { IfOk result (λ kept. kept ≡ kept_macros (nothing_gathered (wanted request.now)) macros.now) }
     {
         let mut gathering = Gathering {
-            draft: Draft::of_cited(alloc, request)?,
+            draft: ListBuilder::of_cited(alloc, request)?,
             strings: StringTable::new(alloc),
             current: None,
             preamble: Text::empty(),

@@ -13,14 +13,14 @@ use std::alloc::{AllocError, Global};
 
 /// The keys of the list in lower case, and its places.
 #[derive(Drop)]
-pub struct Draft<'a> {
+pub struct ListBuilder<'a> {
     pub names: Names<'a>,
     pub slots: Slots<'a>,
 }
 
 /// How an entry stands when its key was read.
 #[derive(Clone, Copy)]
-pub enum Standing {
+pub enum StoreDecision {
     /// It isn't stored.
     Unwanted,
     /// An entry with its key is stored.
@@ -29,7 +29,7 @@ pub enum Standing {
     Expected,
 }
 
-impl<'a> Draft<'a> {
+impl<'a> ListBuilder<'a> {
     ghost use Rattle.std.specs.Prelude.{◌≡◌, ◌++◌, OnOk, IfOk};
     ghost use Rattle.btx_aux.specs.refinement.Entries.{texts_of};
     ghost use Rattle.btx_bib.specs.refinement.Drafts.{cited_all, cited_at, empty, has_entry, place_in, referred, referred_at, settled_all, standing_at};
@@ -40,12 +40,12 @@ impl<'a> Draft<'a> {
     ghost use Rattle.btx_bib.specs.language.Listing.{first_cited};
 
     /// The list with the cited keys that it begins with, no two of which are equal without case.
-    pub fn of_cited(alloc: Global, request: &Request<'_, 'a>) -> Result<Draft<'a>, AllocError>
+    pub fn of_cited(alloc: Global, request: &Request<'_, 'a>) -> Result<ListBuilder<'a>, AllocError>
         ensures { IfOk result (λ draft. draft ≡ cited_all (wanted request.now) empty (first_cited request.now.all request.now.job.now.keys)) }
     {
         request.job.keys_differ();
         let cited = request.first_cited();
-        Ok(Draft {
+        Ok(ListBuilder {
             names: Names::of(alloc, request.job, cited.len())?,
             slots: request.cited_slots(alloc, cited)?,
         })
@@ -99,7 +99,7 @@ impl<'a> Draft<'a> {
         ensures entries { IfOk result (λ entries. entries.items ≡ entries_of (settled_all self.entry.slots)) }
         ensures messages { OnOk result (messages.new ≡ messages.old ++ reference_messages (settled_all self.entry.slots)) }
     {
-        let Draft { names, slots } = self;
+        let ListBuilder { names, slots } = self;
         entries_of(slots, alloc, names, messages)
     }
 
@@ -133,17 +133,17 @@ impl<'a> Draft<'a> {
         alloc: Global,
         request: &Request<'_, '_>,
         key: &[u8],
-    ) -> Result<Standing, AllocError>
+    ) -> Result<StoreDecision, AllocError>
         ensures { IfOk result (λ standing. standing ≡ standing_at (wanted request.now) self.now (place_in self.now key.now)) }
     {
         let lowered = Lowered::of(alloc, key)?;
         let Some(place) = self.names.position(lowered.as_bytes()) else {
-            return Ok(request.standing_of_new());
+            return Ok(request.decision_of_new());
         };
         if self.slots.has_body(place) {
-            return Ok(Standing::Repeated);
+            return Ok(StoreDecision::Repeated);
         }
-        Ok(Standing::Expected)
+        Ok(StoreDecision::Expected)
     }
 
     /// Whether an entry with this key is stored.

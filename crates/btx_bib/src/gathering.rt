@@ -1,5 +1,5 @@
 //! What is known of databases while they are read.
-use crate::draft::{Draft, Standing};
+use crate::draft::{ListBuilder, StoreDecision};
 use crate::end::End;
 use crate::grammar::events::Event;
 use crate::grammar::fields::Field;
@@ -13,7 +13,7 @@ use crate::reading::Reading;
 use crate::request::Request;
 use crate::slots::Body;
 use crate::spelling::Word;
-use crate::strings::{Others, StringTable};
+use crate::strings::{StringTable, StringsWithout};
 use crate::values::Values;
 use btx_text::{Fault, GREATEST_STRING, Text, same_key};
 use std::alloc::{AllocError, Global};
@@ -48,7 +48,7 @@ pub struct Pending<'a> {
 #[derive(Drop)]
 pub struct Gathering<'a> {
     /// The list of keys.
-    pub draft: Draft<'a>,
+    pub draft: ListBuilder<'a>,
     /// The strings.
     pub strings: StringTable<'a>,
     /// The stored entry that is being read.
@@ -84,7 +84,7 @@ impl<'a> Pending<'a> {
             return Ok(true);
         };
         if self.body.values.has(number) {
-            let spot = reading.site.spot_before(rest);
+            let spot = reading.site.position_before(rest);
             let message = Message::ExtraField(self.key.copy(), Word::new(field.name), spot);
             reading.messages.push(message)?;
             return Ok(true);
@@ -103,7 +103,7 @@ impl<'a> Pending<'a> {
 
     // Takes a field in its plainest form, where no message comes of it. Answers whether it did.
     #[inline(always)]
-    fn take_plainly(
+    fn take_fast_field(
         &mut self,
         alloc: Global,
         request: &Request<'_, 'a>,
@@ -133,7 +133,7 @@ impl<'a> Pending<'a> {
 
 impl<'a> Gathering<'a> {
     ghost use Rattle.std.specs.Prelude.{◌≡◌, ◌≤◌, ◌++◌, None, Some, true, not, length, IfOk, OnOk};
-    ghost use Rattle.btx_bib.specs.declared.draft.Standing.TheVariants as standing;
+    ghost use Rattle.btx_bib.specs.declared.draft.StoreDecision.TheVariants as decision;
     ghost use Rattle.btx_bib.specs.refinement.Gatherings.{GoesOn, IfTaken, IsSilent, all_kept, all_messages, closed, begun, begun_by, entered, events_with};
     ghost use Rattle.btx_bib.specs.refinement.Gatherings.{fielded_by, kept_after, kept_along, kept_messages, messages_of, messages_of_current};
     ghost use Rattle.btx_bib.specs.refinement.Gatherings.{messages_of_entry, messages_of_standing, read_on, with_preamble, with_kept_string};
@@ -185,9 +185,9 @@ impl<'a> Gathering<'a> {
         rest: &[u8],
         reading: &mut Reading<'_, 'a>,
     ) -> Result<(), AllocError>
-        ensures state { OnOk result (self.new ≡ begun_by (asked_in reading.old) self.old kind.now key.entry.now standing.Expected) }
+        ensures state { OnOk result (self.new ≡ begun_by (asked_in reading.old) self.old kind.now key.entry.now decision.Expected) }
         ensures logged { OnOk result (reading.new ≡ reported reading.old
-            (messages_of_standing (asked_in reading.old) (database_read reading.old) kind.now key.entry.now rest.now standing.Expected)) }
+            (messages_of_standing (asked_in reading.old) (database_read reading.old) kind.now key.entry.now rest.now decision.Expected)) }
     {
         let kind = reading.request.kind(reading.alloc, kind)?;
         reading.report_kind(kind, key, rest)?;
@@ -208,8 +208,8 @@ impl<'a> Gathering<'a> {
     {
         self.close(reading.alloc, reading.request)?;
         match self.draft.standing(reading.alloc, reading.request, key)? {
-            Standing::Unwanted | Standing::Repeated => Ok(()),
-            Standing::Expected => self.begin_messages(kind, key, rest, reading),
+            StoreDecision::Unwanted | StoreDecision::Repeated => Ok(()),
+            StoreDecision::Expected => self.begin_messages(kind, key, rest, reading),
         }
     }
 
@@ -247,7 +247,7 @@ impl<'a> Gathering<'a> {
     {
         let alloc = reading.alloc;
         reading.report_names(value, &self.strings, Some(name))?;
-        let others = Others {
+        let others = StringsWithout {
             strings: &self.strings,
             own: name,
         };
@@ -294,13 +294,13 @@ impl<'a> Gathering<'a> {
             (messages_of (asked_in reading.old) (database_read reading.old) self.old (event_view event.now) rest.now)) }
     {
         match event {
-            Event::Comment | Event::End => Ok(()),
+            Event::Comment | Event::ItemEnd => Ok(()),
             Event::Preamble(value) => self.preamble(value, reading),
             Event::Definition(name, value) => self.define(name, value, reading),
             Event::Entry(kind, key) => self.enter(kind, key, rest, reading),
             Event::Field(field) => self.field(field, rest, reading),
             Event::Wrong(slip) => {
-                let spot = reading.site.spot_at(rest);
+                let spot = reading.site.position_at(rest);
                 reading.messages.push(Message::Wrong(*slip, spot))
             }
         }
@@ -323,20 +323,20 @@ impl<'a> Gathering<'a> {
         ensures { OnOk result ((self.new, reading.new) ≡ read_on reading.old self.old (next.Item, text.entry.now)) }
     {
         let mut reader = Reader::of(text);
-        self.pass_plainly(reading.alloc, reading.request, &mut reader)?;
+        self.skip_fast_field(reading.alloc, reading.request, &mut reader)?;
         while let Some(placed) = reader.read(reading.alloc, self)? {
             self.take(&placed.event, placed.rest, reading)?;
             if self.has_ended() {
                 return Ok(());
             }
-            self.pass_plainly(reading.alloc, reading.request, &mut reader)?;
+            self.skip_fast_field(reading.alloc, reading.request, &mut reader)?;
         }
         Ok(())
     }
 
     // Goes on without events: takes the fields in their plainest form that stand next, and passes the entries that aren't wanted.
     #[inline(always)]
-    fn pass_plainly(
+    fn skip_fast_field(
         &mut self,
         alloc: Global,
         request: &Request<'_, 'a>,
@@ -370,7 +370,7 @@ impl<'a> Gathering<'a> {
     {
         self.pass_fields(request, reader);
         while let Some(head) = reader.entry_head() {
-            let Standing::Unwanted = self.draft.standing(alloc, request, head.key)? else {
+            let StoreDecision::Unwanted = self.draft.standing(alloc, request, head.key)? else {
                 return Ok(());
             };
             reader.enter(&head);
@@ -394,7 +394,7 @@ impl<'a> Gathering<'a> {
 
     // Takes a field in its plainest form, of the entry that is being read or of none, where no message comes of it. Answers whether it did.
     #[inline(always)]
-    fn take_plainly(
+    fn take_fast_field(
         &mut self,
         alloc: Global,
         request: &Request<'_, 'a>,
@@ -407,7 +407,7 @@ impl<'a> Gathering<'a> {
         ensures same { IfOk result (λ taken. self.new.ending ≡ self.old.ending) }
     {
         match &mut self.current {
-            Some(pending) => pending.take_plainly(alloc, request, &self.strings, field),
+            Some(pending) => pending.take_fast_field(alloc, request, &self.strings, field),
             None => Ok(true),
         }
     }
@@ -428,7 +428,7 @@ impl<'a> Gathering<'a> {
         ensures shorter { OnOk result (left reader.new.0 (length reader.new.1) ≤ left reader.old.0 (length reader.old.1)) }
     {
         while let Some(field) = reader.plain_field() {
-            let taken = self.take_plainly(alloc, request, &field)?;
+            let taken = self.take_fast_field(alloc, request, &field)?;
             if !taken {
                 return Ok(());
             }

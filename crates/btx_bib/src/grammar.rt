@@ -8,7 +8,7 @@ pub(crate) mod fields;
 mod item_readers;
 pub mod laws;
 pub mod line_counter;
-pub(crate) mod parts;
+pub mod parts;
 mod passed;
 mod passed_fields;
 mod plain;

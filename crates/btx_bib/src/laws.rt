@@ -3,7 +3,7 @@ ghost use Rattle.std.specs.Prelude.{◌≡◌, List, ℕ};
 ghost use Rattle.btx_bib.specs.laws.Cuts.{CutGivesTheSame};
 ghost use Rattle.btx_bib.specs.language.Grammar.Items.{Placed};
 ghost use Rattle.btx_bib.specs.laws.Grammar.Reading.{IsReading};
-ghost use Rattle.btx_bib.specs.language.Known.{Known, keeping};
+ghost use Rattle.btx_bib.specs.language.Known.{Known, stored_keys};
 ghost use Rattle.btx_bib.specs.language.Messages.{Database};
 ghost use Rattle.btx_bib.specs.language.Request.{Request};
 ghost use Rattle.btx_bib.specs.declared.grammar.commands.Expected.TheVariants as next;
@@ -55,9 +55,9 @@ pub fn cut_gives_the_same()
 /// The events along which a library is read are the one reading of each database.
 pub fn libraries_read_the_one_reading()
     ensures reads { (wanted : Request) (known : Known) (database : Database) →
-        IsReading (keeping wanted) known next.Item database.text (database_events wanted known database) }
+        IsReading (stored_keys wanted) known next.Item database.text (database_events wanted known database) }
     ensures only { (wanted : Request) (known : Known) (database : Database) (events : List Placed) →
-        IsReading (keeping wanted) known next.Item database.text events → events ≡ database_events wanted known database }
+        IsReading (stored_keys wanted) known next.Item database.text events → events ≡ database_events wanted known database }
 {}
 
 /// A name stands for the value of its last definition before, and where there is none for the value that it had: at the beginning that of

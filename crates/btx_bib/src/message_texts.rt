@@ -1,12 +1,12 @@
 //! The lines of the log for messages.
-ghost use Rattle.btx_bib.specs.language.MessageTexts.{message_kind, message_line, message_text, slip_text, spot_of};
+ghost use Rattle.btx_bib.specs.language.MessageTexts.{message_kind, message_line, message_text, slip_text, position_of};
 ghost use Rattle.std.specs.Prelude.{IfOk, OnOk, codes, option_copied, ◌++◌, ◌≡◌};
 ghost use Rattle.btx_bib.specs.refinement.Wordings.{wording_text};
 ghost use Rattle.btx_bib.specs.refinement.MessageTexts.{spot_text};
 
 use crate::grammar::byte_sets::Delimiter;
 use crate::grammar::slip::SyntaxError;
-use crate::message::{Message, Spot};
+use crate::message::{Message, SourcePosition};
 use crate::spelling::{Spelling, Word};
 use btx_text::log_texts::{push_four, push_mark, push_place};
 use btx_text::{LineKind, LogLine, Place};
@@ -47,8 +47,8 @@ impl<'a> Message<'a> {
     }
 
     /// The line of a database where it is met, if it is met at one.
-    pub fn spot(&self) -> Option<&Spot<'a>>
-        ensures { option_copied result ≡ spot_of self.now }
+    pub fn spot(&self) -> Option<&SourcePosition<'a>>
+        ensures { option_copied result ≡ position_of self.now }
     {
         match self {
             Message::Wrong(_, spot)
@@ -183,7 +183,7 @@ fn push_wording(text: &mut Vec<u8>, wording: Wording<'_>) -> Result<(), AllocErr
 }
 
 // Appends the line of a database, if there is one.
-fn push_spot(text: &mut Vec<u8>, spot: Option<&Spot<'_>>) -> Result<(), AllocError>
+fn push_spot(text: &mut Vec<u8>, spot: Option<&SourcePosition<'_>>) -> Result<(), AllocError>
     ensures { OnOk result (text.new.items ≡ text.old.items ++ spot_text (option_copied spot.entry)) }
 {
     match spot {

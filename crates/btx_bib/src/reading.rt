@@ -10,7 +10,7 @@ use crate::grammar::value_texts::Strings;
 use crate::grammar::values::{Parts, Value};
 use crate::message::{Message, Messages};
 use crate::request::Request;
-use crate::site::Site;
+use crate::site::LineSource;
 use crate::spelling::Word;
 use crate::strings::StringTable;
 use btx_text::same_key;
@@ -24,7 +24,7 @@ pub struct Reading<'r, 'a> {
     /// What the databases are asked for.
     pub request: &'r Request<'r, 'a>,
     /// The database, whose lines messages name.
-    pub site: Site<'a>,
+    pub site: LineSource<'a>,
     /// The messages so far, of this database and those before it.
     pub messages: Messages<'a>,
 }
@@ -44,7 +44,7 @@ impl<'r, 'a> Reading<'r, 'a> {
             return Ok(());
         };
         if is_own(own, string.name) {
-            let spot = self.site.spot_at(string.rest);
+            let spot = self.site.position_at(string.rest);
             return self
                 .messages
                 .push(Message::OwnString(Word::new(string.name), spot));
@@ -53,7 +53,7 @@ impl<'r, 'a> Reading<'r, 'a> {
         if value.is_some() {
             return Ok(());
         }
-        let spot = self.site.spot_at(string.rest);
+        let spot = self.site.position_at(string.rest);
         self.messages
             .push(Message::UndefinedString(Word::new(string.name), spot))
     }
@@ -97,12 +97,12 @@ impl<'r, 'a> Reading<'r, 'a> {
         key: &'a [u8],
         rest: &[u8],
     ) -> Result<(), AllocError>
-        ensures { OnOk result (self.new ≡ reported self.old (type_messages key.entry.now kind (spec.spot_at (database_read self.old) rest.now))) }
+        ensures { OnOk result (self.new ≡ reported self.old (type_messages key.entry.now kind (spec.position_at (database_read self.old) rest.now))) }
     {
         match kind {
             Some(_) => Ok(()),
             None => {
-                let spot = self.site.spot_at(rest);
+                let spot = self.site.position_at(rest);
                 self.messages
                     .push(Message::UnknownKind(Word::new(key), spot))
             }

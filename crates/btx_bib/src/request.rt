@@ -1,5 +1,5 @@
 //! What is asked of the databases.
-use crate::draft::Standing;
+use crate::draft::StoreDecision;
 use crate::slots::{Body, Slot, Slots};
 use crate::spelling::{Spelling, Word};
 use crate::style_fields::StyleFields;
@@ -124,12 +124,12 @@ impl<'r, 'a> Request<'r, 'a> {
     }
 
     /// How an entry stands whose key isn't in the list.
-    pub fn standing_of_new(&self) -> Standing
+    pub fn decision_of_new(&self) -> StoreDecision
         ensures { result ≡ new_standing self.now.all }
     {
         match self.all {
-            Some(_) => Standing::Expected,
-            None => Standing::Unwanted,
+            Some(_) => StoreDecision::Expected,
+            None => StoreDecision::Unwanted,
         }
     }
 

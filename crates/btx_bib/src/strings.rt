@@ -61,14 +61,14 @@ impl<'a> Strings<'a> for StringTable<'a> {
 
 /// The strings without one name, which has no value in its own definition.
 #[derive(Drop)]
-pub struct Others<'s, 'a> {
+pub struct StringsWithout<'s, 'a> {
     /// The strings.
     pub strings: &'s StringTable<'a>,
     /// The name.
     pub own: &'s [u8],
 }
 
-impl<'s, 'a> Strings<'a> for Others<'s, 'a> {
+impl<'s, 'a> Strings<'a> for StringsWithout<'s, 'a> {
     ghost use Rattle.btx_bib.specs.language.Strings.{other_value};
 
     ghost values = { λ others. other_value others.strings.now others.own.now };

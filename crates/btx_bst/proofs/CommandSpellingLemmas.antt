@@ -13,7 +13,7 @@ use Rattle.btx_bst.specs.declared.command.Command.{Command}
 use Rattle.btx_bst.specs.declared.command.Command.TheVariants as command
 use Rattle.btx_bst.specs.language.Places.{Place, place_at, further, ink, size, skipped, skipped_from}
 use Rattle.btx_bst.specs.language.Complaints.{Complaint, NoOpen, NoClose, NoName, Defined, Unknown, Another, BeforeRead, BeforeEntry, AfterRead, EndOfFile}
-use Rattle.btx_bst.specs.language.Reads.{Read, Took, Slip}
+use Rattle.btx_bst.specs.language.Reads.{Read, Took, Mistake}
 use Rattle.btx_bst.specs.language.Items as item
 use Rattle.btx_bst.specs.language.Items.{Item}
 use Rattle.btx_bst.specs.language.CommandWords.{command_word_of}
@@ -62,12 +62,12 @@ same R f g e h = record { met = λ s p. rw (sym (e s p)) (h.met s p); one = λ s
 then_met : {A : Type 0} (R : Place → Read A → Type 0) (rest : A → Rule) (go : A → Style → Place → CommandOutcome) → ((a : A) → Gives (rest a) (go a))
     → (s : Style) (p : Place) (x : Read A) → R p x → AndThen R rest s p (after_read s x (λ a q. go a s q))
 then_met R rest go g s p (Took a q) k = inl (a, q, k, (g a).met s q)
-then_met R rest go g s p (Slip c q) k = inr (c, q, k, refl)
+then_met R rest go g s p (Mistake c q) k = inr (c, q, k, refl)
 
 then_one : {A : Type 0} (R : Place → Read A → Type 0) (r : Place → Read A) (rest : A → Rule) (go : A → Style → Place → CommandOutcome) → Agrees R r
     → ((a : A) → Gives (rest a) (go a)) → (s : Style) (p : Place) (o : CommandOutcome) → AndThen R rest s p o → after_read s (r p) (λ a q. go a s q) ≡ o
 then_one {A} R r rest go h g s p o (inl k) = ap (λ (x : Read A). after_read s x (λ a q. go a s q)) (h.one p (Took k.0 k.1) k.2) ∙ (g k.0).one s k.1 o k.3
-then_one {A} R r rest go h g s p o (inr k) = ap (λ (x : Read A). after_read s x (λ a q. go a s q)) (h.one p (Slip k.0 k.1) k.2) ∙ sym k.3
+then_one {A} R r rest go h g s p o (inr k) = ap (λ (x : Read A). after_read s x (λ a q. go a s q)) (h.one p (Mistake k.0 k.1) k.2) ∙ sym k.3
 
 then_gives : {A : Type 0} (R : Place → Read A → Type 0) (r : Place → Read A) (rest : A → Rule) (go : A → Style → Place → CommandOutcome) → Agrees R r
     → ((a : A) → Gives (rest a) (go a)) → Gives (AndThen R rest) (λ s p. after_read s (r p) (λ a q. go a s q))
@@ -148,7 +148,7 @@ brace_at p q h = (spaced (StyleSignHere 125 NoClose) (λ r. brace_in 125 NoClose
 name_at_one : (p : Place) (x : Read (List ℕ)) → BehindGap StyleNameHere p x → next_name p ≡ x
 name_at_one p x h = (spaced StyleNameHere (λ r. name_in r r.line) name_agrees).one p x h
 
-turn_name : (k : Kind) (known : Names) (p : Place) (c d : Complaint) (q : Place) → closing p ≡ Slip d (ink p) → next_name p ≡ Slip c q
+turn_name : (k : Kind) (known : Names) (p : Place) (c d : Complaint) (q : Place) → closing p ≡ Mistake d (ink p) → next_name p ≡ Mistake c q
     → list_turn k (listing known p) ≡ Ends (listed (Some c) known q)
 unfolding list_turn
 turn_name k known p c d q e f =
@@ -178,10 +178,10 @@ or_right : (t u : Bool) → (t || u) ≡ false → u ≡ false
 or_right true u h = absurd (cc)
 or_right false u h = h
 
-not_closed : (p : Place) (c : Complaint) (line : List ℕ) → IsMissing is_list_byte NoName c line → brace_in 125 NoClose p line ≡ Slip (said line) p
+not_closed : (p : Place) (c : Complaint) (line : List ℕ) → IsMissing is_list_byte NoName c line → brace_in 125 NoClose p line ≡ Mistake (said line) p
 unfolding said
 not_closed p c [] m = refl
-not_closed p c (b ∷ bs) m = ap (λ (t : Bool). cond {A = Read (Unit {0})} t (Took tt (further p bs)) (Slip NoClose p)) (or_left (b == 125) (begins_name b) m.0)
+not_closed p c (b ∷ bs) m = ap (λ (t : Bool). cond {A = Read (Unit {0})} t (Took tt (further p bs)) (Mistake NoClose p)) (or_left (b == 125) (begins_name b) m.0)
 
 no_name : (c : Complaint) (line : List ℕ) → IsMissing is_list_byte NoName c line → IsMissing begins_name NoName c line
 no_name c [] m = m
@@ -192,7 +192,7 @@ turn_missing : (k : Kind) (known : Names) (p q : Place) (c : Complaint) → Gap 
 turn_missing k known p q c g m =
     let e = gap_one p q g in
     turn_name k known p c (said q.line) q
-    (ap (λ (r : Place). brace_in 125 NoClose r r.line) e ∙ not_closed q c q.line m ∙ ap (Slip (said q.line)) (sym e))
+    (ap (λ (r : Place). brace_in 125 NoClose r r.line) e ∙ not_closed q c q.line m ∙ ap (Mistake (said q.line)) (sym e))
     (ap (λ (r : Place). name_in r r.line) e ∙ name_slip c q q q.line refl (no_name c q.line m))
 
 ended : (k : Kind) (known : Names) (p : Place) (l : Listed) → EndsList known p l → list_turn k (listing known p) ≡ Ends l
@@ -241,13 +241,13 @@ named_list k known p q name None h e more =
 
 name_list : (k : Kind) (known : Names) (p i : Place) (d : Complaint) (x : Read (List ℕ)) → Gap p i → IsMissing (λ b. b == 125) NoClose d i.line
     → BehindGap StyleNameHere p x → next_name p ≡ x → ((q : Place) → size q < size p → (known : Names) → AList k known q) → AList k known p
-name_list k known p i d (Slip c q) g m h e more = missing_list k known p i h.0 c d g m h.1 h.2.1
+name_list k known p i d (Mistake c q) g m h e more = missing_list k known p i h.0 c d g m h.1 h.2.1
 name_list k known p i d (Took name q) g m h e more = named_list k known p q name (named known name) h refl (more q (name_less p q name e))
 
 brace_list : (k : Kind) (known : Names) (p : Place) (x : Read (Unit {0})) → BehindGap (StyleSignHere 125 NoClose) p x
     → ((q : Place) → size q < size p → (known : Names) → AList k known q) → AList k known p
 brace_list k known p (Took none q) h more = (listed None known q, ([], p, refl, tt, inl (q, h, refl)))
-brace_list k known p (Slip d q) h more =
+brace_list k known p (Mistake d q) h more =
     name_list k known p h.0 d (next_name p) h.1 h.2.1 ((spaced StyleNameHere (λ r. name_in r r.line) name_agrees).met p) refl more
 
 list_within : (n : ℕ) (k : Kind) (known : Names) (p : Place) → size p < n → AList k known p
@@ -289,7 +289,7 @@ inner_gives k rest go g = record {
 list_opened : (k : Kind) (s : Style) (go : Style → Place → CommandOutcome) (r : Read (Unit {0}))
     → after_read s r (λ x q. after_list s (list_end k (listing s.names q)) go) ≡ after_list s (list_read k s.names r) go
 list_opened k s go (Took x q) = refl
-list_opened k s go (Slip c q) = refl
+list_opened k s go (Mistake c q) = refl
 
 lists_gives : (k : Kind) (rest : Rule) (go : Style → Place → CommandOutcome) → Gives rest go
     → Gives (Lists k rest) (λ s p. after_list s (list_at k s.names p) go)

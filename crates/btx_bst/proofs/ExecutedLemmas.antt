@@ -13,7 +13,7 @@ use Rattle.btx_bst.specs.declared.callee.Kind.{Kind}
 use Rattle.btx_bst.specs.declared.callee.Kind.TheVariants as kind
 use Rattle.btx_bst.specs.language.Places.{Place, size}
 use Rattle.btx_bst.specs.language.Complaints.{Complaint}
-use Rattle.btx_bst.specs.language.Reads.{Read, Took, Slip}
+use Rattle.btx_bst.specs.language.Reads.{Read, Took, Mistake}
 use Rattle.btx_bst.specs.language.Items.{Item}
 use Rattle.btx_bst.specs.language.Items as item
 use Rattle.btx_bst.specs.language.Names.{Names, named, named_lower, with_name, with_function}
@@ -94,12 +94,12 @@ functions_new is k a name p None e h = functions_name is a k (folded name) e h
 functions_new is k a name p (Some other) e h = h
 
 functions_read : (is : List Item) (k : Kind) (a : Names) (r : Read (List ℕ)) → HaveFunctions is a → FunctionsTurn is (name_turn k a r)
-functions_read is k a (Slip c p) h = h
+functions_read is k a (Mistake c p) h = h
 functions_read is k a (Took name p) h = functions_new is k a name p (named a name) refl h
 
 functions_turn : (is : List Item) (k : Kind) (a : Names) (r : Read (Unit {0})) → HaveFunctions is a → FunctionsTurn is (list_turn_in k a r)
 functions_turn is k a (Took x p) h = h
-functions_turn is k a (Slip c p) h = functions_read is k a (next_name p) h
+functions_turn is k a (Mistake c p) h = functions_read is k a (next_name p) h
 
 functions_end : (is : List Item) (k : Kind) (s : Listing) → HaveFunctions is s.names → HaveFunctions is (list_end k s).listing.names
 unfolding list_end list_turn
@@ -108,7 +108,7 @@ functions_end is k s h =
     (λ u f. functions_turn is k u.names (closing u.place) f) (λ u f. f) (suc (size s.place)) s h
 
 functions_list : (is : List Item) (k : Kind) (a : Names) (r : Read (Unit {0})) → HaveFunctions is a → HaveFunctions is (list_read k a r).listing.names
-functions_list is k a (Slip c p) h = h
+functions_list is k a (Mistake c p) h = h
 functions_list is k a (Took x p) h = functions_end is k (listing a p) h
 
 -- ---- items

@@ -8,7 +8,7 @@ use Rattle.btx_bst.specs.declared.command.Command.{Command}
 use Rattle.btx_bst.specs.declared.command.Command.TheVariants as command
 use Rattle.btx_bst.specs.language.Places.{Place, ink, size}
 use Rattle.btx_bst.specs.language.Complaints.{Complaint, Another, BeforeEntry, BeforeRead, AfterRead}
-use Rattle.btx_bst.specs.language.Reads.{Read, Took, Slip}
+use Rattle.btx_bst.specs.language.Reads.{Read, Took, Mistake}
 use Rattle.btx_bst.specs.language.Items.{Item}
 use Rattle.btx_bst.specs.language.Items as item
 use Rattle.btx_bst.specs.language.Names.{Names, named, with_name}
@@ -59,7 +59,7 @@ pub record Keeps (P : Style → Type 0) : Type 0 where
 after : {A : Type 0} (P : Style → Type 0) (s : Style) (r : Read A) (go : A → Place → CommandOutcome) → P s → ((x : A) (p : Place) → P (go x p).style)
     → P (after_read s r go).style
 after P s (Took x p) go h k = k x p
-after P s (Slip c p) go h k = h
+after P s (Mistake c p) go h k = h
 
 listed_after : (P : Style → Type 0) (c : Option Complaint) (s : Style) (p : Place) (go : Style → Place → CommandOutcome) → P s → P (go s p).style
     → P (after_listed c s p go).style
@@ -201,12 +201,12 @@ names_new P each k a name p None new h = each k a name new h
 names_new P each k a name p (Some other) new h = h
 
 names_read : (P : Names → Type 0) → KeepsNames P → (k : Kind) (a : Names) (r : Read (List ℕ)) → P a → KeptTurn P (name_turn k a r)
-names_read P each k a (Slip c p) h = h
+names_read P each k a (Mistake c p) h = h
 names_read P each k a (Took name p) h = names_new P each k a name p (named a name) refl h
 
 names_turn : (P : Names → Type 0) → KeepsNames P → (k : Kind) (a : Names) (r : Read (Unit {0})) → P a → KeptTurn P (list_turn_in k a r)
 names_turn P each k a (Took x p) h = h
-names_turn P each k a (Slip c p) h = names_read P each k a (next_name p) h
+names_turn P each k a (Mistake c p) h = names_read P each k a (next_name p) h
 
 names_end : (P : Names → Type 0) → KeepsNames P → (k : Kind) (s : Listing) → P s.names → P (list_end k s).listing.names
 unfolding list_end list_turn
@@ -216,5 +216,5 @@ names_end P each k s h =
 
 -- the list keeps
 pub kept_list : (P : Names → Type 0) → KeepsNames P → (k : Kind) (a : Names) (r : Read (Unit {0})) → P a → P (list_read k a r).listing.names
-kept_list P each k a (Slip c p) h = h
+kept_list P each k a (Mistake c p) h = h
 kept_list P each k a (Took x p) h = names_end P each k (listing a p) h

@@ -10,7 +10,7 @@ use Rattle.btx_bst.specs.refinement.Weights.{names_weight}
 use Rattle.btx_bst.specs.language.Places.{Place, ink, size, further}
 use Rattle.btx_bst.specs.language.Fronts.{name_len, quote_len}
 use Rattle.btx_bst.specs.language.Complaints.{Complaint, NoQuote}
-use Rattle.btx_bst.specs.language.Reads.{Read, Took, Slip}
+use Rattle.btx_bst.specs.language.Reads.{Read, Took, Mistake}
 use Rattle.btx_bst.specs.language.Names.{Names, named, with_name}
 use Rattle.btx_bst.specs.language.Turns.{Turn, Again, Ends, after_turn}
 use Rattle.btx_bst.specs.language.Lists.{brace_in, opening, closing, front_of, name_in, next_name, quoted_text, quoted_in, quoted_at, Listing, listing, Listed}
@@ -22,7 +22,7 @@ use Rattle.btx_bst.specs.refinement.Lists.{unlisted, with_new}
 -- what was read, and how much is left: less after somekind that was taken, and no more after a complaint
 abbrev pub Sized : {A : Type 0} → ℕ → Read A → Type 0
 Sized n (Took x p) = size p < n
-Sized n (Slip c p) = size p ≤ n
+Sized n (Mistake c p) = size p ≤ n
 
 brace_in-size : (brace : ℕ) (c : Complaint) (p : Place) (line : List ℕ) (n : ℕ) → p.line ≡ line → size p ≤ n → Sized n (brace_in brace c p line)
 unfolding size
@@ -31,7 +31,7 @@ brace_in-size brace c p (b ∷ bs) n e h = at (b == brace) where
   shorter : length p.line ≡ suc (length bs)
   shorter = rw e refl
 
-  at : (t : Bool) → Sized n (cond {A = Read (Unit {0})} t (Took tt (further p bs)) (Slip c p))
+  at : (t : Bool) → Sized n (cond {A = Read (Unit {0})} t (Took tt (further p bs)) (Mistake c p))
   at true = omega (arith, shorter)
   at false = h
 
@@ -66,7 +66,7 @@ quoted_in-size p (b ∷ bs) n e h = at (b == 34) where
   shorter : length p.line ≡ suc (length bs)
   shorter = rw e refl
 
-  at : (t : Bool) → Sized n (cond {A = Read (List ℕ)} t (quoted_text p (take (quote_len bs) bs) (drop (quote_len bs) bs)) (Slip NoQuote p))
+  at : (t : Bool) → Sized n (cond {A = Read (List ℕ)} t (quoted_text p (take (quote_len bs) bs) (drop (quote_len bs) bs)) (Mistake NoQuote p))
   at true = text_of-size p (take (quote_len bs) bs) (drop (quote_len bs) bs) n h (omega (arith, shorter, length-drop (quote_len bs) bs))
   at false = h
 
@@ -78,7 +78,7 @@ abbrev pub ListTurn : ℕ → Turn Listing Listed → Type 0
 ListTurn n t = OnTurn (λ s. size s.place < n) (λ r. size r.listing.place ≤ n) t
 
 name_turn-size : (kind : Kind) (names : Names) (n : ℕ) (r : Read (List ℕ)) → Sized n r → ListTurn n (name_turn kind names r)
-name_turn-size kind names n (Slip c p) h = h
+name_turn-size kind names n (Mistake c p) h = h
 name_turn-size kind names n (Took name p) h = at (named names name) where
   at : (o : Option Callee) → ListTurn n (with_new kind names name p o)
   at None = h
@@ -93,7 +93,7 @@ unfolding list_turn
 list_turn-size kind s = at (closing s.place) (closing-size s.place) where
   at : (r : Read (Unit {0})) → Sized (size s.place) r → ListTurn (size s.place) (list_turn_in kind s.names r)
   at (Took x p) h = omega arith
-  at (Slip c p) h = less (size p) (size s.place) _ h (name_turn-size kind s.names (size p) (next_name p) (name_at-size p))
+  at (Mistake c p) h = less (size p) (size s.place) _ h (name_turn-size kind s.names (size p) (next_name p) (name_at-size p))
 
 abbrev left_in : Listing → ℕ
 left_in s = size s.place
@@ -150,7 +150,7 @@ with_new-weight kind names name p (Some other) n h = (omega arith, refl)
 
 name_turn-weight : (kind : Kind) (names : Names) (n : ℕ) (m : ℕ) (r : Read (List ℕ)) → Sized m r → m + names_weight names ≤ n
     → TurnWeighs n names.functions (name_turn kind names r)
-name_turn-weight kind names n m (Slip c p) h k = (omega arith, refl)
+name_turn-weight kind names n m (Mistake c p) h k = (omega arith, refl)
 name_turn-weight kind names n m (Took name p) h k = with_new-weight kind names name p (named names name) n (omega arith)
 
 list_turn-weight : (kind : Kind) (s : Listing) (n : ℕ) → size s.place + names_weight s.names ≤ n → TurnWeighs n s.names.functions (list_turn kind s)
@@ -158,7 +158,7 @@ unfolding list_turn
 list_turn-weight kind s n k = at (closing s.place) (closing-size s.place) where
   at : (r : Read (Unit {0})) → Sized (size s.place) r → TurnWeighs n s.names.functions (list_turn_in kind s.names r)
   at (Took x p) h = (omega arith, refl)
-  at (Slip c p) h = name_turn-weight kind s.names n (size p) (next_name p) (name_at-size p) (omega arith)
+  at (Mistake c p) h = name_turn-weight kind s.names n (size p) (next_name p) (name_at-size p) (omega arith)
 
 list_end-weight : (kind : Kind) (s : Listing) → Weighs (size s.place + names_weight s.names) s.names.functions (list_end kind s).listing
 unfolding list_end
@@ -171,7 +171,7 @@ list_end-weight kind s =
 pub list_at-weight : (kind : Kind) (names : Names) (p : Place) → Weighs (size p + names_weight names) names.functions (list_at kind names p).listing
 list_at-weight kind names p = at (opening p) (opening-size p) where
   at : (r : Read (Unit {0})) → Sized (size p) r → Weighs (size p + names_weight names) names.functions (list_read kind names r).listing
-  at (Slip c q) h = (omega arith, refl)
+  at (Mistake c q) h = (omega arith, refl)
   at (Took x q) h = let k = list_end-weight kind (listing names q) in (omega (arith, k.0), k.1)
 
 pub list_turn-room : (kind : Kind) (s t : Listing) → list_turn kind s ≡ Again t → size t.place + names_weight t.names ≤ size s.place + names_weight s.names

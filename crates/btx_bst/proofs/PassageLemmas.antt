@@ -14,7 +14,7 @@ use Rattle.btx_bst.specs.declared.token.Token.TheVariants.{Quote, Run}
 use Rattle.btx_bst.specs.language.Places.{Place, place_at, further, ink, ink_from, behind_white, line_or, skipped_from, size}
 use Rattle.btx_bst.specs.language.Complaints.{Complaint, NoCommand, NoOpen, NoClose, NoName, NoQuote, EndOfFile, TextAfter, Another, BeforeEntry, BeforeRead}
 use Rattle.btx_bst.specs.language.Complaints.{AfterRead}
-use Rattle.btx_bst.specs.language.Reads.{Read, Took, Slip}
+use Rattle.btx_bst.specs.language.Reads.{Read, Took, Mistake}
 use Rattle.btx_bst.specs.language.Items as item
 use Rattle.btx_bst.specs.language.Items.{Item}
 use Rattle.btx_bst.specs.language.Fronts.{name_len, quote_len, word_len, digits_len, is_word_end}
@@ -118,12 +118,12 @@ skip-law p = skip_passes p.number p.line p.after
 
 abbrev ReadPasses : {A : Type 0} → Place → Read A → Type 0
 ReadPasses p (Took x q) = Passage p q
-ReadPasses p (Slip c q) = Passage p q
+ReadPasses p (Mistake c q) = Passage p q
 
 brace_passes : (brace : ℕ) (c : Complaint) (p : Place) (line : List ℕ) → p.line ≡ line → ReadPasses p (brace_in brace c p line)
 brace_passes brace c p [] e = pass_here p
 brace_passes brace c p (b ∷ bs) e = at (b == brace) where
-  at : (t : Bool) → ReadPasses p (cond {A = Read (Unit {0})} t (Took tt (further p bs)) (Slip c p))
+  at : (t : Bool) → ReadPasses p (cond {A = Read (Unit {0})} t (Took tt (further p bs)) (Mistake c p))
   at true = pass_further p (b ∷ bs) bs e (b ∷ [], refl)
   at false = pass_here p
 
@@ -142,14 +142,14 @@ text_passes p line text (quote ∷ rest) e a = pass_further p line rest e (ends_
 quoted_passes : (p : Place) (line : List ℕ) → p.line ≡ line → ReadPasses p (quoted_in p line)
 quoted_passes p [] e = pass_here p
 quoted_passes p (b ∷ bs) e = at (b == 34) where
-  at : (t : Bool) → ReadPasses p (cond t (quoted_text p (take (quote_len bs) bs) (drop (quote_len bs) bs)) (Slip NoQuote p))
+  at : (t : Bool) → ReadPasses p (cond t (quoted_text p (take (quote_len bs) bs) (drop (quote_len bs) bs)) (Mistake NoQuote p))
   at true = text_passes p (b ∷ bs) (take (quote_len bs) bs) (drop (quote_len bs) bs) e (ends_byte b bs _ (ends_drop (quote_len bs) bs))
   at false = pass_here p
 
 -- what is read from a place without whitespace on
 behind_ink : {A : Type 0} (p : Place) (r : Read A) → ReadPasses (ink p) r → ReadPasses p r
 behind_ink p (Took x q) h = pass_on p (ink p) q (ink-law p) h
-behind_ink p (Slip c q) h = pass_on p (ink p) q (ink-law p) h
+behind_ink p (Mistake c q) h = pass_on p (ink p) q (ink-law p) h
 
 opening_passes : (p : Place) → ReadPasses p (opening p)
 opening_passes p = behind_ink p _ (brace_passes 123 NoOpen (ink p) (ink p).line refl)
@@ -173,16 +173,16 @@ new_passes p k names name q None h = h
 new_passes p k names name q (Some other) h = h
 
 named_passes : (p : Place) (k : Kind) (names : Names) (r : Read (List ℕ)) → ReadPasses p r → ListPasses p (name_turn k names r)
-named_passes p k names (Slip c q) h = h
+named_passes p k names (Mistake c q) h = h
 named_passes p k names (Took name q) h = new_passes p k names name q (named names name) h
 
 on_read : {A : Type 0} (p q : Place) (r : Read A) → Passage p q → ReadPasses q r → ReadPasses p r
 on_read p q (Took x s) a h = pass_on p q s a h
-on_read p q (Slip c s) a h = pass_on p q s a h
+on_read p q (Mistake c s) a h = pass_on p q s a h
 
 turn_passes : (p : Place) (k : Kind) (names : Names) (r : Read (Unit {0})) → ReadPasses p r → ListPasses p (list_turn_in k names r)
 turn_passes p k names (Took x q) h = h
-turn_passes p k names (Slip c q) h = named_passes p k names (next_name q) (on_read p q (next_name q) h (name_at_passes q))
+turn_passes p k names (Mistake c q) h = named_passes p k names (next_name q) (on_read p q (next_name q) h (name_at_passes q))
 
 list_end_passes : (p : Place) (k : Kind) (s : Listing) → Passage p s.place → Passage p (list_end k s).listing.place
 unfolding list_end list_turn
@@ -191,7 +191,7 @@ list_end_passes p k s h =
     (λ u f. turn_passes p k u.names (closing u.place) (on_read p u.place (closing u.place) f (closing_passes u.place))) (λ u f. f) (suc (size s.place)) s h
 
 list_read_passes : (p : Place) (k : Kind) (names : Names) (r : Read (Unit {0})) → ReadPasses p r → Passage p (list_read k names r).listing.place
-list_read_passes p k names (Slip c q) h = h
+list_read_passes p k names (Mistake c q) h = h
 list_read_passes p k names (Took x q) h = list_end_passes p k (listing names q) h
 
 list_passes : (p : Place) (k : Kind) (names : Names) → Passage p (list_at k names p).listing.place
@@ -293,7 +293,7 @@ body_passes p names s h =
 after_passes : {A : Type 0} (p : Place) (s : Style) (r : Read A) (go : A → Place → CommandOutcome) → ReadPasses p r
     → ((x : A) (q : Place) → Passage q (go x q).place) → Passage p (after_read s r go).place
 after_passes p s (Took x q) go h each = pass_on p q _ h (each x q)
-after_passes p s (Slip c q) go h each = h
+after_passes p s (Mistake c q) go h each = h
 
 listed_passes : (p : Place) (c : Option Complaint) (s : Style) (q : Place) (go : Style → Place → CommandOutcome) → Passage p q
     → ((t : Style) (r : Place) → Passage r (go t r).place) → Passage p (after_listed c s q go).place

@@ -16,7 +16,7 @@ use Rattle.btx_bst.specs.declared.token.Token.TheVariants.{Text, Quote, Run}
 use Rattle.btx_bst.specs.declared.token.Token.TheVariants as token
 use Rattle.btx_bst.specs.language.Places.{Place, size}
 use Rattle.btx_bst.specs.language.Complaints.{Complaint, EndOfFile}
-use Rattle.btx_bst.specs.language.Reads.{Read, Took, Slip}
+use Rattle.btx_bst.specs.language.Reads.{Read, Took, Mistake}
 use Rattle.btx_bst.specs.language.Items.{Item}
 use Rattle.btx_bst.specs.language.Items as item
 use Rattle.btx_bst.specs.language.BuiltIns.{built_in_of}
@@ -304,12 +304,12 @@ further_new a k b name p None h = wider_name a b k (folded name) h
 further_new a k b name p (Some other) h = h
 
 further_name : (a : Names) (k : Kind) (b : Names) (r : Read (List ℕ)) → Further a b → FurtherTurn a (name_turn k b r)
-further_name a k b (Slip c p) h = h
+further_name a k b (Mistake c p) h = h
 further_name a k b (Took name p) h = further_new a k b name p (named b name) h
 
 further_turn : (a : Names) (k : Kind) (b : Names) (r : Read (Unit {0})) → Further a b → FurtherTurn a (list_turn_in k b r)
 further_turn a k b (Took x p) h = h
-further_turn a k b (Slip c p) h = further_name a k b (next_name p) h
+further_turn a k b (Mistake c p) h = further_name a k b (next_name p) h
 
 further_end : (a : Names) (k : Kind) (s : Listing) → Further a s.names → Further a (list_end k s).listing.names
 unfolding list_end list_turn
@@ -318,7 +318,7 @@ further_end a k s h =
     (λ u f. further_turn a k u.names (closing u.place) f) (λ u f. f) (suc (size s.place)) s h
 
 further_read : (a : Names) (k : Kind) (r : Read (Unit {0})) → Further a (list_read k a r).listing.names
-further_read a k (Slip c p) = (same-width a, omega arith)
+further_read a k (Mistake c p) = (same-width a, omega arith)
 further_read a k (Took x p) = further_end a k (listing a p) (same-width a, omega arith)
 
 -- ---- styles

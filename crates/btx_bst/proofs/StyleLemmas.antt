@@ -13,7 +13,7 @@ use Rattle.btx_bst.specs.declared.command.Command.{Command}
 use Rattle.btx_bst.specs.declared.command.Command.TheVariants as command
 use Rattle.btx_bst.specs.language.Places.{Place, ink, size, further}
 use Rattle.btx_bst.specs.language.Complaints.{Complaint, Defined, Unknown, EndOfFile, NoCommand, Another, BeforeEntry, BeforeRead, AfterRead}
-use Rattle.btx_bst.specs.language.Reads.{Read, Took, Slip}
+use Rattle.btx_bst.specs.language.Reads.{Read, Took, Mistake}
 use Rattle.btx_bst.specs.language.Items.{Item, Read as ReadItem, Sort as SortItem}
 use Rattle.btx_bst.specs.language.Words.{BodyWord, Open, Close, String, Integer, Quoted, Name, Faulty, Unended, Ended, met_at}
 use Rattle.btx_bst.specs.language.Names.{Names, named}
@@ -53,7 +53,7 @@ list_end-size kind s =
 list_at-size : (kind : Kind) (names : Names) (p : Place) → size (list_at kind names p).listing.place ≤ size p
 list_at-size kind names p = at (opening p) (opening-size p) where
   at : (r : Read (Unit {0})) → Sized (size p) r → size (list_read kind names r).listing.place ≤ size p
-  at (Slip c q) h = h
+  at (Mistake c q) h = h
   at (Took x q) h = let k = list_end-size kind (listing names q) in omega arith
 
 weaken_body : (m n : ℕ) (t : Turn Inside BodyEnd) → m ≤ n → BodyTurn m t → OnTurn (λ s. size s.place ≤ n) (λ r. size (place_of r) ≤ n) t
@@ -155,11 +155,11 @@ here c style p n m h b = (h, omega (arith, b.0), b.1)
 after_read-within : {F : Type 0} {A : Type 0} (style : Style) (r : Read A) (go : A → Place → CommandOutcome) (n m : ℕ) → Sized n r → Base F n m style
     → ((x : A) (p : Place) → size p < n → Within F n m (go x p)) → Within F n m (after_read style r go)
 after_read-within style (Took x p) go n m h b k = k x p h
-after_read-within style (Slip c p) go n m h b k = here (Some c) style p n m h b
+after_read-within style (Mistake c p) go n m h b k = here (Some c) style p n m h b
 
 weaker : {A : Type 0} (m n : ℕ) (r : Read A) → m ≤ n → Sized m r → Sized n r
 weaker m n (Took x p) h k = omega arith
-weaker m n (Slip c p) h k = omega arith
+weaker m n (Mistake c p) h k = omega arith
 
 after_listed-within : {F : Type 0} (c : Option Complaint) (style : Style) (p : Place) (go : Style → Place → CommandOutcome) (n m : ℕ) → size p ≤ n
     → size p + counts style ≤ m → (F → BodiesLead style) → Within F n m (go style p) → Within F n m (after_listed c style p go)

@@ -8,7 +8,7 @@ use Rattle.std.proofs.lemmas.List.{take-append-drop}
 use Rattle.btx_text.specs.language.Class.{is_white, is_name_byte, begins_name}
 use Rattle.btx_bst.specs.language.Places.{Place, place_at, further, behind_white, line_or, ink_from, ink}
 use Rattle.btx_bst.specs.language.Complaints.{Complaint, NoCommand, NoName, NoQuote}
-use Rattle.btx_bst.specs.language.Reads.{Read, Took, Slip}
+use Rattle.btx_bst.specs.language.Reads.{Read, Took, Mistake}
 use Rattle.btx_bst.specs.language.Fronts.{len_till, quote_len}
 use Rattle.btx_bst.specs.language.Lists.{brace_in, front_of, name_in, quoted_text, quoted_in, letters_at}
 use Rattle.btx_bst.specs.laws.TokenSpelling.{NoneIn, Begins, EndsBefore, IsUpTo, IsBlank, ends_gap, AllWhite, InkIn, GapFrom, Gap, BehindGap, IsMissing}
@@ -140,19 +140,19 @@ spaced R r h = record { met = λ p. (ink p, gap_met p, h.met (ink p)); one = λ 
 sign_met : (b : ℕ) (c : Complaint) (p : Place) (line : List ℕ) → p.line ≡ line → StyleSignHere b c p (brace_in b c p line)
 sign_met b c p [] e = (refl, rw e refl)
 sign_met b c p (x ∷ xs) e = at (x == b) refl where
-  at : (t : Bool) → (x == b) ≡ t → StyleSignHere b c p (cond t (Took tt (further p xs)) (Slip c p))
+  at : (t : Bool) → (x == b) ≡ t → StyleSignHere b c p (cond t (Took tt (further p xs)) (Mistake c p))
   at true f = (xs, e ∙ ap (λ (n : ℕ). n ∷ xs) (eqb-true x b f), refl)
   at false f = (refl, rw e (f, refl))
 
-sign_slip : (b : ℕ) (c k : Complaint) (p q : Place) (line : List ℕ) → q ≡ p → IsMissing (λ x. x == b) c k line → brace_in b c p line ≡ Slip k q
-sign_slip b c k p q [] e m = ap (λ (x : Complaint). Slip x p) (sym m) ∙ ap (Slip k) (sym e)
+sign_slip : (b : ℕ) (c k : Complaint) (p q : Place) (line : List ℕ) → q ≡ p → IsMissing (λ x. x == b) c k line → brace_in b c p line ≡ Mistake k q
+sign_slip b c k p q [] e m = ap (λ (x : Complaint). Mistake x p) (sym m) ∙ ap (Mistake k) (sym e)
 sign_slip b c k p q (x ∷ xs) e m =
-    ap (λ (t : Bool). cond {A = Read (Unit {0})} t (Took tt (further p xs)) (Slip c p)) m.0 ∙ ap (λ (x : Complaint). Slip x p) (sym m.1) ∙ ap (Slip k) (sym e)
+    ap (λ (t : Bool). cond {A = Read (Unit {0})} t (Took tt (further p xs)) (Mistake c p)) m.0 ∙ ap (λ (x : Complaint). Mistake x p) (sym m.1) ∙ ap (Mistake k) (sym e)
 
 sign_one : (b : ℕ) (c : Complaint) (p : Place) (x : Read (Unit {0})) → StyleSignHere b c p x → brace_in b c p p.line ≡ x
 sign_one b c p (Took none q) h =
-    ap (brace_in b c p) h.1 ∙ ap (λ (t : Bool). cond {A = Read (Unit {0})} t (Took tt (further p h.0)) (Slip c p)) (eq-eqb b b refl) ∙ ap (Took tt) (sym h.2)
-sign_one b c p (Slip k q) h = sign_slip b c k p q p.line h.0 h.1
+    ap (brace_in b c p) h.1 ∙ ap (λ (t : Bool). cond {A = Read (Unit {0})} t (Took tt (further p h.0)) (Mistake c p)) (eq-eqb b b refl) ∙ ap (Took tt) (sym h.2)
+sign_one b c p (Mistake k q) h = sign_slip b c k p q p.line h.0 h.1
 
 pub sign_agrees : (b : ℕ) (c : Complaint) → Agrees (StyleSignHere b c) (λ p. brace_in b c p p.line)
 sign_agrees b c = record { met = λ p. sign_met b c p p.line refl; one = sign_one b c }
@@ -192,12 +192,12 @@ name_front p b w rest none ends begins =
     ∙ ap (λ (xs : List ℕ). Took (b ∷ xs) (further p (drop (length w) (w ++ rest)))) (take-append_seam w rest)
     ∙ ap (λ (xs : List ℕ). Took (b ∷ w) (further p xs)) (drop-append_seam w rest)
 
-pub name_slip : (k : Complaint) (p q : Place) (line : List ℕ) → q ≡ p → IsMissing begins_name NoName k line → name_in p line ≡ Slip k q
+pub name_slip : (k : Complaint) (p q : Place) (line : List ℕ) → q ≡ p → IsMissing begins_name NoName k line → name_in p line ≡ Mistake k q
 unfolding len_till
-name_slip k p q [] e m = ap (λ (x : Complaint). Slip x p) (sym m) ∙ ap (Slip k) (sym e)
+name_slip k p q [] e m = ap (λ (x : Complaint). Mistake x p) (sym m) ∙ ap (Mistake k) (sym e)
 name_slip k p q (b ∷ bs) e m =
-    at (is_ascii_digit b) (is_name_byte b) m.0 ∙ ap (λ (x : Complaint). Slip x p) (sym m.1) ∙ ap (Slip k) (sym e) where
-      at : (d n : Bool) → (n && not d) ≡ false → front_of NoName p (b ∷ bs) (cond d 0 (cond (not n) 0 (suc (len_till ends_name bs)))) ≡ Slip NoName p
+    at (is_ascii_digit b) (is_name_byte b) m.0 ∙ ap (λ (x : Complaint). Mistake x p) (sym m.1) ∙ ap (Mistake k) (sym e) where
+      at : (d n : Bool) → (n && not d) ≡ false → front_of NoName p (b ∷ bs) (cond d 0 (cond (not n) 0 (suc (len_till ends_name bs)))) ≡ Mistake NoName p
       at true n h = refl
       at false false h = refl
       at false true h = absurd (cc)
@@ -205,7 +205,7 @@ name_slip k p q (b ∷ bs) e m =
 name_one : (p : Place) (x : Read (List ℕ)) → StyleNameHere p x → name_in p p.line ≡ x
 name_one p (Took [] q) h = absurd h.2
 name_one p (Took (b ∷ w) q) h = ap (name_in p) h.1.joined ∙ name_front p b w h.0 h.1.none h.1.ends h.2 ∙ ap (Took (b ∷ w)) (sym h.3)
-name_one p (Slip k q) h = name_slip k p q p.line h.0 h.1
+name_one p (Mistake k q) h = name_slip k p q p.line h.0 h.1
 
 pub name_agrees : Agrees StyleNameHere (λ p. name_in p p.line)
 name_agrees = record { met = λ p. name_met p p.line refl; one = name_one }
@@ -217,20 +217,20 @@ text_met p (b ∷ bs) e = at (b == 34) refl where
   ended t [] f u = (refl, rw f (refl, inr (rw (u.joined ∙ append-nil t) u.none)))
   ended t (c ∷ rest) f u = (rest, f ∙ ap (λ (xs : List ℕ). 34 ∷ xs) (u.joined ∙ ap (λ (n : ℕ). t ++ n ∷ rest) (eqb-true c 34 u.ends)), u.none, refl)
 
-  at : (t : Bool) → (b == 34) ≡ t → TextHere p (cond t (quoted_text p (take (quote_len bs) bs) (drop (quote_len bs) bs)) (Slip NoQuote p))
+  at : (t : Bool) → (b == 34) ≡ t → TextHere p (cond t (quoted_text p (take (quote_len bs) bs) (drop (quote_len bs) bs)) (Mistake NoQuote p))
   at true f = ended (take (quote_len bs) bs) (drop (quote_len bs) bs) (e ∙ ap (λ (n : ℕ). n ∷ bs) (eqb-true b 34 f)) (upto_met is_quote bs)
   at false f = (refl, rw e (refl, inl f))
 
-no_quote : (p : Place) (bs : List ℕ) → NoneIn is_quote bs → quoted_text p (take (quote_len bs) bs) (drop (quote_len bs) bs) ≡ Slip NoQuote p
+no_quote : (p : Place) (bs : List ℕ) → NoneIn is_quote bs → quoted_text p (take (quote_len bs) bs) (drop (quote_len bs) bs) ≡ Mistake NoQuote p
 no_quote p bs none =
     let u : IsUpTo is_quote bs bs [] = record { joined = sym (append-nil bs); none = none; ends = tt } in
     ap (quoted_text p (take (quote_len bs) bs)) (upto_drop is_quote bs bs [] u)
 
-text_slip : (k : Complaint) (p q : Place) (line : List ℕ) → q ≡ p → IsNoText k line → quoted_in p line ≡ Slip k q
-text_slip k p q [] e m = ap (λ (x : Complaint). Slip x p) (sym m) ∙ ap (Slip k) (sym e)
-text_slip k p q (b ∷ bs) e m = at (b == 34) refl m.1 ∙ ap (λ (x : Complaint). Slip x p) (sym m.0) ∙ ap (Slip k) (sym e) where
+text_slip : (k : Complaint) (p q : Place) (line : List ℕ) → q ≡ p → IsNoText k line → quoted_in p line ≡ Mistake k q
+text_slip k p q [] e m = ap (λ (x : Complaint). Mistake x p) (sym m) ∙ ap (Mistake k) (sym e)
+text_slip k p q (b ∷ bs) e m = at (b == 34) refl m.1 ∙ ap (λ (x : Complaint). Mistake x p) (sym m.0) ∙ ap (Mistake k) (sym e) where
   at : (t : Bool) → (b == 34) ≡ t → ((b == 34) ≡ false) ⊎ NoneIn is_quote bs → cond t (quoted_text p (take (quote_len bs) bs) (drop (quote_len bs) bs))
-      (Slip NoQuote p) ≡ Slip NoQuote p
+      (Mistake NoQuote p) ≡ Mistake NoQuote p
   at false f h = refl
   at true f (inl g) = absurd (cc)
   at true f (inr none) = no_quote p bs none
@@ -244,7 +244,7 @@ text_front p text rest none =
 
 text_one : (p : Place) (x : Read (List ℕ)) → TextHere p x → quoted_in p p.line ≡ x
 text_one p (Took text q) h = ap (quoted_in p) h.1 ∙ text_front p text h.0 h.2 ∙ ap (Took text) (sym h.3)
-text_one p (Slip k q) h = text_slip k p q p.line h.0 h.1
+text_one p (Mistake k q) h = text_slip k p q p.line h.0 h.1
 
 pub text_agrees : Agrees TextHere (λ p. quoted_in p p.line)
 text_agrees = record { met = λ p. text_met p p.line refl; one = text_one }
@@ -276,7 +276,7 @@ letters_one p (Took (b ∷ w) q) h =
     ∙ ap (front_of NoCommand p line) (len_text is_no_letter (b ∷ w) h.0 h.1.none h.1.ends)
     ∙ ap (λ (xs : List ℕ). Took (b ∷ xs) (further p (drop (length w) (w ++ h.0)))) (take-append_seam w h.0)
     ∙ ap (λ (xs : List ℕ). Took (b ∷ w) (further p xs)) (drop-append_seam w h.0) ∙ ap (Took (b ∷ w)) (sym h.3)
-letters_one p (Slip k q) h = ap (front_of NoCommand p p.line) (letters_none p.line h.2) ∙ ap (λ (x : Complaint). Slip x p) (sym h.1) ∙ ap (Slip k) (sym h.0)
+letters_one p (Mistake k q) h = ap (front_of NoCommand p p.line) (letters_none p.line h.2) ∙ ap (λ (x : Complaint). Mistake x p) (sym h.1) ∙ ap (Mistake k) (sym h.0)
 
 pub letters_agrees : Agrees LettersHere letters_at
 letters_agrees = record { met = λ p. letters_met p (letters_len p.line) refl; one = letters_one }

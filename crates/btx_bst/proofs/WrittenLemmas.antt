@@ -14,7 +14,7 @@ use Rattle.btx_bst.specs.declared.token.Token.{Token}
 use Rattle.btx_bst.specs.declared.token.Token.TheVariants.{Quote, Run}
 use Rattle.btx_bst.specs.language.Places.{Place, place_at, further, ink, ink_from, behind_white, line_or}
 use Rattle.btx_bst.specs.language.Complaints.{NoCommand, NoClose, Another, BeforeEntry, BeforeRead, AfterRead}
-use Rattle.btx_bst.specs.language.Reads.{Read as OneRead, Took, Slip}
+use Rattle.btx_bst.specs.language.Reads.{Read as OneRead, Took, Mistake}
 use Rattle.btx_bst.specs.language.Items as item
 use Rattle.btx_bst.specs.language.Items.{Item}
 use Rattle.btx_bst.specs.language.Fronts.{len_till}
@@ -76,10 +76,10 @@ unfolding len_till
 brace_no_name p q b bs name e h = let g : name_in p (125 ∷ bs) ≡ Took name q = rw e at h in absurd (cc)
 
 -- where a name stands, no `}` does
-pub name_no_brace : (p q : Place) (line name : List ℕ) → name_in p line ≡ Took name q → brace_in 125 NoClose p line ≡ Slip NoClose p
+pub name_no_brace : (p q : Place) (line name : List ℕ) → name_in p line ≡ Took name q → brace_in 125 NoClose p line ≡ Mistake NoClose p
 name_no_brace p q [] name e = absurd (cc)
 name_no_brace p q (b ∷ bs) name e = at (b == 125) refl where
-  at : (t : Bool) → (b == 125) ≡ t → cond {A = OneRead (Unit {0})} t (Took tt (further p bs)) (Slip NoClose p) ≡ Slip NoClose p
+  at : (t : Bool) → (b == 125) ≡ t → cond {A = OneRead (Unit {0})} t (Took tt (further p bs)) (Mistake NoClose p) ≡ Mistake NoClose p
   at true f = absurd (brace_no_name p q b bs name (eqb-true b 125 f) e)
   at false f = refl
 

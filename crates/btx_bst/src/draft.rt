@@ -51,7 +51,7 @@ type Taken<'a> = Result<Option<Complaint<'a>>, AllocError>;
 
 /// A style as far as it has been read.
 #[derive(Drop)]
-pub struct Draft<'a> {
+pub struct StyleBuilder<'a> {
     /// The name of the file.
     pub file_name: &'a [u8],
     /// The names, with what they name.
@@ -70,12 +70,12 @@ pub struct Draft<'a> {
     pub before_read: Option<usize>,
 }
 
-impl<'a> Draft<'a> {
+impl<'a> StyleBuilder<'a> {
     /// Nothing has been read of the file of this name, and these names are known.
     pub fn new(alloc: Global, file_name: &'a [u8], names: Names<'a>) -> Self
         ensures { draft_view result ≡ unread_style file_name.now names.entry }
     {
-        Draft {
+        StyleBuilder {
             file_name,
             names,
             macros: Macros::new(alloc),

@@ -13,7 +13,7 @@ ghost use Rattle.btx_bst.specs.laws.Recorded.{Records, item_recorded, known_reco
 use crate::command::Command;
 use crate::complaint::Complaint;
 use crate::cursor::Cursor;
-use crate::draft::Draft;
+use crate::draft::StyleBuilder;
 use crate::message::logged;
 use crate::recorder::Recording;
 use crate::span::Stretch;
@@ -25,7 +25,7 @@ use std::alloc::{AllocError, Global};
 pub fn items<'a, R: Recording>(
     alloc: Global,
     cursor: &mut Cursor<'a>,
-    draft: &mut Draft<'a>,
+    draft: &mut StyleBuilder<'a>,
     recorder: &mut R,
 ) -> Result<(), AllocError>
     requires { HasRoom (draft_view draft.old) cursor.old }
@@ -41,7 +41,7 @@ pub fn items<'a, R: Recording>(
 fn item<'a, R: Recording>(
     alloc: Global,
     cursor: &mut Cursor<'a>,
-    draft: &mut Draft<'a>,
+    draft: &mut StyleBuilder<'a>,
     recorder: &mut R,
 ) -> Result<bool, AllocError>
     requires { HasRoom (draft_view draft.old) cursor.old }
@@ -74,7 +74,7 @@ fn item<'a, R: Recording>(
 fn command<'a, R: Recording>(
     alloc: Global,
     cursor: &mut Cursor<'a>,
-    draft: &mut Draft<'a>,
+    draft: &mut StyleBuilder<'a>,
     word: Result<&'a [u8], Complaint<'a>>,
     recorder: &mut R,
 ) -> Result<Option<Complaint<'a>>, AllocError>

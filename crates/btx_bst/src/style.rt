@@ -14,7 +14,7 @@ ghost use Rattle.btx_bst.specs.laws.StylePlaces.{places_of};
 
 use crate::callee::{Callee, Kind};
 use crate::cursor::Cursor;
-use crate::draft::Draft;
+use crate::draft::StyleBuilder;
 use crate::item::Item;
 use crate::macros::Macros;
 use crate::names::Names;
@@ -30,7 +30,7 @@ use std::marker::Model;
 /// A style that has been read. What it shows is borrowed from the text of its file.
 #[derive(Drop)]
 pub struct Style<'a> {
-    draft: Draft<'a>,
+    draft: StyleBuilder<'a>,
 }
 
 impl<'a> Model for Style<'a> {
@@ -116,7 +116,7 @@ fn read_text<'a, R: Recording>(
     ensures style { IfOk result (λ style. style ≡ style_of file_name.now text.now) }
     ensures recorded { OnOk result (R.recorded recorder.old ≡ Some nothing_recorded → R.recorded recorder.new ≡ Some (recorded_of file_name.now text.now)) }
 {
-    let mut draft = Draft::new(alloc, file_name, predefined(alloc)?);
+    let mut draft = StyleBuilder::new(alloc, file_name, predefined(alloc)?);
     let mut cursor = Cursor::of(text);
     items(alloc, &mut cursor, &mut draft, recorder)?;
     Ok(Style { draft })

@@ -10,7 +10,7 @@ use Rattle.btx_aux.specs.language.Job.{AuxJob}
 use Rattle.btx_aux.specs.refinement.Answers.{ByAnswers}
 use Rattle.btx_core.specs.refinement.Files.Readings.{job_named}
 use Rattle.btx_c.specs.declared.handed.BtxFile.{BtxFile}
-use Rattle.btx_c.specs.Handed.{OtherFiles, WereHeld, beside, file_in}
+use Rattle.btx_c.specs.CallerFiles.{OtherFiles, WereHeld, beside, file_in}
 use Rattle.btx_c.specs.Needs.{SaysAlways}
 use Rattle.btx_c.proofs.HandedLemmas.{same_or_other}
 

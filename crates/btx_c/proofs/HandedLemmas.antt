@@ -5,7 +5,7 @@ use Rattle.std.proofs.lemmas.List.{drop_more}
 use Rattle.std.specs.Str.{bytes_eq}
 use Rattle.btx_aux.specs.language.Files.{Files}
 use Rattle.btx_c.specs.declared.handed.BtxFile.{BtxFile}
-use Rattle.btx_c.specs.Handed.{beside, bytes_in, is_known, known}
+use Rattle.btx_c.specs.CallerFiles.{beside, bytes_in, is_known, known}
 
 pub known_here : (files : List BtxFile) (i : ℕ) (d : BtxFile) (name : List ℕ) → i < length files → bytes_eq (get_or files i d).name.now name ≡ true
     → known (drop i files) name ≡ Some (bytes_in (get_or files i d))

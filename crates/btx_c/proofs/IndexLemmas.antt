@@ -9,7 +9,7 @@ use Rattle.std.specs.Option.{option_map, option_or}
 use Rattle.std.specs.Str.{bytes_eq}
 use Rattle.indexmap.specs.IndexMap.{insert_entry}
 use Rattle.btx_c.specs.declared.handed.BtxFile.{BtxFile}
-use Rattle.btx_c.specs.Handed.{bytes_in, known}
+use Rattle.btx_c.specs.CallerFiles.{bytes_in, known}
 use Rattle.btx_c.specs.Known.{AddsFile, said_in}
 
 -- the entries of a table by name

@@ -18,7 +18,7 @@ use Rattle.btx_core.specs.language.Files.Databases.{databases_logged, files_foun
 use Rattle.btx_core.specs.refinement.Files.Readings.{Logged, after_job, behind, reading_of, style_named, style_read}
 use Rattle.btx_core.specs.refinement.ComputedProduct.{product, product_of_files, product_with}
 use Rattle.btx_c.specs.declared.handed.BtxFile.{BtxFile}
-use Rattle.btx_c.specs.Handed.{beside, is_known, known}
+use Rattle.btx_c.specs.CallerFiles.{beside, is_known, known}
 use Rattle.btx_c.specs.Needs.{EndsWithAuxFiles, NeedsAnother, NeedsNoOther, ReadsAuxFiles, SaysAlways, empty_files, is_absent, line_for, lines_for, lines_named}
 use Rattle.btx_c.specs.Needs.{no_files}
 use Rattle.btx_c.proofs.HandedLemmas.{beside_known, known_same}

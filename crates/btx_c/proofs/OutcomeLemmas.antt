@@ -17,7 +17,7 @@ use Rattle.btx_c.specs.declared.handed.BtxFile.{BtxFile}
 use Rattle.btx_c.specs.declared.noted.Events.{Events}
 use Rattle.btx_c.specs.declared.options.BtxOptions.{BtxOptions}
 use Rattle.btx_c.specs.declared.report.BtxReport.{BtxReport}
-use Rattle.btx_c.specs.Handed.{OtherFiles}
+use Rattle.btx_c.specs.CallerFiles.{OtherFiles}
 use Rattle.btx_c.specs.Noted.{AreAll, HasEvents}
 use Rattle.btx_c.specs.Options.{asked}
 use Rattle.btx_c.specs.Outcomes.{Broke, Overflows, Wrote, all_files, filled, outcome}

@@ -7,7 +7,7 @@ use Rattle.std.specs.Str.{bytes_eq}
 use Rattle.btx_c.specs.declared.handed.BtxFile.{BtxFile}
 use Rattle.btx_c.specs.declared.handed.Known.{Known}
 use Rattle.btx_c.specs.declared.handed.Known.TheVariants.{Bytes, Absent, Unknown}
-use Rattle.btx_c.specs.Handed.{bytes_in, known}
+use Rattle.btx_c.specs.CallerFiles.{bytes_in, known}
 
 -- what was said, if anything was
 abbrev pub known_of : Known → Option (Option (List ℕ))

@@ -1,6 +1,6 @@
 pub mod Checks
 pub mod Events
-pub mod Handed
+pub mod CallerFiles
 pub mod Known
 pub mod Needs
 pub mod Noted

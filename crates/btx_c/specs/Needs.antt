@@ -8,9 +8,9 @@ use Rattle.btx_core.specs.declared.options.Options.{Options}
 use Rattle.btx_core.specs.refinement.Files.Readings.{job_named}
 use Rattle.btx_core.specs.refinement.ComputedProduct.{product_with}
 use Rattle.btx_c.specs.declared.handed.BtxFile.{BtxFile}
-use Rattle.btx_c.specs.declared.needs.Needs.{Needs}
-use Rattle.btx_c.specs.declared.needs.Needs.TheVariants.{Ends, Names}
-use Rattle.btx_c.specs.Handed.{beside, is_known, known}
+use Rattle.btx_c.specs.declared.needs.MissingFiles.{MissingFiles}
+use Rattle.btx_c.specs.declared.needs.MissingFiles.TheVariants.{Ends, Names}
+use Rattle.btx_c.specs.CallerFiles.{beside, is_known, known}
 
 -- no files
 abbrev pub no_files : Files
@@ -52,7 +52,7 @@ abbrev pub SaysAlways : List BtxFile → List ℕ → AuxJob → Type 0
 SaysAlways files name job = (others : Files) → job ≡ job_named (beside files others) name
 
 -- no file is asked for
-abbrev pub AsksNothing : Needs → Type 0
+abbrev pub AsksNothing : MissingFiles → Type 0
 AsksNothing (Names names) = names.items ≡ []
 AsksNothing Ends = ⊥
 

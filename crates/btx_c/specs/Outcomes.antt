@@ -11,7 +11,7 @@ use Rattle.btx_c.specs.declared.cause.TheConstants.{LIST_FULL, LOG_FULL}
 use Rattle.btx_c.specs.declared.handed.BtxFile.{BtxFile}
 use Rattle.btx_c.specs.declared.options.BtxOptions.{BtxOptions}
 use Rattle.btx_c.specs.declared.report.BtxReport.{BtxReport}
-use Rattle.btx_c.specs.Handed.{OtherFiles, beside, file_in}
+use Rattle.btx_c.specs.CallerFiles.{OtherFiles, beside, file_in}
 use Rattle.btx_c.specs.Options.{asked}
 use Rattle.btx_c.specs.Reports.{in_numbers}
 

@@ -2,7 +2,7 @@
 ghost use Rattle.std.specs.Prelude.{◌≡◌, [], Ok, IfOk, OnErr, OnOk};
 ghost use Rattle.btx_aux.specs.language.Answers.{answers_after};
 ghost use Rattle.btx_aux.specs.language.Fetches.{is_device_fetch};
-ghost use Rattle.btx_c.specs.Handed.{WereHeld};
+ghost use Rattle.btx_c.specs.CallerFiles.{WereHeld};
 
 use btx_aux::{Fetched, History};
 use std::alloc::Global;
@@ -17,7 +17,7 @@ pub struct Answers {
 impl Model for Answers {
     ghost use Rattle.std.specs.Prelude.{List};
     ghost use Rattle.btx_aux.specs.language.Answers.{FinderAnswer};
-    ghost use Rattle.btx_c.specs.Handed.{WereHeld};
+    ghost use Rattle.btx_c.specs.CallerFiles.{WereHeld};
 
     ghost Value = { List FinderAnswer };
 

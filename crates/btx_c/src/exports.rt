@@ -5,7 +5,7 @@ ghost use Rattle.btx_core.specs.refinement.ComputedProduct.{product};
 ghost use Rattle.btx_c.specs.Checks.{SaidClean};
 ghost use Rattle.btx_machine.specs.laws.Reports.{log_counts};
 ghost use Rattle.btx_c.specs.Events.{Divided};
-ghost use Rattle.btx_c.specs.Handed.{OtherFiles};
+ghost use Rattle.btx_c.specs.CallerFiles.{OtherFiles};
 ghost use Rattle.btx_c.specs.Needs.{EndsWithAuxFiles, NeedsAnother, NeedsNoOther, ReadsAuxFiles};
 ghost use Rattle.btx_c.specs.Noted.{PutsEvents};
 ghost use Rattle.btx_c.specs.Options.{IsInRange, asked};
@@ -15,7 +15,7 @@ use crate::cause::Cause;
 use crate::checked::check_style;
 use crate::event::BtxEvent;
 use crate::handed::BtxFile;
-use crate::needs::{Needs, needed};
+use crate::needs::{MissingFiles, needed};
 use crate::noted::Events;
 use crate::options::{BtxOptions, read_options};
 use crate::places::places;
@@ -90,11 +90,11 @@ pub extern "C" fn btx_needs(
     ensures whole { result ≡ DONE → names_len.new ≡ 0 → ReadsAuxFiles files.now job.now }
 {
     match needed(alloc, job, files) {
-        Ok(Needs::Names(asked)) => {
+        Ok(MissingFiles::Names(asked)) => {
             *names_len = copy_out(asked.as_slice(), names);
             DONE
         }
-        Ok(Needs::Ends) => {
+        Ok(MissingFiles::Ends) => {
             *names_len = 0;
             ENDS
         }

@@ -2,12 +2,12 @@
 ghost use Rattle.std.specs.Prelude.{◌≡◌, [], false, Ok, Some, OnErr, IfOk};
 ghost use Rattle.btx_text.specs.refinement.Counts.{no_failures};
 ghost use Rattle.btx_aux.specs.language.Files.{file_of};
-ghost use Rattle.btx_c.specs.Handed.{OtherFiles, beside, bytes_in, file_in, known};
+ghost use Rattle.btx_c.specs.CallerFiles.{OtherFiles, beside, bytes_in, file_in, known};
 ghost use Rattle.btx_c.specs.Known.{known_of};
 
 use crate::answers::Answers;
 use crate::index::Index;
-use crate::others::Others;
+use crate::others::UnnamedFiles;
 use btx_aux::{FetchFault, Fetched, Finder};
 use btx_text::Failures;
 use std::alloc::Global;
@@ -50,16 +50,16 @@ impl<'a> BtxFile<'a> {
 /// Files that a caller handed in, as a finder. It fails where it is asked for a file of which nothing was said. So what it gives is right
 /// whatever other files there are.
 #[derive(Drop)]
-pub struct Handed<'i, 'f> {
+pub struct CallerFiles<'i, 'f> {
     index: &'i Index<'f>,
-    others: Others,
+    others: UnnamedFiles,
     /// What it has answered.
     pub answers: Answers,
     /// How often it was asked for a file of which nothing was said, and whether it was at the last fetch.
     pub failures: Failures,
 }
 
-impl<'i, 'f> Handed<'i, 'f> {
+impl<'i, 'f> CallerFiles<'i, 'f> {
     /// A finder over these files, whatever others there are.
     pub fn new(alloc: Global, index: &'i Index<'f>) -> Self
         ghost others: { OtherFiles }
@@ -68,9 +68,9 @@ impl<'i, 'f> Handed<'i, 'f> {
         ensures answers { result.answers ≡ [] }
         ensures failures { result.failures ≡ no_failures }
     {
-        Handed {
+        CallerFiles {
             index,
-            others: Others::any(),
+            others: UnnamedFiles::any(),
             answers: Answers::none(alloc),
             failures: Failures::none(),
         }
@@ -86,7 +86,7 @@ fn copy(index: &Index<'_>, name: &[u8], into: &mut Vec<u8>) -> Result<bool, Fetc
     index.copy(name, into)?.ok_or(FetchFault::Device)
 }
 
-impl<'i, 'f> Finder for Handed<'i, 'f> {
+impl<'i, 'f> Finder for CallerFiles<'i, 'f> {
     ghost content = { λ finder. Some (beside finder.index.now (file_in finder.others.files)) };
 
     ghost answers = { λ finder. finder.answers };

@@ -2,7 +2,7 @@
 ghost use Rattle.std.specs.Prelude.{◌≡◌, [], None, Ok, Some, false, IfErr, IfOk, OnErr, OnOk};
 ghost use Rattle.std.specs.Option.{option_map};
 ghost use Rattle.btx_aux.specs.language.Files.{file_of};
-ghost use Rattle.btx_c.specs.Handed.{known};
+ghost use Rattle.btx_c.specs.CallerFiles.{known};
 ghost use Rattle.btx_c.specs.Known.{AddsFile, known_of};
 
 use crate::handed::{BtxFile, Known};

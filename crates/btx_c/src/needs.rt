@@ -4,10 +4,10 @@ ghost use Rattle.btx_text.specs.refinement.Counts.{no_failures};
 ghost use Rattle.btx_aux.specs.language.Files.{file_of};
 ghost use Rattle.btx_aux.specs.declared.end.End.TheVariants.{Whole};
 ghost use Rattle.btx_aux.specs.refinement.Entries.{texts_of};
-ghost use Rattle.btx_c.specs.Handed.{beside};
+ghost use Rattle.btx_c.specs.CallerFiles.{beside};
 ghost use Rattle.btx_c.specs.Needs.{AsksNothing, EndsWithAuxFiles, NeedsNoOther, ReadsAuxFiles, SaysAlways, line_for, lines_for, lines_named, no_files};
 
-use crate::handed::{BtxFile, Handed, Known};
+use crate::handed::{BtxFile, CallerFiles, Known};
 use crate::index::Index;
 use btx_aux::{AuxJob, End, FetchFault, Fetched, Finder, History};
 use btx_run::files::read_job;
@@ -16,7 +16,7 @@ use std::alloc::{AllocError, Global};
 
 /// What a job needs beyond the files that were handed in.
 #[derive(Drop)]
-pub enum Needs {
+pub enum MissingFiles {
     /// The files of these names, each with byte 10; if there is no name, nothing.
     Names(Vec<u8>),
     /// Nothing, since the run ends with its `.aux` files: there is no top file, or they meet a limit.
@@ -61,14 +61,18 @@ fn unknown_named(alloc: Global, job: &AuxJob, index: &Index<'_>) -> Result<Vec<u
 }
 
 // Answers what a job needs whose `.aux` files were read: `job` is what they say.
-fn after_aux_files(alloc: Global, job: &AuxJob, index: &Index<'_>) -> Result<Needs, AllocError>
+fn after_aux_files(
+    alloc: Global,
+    job: &AuxJob,
+    index: &Index<'_>,
+) -> Result<MissingFiles, AllocError>
     ensures whole { IfOk result (λ needs. AsksNothing needs → job.now.ending ≡ Whole) }
     ensures named { IfOk result (λ needs. AsksNothing needs → lines_named index.now job.now.style job.now.databases ≡ []) }
-    ensures ends { IfOk result (λ needs. needs ≡ Needs.Ends → job.now.ending ≡ Whole → ⊥) }
+    ensures ends { IfOk result (λ needs. needs ≡ MissingFiles.Ends → job.now.ending ≡ Whole → ⊥) }
 {
     match job.end() {
-        End::Whole => Ok(Needs::Names(unknown_named(alloc, job, index)?)),
-        End::TooManyOpen | End::TopMissing | End::FileLimit => Ok(Needs::Ends),
+        End::Whole => Ok(MissingFiles::Names(unknown_named(alloc, job, index)?)),
+        End::TooManyOpen | End::TopMissing | End::FileLimit => Ok(MissingFiles::Ends),
     }
 }
 
@@ -77,7 +81,7 @@ fn after_aux_files(alloc: Global, job: &AuxJob, index: &Index<'_>) -> Result<Nee
 fn read_handed(alloc: Global, name: &[u8], index: &Index<'_>) -> Result<AuxJob, Fault>
     ensures { IfOk result (λ job. SaysAlways index.now name.now job) }
 {
-    let mut finder = Handed::new(alloc, &*index);
+    let mut finder = CallerFiles::new(alloc, &*index);
     let job = read_job(alloc, &mut finder, name)?;
     finder.answers.were_held();
     Ok(job)
@@ -127,9 +131,9 @@ impl<'i, 'f> Finder for Asking<'i, 'f> {
 
 // Answers the names of the `.aux` files that the job `name` opens and of which nothing was said, where a reading of these files has asked for one.
 // That a second reading asks for none is the device's fault, since both have the same files.
-fn unknown_aux_files(alloc: Global, name: &[u8], index: &Index<'_>) -> Result<Needs, Fault>
+fn unknown_aux_files(alloc: Global, name: &[u8], index: &Index<'_>) -> Result<MissingFiles, Fault>
     ensures some { IfOk result (λ needs. AsksNothing needs → ⊥) }
-    ensures names { IfOk result (λ needs. needs ≡ Needs.Ends → ⊥) }
+    ensures names { IfOk result (λ needs. needs ≡ MissingFiles.Ends → ⊥) }
 {
     let mut finder = Asking {
         index: &*index,
@@ -140,16 +144,16 @@ fn unknown_aux_files(alloc: Global, name: &[u8], index: &Index<'_>) -> Result<Ne
     if finder.asked.is_empty() {
         return Err(Fault::Device);
     }
-    Ok(Needs::Names(finder.asked))
+    Ok(MissingFiles::Names(finder.asked))
 }
 
 /// Answers what the job `name` needs beyond `files`: the `.aux` files of which nothing was said, as long as there are such, and else the style and
 /// the databases.
-pub fn needed(alloc: Global, name: &[u8], files: &[BtxFile<'_>]) -> Result<Needs, Fault>
+pub fn needed(alloc: Global, name: &[u8], files: &[BtxFile<'_>]) -> Result<MissingFiles, Fault>
     ensures complete { IfOk result (λ needs. AsksNothing needs → NeedsNoOther files.now name.now) }
     ensures whole { IfOk result (λ needs. AsksNothing needs → ReadsAuxFiles files.now name.now) }
-    ensures ended { IfOk result (λ needs. needs ≡ Needs.Ends → NeedsNoOther files.now name.now) }
-    ensures ends { IfOk result (λ needs. needs ≡ Needs.Ends → EndsWithAuxFiles files.now name.now) }
+    ensures ended { IfOk result (λ needs. needs ≡ MissingFiles.Ends → NeedsNoOther files.now name.now) }
+    ensures ends { IfOk result (λ needs. needs ≡ MissingFiles.Ends → EndsWithAuxFiles files.now name.now) }
 {
     let index = Index::new(alloc, &*files)?;
     match read_handed(alloc, name, &index) {

@@ -1,7 +1,7 @@
 //! A job, run again over files that were handed in to note where its style stands.
 
 use crate::cause::Cause;
-use crate::handed::{BtxFile, Handed};
+use crate::handed::{BtxFile, CallerFiles};
 use crate::index::Index;
 use crate::kept::Kept;
 use btx_run::Options;
@@ -23,7 +23,7 @@ pub fn places(
     let Ok(index) = Index::new(alloc, &*files) else {
         return Err(Cause::Memory);
     };
-    let mut finder = Handed::new(alloc, &index);
+    let mut finder = CallerFiles::new(alloc, &index);
     let mut list = Kept::new(alloc, MOST_WRITTEN);
     let mut log = Kept::new(alloc, MOST_WRITTEN);
     let mut notes = Vec::new(alloc);

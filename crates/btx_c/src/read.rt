@@ -7,7 +7,7 @@ ghost use Rattle.btx_c.specs.Outcomes.{filled};
 ghost use Rattle.btx_c.specs.Read.{AreRead, Fits, IsFull, filled_rows, handed_strings, records_read, with_handed};
 
 use crate::exports::{DONE, FULL, MEMORY, REFUSED};
-use btx_read::{Row, Rows, StringTable, read_rows};
+use btx_read::{Row, Rows, StringTable, add_string, read_rows};
 use btx_text::GREATEST_FILE;
 use std::alloc::{AllocError, Global};
 
@@ -49,7 +49,7 @@ fn known<'a>(alloc: Global, strings: &[BtxString<'a>]) -> Result<StringTable<'a>
 {
     let mut known = StringTable::new(alloc);
     for string in strings {
-        known.add(alloc, string.name, string.text)?;
+        add_string(alloc, &mut known, string.name, string.text)?;
     }
     Ok(known)
 }

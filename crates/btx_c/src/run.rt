@@ -5,13 +5,13 @@ ghost use Rattle.btx_machine.specs.laws.Noting.{Printed};
 ghost use Rattle.btx_machine.specs.laws.Reports.{log_counts};
 ghost use Rattle.btx_run.specs.laws.Noted.{CountsOfNoted};
 ghost use Rattle.btx_core.specs.refinement.ComputedProduct.{product, product_with};
-ghost use Rattle.btx_c.specs.Handed.{OtherFiles};
+ghost use Rattle.btx_c.specs.CallerFiles.{OtherFiles};
 ghost use Rattle.btx_c.specs.Needs.{NeedsAnother};
 ghost use Rattle.btx_c.specs.Noted.{HasEvents};
 ghost use Rattle.btx_c.specs.Outcomes.{all_files, outcome};
 
 use crate::cause::Cause;
-use crate::handed::{BtxFile, Handed};
+use crate::handed::{BtxFile, CallerFiles};
 use crate::index::Index;
 use crate::kept::Kept;
 use crate::noted::{Events, Notes};
@@ -74,7 +74,7 @@ fn run_into(
     let Ok(index) = Index::new(alloc, &*files) else {
         return Err(Cause::Memory);
     };
-    let mut finder = Handed::new(alloc, &index);
+    let mut finder = CallerFiles::new(alloc, &index);
     match run_noted(alloc, &mut finder, name, options, list, log, notes) {
         Ok(report) => Ok(report),
         Err(_) => Err(cause_of(alloc, &index, name, options, finder.failures.count > 0)),

@@ -4,7 +4,7 @@ ghost use Rattle.btx_text.specs.refinement.Counts.{no_failures};
 ghost use Rattle.btx_aux.specs.language.Files.{file_of};
 ghost use Rattle.btx_machine.specs.language.Product.{log_of};
 ghost use Rattle.btx_core.specs.refinement.ComputedProduct.{product};
-ghost use Rattle.btx_c.specs.Handed.{beside};
+ghost use Rattle.btx_c.specs.CallerFiles.{beside};
 ghost use Rattle.btx_c.specs.Needs.{NeedsAnother, empty_files};
 
 use crate::index::Index;
@@ -15,7 +15,7 @@ use std::alloc::Global;
 
 // Files that were handed in, as a finder that takes all others for empty files, or for none.
 #[derive(Drop)]
-struct Supposed<'i, 'f> {
+struct PretendFinder<'i, 'f> {
     index: &'i Index<'f>,
     are_there: bool,
     history: History,
@@ -39,7 +39,7 @@ fn copy_or_suppose(
     }
 }
 
-impl<'i, 'f> Finder for Supposed<'i, 'f> {
+impl<'i, 'f> Finder for PretendFinder<'i, 'f> {
     ghost content = { λ finder. Some (beside finder.index.now (empty_files finder.are_there)) };
 
     ghost answers = { λ finder. finder.history };
@@ -62,7 +62,7 @@ fn log_if(
 ) -> Result<Vec<u8>, RunFault>
     ensures { IfOk result (λ log. log.items ≡ log_of (product (beside index.now (empty_files are_there)) name.now options.now)) }
 {
-    let mut finder = Supposed {
+    let mut finder = PretendFinder {
         index: &*index,
         are_there,
         history: History::new(alloc),

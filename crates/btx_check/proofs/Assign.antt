@@ -15,8 +15,8 @@ use Rattle.btx_bst.specs.declared.callee.Callee.TheVariants as callee
 use Rattle.btx_stack.specs.declared.literal.Literal.{Literal}
 use Rattle.btx_stack.specs.declared.literal.Literal.TheVariants.{Integer, Text, Function, Missing}
 use Rattle.btx_step.specs.declared.said.Note.TheVariants as note
-use Rattle.btx_step.specs.declared.said.Said.{Said}
-use Rattle.btx_step.specs.declared.said.Said.TheVariants as said
+use Rattle.btx_step.specs.declared.said.StepOutput.{StepOutput}
+use Rattle.btx_step.specs.declared.said.StepOutput.TheVariants as step_output
 use Rattle.btx_step.specs.language.Jobs.{Job}
 use Rattle.btx_step.specs.language.Stores.{Store, EntryVariables}
 use Rattle.btx_step.specs.language.Answers.{Answer, noted, says, with_literals}
@@ -168,7 +168,7 @@ put_keeps P (callee.GlobalInteger k) i a h = h
 put_keeps P _ i a h = h
 
 -- what follows where a variable has another value in `t` than in `s`: the literal `x`, whose number is `i`; `words` are written or logged
-assigned : (job : Job) (left : ℕ) (f : Callee) (i : ℕ) (x : Literal) (a : Abstract) (to : List Abstract) (s t : Store) (v : List Literal) (words : Said)
+assigned : (job : Job) (left : ℕ) (f : Callee) (i : ℕ) (x : Literal) (a : Abstract) (to : List Abstract) (s t : Store) (v : List Literal) (words : StepOutput)
     → IsVariable f → Calm words → t.deepest ≡ s.deepest → (Sized job (values_in s) → Sized job (values_in t)) → t.current ≡ s.current
     → Into (putting f i a) to → Holds job left a (values_in s) t.literals v → at v i ≡ Some x → named job (values_in t) f ≡ Some x
     → ((g : Callee) → (g ≡ f → ⊥) → named job (values_in t) g ≡ named job (values_in s) g) → Leads job left to s (says words t)
@@ -229,7 +229,7 @@ rule_assign_global_integer style allowed k j i lo hi a below to lk e df di go jo
     stored (Function g) q o under w = absurd o
     stored Missing q o under w = absurd o
     stored (Integer n) q o under w = assigned job left (callee.GlobalInteger k) i (Integer n) (with_stack below a) to (with_literals under s)
-        (with_global_integer k n (with_literals under s)) h.0 said.Nothing tt tt refl (λ y. record {
+        (with_global_integer k n (with_literals under s)) h.0 step_output.Nothing tt tt refl (λ y. record {
           integers = length-set s.integers k n ∙ y.integers;
           strings = y.strings;
           entries = y.entries;
@@ -358,7 +358,7 @@ rule_assign_entry_integer style allowed k j i lo hi a below to en lk e df di go 
         let own = values_of s.entries entry in
         let new : EntryVariables = record own { integers = slice_set own.integers k n } in
         assigned job left (callee.EntryInteger k) i (Integer n) (with_stack below a) to (with_literals under s)
-        (with_entry_integer entry k n (with_literals under s)) h.0 said.Nothing tt tt refl
+        (with_entry_integer entry k n (with_literals under s)) h.0 step_output.Nothing tt tt refl
         (λ y. set_sized job (values_in s) entry new (z.current entry c) (length-set own.integers k n) refl y) refl go w q
         (map_at s.current entry (λ e. Integer (integer_of (slice_set s.entries entry new) e k)) (Integer n) c
         (ap (λ (v : EntryVariables). Integer (unwrap_or (slice_get v.integers k) (pos 0))) (values_set s.entries entry new (z.current entry c))

@@ -6,7 +6,7 @@ use Rattle.btx_bst.specs.declared.built_in.BuiltIn.{BuiltIn}
 use Rattle.btx_bst.specs.declared.callee.Callee.TheVariants as callee
 use Rattle.btx_stack.specs.declared.literal.Literal.{Literal}
 use Rattle.btx_stack.specs.declared.literal.Literal.TheVariants.{Text}
-use Rattle.btx_step.specs.declared.said.Said.{Said}
+use Rattle.btx_step.specs.declared.said.StepOutput.{StepOutput}
 use Rattle.btx_step.specs.language.Jobs.{Job}
 use Rattle.btx_step.specs.language.Stores.{Store}
 use Rattle.btx_step.specs.language.Answers.{Answer, with_literals, pushes, pushes_text, says}
@@ -72,7 +72,7 @@ module _ (job : Job) (left : ℕ) (a : Abstract) (below : List ℕ) (to : List A
   room_below : (s : Store) → In job left (with_stack below a) s → length s.literals < 1000
   room_below s h = let n = stack-length h.0 below s.literals h.1.stack in omega (arith, l, n)
 
-  pub text_onward : (words : Said) (text : List ℕ) → Calm words → Into (pushing_new (value.Text any_text) (with_stack below a)) to
+  pub text_onward : (words : StepOutput) (text : List ℕ) → Calm words → Into (pushing_new (value.Text any_text) (with_stack below a)) to
       → Onward job left a below to (pushes_text words text)
   text_onward words text calm go s h =
       pushes_text_leads job left to s s words text calm refl (λ z. z) (room_below s h)
@@ -82,11 +82,11 @@ module _ (job : Job) (left : ℕ) (a : Abstract) (below : List ℕ) (to : List A
             h.1,
       ))
 
-  pub push_onward : (words : Said) (d : Value) (y : Literal) → Calm words → Is left d y → Into (pushing_new d (with_stack below a)) to
+  pub push_onward : (words : StepOutput) (d : Value) (y : Literal) → Calm words → Is left d y → Into (pushing_new d (with_stack below a)) to
       → Onward job left a below to (pushes words y)
   push_onward words d y calm o go s h =
       pushes_leads job left to s s words y calm refl (λ z. z) (room_below s h)
       (go.into job left (with_literals (y ∷ s.literals) s) (h.0 ++ y ∷ [], fresh job left (with_stack below a) (values_in s) h.0 s.literals d y o h.1))
 
-  pub says_onward : (words : Said) → Calm words → Into (with_stack below a) to → Onward job left a below to (says words)
+  pub says_onward : (words : StepOutput) → Calm words → Into (with_stack below a) to → Onward job left a below to (says words)
   says_onward words calm go s h = record { calm = calm; deepest = refl; sized = λ z. z; goes = go.into job left s h }

@@ -16,7 +16,7 @@ use Rattle.btx_stack.specs.declared.literal.Literal.{Literal}
 use Rattle.btx_stack.specs.declared.literal.Literal.TheVariants.{Integer, Text, Function, Missing}
 use Rattle.btx_step.specs.declared.literal.OperandKind.TheVariants as wanted
 use Rattle.btx_step.specs.declared.said.Note.TheVariants as note
-use Rattle.btx_step.specs.declared.said.Said.TheVariants as said
+use Rattle.btx_step.specs.declared.said.StepOutput.TheVariants as step_output
 use Rattle.btx_step.specs.language.Jobs.{Job}
 use Rattle.btx_step.specs.language.Stores.{Store}
 use Rattle.btx_step.specs.language.Entries.{finds_missing}
@@ -59,7 +59,7 @@ text_runs style allowed i d a r w to l o go = token_runs style allowed (token.Te
     let h = one_of job left a s hs in
     let text = slice_index_or job.style.texts i [] in
     let p : Is left d (Text text) = subst (λ (st : Style). Is left d (Text (slice_index_or st.texts i []))) (sym of.same) (o left) in
-    pushes_text_leads job left to s s said.Nothing text tt refl (λ z. z) (room_for a h.0 s.literals l h.1.stack)
+    pushes_text_leads job left to s s step_output.Nothing text tt refl (λ z. z) (room_for a h.0 s.literals l h.1.stack)
     (go.into job left (with_literals (Text text ∷ s.literals) s) (push_in job left a s d (Text text) p h)))
 
 pub integer_runs : (style : Style) (allowed : List ℕ) (n : ℤ) (a : Abstract) (r w : ℕ) (to : List Abstract) → length a.stack < 1000
@@ -67,7 +67,7 @@ pub integer_runs : (style : Style) (allowed : List ℕ) (n : ℤ) (a : Abstract)
 unfolding step_of
 integer_runs style allowed n a r w to l go = token_runs style allowed (token.Integer n) (a ∷ []) r w to (λ job of left s z hs.
     let h = one_of job left a s hs in
-    pushes_leads job left to s s said.Nothing (Integer n) tt refl (λ z. z) (room_for a h.0 s.literals l h.1.stack)
+    pushes_leads job left to s s step_output.Nothing (Integer n) tt refl (λ z. z) (room_for a h.0 s.literals l h.1.stack)
     (go.into job left (with_literals (Integer n ∷ s.literals) s) (push_in job left a s (exactly n) (Integer n) (omega (arith, ints), omega (arith, ints)) h)))
 
 pub quote_runs : (style : Style) (allowed : List ℕ) (f : Callee) (a : Abstract) (r w : ℕ) (to : List Abstract) → length a.stack < 1000
@@ -75,7 +75,7 @@ pub quote_runs : (style : Style) (allowed : List ℕ) (f : Callee) (a : Abstract
 unfolding step_of
 quote_runs style allowed f a r w to l go = token_runs style allowed (token.Quote f) (a ∷ []) r w to (λ job of left s z hs.
     let h = one_of job left a s hs in
-    pushes_leads job left to s s said.Nothing (Function f) tt refl (λ z. z) (room_for a h.0 s.literals l h.1.stack)
+    pushes_leads job left to s s step_output.Nothing (Function f) tt refl (λ z. z) (room_for a h.0 s.literals l h.1.stack)
     (go.into job left (with_literals (Function f ∷ s.literals) s) (push_in job left a s (value.Function f) (Function f) refl h)))
 
 -- ---- a name of which nothing is known: it gets a number
@@ -85,7 +85,7 @@ new_leads : (job : Job) (left : ℕ) (a : Abstract) (s : Store) (h : In job left
     → Into (putting f (length a.values) (pushing_new d a)) to → Leads job left to s (pushed y s)
 new_leads job left a s h f d y to v l e o go =
     let w = fresh job left a (values_in s) h.0 s.literals d y o h.1 in
-    pushes_leads job left to s s said.Nothing y tt refl (λ z. z) (room_for a h.0 s.literals l h.1.stack)
+    pushes_leads job left to s s step_output.Nothing y tt refl (λ z. z) (room_for a h.0 s.literals l h.1.stack)
     (go.into job left (with_literals (y ∷ s.literals) s) (
       h.0 ++ y ∷ [],
       kept f v (λ g x p. put_names job left (pushing_new d a) (values_in s) (values_in s) f (length a.values) y (h.0 ++ y ∷ []) v e
@@ -143,10 +143,10 @@ module _ (a : Abstract) (j i : ℕ) (below : List ℕ) (to : List Abstract) (st 
       room = let n = stack-length v below under w.stack in omega (arith, l, n)
 
       go : (b : Bool) → Leads job left to (with_literals under s) (pushed (truth b) (with_literals under s))
-      go true = pushes_leads job left to (with_literals under s) (with_literals under s) said.Nothing (Integer (pos 1)) tt refl (λ z. z) room
+      go true = pushes_leads job left to (with_literals under s) (with_literals under s) step_output.Nothing (Integer (pos 1)) tt refl (λ z. z) room
           (if_so.into job left (with_literals (Integer (pos 1) ∷ under) s)
           (v ++ Integer (pos 1) ∷ [], fresh job left (with_stack below a) (values_in s) v under (exactly (pos 1)) (Integer (pos 1)) (one_is left) w))
-      go false = pushes_leads job left to (with_literals under s) (with_literals under s) said.Nothing (Integer (pos 0)) tt refl (λ z. z) room
+      go false = pushes_leads job left to (with_literals under s) (with_literals under s) step_output.Nothing (Integer (pos 0)) tt refl (λ z. z) room
           (if_not.into job left (with_literals (Integer (pos 0) ∷ under) s)
           (v ++ Integer (pos 0) ∷ [], fresh job left (with_stack below a) (values_in s) v under (exactly (pos 0)) (Integer (pos 0)) (zero_is left) w))
 
@@ -208,7 +208,7 @@ module _ (a : Abstract) (i : ℕ) (below : List ℕ) (m : Mask) (to : List Abstr
   absence job left v s None x e q k under w =
       let q2 : at v i ≡ Some Missing = q ∙ ap Some e in
       let n = stack-length v below under w.stack in
-      pushes_leads job left to (with_literals under s) (with_literals under s) said.Nothing (Integer (pos 1)) tt refl (λ z. z) (omega (arith, l, n))
+      pushes_leads job left to (with_literals under s) (with_literals under s) step_output.Nothing (Integer (pos 1)) tt refl (λ z. z) (omega (arith, l, n))
       (if_so.into job left (with_literals (Integer (pos 1) ∷ under) s) (
         v ++ Integer (pos 1) ∷ [],
         fresh job left (knowing i (value.Text (gone m)) (with_stack below a)) (values_in s) v under (exactly (pos 1))
@@ -221,7 +221,7 @@ module _ (a : Abstract) (i : ℕ) (below : List ℕ) (m : Mask) (to : List Abstr
       let q2 : at v i ≡ Some (Text t) = q ∙ ap Some e in
       let k2 : Is left (value.Text m) (Text t) = subst (λ (y : Literal). Is left (value.Text m) y) e k in
       let n = stack-length v below under w.stack in
-      pushes_leads job left to (with_literals under s) (with_literals under s) said.Nothing (Integer (pos 0)) tt refl (λ z. z) (omega (arith, l, n))
+      pushes_leads job left to (with_literals under s) (with_literals under s) step_output.Nothing (Integer (pos 0)) tt refl (λ z. z) (omega (arith, l, n))
       (if_not.into job left (with_literals (Integer (pos 0) ∷ under) s) (
         v ++ Integer (pos 0) ∷ [],
         fresh job left (knowing i (value.Text (present m)) (with_stack below a)) (values_in s) v under (exactly (pos 0))

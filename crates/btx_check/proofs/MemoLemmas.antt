@@ -7,7 +7,7 @@ use Rattle.btx_bst.specs.declared.callee.Callee.TheVariants as callee
 use Rattle.btx_bst.specs.declared.token.Token.{Token}
 use Rattle.btx_bst.specs.declared.token.Token.TheVariants as token
 use Rattle.btx_check.specs.declared.memo.Remembered.{Remembered}
-use Rattle.btx_check.specs.declared.memo.Memo.{Memo}
+use Rattle.btx_check.specs.declared.memo.VisitCache.{VisitCache}
 use Rattle.btx_check.specs.States.{Abstract}
 use Rattle.btx_check.specs.Inclusion.{Sub, Within}
 use Rattle.btx_check.specs.Running.{RunsFrom, BodyRuns}
@@ -34,7 +34,7 @@ hold_set style allowed [] k e h g = h
 hold_set style allowed (x ∷ es) zero e h g = (g, h.1)
 hold_set style allowed (x ∷ es) (suc k) e h g = (h.0, hold_set style allowed es k e h.1 g)
 
-pub keeps_kept : (e : Remembered) (before after : Memo) → IsKept Remembered e before.table.entries.items after.table.entries.items → Keeps e before after
+pub keeps_kept : (e : Remembered) (before after : VisitCache) → IsKept Remembered e before.table.entries.items after.table.entries.items → Keeps e before after
 keeps_kept e before after (inl q) = record {
   keeps = λ style allowed h g. subst (λ (es : List Remembered). AllHold style allowed es) (sym q) (hold_push style allowed before.table.entries.items e h g);
 }
@@ -48,7 +48,7 @@ runs_within : (style : Style) (allowed : List ℕ) (t : Token) (a b : Abstract) 
 runs_within style allowed t a b d l deep loops xs w q r h job of n m bodies running left s i f l1 l2 l3 =
     h job of n m bodies running left s (inl (w.within job left s.store (one_of job left a s.store i))) f (omega (arith, l1, q)) l2 (omega (arith, l3, r))
 
-pub recalls_of : (m : Memo) (k : ℕ) (e : Remembered) (i : ℕ) (a : Abstract) (deep loops : ℕ) (states : List Abstract) → k < length m.table.entries.items
+pub recalls_of : (m : VisitCache) (k : ℕ) (e : Remembered) (i : ℕ) (a : Abstract) (deep loops : ℕ) (states : List Abstract) → k < length m.table.entries.items
     → e ≡ get_or m.table.entries.items k e → e.function ≡ i → e.deep ≤ deep → e.loops ≤ loops → Within a e.from → states ≡ e.to.items
     → Recalls m i a deep loops states
 recalls_of m k e i a deep loops states l q f d r w s = record {

@@ -9,7 +9,7 @@ use Rattle.btx_bst.specs.declared.callee.Callee.{Callee}
 use Rattle.btx_bst.specs.declared.callee.Callee.TheVariants as callee
 use Rattle.btx_stack.specs.declared.literal.Literal.{Literal}
 use Rattle.btx_stack.specs.declared.literal.Literal.TheVariants.{Text, Missing}
-use Rattle.btx_step.specs.declared.said.Said.TheVariants.{Nothing}
+use Rattle.btx_step.specs.declared.said.StepOutput.TheVariants.{Nothing}
 use Rattle.btx_bib.specs.language.Library.{entry_value}
 use Rattle.btx_step.specs.language.Entries.{entry_of}
 use Rattle.btx_step.specs.language.Jobs.{Job}

@@ -14,7 +14,7 @@ use Rattle.btx_bib.specs.language.Library.{key_of, entry_type}
 use Rattle.btx_stack.specs.declared.literal.Literal.TheVariants.{Integer, Text}
 use Rattle.btx_step.specs.declared.said.Note.{Note}
 use Rattle.btx_step.specs.declared.said.Note.TheVariants as note
-use Rattle.btx_step.specs.declared.said.Said.TheVariants as said
+use Rattle.btx_step.specs.declared.said.StepOutput.TheVariants as step_output
 use Rattle.btx_step.specs.language.Jobs.{Job}
 use Rattle.btx_step.specs.language.Stores.{Store}
 use Rattle.btx_step.specs.language.Entries.{entry_of}
@@ -75,22 +75,22 @@ ruled_by f plain tabled leading = record {
 pub add_period : PlainRule built_in.AddPeriod a_text
 unfolding built_in_run
 add_period = ruled_by built_in.AddPeriod a_text (λ job s. refl)
-    (λ job left a below to l en go text. text_onward job left a below to l said.Nothing (add_period_of text) tt go)
+    (λ job left a below to l en go text. text_onward job left a below to l step_output.Nothing (add_period_of text) tt go)
 
 pub purify : PlainRule built_in.Purify a_text
 unfolding built_in_run
 purify = ruled_by built_in.Purify a_text (λ job s. refl)
-    (λ job left a below to l en go text. text_onward job left a below to l said.Nothing (purify_of text) tt go)
+    (λ job left a below to l en go text. text_onward job left a below to l step_output.Nothing (purify_of text) tt go)
 
 pub substring : PlainRule built_in.Substring a_text
 unfolding built_in_run
 substring = ruled_by built_in.Substring a_text (λ job s. refl)
-    (λ job left a below to l en go size start text. text_onward job left a below to l said.Nothing (substring_of text start size) tt go)
+    (λ job left a below to l en go size start text. text_onward job left a below to l step_output.Nothing (substring_of text start size) tt go)
 
 pub text_prefix : PlainRule built_in.TextPrefix a_text
 unfolding built_in_run
 text_prefix = ruled_by built_in.TextPrefix a_text (λ job s. refl)
-    (λ job left a below to l en go count text. text_onward job left a below to l said.Nothing (text_prefix_of job.mode text count) tt go)
+    (λ job left a below to l en go count text. text_onward job left a below to l step_output.Nothing (text_prefix_of job.mode text count) tt go)
 
 one_calm : (b : Bool) (n : Note) → is_fault n ≡ false → Calm (noted (only_if b n))
 one_calm true n e = subst (λ (x : Bool). (x || false) ≡ false) (sym e) refl
@@ -133,7 +133,7 @@ format_name = ruled_by built_in.FormatName a_text (λ job s. refl)
 pub int_to_str : PlainRule built_in.IntToStr a_text
 unfolding built_in_run
 int_to_str = ruled_by built_in.IntToStr a_text (λ job s. refl)
-    (λ job left a below to l en go n. push_onward job left a below to l said.Nothing (value.Text any_text) (Text (signed_decimal n)) tt
+    (λ job left a below to l en go n. push_onward job left a below to l step_output.Nothing (value.Text any_text) (Text (signed_decimal n)) tt
     (any_text_is left (signed_decimal n)) go)
 
 -- a character, or an error and the empty string
@@ -141,11 +141,11 @@ character : (job : Job) (left : ℕ) (a : Abstract) (below : List ℕ) (to : Lis
     → Into (pushing_new (value.Text any_text) (with_stack below a)) to → (n : ℤ) → Onward job left a below to (gives_character n)
 character job left a below to l go (pos n) s h = both (nat_lt n 128)
   where
-    both : (b : Bool) → Leads job left to s (cond b (pushed (Text (n ∷ [])) s) (pushes (said.Noted (note.NotAscii (pos n) ∷ [])) (Text []) s))
-    both true = push_onward job left a below to l said.Nothing (value.Text any_text) (Text (n ∷ [])) tt (any_text_is left (n ∷ [])) go s h
-    both false = push_onward job left a below to l (said.Noted (note.NotAscii (pos n) ∷ [])) (value.Text any_text) (Text []) refl refl go s h
+    both : (b : Bool) → Leads job left to s (cond b (pushed (Text (n ∷ [])) s) (pushes (step_output.Noted (note.NotAscii (pos n) ∷ [])) (Text []) s))
+    both true = push_onward job left a below to l step_output.Nothing (value.Text any_text) (Text (n ∷ [])) tt (any_text_is left (n ∷ [])) go s h
+    both false = push_onward job left a below to l (step_output.Noted (note.NotAscii (pos n) ∷ [])) (value.Text any_text) (Text []) refl refl go s h
 character job left a below to l go (negsuc n) s h =
-    push_onward job left a below to l (said.Noted (note.NotAscii (negsuc n) ∷ [])) (value.Text any_text) (Text []) refl refl go s h
+    push_onward job left a below to l (step_output.Noted (note.NotAscii (negsuc n) ∷ [])) (value.Text any_text) (Text []) refl refl go s h
 
 pub int_to_chr : PlainRule built_in.IntToChr a_text
 unfolding built_in_run
@@ -154,20 +154,20 @@ int_to_chr = ruled_by built_in.IntToChr a_text (λ job s. refl) (λ job left a b
 pub preamble : PlainRule built_in.Preamble a_text
 unfolding built_in_run
 preamble = ruled_by built_in.Preamble a_text (λ job s. refl)
-    (λ job left a below to l en go. push_onward job left a below to l said.Nothing (value.Text any_text) (Text job.library.preamble) tt
+    (λ job left a below to l en go. push_onward job left a below to l step_output.Nothing (value.Text any_text) (Text job.library.preamble) tt
     (any_text_is left job.library.preamble) go)
 
 pub quote : PlainRule built_in.Quote a_text
 unfolding built_in_run
 quote = ruled_by built_in.Quote a_text (λ job s. refl)
-    (λ job left a below to l en go. push_onward job left a below to l said.Nothing (value.Text any_text) (Text (codes "\"")) tt
+    (λ job left a below to l en go. push_onward job left a below to l step_output.Nothing (value.Text any_text) (Text (codes "\"")) tt
     (any_text_is left (codes "\"")) go)
 
 pub cite : PlainRule built_in.Cite text_of_entry
 unfolding built_in_run
 cite = ruled_by built_in.Cite text_of_entry (λ job s. refl)
     (λ job left a below to l en go s h. entry_goes job left to s (λ entry. pushed_text (key_of (entry_of job entry))) s.current refl (h.1.entry ∙ en refl)
-    (λ entry c. text_onward job left a below to l said.Nothing (key_of (entry_of job entry)) tt go s h))
+    (λ entry c. text_onward job left a below to l step_output.Nothing (key_of (entry_of job entry)) tt go s h))
 
 pub type_name : PlainRule built_in.Type text_of_entry
 unfolding built_in_run
@@ -175,7 +175,7 @@ type_name = ruled_by built_in.Type text_of_entry (λ job s. refl)
     (λ job left a below to l en go s h. entry_goes job left to s
     (λ entry. pushed_text (option_map_or (λ (function : ℕ). name_of job.style.names (callee.User function)) (entry_type (entry_of job entry)) []))
     s.current refl (h.1.entry ∙ en refl)
-    (λ entry c. text_onward job left a below to l said.Nothing
+    (λ entry c. text_onward job left a below to l step_output.Nothing
     (option_map_or (λ (function : ℕ). name_of job.style.names (callee.User function)) (entry_type (entry_of job entry)) []) tt go s h))
 
 -- ---- integers
@@ -186,24 +186,24 @@ count_is left n = (omega (arith, ints), tt)
 pub text_length : PlainRule built_in.TextLength a_count
 unfolding built_in_run
 text_length = ruled_by built_in.TextLength a_count (λ job s. refl)
-    (λ job left a below to l en go text. push_onward job left a below to l said.Nothing (value.Integer (Some (pos 0)) open_end)
+    (λ job left a below to l en go text. push_onward job left a below to l step_output.Nothing (value.Integer (Some (pos 0)) open_end)
     (Integer (pos (text_length_of job.mode text))) tt (count_is left (text_length_of job.mode text)) go)
 
 pub width : PlainRule built_in.Width a_count
 unfolding built_in_run
 width = ruled_by built_in.Width a_count (λ job s. refl)
-    (λ job left a below to l en go text. push_onward job left a below to l said.Nothing (value.Integer (Some (pos 0)) open_end)
+    (λ job left a below to l en go text. push_onward job left a below to l step_output.Nothing (value.Integer (Some (pos 0)) open_end)
     (Integer (pos (width_of text))) tt (count_is left (width_of text)) go)
 
 -- the code of a character, or an error and 0
 code : (job : Job) (left : ℕ) (a : Abstract) (below : List ℕ) (to : List Abstract) → length below < 1000
     → Into (pushing_new (value.Integer None open_end) (with_stack below a)) to → (text : List ℕ) → Onward job left a below to (gives_code text)
 code job left a below to l go [] s h =
-    push_onward job left a below to l (said.Noted (note.NotOneCharacter [] ∷ [])) (value.Integer None open_end) (Integer (pos 0)) refl (tt, tt) go s h
+    push_onward job left a below to l (step_output.Noted (note.NotOneCharacter [] ∷ [])) (value.Integer None open_end) (Integer (pos 0)) refl (tt, tt) go s h
 code job left a below to l go (b ∷ []) s h =
-    push_onward job left a below to l said.Nothing (value.Integer None open_end) (Integer (pos b)) tt (tt, tt) go s h
+    push_onward job left a below to l step_output.Nothing (value.Integer None open_end) (Integer (pos b)) tt (tt, tt) go s h
 code job left a below to l go (b ∷ c ∷ text) s h =
-    push_onward job left a below to l (said.Noted (note.NotOneCharacter (b ∷ c ∷ text) ∷ [])) (value.Integer None open_end) (Integer (pos 0)) refl
+    push_onward job left a below to l (step_output.Noted (note.NotOneCharacter (b ∷ c ∷ text) ∷ [])) (value.Integer None open_end) (Integer (pos 0)) refl
     (tt, tt) go s h
 
 pub chr_to_int : PlainRule built_in.ChrToInt a_number
@@ -214,14 +214,14 @@ chr_to_int = ruled_by built_in.ChrToInt a_number (λ job s. refl) (λ job left a
 
 pub newline : PlainRule built_in.NewLine nothing
 unfolding built_in_run
-newline = ruled_by built_in.NewLine nothing (λ job s. refl) (λ job left a below to l en go. says_onward job left a below to l said.EndedLine tt go)
+newline = ruled_by built_in.NewLine nothing (λ job s. refl) (λ job left a below to l en go. says_onward job left a below to l step_output.EndedLine tt go)
 
 pub top : PlainRule built_in.Top nothing
 unfolding built_in_run
 top = ruled_by built_in.Top nothing (λ job s. refl)
-    (λ job left a below to l en go v. says_onward job left a below to l (said.Noted (note.Shown v ∷ [])) refl go)
+    (λ job left a below to l en go v. says_onward job left a below to l (step_output.Noted (note.Shown v ∷ [])) refl go)
 
 pub warning : PlainRule built_in.Warning nothing
 unfolding built_in_run
 warning = ruled_by built_in.Warning nothing (λ job s. refl)
-    (λ job left a below to l en go text. says_onward job left a below to l (said.Noted (note.Warning text ∷ [])) refl go)
+    (λ job left a below to l en go text. says_onward job left a below to l (step_output.Noted (note.Warning text ∷ [])) refl go)

@@ -13,7 +13,7 @@ use Rattle.btx_stack.specs.declared.literal.Literal.{Literal}
 use Rattle.btx_stack.specs.declared.literal.Literal.TheVariants.{Integer, Text, Function, Missing}
 use Rattle.btx_step.specs.declared.literal.OperandKind.TheVariants as wanted
 use Rattle.btx_step.specs.declared.said.Note.TheVariants as note
-use Rattle.btx_step.specs.declared.said.Said.TheVariants as said
+use Rattle.btx_step.specs.declared.said.StepOutput.TheVariants as step_output
 use Rattle.btx_step.specs.declared.stand_in.StandIn.TheVariants.{Zero}
 use Rattle.btx_step.specs.language.Jobs.{Job}
 use Rattle.btx_step.specs.language.Stores.{Store}
@@ -63,7 +63,7 @@ module _ (a : Abstract) (j i : ℕ) (below : List ℕ) (lo : Option ℤ) (hi : U
       → Is left e (Integer m) × Is left f (Integer n) → OnwardAt job left left a v below to s (λ t. pushed (Integer answer) t)
   answered answer e f said_so go job left v s n m ej ei q under w =
       let k = stack-length v below under w.stack in
-      pushes_leads job left to (with_literals under s) (with_literals under s) said.Nothing (Integer answer) tt refl (λ z. z) (omega (arith, l, k))
+      pushes_leads job left to (with_literals under s) (with_literals under s) step_output.Nothing (Integer answer) tt refl (λ z. z) (omega (arith, l, k))
       (go.into job left (with_literals (Integer answer ∷ under) s) (
         v ++ Integer answer ∷ [],
         fresh job left (knowing j f (knowing i e (with_stack below a))) (values_in s) v under (exactly answer) (Integer answer) (said_so left)
@@ -138,13 +138,13 @@ module _ (a : Abstract) (j i : ℕ) (below : List ℕ) (lo : Option ℤ) (hi : U
       both : (b : Bool) → Is left r (Integer (cond b n (pos 0)))
           → Leads job left to (with_literals under s)
           (cond b (pushed (Integer n) (with_literals under s)) (complains note.Overflow Zero (with_literals under s)))
-      both true o = pushes_leads job left to (with_literals under s) (with_literals under s) said.Nothing (Integer n) tt refl (λ z. z) room
+      both true o = pushes_leads job left to (with_literals under s) (with_literals under s) step_output.Nothing (Integer n) tt refl (λ z. z) room
           (go.into job left (with_literals (Integer n ∷ under) s) (
             v ++ Integer n ∷ [],
             fresh job left (with_stack below a) (values_in s) v under r (Integer n) o
                 (holds_later job left (with_stack below a) (values_in s) under v w),
           ))
-      both false o = pushes_leads job left to (with_literals under s) (with_literals under s) (said.Noted (note.Overflow ∷ [])) (Integer (pos 0)) refl refl
+      both false o = pushes_leads job left to (with_literals under s) (with_literals under s) (step_output.Noted (note.Overflow ∷ [])) (Integer (pos 0)) refl refl
           (λ z. z) room
           (go.into job left (with_literals (Integer (pos 0) ∷ under) s) (
             v ++ Integer (pos 0) ∷ [],
@@ -205,7 +205,7 @@ module _ (a : Abstract) (i : ℕ) (below : List ℕ) (m : Mask) (to : List Abstr
   counted job left v s [] e o under w =
       let k = stack-length v below under w.stack in
       subst (λ (n : ℕ). Leads job left to (with_literals under s) (pushed (Integer (pos n)) (with_literals under s))) (sym no_names)
-      (pushes_leads job left to (with_literals under s) (with_literals under s) said.Nothing (Integer (pos 0)) tt refl (λ z. z) (omega (arith, l, k))
+      (pushes_leads job left to (with_literals under s) (with_literals under s) step_output.Nothing (Integer (pos 0)) tt refl (λ z. z) (omega (arith, l, k))
       (if_none.into job left (with_literals (Integer (pos 0) ∷ under) s) (
         v ++ Integer (pos 0) ∷ [],
         fresh job left (knowing i (value.Text (nothing m)) (with_stack below a)) (values_in s) v under (exactly (pos 0)) (Integer (pos 0)) (zero_is left)
@@ -214,7 +214,7 @@ module _ (a : Abstract) (i : ℕ) (below : List ℕ) (m : Mask) (to : List Abstr
   counted job left v s (b ∷ t) e o under w =
       let k = stack-length v below under w.stack in
       let y = Integer (pos (length (names_of (b ∷ t)))) in
-      pushes_leads job left to (with_literals under s) (with_literals under s) said.Nothing y tt refl (λ z. z) (omega (arith, l, k))
+      pushes_leads job left to (with_literals under s) (with_literals under s) step_output.Nothing y tt refl (λ z. z) (omega (arith, l, k))
       (if_some.into job left (with_literals (y ∷ under) s) (
         v ++ y ∷ [],
         fresh job left (knowing i (value.Text (something m)) (with_stack below a)) (values_in s) v under some_names y (names_is left b t)
@@ -268,7 +268,7 @@ module _ (a : Abstract) (j i : ℕ) (below : List ℕ) (m n : Mask) (to : List A
   written job left v s first last p o under w =
       let k = stack-length v below under w.stack in
       let y = Text (first ++ last) in
-      pushes_text_leads job left to (with_literals under s) (with_literals under s) said.Nothing (first ++ last) tt refl (λ z. z) (omega (arith, l, k))
+      pushes_text_leads job left to (with_literals under s) (with_literals under s) step_output.Nothing (first ++ last) tt refl (λ z. z) (omega (arith, l, k))
       (go.into job left (with_literals (y ∷ under) s) (
         v ++ y ∷ [],
         fresh job left (with_stack below a) (values_in s) v under (value.Text (followed n m)) y (followed_is n m first last p o) w,

@@ -13,8 +13,8 @@ use Rattle.btx_bst.specs.declared.callee.Callee.TheVariants as callee
 use Rattle.btx_stack.specs.declared.literal.Literal.{Literal}
 use Rattle.btx_stack.specs.declared.literal.Literal.TheVariants.{Integer, Text, Function, Missing}
 use Rattle.btx_step.specs.declared.next.Next.TheVariants.{End}
-use Rattle.btx_step.specs.declared.said.Said.{Said}
-use Rattle.btx_step.specs.declared.said.Said.TheVariants.{Nothing}
+use Rattle.btx_step.specs.declared.said.StepOutput.{StepOutput}
+use Rattle.btx_step.specs.declared.said.StepOutput.TheVariants.{Nothing}
 use Rattle.btx_step.specs.language.Jobs.{Job}
 use Rattle.btx_step.specs.language.Stores.{Store}
 use Rattle.btx_step.specs.language.Answers.{answer, with_literals, pushes, pushes_text, truth, says, quiet}
@@ -33,7 +33,7 @@ use Rattle.btx_check.proofs.Holding.{fits-at, stack-length, restack, fresh, know
 
 -- ---- pushing
 
-pub pushes_leads : (job : Job) (left : ℕ) (xs : List Abstract) (s0 s : Store) (words : Said) (y : Literal) → Calm words → s.deepest ≡ s0.deepest
+pub pushes_leads : (job : Job) (left : ℕ) (xs : List Abstract) (s0 s : Store) (words : StepOutput) (y : Literal) → Calm words → s.deepest ≡ s0.deepest
     → (Sized job (values_in s0) → Sized job (values_in s)) → length s.literals < 1000
     → Among job left xs (with_literals (y ∷ s.literals) s) → Leads job left xs s0 (pushes words y s)
 pushes_leads job left xs s0 s words y calm d z l h = go (nat_lt (length s.literals) 1000) (lt-ltb (length s.literals) 1000 l)
@@ -42,7 +42,7 @@ pushes_leads job left xs s0 s words y calm d z l h = go (nat_lt (length s.litera
     go true e = record { calm = calm; deepest = d; sized = z; goes = h }
     go false e = absurd (cc)
 
-pub pushes_text_leads : (job : Job) (left : ℕ) (xs : List Abstract) (s0 s : Store) (words : Said) (text : List ℕ) → Calm words → s.deepest ≡ s0.deepest
+pub pushes_text_leads : (job : Job) (left : ℕ) (xs : List Abstract) (s0 s : Store) (words : StepOutput) (text : List ℕ) → Calm words → s.deepest ≡ s0.deepest
     → (Sized job (values_in s0) → Sized job (values_in s)) → length s.literals < 1000
     → Among job left xs (with_literals (Text text ∷ s.literals) s) → Leads job left xs s0 (pushes_text words text s)
 pushes_text_leads job left xs s0 s words text calm d z l h = go (nat_lt greatest_string (length text))

@@ -12,8 +12,8 @@ use Rattle.btx_step.specs.declared.next.Next.{Next}
 use Rattle.btx_step.specs.declared.next.Next.TheVariants as next
 use Rattle.btx_step.specs.declared.said.Note.{Note}
 use Rattle.btx_step.specs.declared.said.Note.TheVariants as note
-use Rattle.btx_step.specs.declared.said.Said.{Said}
-use Rattle.btx_step.specs.declared.said.Said.TheVariants as said
+use Rattle.btx_step.specs.declared.said.StepOutput.{StepOutput}
+use Rattle.btx_step.specs.declared.said.StepOutput.TheVariants as step_output
 use Rattle.btx_step.specs.language.Jobs.{Job}
 use Rattle.btx_step.specs.language.Control.{tested}
 use Rattle.btx_step.specs.language.Steps.{step_of}
@@ -47,8 +47,8 @@ is_fault (note.Warning text) = false
 is_fault (note.Shown v) = false
 
 -- what a step writes or logs has no fault in it
-abbrev pub Calm : Said → Type 0
-Calm (said.Noted notes) = list_any is_fault notes ≡ false
+abbrev pub Calm : StepOutput → Type 0
+Calm (step_output.Noted notes) = list_any is_fault notes ≡ false
 Calm _ = Unit {0}
 
 -- what is asked of an action, with this number of bodies open, of loops running, and of steps left, from a state

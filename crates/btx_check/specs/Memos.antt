@@ -4,7 +4,7 @@ use Rattle.btx_bst.specs.language.Style.{Style}
 use Rattle.btx_bst.specs.declared.callee.Callee.TheVariants as callee
 use Rattle.btx_bst.specs.declared.token.Token.TheVariants as token
 use Rattle.btx_check.specs.declared.memo.Remembered.{Remembered}
-use Rattle.btx_check.specs.declared.memo.Memo.{Memo}
+use Rattle.btx_check.specs.declared.memo.VisitCache.{VisitCache}
 use Rattle.btx_check.specs.States.{Abstract}
 use Rattle.btx_check.specs.Running.{RunsFrom}
 
@@ -18,13 +18,13 @@ AllHold style allowed [] = Unit {0}
 AllHold style allowed (e ∷ es) = Holds style allowed e × AllHold style allowed es
 
 -- all that is remembered is so, in each job of the style
-abbrev pub Remembers : Style → List ℕ → Memo → Type 0
+abbrev pub Remembers : Style → List ℕ → VisitCache → Type 0
 Remembers style allowed m = AllHold style allowed m.table.entries.items
 
 -- if what was remembered is so, what is remembered now is so, too, as long as this is
-pub record Keeps (e : Remembered) (before after : Memo) : Type 0 where
+pub record Keeps (e : Remembered) (before after : VisitCache) : Type 0 where
   pub keeps : (style : Style) (allowed : List ℕ) → Remembers style allowed before → Holds style allowed e → Remembers style allowed after
 
 -- if what is remembered is so, a function of the style leads from `a` to `states`
-pub record Recalls (m : Memo) (i : ℕ) (a : Abstract) (deep loops : ℕ) (states : List Abstract) : Type 0 where
+pub record Recalls (m : VisitCache) (i : ℕ) (a : Abstract) (deep loops : ℕ) (states : List Abstract) : Type 0 where
   pub recalls : (style : Style) (allowed : List ℕ) → Remembers style allowed m → RunsFrom style allowed (token.Run (callee.User i)) (a ∷ []) deep loops states

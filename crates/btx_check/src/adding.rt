@@ -7,7 +7,7 @@ ghost use Rattle.btx_check.specs.Inclusion.{Sub, Into};
 ghost use Rattle.btx_check.specs.Answers.{Added};
 
 use crate::description::{Mask, Value};
-use crate::likeness::Likeness;
+use crate::likeness::Fingerprint;
 use crate::state::State;
 use crate::work::{MANY, Work};
 use btx_bst::Callee;
@@ -47,7 +47,7 @@ pub fn add_sure(work: &Work, out: &mut Vec<State>, a: State) -> Result<(), Alloc
 {
     let mut b = a.tidied(work.alloc)?;
     if out.is_empty() {
-        b.mark(Likeness::unknown());
+        b.mark(Fingerprint::unknown());
         out.push(b)?;
         return Ok(());
     }

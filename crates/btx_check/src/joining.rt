@@ -1,6 +1,8 @@
 //! Which descriptions are joined, and what is proposed for both: guesses, which `State::is_within` tests.
 use crate::description::{Upper, Value};
-use crate::likeness::{Likeness, mark_of_kind, mark_of_shape, mark_of_value, mixed, mixed_names};
+use crate::likeness::{
+    Fingerprint, mark_of_kind, mark_of_shape, mark_of_value, mixed, mixed_names,
+};
 use crate::state::{Names, State};
 use crate::work::Work;
 use btx_bst::Callee;
@@ -35,7 +37,7 @@ impl State {
     }
 
     /// The likeness of this description: that of all that it is like is the same.
-    pub(crate) fn likeness_by(&self, work: &Work) -> Likeness {
+    pub(crate) fn likeness_by(&self, work: &Work) -> Fingerprint {
         let mut coarse = mixed(self.stack.len() as u64, if self.entry { 1 } else { 2 });
         let mut fine = coarse;
         for k in 0..self.stack.len() {
@@ -47,7 +49,7 @@ impl State {
         for flag in work.flags.iter() {
             fine = mixed(fine, mark_of_flag(flag_of(self, *flag)));
         }
-        Likeness { fine, coarse }
+        Fingerprint { fine, coarse }
     }
 
     /// A mark of this description and a function of the style: that of an equal one is the same.

@@ -5,29 +5,29 @@ use btx_bst::Callee;
 
 /// Marks of what `State::is_like` compares: alike descriptions have the same, and others mostly not. 0 is unknown.
 #[derive(Clone, Copy)]
-pub(crate) struct Likeness {
+pub(crate) struct Fingerprint {
     /// Of the whole stack and the flags.
     pub fine: u64,
     /// Of what is compared where there are many descriptions.
     pub coarse: u64,
 }
 
-impl Likeness {
+impl Fingerprint {
     /// The likeness of a description that may be like any other.
-    pub fn unknown() -> Likeness {
-        Likeness { fine: 0, coarse: 0 }
+    pub fn unknown() -> Fingerprint {
+        Fingerprint { fine: 0, coarse: 0 }
     }
 
     /// That of a description joined from two of this likeness: if they were compared coarsely, they may differ in what is finer.
-    pub fn joined(self, is_coarse: bool) -> Likeness {
-        Likeness {
+    pub fn joined(self, is_coarse: bool) -> Fingerprint {
+        Fingerprint {
             fine: if is_coarse { 0 } else { self.fine },
             coarse: self.coarse,
         }
     }
 
     /// Whether descriptions of these likenesses may be alike.
-    pub fn may_be(self, other: Likeness, is_coarse: bool) -> bool {
+    pub fn may_be(self, other: Fingerprint, is_coarse: bool) -> bool {
         if is_coarse {
             is_same(self.coarse, other.coarse)
         } else {

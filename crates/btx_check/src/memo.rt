@@ -32,7 +32,7 @@ pub(crate) struct Remembered {
 
 /// What functions of the style led to, in one visit.
 #[derive(Drop)]
-pub(crate) struct Memo {
+pub(crate) struct VisitCache {
     /// What is remembered.
     pub table: Table<Remembered>,
 }
@@ -52,12 +52,12 @@ const PLACES: usize = 4096;
 /// How many tokens a function has for which it pays to remember it.
 pub const LEAST_TOKENS: usize = 10;
 
-impl Memo {
+impl VisitCache {
     /// Nothing is remembered.
-    pub fn new(alloc: Global) -> Result<Memo, AllocError>
+    pub fn new(alloc: Global) -> Result<VisitCache, AllocError>
         ensures { IfOk result (λ m. m.table.entries.items ≡ []) }
     {
-        Ok(Memo {
+        Ok(VisitCache {
             table: Table::new(alloc, PLACES)?,
         })
     }

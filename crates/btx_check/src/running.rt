@@ -13,7 +13,7 @@ use crate::adding::add_sure;
 use crate::bounds::{not_positive, positive};
 use crate::description::Value;
 use crate::loops::{add_all, all_in, copies_of, is_in, proposed, turn_all};
-use crate::memo::{LEAST_TOKENS, Memo, Remembered};
+use crate::memo::{LEAST_TOKENS, Remembered, VisitCache};
 use crate::name_rules::assign;
 use crate::operands::{pair_of, triple_of};
 use crate::rules::{one_step, push_token};
@@ -27,7 +27,7 @@ use std::mem;
 #[cycle(search)]
 pub fn run_where(
     work: &mut Work,
-    memo: &mut Memo,
+    memo: &mut VisitCache,
     style: &Style,
     allowed: &[u32],
     room: Room,
@@ -50,7 +50,7 @@ pub fn run_where(
 #[inline(never)]
 pub fn run_sure(
     work: &mut Work,
-    memo: &mut Memo,
+    memo: &mut VisitCache,
     style: &Style,
     allowed: &[u32],
     room: Room,
@@ -123,7 +123,7 @@ fn run_assign(
 #[cycle(search)]
 pub fn run_token(
     work: &mut Work,
-    memo: &mut Memo,
+    memo: &mut VisitCache,
     style: &Style,
     allowed: &[u32],
     room: Room,
@@ -145,7 +145,7 @@ pub fn run_token(
 #[inline(never)]
 pub fn run_all(
     work: &mut Work,
-    memo: &mut Memo,
+    memo: &mut VisitCache,
     style: &Style,
     allowed: &[u32],
     room: Room,
@@ -169,7 +169,7 @@ pub fn run_all(
 #[inline(never)]
 pub fn run_next(
     work: &mut Work,
-    memo: &mut Memo,
+    memo: &mut VisitCache,
     style: &Style,
     allowed: &[u32],
     room: Room,
@@ -196,7 +196,7 @@ pub fn run_next(
 #[inline(never)]
 pub fn run_user(
     work: &mut Work,
-    memo: &mut Memo,
+    memo: &mut VisitCache,
     style: &Style,
     allowed: &[u32],
     room: Room,
@@ -231,7 +231,7 @@ pub fn run_user(
 #[inline(never)]
 pub fn run_plainly(
     work: &mut Work,
-    memo: &mut Memo,
+    memo: &mut VisitCache,
     style: &Style,
     allowed: &[u32],
     room: Room,
@@ -257,7 +257,7 @@ pub fn run_plainly(
 #[inline(never)]
 pub fn run_anew(
     work: &mut Work,
-    memo: &mut Memo,
+    memo: &mut VisitCache,
     style: &Style,
     allowed: &[u32],
     room: Room,
@@ -298,7 +298,7 @@ pub fn run_anew(
 #[inline(never)]
 pub fn run_body(
     work: &mut Work,
-    memo: &mut Memo,
+    memo: &mut VisitCache,
     style: &Style,
     allowed: &[u32],
     room: Room,
@@ -339,7 +339,7 @@ pub fn run_body(
 #[inline(never)]
 pub fn run_if(
     work: &mut Work,
-    memo: &mut Memo,
+    memo: &mut VisitCache,
     style: &Style,
     allowed: &[u32],
     room: Room,
@@ -380,7 +380,7 @@ pub fn run_if(
 #[inline(never)]
 pub fn run_while(
     work: &mut Work,
-    memo: &mut Memo,
+    memo: &mut VisitCache,
     style: &Style,
     allowed: &[u32],
     room: Room,
@@ -422,7 +422,7 @@ pub fn run_while(
 #[inline(never)]
 pub fn run_loop(
     work: &mut Work,
-    memo: &mut Memo,
+    memo: &mut VisitCache,
     style: &Style,
     allowed: &[u32],
     room: Room,
@@ -467,7 +467,7 @@ pub fn run_loop(
 #[inline(never)]
 pub fn run_types(
     work: &mut Work,
-    memo: &mut Memo,
+    memo: &mut VisitCache,
     style: &Style,
     allowed: &[u32],
     room: Room,

@@ -12,7 +12,7 @@ ghost use Rattle.btx_check.specs.Running.{Starts};
 ghost use Rattle.btx_check.specs.Between.{IsGlobal, IsLocal, Combines, Shifted, IsShifted, where_entry};
 
 use crate::description::{Mask, Upper, Value};
-use crate::likeness::Likeness;
+use crate::likeness::Fingerprint;
 use crate::within::{fields_map, stack_maps, values_map};
 use btx_bst::{Callee, Style};
 use std::alloc::{AllocError, Global};
@@ -33,7 +33,7 @@ pub struct State {
     pub(crate) fields: RcSlice<Option<usize>>,
     pub(crate) entry: bool,
     // Differs from the mark of a description that isn't like it. No clause speaks of it.
-    pub(crate) likeness: Likeness,
+    pub(crate) likeness: Fingerprint,
 }
 
 impl Model for State {
@@ -100,7 +100,7 @@ impl State {
             entry_strings: names.entry_strings,
             fields: names.fields,
             entry,
-            likeness: Likeness::unknown(),
+            likeness: Fingerprint::unknown(),
         }
     }
 
@@ -118,7 +118,7 @@ impl State {
             entry_strings: no_numbers(alloc, style.entry_strings())?,
             fields: no_numbers(alloc, style.fields())?,
             entry,
-            likeness: Likeness::unknown(),
+            likeness: Fingerprint::unknown(),
         })
     }
 
@@ -135,7 +135,7 @@ impl State {
             entry_strings: self.entry_strings.clone()?,
             fields: self.fields.clone()?,
             entry: self.entry,
-            likeness: Likeness::unknown(),
+            likeness: Fingerprint::unknown(),
         })
     }
 
@@ -161,7 +161,7 @@ impl State {
             entry_strings: no_numbers(alloc, self.entry_strings.len())?,
             fields: no_numbers(alloc, self.fields.len())?,
             entry: self.entry,
-            likeness: Likeness::unknown(),
+            likeness: Fingerprint::unknown(),
         })
     }
 
@@ -178,7 +178,7 @@ impl State {
             entry_strings: self.entry_strings.clone()?,
             fields: self.fields.clone()?,
             entry: self.entry,
-            likeness: Likeness::unknown(),
+            likeness: Fingerprint::unknown(),
         })
     }
 
@@ -199,7 +199,7 @@ impl State {
             entry_strings: shifted(alloc, &other.entry_strings, n)?,
             fields: shifted(alloc, &other.fields, n)?,
             entry: true,
-            likeness: Likeness::unknown(),
+            likeness: Fingerprint::unknown(),
         })
     }
 
@@ -397,7 +397,7 @@ impl State {
     }
 
     /// Notes its likeness.
-    pub(crate) fn mark(&mut self, likeness: Likeness)
+    pub(crate) fn mark(&mut self, likeness: Fingerprint)
         ensures { self.new ≡ self.old }
     {
         self.likeness = likeness;
@@ -490,7 +490,7 @@ impl State {
         &self,
         alloc: Global,
         other: &State,
-        likeness: Likeness,
+        likeness: Fingerprint,
     ) -> Result<Option<State>, AllocError>
         ensures { IfOk result (λ o. IfSome o (λ j. Within self.now j × Within other.now j)) }
     {

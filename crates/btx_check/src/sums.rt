@@ -44,7 +44,7 @@ pub fn is_low_difference(high: Upper, low2: Option<i32>) -> bool
 }
 
 // What is known of a result within these bounds, which is 0 where it doesn't fit.
-fn unfit(least: Option<i32>, most: Upper) -> Value
+fn bounded_result(least: Option<i32>, most: Upper) -> Value
     ensures { (left : ℕ) (z : ℤ) → Above least z → Below left most z → Is left result (Integer (cond (fits z) z (pos 0))) }
 {
     if is_at_least(least, 0) {
@@ -63,13 +63,13 @@ pub fn sum_of(low: Option<i32>, high: Upper, low2: Option<i32>, high2: Upper) ->
     let least = sum_low(low, low2);
     let most = sum_high(high, high2);
     if !is_at_least(low, -1_000_000_000) {
-        return unfit(least, most);
+        return bounded_result(least, most);
     }
     if !is_at_least(low2, -1_000_000_000) {
-        return unfit(least, most);
+        return bounded_result(least, most);
     }
     if !is_low_sum(high, high2) {
-        return unfit(least, most);
+        return bounded_result(least, most);
     }
     Value::Integer(least, most)
 }
@@ -81,13 +81,13 @@ pub fn difference_of(low: Option<i32>, high: Upper, low2: Option<i32>, high2: Up
     let least = difference_low(low, high2);
     let most = difference_high(high, low2);
     if !is_at_least(low, -1_000_000_000) {
-        return unfit(least, most);
+        return bounded_result(least, most);
     }
     if !is_at_most(high2, 1_000_000_000) {
-        return unfit(least, most);
+        return bounded_result(least, most);
     }
     if !is_low_difference(high, low2) {
-        return unfit(least, most);
+        return bounded_result(least, most);
     }
     Value::Integer(least, most)
 }

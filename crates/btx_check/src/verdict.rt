@@ -11,7 +11,7 @@ ghost use Rattle.btx_check.specs.Verdicts.{IsRight};
 use crate::entries::{Known, entries_of, starts_of, unknown_entries};
 use crate::lasting::{all_within, globals_of, lasting_globals};
 use crate::loops::all_in;
-use crate::memo::Memo;
+use crate::memo::VisitCache;
 use crate::running::run_all;
 use crate::state::State;
 use crate::types::{MOST_BODIES, constants, likely_depth, meant_types};
@@ -72,7 +72,7 @@ fn visit(
         deep: deepest,
         loops: MOST_LOOPS,
     };
-    let mut memo = Memo::new(work.alloc)?;
+    let mut memo = VisitCache::new(work.alloc)?;
     if !run_all(
         work,
         &mut memo,

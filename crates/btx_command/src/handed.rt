@@ -10,35 +10,35 @@ use std::marker::Model;
 
 /// Bytes that were handed to the system. Only proofs speak of them: at run time there is nothing here.
 #[derive(Drop)]
-pub struct Handed {
+pub struct WrittenBytes {
     pub ghost bytes: { List ℕ },
 }
 
-impl Model for Handed {
+impl Model for WrittenBytes {
     ghost also_owns = { λ _. ftrue };
 }
 
-impl Handed {
+impl WrittenBytes {
     /// No byte yet.
-    pub fn new() -> Handed
+    pub fn new() -> WrittenBytes
         ensures { result.bytes ≡ [] }
     {
-        Handed {}
+        WrittenBytes {}
     }
 
     /// These bytes.
-    pub fn of(bytes: &[u8]) -> Handed
+    pub fn of(bytes: &[u8]) -> WrittenBytes
         ensures { result.bytes ≡ bytes.now }
     {
-        Handed::new().and(&bytes)
+        WrittenBytes::new().and(&bytes)
     }
 
     /// These bytes, and then others, which a proof picks by what is seen.
-    pub fn and<T>(&self, seen: &T) -> Handed
+    pub fn and<T>(&self, seen: &T) -> WrittenBytes
         ghost more: { List ℕ }
         ensures { result.bytes ≡ self.now.bytes ++ more }
     {
-        Handed {}
+        WrittenBytes {}
     }
 }
 

@@ -9,7 +9,7 @@ ghost use Rattle.btx_text.specs.refinement.Counts.{no_failures};
 ghost use Rattle.btx_out.specs.language.Writes.{is_failed_write};
 ghost use Rattle.btx_command.specs.ListFiles.{FileState, FinishesList, emptied, failures_by, keeps_old, received_by, unwritten};
 
-use crate::handed::{Calls, Handed};
+use crate::handed::{Calls, WrittenBytes};
 use crate::outcome::output_fault;
 use btx_run::{End, Report, RunFault, Sink, SinkFault};
 use std::fs::OpenFile;
@@ -104,7 +104,7 @@ impl<W: EmptiedFile> ListFile<W> {
 #[derive(Drop)]
 pub struct SystemFile<F> {
     file: F,
-    handed: Handed,
+    handed: WrittenBytes,
     calls: Calls,
 }
 
@@ -123,7 +123,7 @@ impl<F> SystemFile<F> {
     {
         SystemFile {
             file,
-            handed: Handed::new(),
+            handed: WrittenBytes::new(),
             calls: Calls::new(),
         }
     }
@@ -132,7 +132,7 @@ impl<F> SystemFile<F> {
 // Hands bytes to a file, once, and notes those that it took, and whether it failed.
 fn hand<F: Write>(
     file: &mut F,
-    handed: &mut Handed,
+    handed: &mut WrittenBytes,
     calls: &mut Calls,
     bytes: &[u8],
 ) -> io::Result<usize>
@@ -168,7 +168,7 @@ impl<F: Write + OpenFile> EmptiedFile for SystemFile<F> {
         let answer = emptied(self.file.set_len(0));
         self.calls = self.calls.and(&answer);
         answer?;
-        self.handed = Handed::new();
+        self.handed = WrittenBytes::new();
         Ok(())
     }
 

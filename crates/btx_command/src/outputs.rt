@@ -5,7 +5,7 @@ ghost use Rattle.std.specs.Io.KnownBytes.{Appends};
 ghost use Rattle.btx_text.specs.refinement.Counts.{no_failures};
 ghost use Rattle.btx_command.specs.Acts.{ClosedList, WereDone, Done, EmptiedLog, OpenedList, Printed, StoredLog, ReportedFault, ReportedText};
 
-use crate::handed::{Acts, Handed};
+use crate::handed::{Acts, WrittenBytes};
 use crate::list_file::{EmptiedFile, SystemFile};
 use crate::outcome::output_fault;
 use btx_run::RunFault;
@@ -129,7 +129,7 @@ impl<R: Files + Print + Eprint> Outputs for SystemOutputs<'_, R> {
     ghost acts = { λ it. it.acts.done };
 
     fn open_list(&mut self, path: &str) -> Result<SystemFile<R::File>, RunFault> {
-        let seen = (Handed::of(path.as_bytes()), open_kept(self.rt, path));
+        let seen = (WrittenBytes::of(path.as_bytes()), open_kept(self.rt, path));
         self.acts = self.acts.and(&seen);
         let (_, opened) = seen;
         opened

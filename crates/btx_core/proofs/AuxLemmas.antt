@@ -15,7 +15,7 @@ use Rattle.btx_text.specs.language.LogLines.{Line, message}
 use Rattle.btx_aux.specs.declared.command.Command.{Command}
 use Rattle.btx_aux.specs.declared.command.Command.TheVariants.{Citation, Bibdata, Bibstyle, Input}
 use Rattle.btx_aux.specs.declared.command.Slip.TheVariants.{WhiteSpace}
-use Rattle.btx_aux.specs.declared.draft.Draft.{Draft}
+use Rattle.btx_aux.specs.declared.draft.AuxJobBuilder.{AuxJobBuilder}
 use Rattle.btx_aux.specs.declared.end.End.{End}
 use Rattle.btx_aux.specs.declared.end.End.TheVariants as end
 use Rattle.btx_aux.specs.declared.reading.TheConstants.{MOST_OPEN}
@@ -33,15 +33,15 @@ use Rattle.btx_aux.specs.refinement.Reads as reads
 use Rattle.btx_aux.proofs.DraftLemmas.{learned-bibdata, learned-key_new, learned-key_other, learned-key_same}
 use Rattle.btx_aux.proofs.JobLemmas.{closed-topped}
 use Rattle.btx_aux.proofs.ReadLemmas.{run-ended}
-use Rattle.btx_core.specs.language.AuxFiles.{AuxContents, FileGives, AreAuxContents, LinesGive, absent, cites, closed, command_says, ended, full, inputs, line_says}
-use Rattle.btx_core.specs.language.AuxFiles.{names_database, names_style, none, opening, opens, pieces, plain, read, too_long, unread, wrong}
+use Rattle.btx_core.specs.language.AuxFiles.{AuxContents, FileGives, AreAuxContents, LinesGive, absent, cites, checked_at_end, command_says, ended, full, inputs, line_says}
+use Rattle.btx_core.specs.language.AuxFiles.{names_database, names_style, none, opening, opens, pieces, plain, read, too_long, initial_contents, wrong}
 use Rattle.btx_core.specs.language.AuxFiles as core
 use Rattle.btx_core.specs.laws.SameParts.{job_said}
 
 -- ---- the two ways to say what is known
 
 -- what is known, as the reader has it
-abbrev pub as_draft : AuxContents → Draft
+abbrev pub as_draft : AuxContents → AuxJobBuilder
 as_draft s = record {
   keys = s.keys;
   all = s.all;
@@ -55,7 +55,7 @@ as_draft s = record {
 }
 
 -- and back
-abbrev pub of_draft : Draft → AuxContents
+abbrev pub of_draft : AuxJobBuilder → AuxContents
 of_draft d = record {
   keys = d.keys;
   all = d.all;
@@ -191,7 +191,7 @@ module _ (file : List ℕ) (line : ℕ) where
 
   cite_whole : (s : AuxContents) (p : Piece) → is_whole s.ending ≡ true → is_whole (cites file line s (as_piece p)).ending ≡ true
   unfolding learned
-  cite_whole s p w = ap (λ (d : Draft). is_whole d.ending) (cite_is s p) ∙ w
+  cite_whole s p w = ap (λ (d : AuxJobBuilder). is_whole d.ending) (cite_is s p) ∙ w
 
   database_is : (s : AuxContents) (name : List ℕ) → as_draft (names_database file line s (Ok name)) ≡ with_database file line (as_draft s) name
   unfolding aux_note_text aux_note_kind aux_complaint_text
@@ -211,7 +211,7 @@ module _ (file : List ℕ) (line : ℕ) where
   unfolding aux_note_text aux_note_kind
   databases_are s [] = refl
   databases_are s (Taken name ∷ ps) =
-      databases_are (names_database file line s (Ok name)) ps ∙ ap (λ (d : Draft). with_databases file line d ps) (database_is s name)
+      databases_are (names_database file line s (Ok name)) ps ∙ ap (λ (d : AuxJobBuilder). with_databases file line d ps) (database_is s name)
   databases_are s (Cut slip ∷ ps) = databases_are (wrong file line (aux_complaint_text (Slipped slip)) s) ps
 
   bibdata_is : (s : AuxContents) (ps : List Piece) (had : Bool) → s.has_bibdata ≡ had
@@ -234,7 +234,7 @@ module _ (file : List ℕ) (line : ℕ) where
 -- ---- what a line says
 
 -- what is known after a line, and what is to be read, before the file that it asks for is read
-abbrev go_on : Files → reads.Opening → List ℕ → ℕ → AuxContents × Option (List ℕ) → List AuxEvent → Draft
+abbrev go_on : Files → reads.Opening → List ℕ → ℕ → AuxContents × Option (List ℕ) → List AuxEvent → AuxJobBuilder
 go_on files op file line said rest = run files op (asked_for files op (as_draft said.0) file line said.1) rest
 
 module _ (files : Files) (op : reads.Opening) (file : List ℕ) (line : ℕ) where
@@ -244,7 +244,7 @@ module _ (files : Files) (op : reads.Opening) (file : List ℕ) (line : ℕ) whe
   cites_run s [] rest w = refl
   cites_run s (p ∷ ps) rest w =
       let step : after (as_draft s) (event_at file line (Cites p)) ≡ as_draft (cites file line s (as_piece p)) = rw w (sym (cite_is file line s p)) in
-      ap (λ (d : Draft). run files op d (map (event_at file line) (map Cites ps) ++ rest)) step
+      ap (λ (d : AuxJobBuilder). run files op d (map (event_at file line) (map Cites ps) ++ rest)) step
       ∙ cites_run (cites file line s (as_piece p)) ps rest (cite_whole file line s p w)
 
   -- a thing that asks for no file
@@ -255,7 +255,7 @@ module _ (files : Files) (op : reads.Opening) (file : List ℕ) (line : ℕ) whe
   quiet_run s next word rest w quiet is =
       ap (λ (o : Option (List ℕ)). run files op (asked_for files op (after (as_draft s) (event_at file line word)) file line o) rest) quiet
       ∙ ap (λ (b : Bool). run files op (if b then learned (as_draft s) (event_at file line word) else as_draft s) rest) w
-      ∙ ap (λ (d : Draft). run files op d rest) (sym is)
+      ∙ ap (λ (d : AuxJobBuilder). run files op d rest) (sym is)
 
   input_run : (s : AuxContents) (p : Piece) (rest : List AuxEvent) → is_whole s.ending ≡ true
       → run files op (as_draft s) (event_at file line (Includes p) ∷ rest) ≡ go_on files op file line (inputs file line s (as_piece p ∷ [])) rest
@@ -437,7 +437,7 @@ module _ (files : Files) where
       → within (is_too_long text) files (opened_by files r) (as_draft (opening level name s)) name text ≡ opened_by files (suc r) (as_draft s) name text
   unfolding opened_by
   opened_at r level s name text e w known =
-      ap (λ (d : Draft). within (is_too_long text) files (opened_by files r) d name text) (opening_same level s name w known)
+      ap (λ (d : AuxJobBuilder). within (is_too_long text) files (opened_by files r) d name text) (opening_same level s name w known)
       ∙ ap (λ l. within (is_too_long text) files (opened_by files r) (after (as_draft s) (event_at name 0 (Opens l))) name text) (opening_is r level e)
 
   found_run : (op : reads.Opening) (file : List ℕ) (line : ℕ) (s : AuxContents) (name : List ℕ) (there : Option (List ℕ)) → files name ≡ there
@@ -475,7 +475,7 @@ module _ (files : Files) where
         let op = opened_by files room in
         let rest = said_from file (number + 1) lines in
         lines_are h room e
-        ∙ ap (λ (d : Draft). run files op d rest) (missing_is next file number name (still_whole file number s next line (Some name) w says)
+        ∙ ap (λ (d : AuxJobBuilder). run files op d rest) (missing_is next file number name (still_whole file number s next line (Some name) w says)
         ∙ sym (found_run op file number next name None gone))
         ∙ ap (λ x. go_on files op file number x rest) (sym says) ∙ sym (line_run files op file number s line rest w)
     lines_are (opens level file number s next inside behind line name text lines w says there g h) room e =
@@ -483,7 +483,7 @@ module _ (files : Files) where
         let rest = said_from file (number + 1) lines in
         let deeper : IsKnown (level + 1) next name = λ z. absurd (omega (arith, z)) in
         lines_are h room e
-        ∙ ap (λ (d : Draft). run files op d rest)
+        ∙ ap (λ (d : AuxJobBuilder). run files op d rest)
         (file_is g room (omega (arith, e)) (still_whole file number s next line (Some name) w says) deeper
         ∙ sym (found_run op file number next name (Some text) there))
         ∙ ap (λ x. go_on files op file number x rest) (sym says) ∙ sym (line_run files op file number s line rest w)
@@ -532,7 +532,7 @@ module _ (files : Files) where
 
   -- what is known before the top file
   abbrev start : List ℕ → AuxContents
-  start top = record unread { files = top ∷ [] }
+  start top = record initial_contents { files = top ∷ [] }
 
   top_known : (top : List ℕ) → IsKnown 0 (start top) top
   top_known top z = ap (λ b. b || false) ((bytes_eq-Decides top top).1 refl)
@@ -545,18 +545,18 @@ module _ (files : Files) where
   last_is top text last g = ap of_draft (file_is g MOST_OPEN (omega arith) refl (top_known top))
 
   abbrev pub said_by : List ℕ → AuxContents
-  said_by top = option_map_or (λ text. closed (last_of top text)) (files top) (record unread { ending = end.TopMissing })
+  said_by top = option_map_or (λ text. checked_at_end (last_of top text)) (files top) (record initial_contents { ending = end.TopMissing })
 
   pub only_said : (top : List ℕ) (job : AuxContents) → AreAuxContents files top job → job ≡ said_by top
-  only_said top job (inl h) = h.1 ∙ ap (λ f. option_map_or (λ text. closed (last_of top text)) f (record unread { ending = end.TopMissing })) (sym h.0)
+  only_said top job (inl h) = h.1 ∙ ap (λ f. option_map_or (λ text. checked_at_end (last_of top text)) f (record initial_contents { ending = end.TopMissing })) (sym h.0)
   only_said top job (inr h) =
-      h.4 ∙ ap closed (last_is top h.0 h.1 h.3)
-      ∙ ap (λ f. option_map_or (λ text. closed (last_of top text)) f (record unread { ending = end.TopMissing })) (sym h.2)
+      h.4 ∙ ap checked_at_end (last_is top h.0 h.1 h.3)
+      ∙ ap (λ f. option_map_or (λ text. checked_at_end (last_of top text)) f (record initial_contents { ending = end.TopMissing })) (sym h.2)
 
   pub is_said : (top : List ℕ) → AreAuxContents files top (said_by top)
   is_said top = by (files top) refl where
     by : (f : Option (List ℕ)) → files top ≡ f
-        → AreAuxContents files top (option_map_or (λ text. closed (last_of top text)) f (record unread { ending = end.TopMissing }))
+        → AreAuxContents files top (option_map_or (λ text. checked_at_end (last_of top text)) f (record initial_contents { ending = end.TopMissing }))
     by None gone = inl (gone, refl)
     by (Some text) there =
         let g = file_there MOST_OPEN 0 (omega arith) (start top) top text in
@@ -569,7 +569,7 @@ module _ (files : Files) where
   start_same top text =
       let among : is_among (top ∷ []) top ≡ true = top_known top refl in
       let same : after (as_draft (start top)) (event_at top 0 (Opens 0)) ≡ after blank (event_at top 0 (Opens 0)) = rw among refl in
-      ap (λ (d : Draft). within (is_too_long text) files (opened_by files 19) d top text) same
+      ap (λ (d : AuxJobBuilder). within (is_too_long text) files (opened_by files 19) d top text) same
 
   missing_same : (c b s : Bool)
       → only_if c (message Error (codes "I found no " ++ codes "\\citation commands"))
@@ -590,7 +590,7 @@ module _ (files : Files) where
   no_keys [] = refl
   no_keys (key ∷ keys) = not_zero (length keys)
 
-  closed_same : (d : Draft) (e : End) → d.ending ≡ e → job_said (closed (of_draft (record d { ending = e }))) ≡ reads.closed (record d { ending = e })
+  closed_same : (d : AuxJobBuilder) (e : End) → d.ending ≡ e → job_said (checked_at_end (of_draft (record d { ending = e }))) ≡ reads.closed (record d { ending = e })
   closed_same d end.Whole h =
       ap (λ (lines : List Line). record { keys = d.keys; all = d.all; databases = d.databases; style = d.style; log = d.log ++ lines; ending = end.Whole })
       (missing_same (length d.keys == 0 && is_none d.all) (not d.has_bibdata) (not d.has_bibstyle)
@@ -616,7 +616,7 @@ module _ (files : Files) where
   unfolding topped learned
   same_job top = by (files top) ∙ closed-topped files top where
     by : (f : Option (List ℕ))
-        → job_said (option_map_or (λ text. closed (last_of top text)) f (record unread { ending = end.TopMissing })) ≡ reads.closed (topped files top f)
+        → job_said (option_map_or (λ text. checked_at_end (last_of top text)) f (record initial_contents { ending = end.TopMissing })) ≡ reads.closed (topped files top f)
     by None = refl
     by (Some text) =
         let d = opened_by files MOST_OPEN (as_draft (start top)) top text in

@@ -19,7 +19,7 @@ use Rattle.btx_text.specs.declared.element_kind.TextMode.TheVariants.{Bytes}
 use Rattle.btx_names.specs.language.VonTokens.{first_is_lower}
 use Rattle.btx_names.specs.language.NameParts.{cut_again}
 use Rattle.std.specs.Option.{option_map_or}
-use Rattle.btx_core.specs.language.Names.{IsUpTo, AreNames, AreTokens, IsCut, sections, is_von, HaveNoVon, AreVonLast, HasVon, HasNoVon, AreParts, IsFormat}
+use Rattle.btx_core.specs.language.Names.{IsUpTo, AreNames, AreTokens, IsCut, sections, is_von, HaveNoVon, AreVonLast, HasVon, HasNoVon, AreNameParts, IsFormat}
 use Rattle.btx_core.specs.language.Names.{AreDivisions}
 
 -- ---- two ways to cut a list
@@ -148,11 +148,11 @@ cut_one name (Some c) (Some d) h k =
 
 -- ---- the parts of a name
 
-module _ (the other : Divisions) (alike : (t : NameToken) → is_von the t ≡ is_von other t) where
+module _ (divisions other : Divisions) (alike : (t : NameToken) → is_von divisions t ≡ is_von other t) where
   -- a von token in one division is no other token in the other
   von_ends : (von last von' last' tokens : List NameToken) (x : NameToken) (m : List NameToken) → von' ≡ von ++ x ∷ m → last ≡ x ∷ m ++ last'
       → tokens ≡ von ++ last
-      → HaveNoVon the last → ((left : List NameToken) (t : NameToken) → von' ≡ left ++ t ∷ [] → is_von other t ≡ true) → (last' ≡ [] → tokens ≡ []) → ⊥
+      → HaveNoVon divisions last → ((left : List NameToken) (t : NameToken) → von' ≡ left ++ t ∷ [] → is_von other t ≡ true) → (last' ≡ [] → tokens ≡ []) → ⊥
   von_ends von last von' [] tokens x m e k w none ends some =
       not_empty_behind von x (m ++ []) (ap (λ l. von ++ l) (sym k) ∙ sym w ∙ some refl)
   von_ends von last von' (z ∷ zs) tokens x m e k w none ends some =
@@ -161,44 +161,44 @@ module _ (the other : Divisions) (alike : (t : NameToken) → is_von the t ≡ i
       let no = none f.0 zs f.1 z (k ∙ ap (λ l. l ++ z ∷ zs) f.2 ∙ append_assoc f.0 (f.1 ∷ []) (z ∷ zs)) in
       absurd (true≢false (sym yes ∙ sym (alike f.1) ∙ no))
 
-module _ (the other : Divisions) (alike : (t : NameToken) → is_von the t ≡ is_von other t) where
-  back : (t : NameToken) → is_von other t ≡ is_von the t
+module _ (divisions other : Divisions) (alike : (t : NameToken) → is_von divisions t ≡ is_von other t) where
+  back : (t : NameToken) → is_von other t ≡ is_von divisions t
   back t = sym (alike t)
 
-  von_last_one : (tokens von last von' last' : List NameToken) → AreVonLast the tokens von last → AreVonLast other tokens von' last'
+  von_last_one : (tokens von last von' last' : List NameToken) → AreVonLast divisions tokens von last → AreVonLast other tokens von' last'
       → (von ≡ von') × (last ≡ last')
   von_last_one tokens von last von' last' h k = by (compare von last von' last' (sym h.whole ∙ k.whole)) where
     by : Compared von last von' last' → (von ≡ von') × (last ≡ last')
     by (inl c) = c
-    by (inr (inl c)) = absurd (von_ends the other alike von last von' last' tokens c.0 c.1 c.2 c.3 h.whole h.others k.ends k.some)
-    by (inr (inr c)) = absurd (von_ends other the back von' last' von last tokens c.0 c.1 c.2 c.3 k.whole k.others h.ends h.some)
+    by (inr (inl c)) = absurd (von_ends divisions other alike von last von' last' tokens c.0 c.1 c.2 c.3 h.whole h.others k.ends k.some)
+    by (inr (inr c)) = absurd (von_ends other divisions back von' last' von last tokens c.0 c.1 c.2 c.3 k.whole k.others h.ends h.some)
 
 -- First ends before the first von token
-first_ends : (the other : Divisions) → ((t : NameToken) → is_von the t ≡ is_von other t)
+first_ends : (divisions other : Divisions) → ((t : NameToken) → is_von divisions t ≡ is_von other t)
     → (first first' von last : List NameToken) (x : NameToken) (m others : List NameToken)
     → first' ≡ first ++ x ∷ m → von ++ last ≡ x ∷ m ++ others → 0 < length von
-    → ((t : NameToken) (rest : List NameToken) → von ≡ t ∷ rest → is_von the t ≡ true)
+    → ((t : NameToken) (rest : List NameToken) → von ≡ t ∷ rest → is_von divisions t ≡ true)
     → ((left right : List NameToken) (t : NameToken) → first' ≡ left ++ t ∷ right → is_von other t ≡ false) → ⊥
-first_ends the other alike first first' [] last x m others e k some begins_ none = absurd (omega (arith, some))
-first_ends the other alike first first' (v ∷ vs) last x m others e k some begins_ none =
+first_ends divisions other alike first first' [] last x m others e k some begins_ none = absurd (omega (arith, some))
+first_ends divisions other alike first first' (v ∷ vs) last x m others e k some begins_ none =
     let same = first_is v x (vs ++ last) (m ++ others) k in
     absurd (true≢false (sym (begins_ v vs refl) ∙ alike v ∙ ap (is_von other) same ∙ none first m x e))
 
-module _ (the other : Divisions) (alike : (t : NameToken) → is_von the t ≡ is_von other t) where
-  swapped : (t : NameToken) → is_von other t ≡ is_von the t
+module _ (divisions other : Divisions) (alike : (t : NameToken) → is_von divisions t ≡ is_von other t) where
+  swapped : (t : NameToken) → is_von other t ≡ is_von divisions t
   swapped t = sym (alike t)
 
   abbrev Same : NameParts → NameParts → Type 0
   Same p q = (p.first ≡ q.first) × (p.von ≡ q.von) × (p.last ≡ q.last)
 
-  with_von : (tokens : List NameToken) (p q : NameParts) → HasVon the tokens p → HasVon other tokens q → Same p q
+  with_von : (tokens : List NameToken) (p q : NameParts) → HasVon divisions tokens p → HasVon other tokens q → Same p q
   with_von tokens p q h k = by (compare p.first (p.von ++ p.last) q.first (q.von ++ q.last) (sym h.first ∙ k.first)) where
     by : Compared p.first (p.von ++ p.last) q.first (q.von ++ q.last) → Same p q
     by (inl c) =
-        let s = von_last_one the other alike (q.von ++ q.last) p.von p.last q.von q.last (subst (λ l. AreVonLast the l p.von p.last) c.1 h.surname) k.surname in
+        let s = von_last_one divisions other alike (q.von ++ q.last) p.von p.last q.von q.last (subst (λ l. AreVonLast divisions l p.von p.last) c.1 h.surname) k.surname in
         (c.0, s.0, s.1)
-    by (inr (inl c)) = absurd (first_ends the other alike p.first q.first p.von p.last c.0 c.1 (q.von ++ q.last) c.2 c.3 h.some h.begins k.none)
-    by (inr (inr c)) = absurd (first_ends other the swapped q.first p.first q.von q.last c.0 c.1 (p.von ++ p.last) c.2 c.3 k.some k.begins h.none)
+    by (inr (inl c)) = absurd (first_ends divisions other alike p.first q.first p.von p.last c.0 c.1 (q.von ++ q.last) c.2 c.3 h.some h.begins k.none)
+    by (inr (inr c)) = absurd (first_ends other divisions swapped q.first p.first q.von q.last c.0 c.1 (p.von ++ p.last) c.2 c.3 k.some k.begins h.none)
 
   -- Last begins after the last token that isn't joined
   joined_ends : (first first' last last' tokens : List NameToken) (x : NameToken) (m : List NameToken) → first' ≡ first ++ x ∷ m → last ≡ x ∷ m ++ last'
@@ -213,7 +213,7 @@ module _ (the other : Divisions) (alike : (t : NameToken) → is_von the t ≡ i
       let yes = joined f.0 zs f.1 z (k ∙ ap (λ l. l ++ z ∷ zs) f.2 ∙ append_assoc f.0 (f.1 ∷ []) (z ∷ zs)) in
       absurd (true≢false (sym (ap is_hyphen yes) ∙ no))
 
-  without_von : (tokens : List NameToken) (p q : NameParts) → HasNoVon the tokens p → HasNoVon other tokens q → Same p q
+  without_von : (tokens : List NameToken) (p q : NameParts) → HasNoVon divisions tokens p → HasNoVon other tokens q → Same p q
   without_von tokens p q h k = by (compare p.first p.last q.first q.last (sym h.first ∙ k.first)) where
     by : Compared p.first p.last q.first q.last → Same p q
     by (inl c) = (c.0, h.no_von ∙ sym k.no_von, c.1)
@@ -221,43 +221,43 @@ module _ (the other : Divisions) (alike : (t : NameToken) → is_von the t ≡ i
     by (inr (inr c)) = absurd (joined_ends q.first p.first q.last p.last tokens c.0 c.1 c.2 c.3 k.first k.joined h.apart h.some)
 
 -- where a token is von that isn't the final one, the parts have a von
-not_both : (the other : Divisions) → ((t : NameToken) → is_von the t ≡ is_von other t) → (tokens first von last : List NameToken)
+not_both : (divisions other : Divisions) → ((t : NameToken) → is_von divisions t ≡ is_von other t) → (tokens first von last : List NameToken)
     → tokens ≡ first ++ (von ++ last) → 0 < length von
-    → ((t : NameToken) (rest : List NameToken) → von ≡ t ∷ rest → is_von the t ≡ true) → (last ≡ [] → von ++ last ≡ []) → HaveNoVon other tokens → ⊥
-not_both the other alike tokens first [] last e some begins_ full none = absurd (omega (arith, some))
-not_both the other alike tokens first (v ∷ vs) last e some begins_ full none = by vs last e full (begins_ v vs refl) where
-  by : (vs last : List NameToken) → tokens ≡ first ++ ((v ∷ vs) ++ last) → (last ≡ [] → (v ∷ vs) ++ last ≡ []) → is_von the v ≡ true → ⊥
+    → ((t : NameToken) (rest : List NameToken) → von ≡ t ∷ rest → is_von divisions t ≡ true) → (last ≡ [] → von ++ last ≡ []) → HaveNoVon other tokens → ⊥
+not_both divisions other alike tokens first [] last e some begins_ full none = absurd (omega (arith, some))
+not_both divisions other alike tokens first (v ∷ vs) last e some begins_ full none = by vs last e full (begins_ v vs refl) where
+  by : (vs last : List NameToken) → tokens ≡ first ++ ((v ∷ vs) ++ last) → (last ≡ [] → (v ∷ vs) ++ last ≡ []) → is_von divisions v ≡ true → ⊥
   by (w ∷ ws) last e full is = absurd (true≢false (sym is ∙ alike v ∙ none first (ws ++ last) v w e))
   by [] [] e full is = not_empty v [] (full refl)
   by [] (l ∷ ls) e full is = absurd (true≢false (sym is ∙ alike v ∙ none first ls v l e))
 
-module _ (the other : Divisions) (alike : (t : NameToken) → is_von the t ≡ is_von other t) where
-  turned : (t : NameToken) → is_von other t ≡ is_von the t
+module _ (divisions other : Divisions) (alike : (t : NameToken) → is_von divisions t ≡ is_von other t) where
+  turned : (t : NameToken) → is_von other t ≡ is_von divisions t
   turned t = sym (alike t)
 
-  one_by : (tokens : List NameToken) (p q : NameParts) → HasVon the tokens p ⊎ HasNoVon the tokens p → HasVon other tokens q ⊎ HasNoVon other tokens q
+  one_by : (tokens : List NameToken) (p q : NameParts) → HasVon divisions tokens p ⊎ HasNoVon divisions tokens p → HasVon other tokens q ⊎ HasNoVon other tokens q
       → (p.first ≡ q.first) × (p.von ≡ q.von) × (p.last ≡ q.last)
-  one_by tokens p q (inl h) (inl k) = with_von the other alike tokens p q h k
-  one_by tokens p q (inr h) (inr k) = without_von the other alike tokens p q h k
-  one_by tokens p q (inl h) (inr k) = absurd (not_both the other alike tokens p.first p.von p.last h.first h.some h.begins h.surname.some k.none)
-  one_by tokens p q (inr h) (inl k) = absurd (not_both other the turned tokens q.first q.von q.last k.first k.some k.begins k.surname.some h.none)
+  one_by tokens p q (inl h) (inl k) = with_von divisions other alike tokens p q h k
+  one_by tokens p q (inr h) (inr k) = without_von divisions other alike tokens p q h k
+  one_by tokens p q (inl h) (inr k) = absurd (not_both divisions other alike tokens p.first p.von p.last h.first h.some h.begins h.surname.some k.none)
+  one_by tokens p q (inr h) (inl k) = absurd (not_both other divisions turned tokens q.first q.von q.last k.first k.some k.begins k.surname.some h.none)
 
 parts_of : (p q : NameParts) → p.first ≡ q.first → p.von ≡ q.von → p.last ≡ q.last → p.jr ≡ q.jr → p ≡ q
 parts_of p q a b c d = λ i. record { first = a i; von = b i; last = c i; jr = d i }
 
-parts_one : (the other : Divisions) → ((t : NameToken) → is_von the t ≡ is_von other t) → the.tokens ≡ other.tokens → (s : Sections) (p q : NameParts)
-    → AreParts the s p → AreParts other s q → p ≡ q
-parts_one the other alike same (One name) p q h k =
-    let s = one_by the other alike (other.tokens name) p q (subst (λ (f : List ℕ → List NameToken). HasVon the (f name) p ⊎ HasNoVon the (f name) p) same h.0)
+parts_one : (divisions other : Divisions) → ((t : NameToken) → is_von divisions t ≡ is_von other t) → divisions.tokens ≡ other.tokens → (s : Sections) (p q : NameParts)
+    → AreNameParts divisions s p → AreNameParts other s q → p ≡ q
+parts_one divisions other alike same (One name) p q h k =
+    let s = one_by divisions other alike (other.tokens name) p q (subst (λ (f : List ℕ → List NameToken). HasVon divisions (f name) p ⊎ HasNoVon divisions (f name) p) same h.0)
     k.0 in
     parts_of p q s.0 s.1 s.2 (h.1 ∙ sym k.1)
-parts_one the other alike same (Two surname first) p q h k =
-    let s = von_last_one the other alike (other.tokens surname) p.von p.last q.von q.last
-    (subst (λ (f : List ℕ → List NameToken). AreVonLast the (f surname) p.von p.last) same h.0) k.0 in
+parts_one divisions other alike same (Two surname first) p q h k =
+    let s = von_last_one divisions other alike (other.tokens surname) p.von p.last q.von q.last
+    (subst (λ (f : List ℕ → List NameToken). AreVonLast divisions (f surname) p.von p.last) same h.0) k.0 in
     parts_of p q (h.1 ∙ ap (λ (f : List ℕ → List NameToken). f first) same ∙ sym k.1) s.0 s.1 (h.2 ∙ sym k.2)
-parts_one the other alike same (Three surname jr first) p q h k =
-    let s = von_last_one the other alike (other.tokens surname) p.von p.last q.von q.last
-    (subst (λ (f : List ℕ → List NameToken). AreVonLast the (f surname) p.von p.last) same h.0) k.0 in
+parts_one divisions other alike same (Three surname jr first) p q h k =
+    let s = von_last_one divisions other alike (other.tokens surname) p.von p.last q.von q.last
+    (subst (λ (f : List ℕ → List NameToken). AreVonLast divisions (f surname) p.von p.last) same h.0) k.0 in
     parts_of p q (h.1 ∙ ap (λ (f : List ℕ → List NameToken). f first) same ∙ sym k.1) s.0 s.1 (h.2 ∙ ap (λ (f : List ℕ → List NameToken). f jr) same ∙ sym k.2)
 
 -- ---- formats
@@ -270,39 +270,39 @@ items_one format (Some items) (Some others) h k = ap Some (sym (written_items it
 
 -- ---- all of them
 
-module _ (the other : Divisions) (is : AreDivisions the) (also : AreDivisions other) where
-  same_elements : the.elements ≡ other.elements
-  same_elements = λ i mode string. (elements_of-only mode string (the.elements mode string) (is.elements mode string)
+module _ (divisions other : Divisions) (is : AreDivisions divisions) (also : AreDivisions other) where
+  same_elements : divisions.elements ≡ other.elements
+  same_elements = λ i mode string. (elements_of-only mode string (divisions.elements mode string) (is.elements mode string)
       ∙ sym (elements_of-only mode string (other.elements mode string) (also.elements mode string))) i
 
-  same_glyphs : the.glyphs ≡ other.glyphs
-  same_glyphs = λ i text. (glyphs_of-only text (the.glyphs text) (is.glyphs text) ∙ sym (glyphs_of-only text (other.glyphs text) (also.glyphs text))) i
+  same_glyphs : divisions.glyphs ≡ other.glyphs
+  same_glyphs = λ i text. (glyphs_of-only text (divisions.glyphs text) (is.glyphs text) ∙ sym (glyphs_of-only text (other.glyphs text) (also.glyphs text))) i
 
-  same_names : the.names ≡ other.names
-  same_names = λ i string. names_one string (the.names string) (other.names string) (is.names string) (also.names string) i
+  same_names : divisions.names ≡ other.names
+  same_names = λ i string. names_one string (divisions.names string) (other.names string) (is.names string) (also.names string) i
 
-  same_tokens : the.tokens ≡ other.tokens
-  same_tokens = λ i text. tokens_one (the.tokens text) (other.tokens text) text (is.tokens text) (also.tokens text) i
+  same_tokens : divisions.tokens ≡ other.tokens
+  same_tokens = λ i text. tokens_one (divisions.tokens text) (other.tokens text) text (is.tokens text) (also.tokens text) i
 
-  same_cut : the.cut ≡ other.cut
-  same_cut = λ i name. cut_one name (the.cut name) (other.cut name) (is.cut name) (also.cut name) i
+  same_cut : divisions.cut ≡ other.cut
+  same_cut = λ i name. cut_one name (divisions.cut name) (other.cut name) (is.cut name) (also.cut name) i
 
-  same_von : (t : NameToken) → is_von the t ≡ is_von other t
+  same_von : (t : NameToken) → is_von divisions t ≡ is_von other t
   same_von t = ap (λ (f : TextMode → List ℕ → List Element). first_is_lower (f Bytes t.text)) same_elements
 
-  same_sections : (name : List ℕ) → sections the name ≡ sections other name
+  same_sections : (name : List ℕ) → sections divisions name ≡ sections other name
   same_sections name = ap (λ (f : List ℕ → Option (List ℕ × List ℕ)). option_map_or (λ (cut : List ℕ × List ℕ). cut_again cut.0 cut.1 (f cut.1)) (f name)
       (One name)) same_cut
 
-  same_parts : the.parts ≡ other.parts
+  same_parts : divisions.parts ≡ other.parts
   same_parts = λ i name.
-      parts_one the other same_von same_tokens (sections other name) (the.parts name) (other.parts name)
-      (subst (λ s. AreParts the s (the.parts name)) (same_sections name) (is.parts name)) (also.parts name) i
+      parts_one divisions other same_von same_tokens (sections other name) (divisions.parts name) (other.parts name)
+      (subst (λ s. AreNameParts divisions s (divisions.parts name)) (same_sections name) (is.parts name)) (also.parts name) i
 
-  same_items : the.items ≡ other.items
-  same_items = λ i format. items_one format (the.items format) (other.items format) (is.items format) (also.items format) i
+  same_items : divisions.items ≡ other.items
+  same_items = λ i format. items_one format (divisions.items format) (other.items format) (is.items format) (also.items format) i
 
-  pub one_division : the ≡ other
+  pub one_division : divisions ≡ other
   one_division = λ i. record {
     elements = same_elements i;
     glyphs = same_glyphs i;

@@ -27,7 +27,7 @@ use Rattle.std.specs.Option.{option_map_or}
 use Rattle.btx_names.specs.language.VonTokens.{is_von as is_von_computed}
 use Rattle.btx_core.proofs.ComputedLemmas.{computed}
 use Rattle.btx_names.proofs.GapLemmas.{names_between}
-use Rattle.btx_core.specs.language.Names.{IsUpTo, AreNames, AreTokens, AreVonLast, AreParts, AreDivisions, CutsAt, HasVon, HasNoVon, IsCut, IsFormat, is_von}
+use Rattle.btx_core.specs.language.Names.{IsUpTo, AreNames, AreTokens, AreVonLast, AreNameParts, AreDivisions, CutsAt, HasVon, HasNoVon, IsCut, IsFormat, is_von}
 use Rattle.btx_core.specs.language.Names.{sections}
 
 -- ---- fronts
@@ -376,7 +376,7 @@ unsplit_by : (tokens : List NameToken) (t : Bool) → nat_lt 0 (von_end tokens) 
 unsplit_by tokens true e = inl (with_von_there tokens (ltb-true 0 (von_end tokens) e))
 unsplit_by tokens false e = let le = ltb-false 0 (von_end tokens) e in inr (without_von_there tokens (omega (arith, le)))
 
-parts_of_sections : (s : Sections) → AreParts computed s (parts_by s)
+parts_of_sections : (s : Sections) → AreNameParts computed s (parts_by s)
 parts_of_sections (One name) = (unsplit_by (tokens_of name) (nat_lt 0 (von_end (tokens_of name))) refl, refl)
 parts_of_sections (Two surname first) = (von_last_there (tokens_of surname), refl, refl)
 parts_of_sections (Three surname jr first) = (von_last_there (tokens_of surname), refl, refl)
@@ -386,9 +386,9 @@ sections_by : (name : List ℕ) (cut : Option (List ℕ × List ℕ)) → option
 sections_by name None = refl
 sections_by name (Some cut) = refl
 
-pub parts_there : (name : List ℕ) → AreParts computed (sections computed name) (parts_by (sections_of name))
+pub parts_there : (name : List ℕ) → AreNameParts computed (sections computed name) (parts_by (sections_of name))
 unfolding sections_of
-parts_there name = subst (λ s. AreParts computed s (parts_by (cut_first name (split_at_comma name)))) (sym (sections_by name (split_at_comma name)))
+parts_there name = subst (λ s. AreNameParts computed s (parts_by (cut_first name (split_at_comma name)))) (sym (sections_by name (split_at_comma name)))
     (parts_of_sections (cut_first name (split_at_comma name)))
 
 -- ---- formats: what is written so is legal. That each legal format is written so isn't proved yet

@@ -23,8 +23,8 @@ use Rattle.btx_step.specs.declared.next.Next.{Next}
 use Rattle.btx_step.specs.declared.next.Next.TheVariants as next
 use Rattle.btx_step.specs.declared.said.Note.{Note}
 use Rattle.btx_step.specs.declared.said.Note.TheVariants as note
-use Rattle.btx_step.specs.declared.said.Said.{Said}
-use Rattle.btx_step.specs.declared.said.Said.TheVariants as said
+use Rattle.btx_step.specs.declared.said.StepOutput.{StepOutput}
+use Rattle.btx_step.specs.declared.said.StepOutput.TheVariants as step_output
 use Rattle.btx_step.specs.declared.stand_in.StandIn.{StandIn}
 use Rattle.btx_step.specs.declared.stand_in.StandIn.TheVariants as stand_in
 use Rattle.btx_step.specs.language.Answers.{Answer, pushes, pushes_text, complained, done, quiet, truth, with_literals}
@@ -70,16 +70,16 @@ module _ (job : Job) (refers : RefersWithin job.style) where
   choose true x y h k = h
   choose false x y h k = k
 
-  pushing : (words : Said) (v : Literal) (s : Store) → HasLiteral v → HasAll s.literals → Fine (pushes words v s)
+  pushing : (words : StepOutput) (v : Literal) (s : Store) → HasLiteral v → HasAll s.literals → Fine (pushes words v s)
   pushing words v s h k = choose (nat_lt (length s.literals) MOST_LITERALS) _ _ ((h, k), tt) (k, tt)
 
-  texting : (words : Said) (text : List ℕ) (s : Store) → HasAll s.literals → Fine (pushes_text words text s)
+  texting : (words : StepOutput) (text : List ℕ) (s : Store) → HasAll s.literals → Fine (pushes_text words text s)
   texting words text s k = choose (nat_lt greatest_string (length text)) _ _ (k, tt) (pushing words (literal.Text text) s tt k)
 
   complaining : (ns : List Note) (instead : StandIn) (s : Store) → HasAll s.literals → Fine (complained ns instead s)
   complaining ns stand_in.Nothing s k = (k, tt)
-  complaining ns stand_in.Zero s k = pushing (said.Noted ns) _ s tt k
-  complaining ns stand_in.Empty s k = pushing (said.Noted ns) _ s tt k
+  complaining ns stand_in.Zero s k = pushing (step_output.Noted ns) _ s tt k
+  complaining ns stand_in.Empty s k = pushing (step_output.Noted ns) _ s tt k
 
   -- ---- operands
 
@@ -170,8 +170,8 @@ module _ (job : Job) (refers : RefersWithin job.style) where
   truth_fine true = tt
   truth_fine false = tt
 
-  truths : (t : Bool) (s : Store) → HasAll s.literals → Fine (pushes said.Nothing (truth t) s)
-  truths t s k = pushing said.Nothing (truth t) s (truth_fine t) k
+  truths : (t : Bool) (s : Store) → HasAll s.literals → Fine (pushes step_output.Nothing (truth t) s)
+  truths t s k = pushing step_output.Nothing (truth t) s (truth_fine t) k
 
   unlike : (s : Store) → HasAll s.literals → Fine (complained (note.Incomparable ∷ []) stand_in.Zero s)
   unlike s k = complaining (note.Incomparable ∷ []) stand_in.Zero s k
@@ -189,15 +189,15 @@ module _ (job : Job) (refers : RefersWithin job.style) where
   equals_fine literal.Missing a s k = unlike s k
 
   result_fine : (n : ℤ) (s : Store) → HasAll s.literals → Fine (arithmetic.result_of n s)
-  result_fine n s k = choose (arithmetic.fits n) _ _ (pushing said.Nothing (literal.Integer n) s tt k) (complaining (note.Overflow ∷ []) stand_in.Zero s k)
+  result_fine n s k = choose (arithmetic.fits n) _ _ (pushing step_output.Nothing (literal.Integer n) s tt k) (complaining (note.Overflow ∷ []) stand_in.Zero s k)
 
   code_fine : (text : List ℕ) (s : Store) → HasAll s.literals → Fine (arithmetic.gives_code text s)
-  code_fine (b ∷ []) s k = pushing said.Nothing _ s tt k
+  code_fine (b ∷ []) s k = pushing step_output.Nothing _ s tt k
   code_fine [] s k = complaining _ stand_in.Zero s k
   code_fine (a ∷ b ∷ c) s k = complaining _ stand_in.Zero s k
 
   character_fine : (n : ℤ) (s : Store) → HasAll s.literals → Fine (arithmetic.gives_character n s)
-  character_fine (pos n) s k = choose (nat_lt n 128) _ _ (pushing said.Nothing _ s tt k) (complaining _ stand_in.Empty s k)
+  character_fine (pos n) s k = choose (nat_lt n 128) _ _ (pushing step_output.Nothing _ s tt k) (complaining _ stand_in.Empty s k)
   character_fine (negsuc n) s k = complaining _ stand_in.Empty s k
 
   empty_fine : (f : Option (List ℕ)) (s : Store) → HasAll s.literals → Fine (strings.finds_empty f s)
@@ -228,14 +228,14 @@ module _ (job : Job) (refers : RefersWithin job.style) where
 
     both : (e n : ℕ) → option_or (entry_type (entries.entry_of job e)) (type_of job.style (codes "default.type")) ≡ Some n → n < length job.style.bodies
     both e n is = either (entry_type (entries.entry_of job e)) (type_of job.style (codes "default.type")) (types e) (refers.types (codes "default.type")) n is
-  row_fine types built_in.Cite = λ s k. in_entry_fine _ s.current s k (λ e. texting said.Nothing _ s k)
+  row_fine types built_in.Cite = λ s k. in_entry_fine _ s.current s k (λ e. texting step_output.Nothing _ s k)
   row_fine types built_in.If = λ f p g q n r s k. (k, if_fine (control.is_positive n) g f q p)
-  row_fine types built_in.Type = λ s k. in_entry_fine _ s.current s k (λ e. texting said.Nothing _ s k)
+  row_fine types built_in.Type = λ s k. in_entry_fine _ s.current s k (λ e. texting step_output.Nothing _ s k)
   row_fine types f = search (pushing, texting, truths, equals_fine, result_fine, code_fine, character_fine, empty_fine, missing_fine)
 
-  field_fine : (o : Option (List ℕ)) (s : Store) → HasAll s.literals → Fine (pushes said.Nothing (option_map_or literal.Text o literal.Missing) s)
-  field_fine None s k = pushing said.Nothing _ s tt k
-  field_fine (Some t) s k = pushing said.Nothing _ s tt k
+  field_fine : (o : Option (List ℕ)) (s : Store) → HasAll s.literals → Fine (pushes step_output.Nothing (option_map_or literal.Text o literal.Missing) s)
+  field_fine None s k = pushing step_output.Nothing _ s tt k
+  field_fine (Some t) s k = pushing step_output.Nothing _ s tt k
 
   module _ (types : (e n : ℕ) → entry_type (entries.entry_of job e) ≡ Some n → n < length job.style.bodies) where
     by_row : (f : BuiltIn) (s : Store) → HasAll s.literals → Fine (on_operands (row f).operands (row f).default ((row f).does job) s.literals s)
@@ -256,18 +256,18 @@ module _ (job : Job) (refers : RefersWithin job.style) where
     function_fine (callee.BuiltIn f) s h k = built_in_fine f s k
     function_fine (callee.User i) s h k = (k, h)
     function_fine (callee.Field i) s h k = in_entry_fine _ s.current s k (λ e. field_fine (entry_value i (entries.entry_of job e)) s k)
-    function_fine (callee.EntryInteger i) s h k = in_entry_fine _ s.current s k (λ e. pushing said.Nothing _ s tt k)
-    function_fine (callee.EntryString i) s h k = in_entry_fine _ s.current s k (λ e. pushing said.Nothing _ s tt k)
-    function_fine (callee.GlobalInteger i) s h k = pushing said.Nothing _ s tt k
-    function_fine (callee.GlobalString i) s h k = pushing said.Nothing _ s tt k
+    function_fine (callee.EntryInteger i) s h k = in_entry_fine _ s.current s k (λ e. pushing step_output.Nothing _ s tt k)
+    function_fine (callee.EntryString i) s h k = in_entry_fine _ s.current s k (λ e. pushing step_output.Nothing _ s tt k)
+    function_fine (callee.GlobalInteger i) s h k = pushing step_output.Nothing _ s tt k
+    function_fine (callee.GlobalString i) s h k = pushing step_output.Nothing _ s tt k
 
     -- a step leaves what the style has, and what it runs the style has
     pub step_fine : (t : Token) (s : Store) → Refers job.style.names (length job.style.texts) (length job.style.bodies) t → HasAll s.literals
         → Fine (step_of job t s)
     unfolding step_of
-    step_fine (token.Text i) s h k = texting said.Nothing _ s k
-    step_fine (token.Integer n) s h k = pushing said.Nothing _ s tt k
-    step_fine (token.Quote c) s h k = pushing said.Nothing (literal.Function c) s h k
+    step_fine (token.Text i) s h k = texting step_output.Nothing _ s k
+    step_fine (token.Integer n) s h k = pushing step_output.Nothing _ s tt k
+    step_fine (token.Quote c) s h k = pushing step_output.Nothing (literal.Function c) s h k
     step_fine (token.Run c) s h k = function_fine c s h k
 
     pub tested_fine : (xs : List Literal) (s : Store) → HasAll xs → HasAll (control.tested xs s).store.literals

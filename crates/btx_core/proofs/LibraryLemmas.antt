@@ -7,14 +7,14 @@ use Rattle.btx_bib.specs.declared.grammar.slip.SyntaxError.{SyntaxError}
 use Rattle.btx_bib.specs.language.Grammar.Items.{Event, Placed, Step, as_known, expected_step, step_by}
 use Rattle.btx_bib.specs.language.Messages.{Database}
 use Rattle.btx_bib.specs.laws.Grammar.Spelling.{read_as}
-use Rattle.btx_bib.specs.laws.Grammar.Reading.{HasNoAt, IsOutcome, Stands}
+use Rattle.btx_bib.specs.laws.Grammar.Reading.{HasNoAt, IsEventOf, Stands}
 use Rattle.btx_text.specs.declared.limits.Limit.{Limit}
 use Rattle.btx_text.specs.declared.limits.Limit.TheVariants as limit
 use Rattle.btx_text.specs.language.Limits.{is_too_long}
 use Rattle.std.specs.Prelude.{is_some}
 use Rattle.btx_core.specs.language.Styles.{Library}
-use Rattle.btx_core.specs.language.Databases.{Request, DatabaseState, keeping, known_after, closed, AreEvents, IsReadBy, AreRead, with_macros}
-use Rattle.btx_core.specs.language.Lists.{Slot, IsInherited, no_entry_line, entry_at, places, parent_messages, slots_of, IsLibraryAtEnd, IsLibrary}
+use Rattle.btx_core.specs.language.Databases.{Request, DatabaseState, stored_keys, known_after, entry_closed, AreEvents, IsReadBy, AreRead, with_macros}
+use Rattle.btx_core.specs.language.Lists.{ListedKey, IsInherited, no_entry_line, entry_at, places_of_list, parent_messages, list_of, IsLibraryAtEnd, IsLibrary}
 use Rattle.btx_bib.proofs.GrammarLemmas.ReadingLemmas.{stands-step, nothing-step, step-stands, known-outcome, OptionStands}
 use Rattle.btx_bib.proofs.GrammarLemmas.LengthLemmas.{StepsTo, next-leaves}
 use Rattle.btx_bib.specs.refinement.Grammar.Items.{known_step}
@@ -28,9 +28,9 @@ use Rattle.btx_text.specs.language.Lists.{only_if}
 
 -- the event of a step, and what is wanted after it, where the keys of stored entries are known
 abbrev known_pair : DatabaseState → Step → Event × Expected
-known_pair known step = as_known (keeping.is_stored known) (step.event, step.wanted)
+known_pair known step = as_known (stored_keys.is_stored known) (step.event, step.wanted)
 
-outcome_is : (known : DatabaseState) (event : Event) (next : Expected) (o : Result (Event × Expected) SyntaxError) (rest : List ℕ) → IsOutcome keeping known event next o
+outcome_is : (known : DatabaseState) (event : Event) (next : Expected) (o : Result (Event × Expected) SyntaxError) (rest : List ℕ) → IsEventOf stored_keys known event next o
     → (event, next) ≡ known_pair known (step_by (read_as o rest))
 outcome_is known event next (Ok got) rest h = λ i. (h.0 i, h.1 i)
 outcome_is known event next (Err slip) rest h = λ i. (h.0 i, h.1 i)
@@ -79,7 +79,7 @@ read_by_one : (a b : Bool) (asked : Request) (known : DatabaseState) (database :
     → IsReadBy a b asked known database next' → next ≡ next'
 read_by_one true b asked known database next next' h k = h ∙ sym k
 read_by_one false true asked known database next next' h k = h ∙ sym k
-read_by_one false false asked known database next next' h k = h.3 ∙ ap closed (events_one asked database h.0 k.0 known Item database.text h.1 k.1 h.2 k.2)
+read_by_one false false asked known database next next' h k = h.3 ∙ ap entry_closed (events_one asked database h.0 k.0 known Item database.text h.1 k.1 h.2 k.2)
     ∙ sym k.3
 
 read_one : (asked : Request) (databases : List Database) (known last last' : DatabaseState) → AreRead asked known databases last → AreRead asked known databases last'
@@ -90,11 +90,11 @@ read_one asked (database ∷ databases) known last last' h k =
     read_one asked databases k.0 last last' (subst (λ n. AreRead asked n databases last) same h.2) k.2
 
 -- the library of what is known, with what entries inherit
-abbrev gathered : Request → DatabaseState → List Slot → (ℕ → List ℕ → Option (List ℕ)) → Library
+abbrev gathered : Request → DatabaseState → List ListedKey → (ℕ → List ℕ → Option (List ℕ)) → Library
 gathered asked known slots value = record {
-  entries = flat_map (λ i. option_map_or (entry_at slots asked.types value i) (slice_get slots i) []) (places slots);
+  entries = flat_map (λ i. option_map_or (entry_at slots asked.types value i) (slice_get slots i) []) (places_of_list slots);
   preamble = known.preamble;
-  log = known.log ++ flat_map (parent_messages slots) (places slots) ++ flat_map (λ (slot : Slot). only_if (is_none slot.entry) (no_entry_line slot.key)) slots;
+  log = known.log ++ flat_map (parent_messages slots) (places_of_list slots) ++ flat_map (λ (slot : ListedKey). only_if (is_none slot.entry) (no_entry_line slot.key)) slots;
   limit = None;
 }
 
@@ -118,20 +118,20 @@ abbrev Events : Request → Database → DatabaseState → Expected → List ℕ
 Events asked database known w text = (events : List Placed) × (last : DatabaseState) × AreEvents asked database known w text events last
 
 unfoldable pub events_by : (asked : Request) (database : Database) (known : DatabaseState) (w : Expected) (text : List ℕ) (o : Option Step) → OptionStands w text o
-    → StepsTo (left w (length text)) (known_step (keeping.is_stored known) o)
+    → StepsTo (left w (length text)) (known_step (stored_keys.is_stored known) o)
     → ((q : DatabaseState) (v : Expected) (t : List ℕ) → left v (length t) < left w (length text) → Events asked database q v t) → Events asked database known w text
 events_by asked database known w text None h less others = ([], known, (h.0, h.1, refl))
 events_by asked database known w text (Some step) h less others =
-    let got = as_known (keeping.is_stored known) (step.event, step.wanted) in
+    let got = as_known (stored_keys.is_stored known) (step.event, step.wanted) in
     let placed : Placed = record { event = got.0; rest = step.rest } in
     let more = others (known_after asked database known placed) got.1 step.rest less in
-    (placed ∷ more.0, more.1, (h.0, got.1, h.1, h.2, h.4, known-outcome keeping known step.event step.wanted h.0 h.3, more.2))
+    (placed ∷ more.0, more.1, (h.0, got.1, h.1, h.2, h.4, known-outcome stored_keys known step.event step.wanted h.0 h.3, more.2))
 
 unfoldable pub events_there : (m : ℕ) (asked : Request) (database : Database) (known : DatabaseState) (w : Expected) (text : List ℕ) → left w (length text) < m
     → Events asked database known w text
 events_there zero asked database known w text lt = absurd (omega (arith, lt))
 events_there (suc m) asked database known w text lt =
-    events_by asked database known w text (expected_step w text) (step-stands w text) (next-leaves (keeping.is_stored known) w text)
+    events_by asked database known w text (expected_step w text) (step-stands w text) (next-leaves (stored_keys.is_stored known) w text)
     (λ q v t less. events_there m asked database q v t (omega (arith, lt, less)))
 
 unfoldable pub there_is_reading : (a b : Bool) (asked : Request) (known : DatabaseState) (database : Database) → (next : DatabaseState) × IsReadBy a b asked known database next
@@ -139,7 +139,7 @@ there_is_reading true b asked known database = (known, refl)
 there_is_reading false true asked known database = (record known { limit = Some limit.File }, refl)
 there_is_reading false false asked known database =
     let h = events_there (suc (left Item (length database.text))) asked database known Item database.text (omega arith) in
-    (closed h.1, (h.0, h.1, h.2, refl))
+    (entry_closed h.1, (h.0, h.1, h.2, refl))
 
 unfoldable pub all_read : (asked : Request) (databases : List Database) (known : DatabaseState) → (last : DatabaseState) × AreRead asked known databases last
 all_read asked [] known = (known, refl)
@@ -151,7 +151,7 @@ all_read asked (database ∷ databases) known =
 unfoldable pub gathering : (l : Option Limit) (asked : Request) (known : DatabaseState) → (library : Library) × IsLibraryAtEnd l asked known library
 gathering (Some l) asked known = (record { entries = []; preamble = []; log = known.log; limit = Some l }, refl)
 gathering None asked known =
-    let slots = slots_of asked known.stored in
+    let slots = list_of asked known.stored in
     let value : ℕ → List ℕ → Option (List ℕ) = λ i name. upto slots (suc i) i name in
     (gathered asked known slots value, (slots, refl, value, there_is_inheritance slots, refl))
 

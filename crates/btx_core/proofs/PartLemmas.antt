@@ -12,25 +12,25 @@ use Rattle.btx_out.proofs.BreakLemmas.{cut_short, cut_long, table_ends, table_mo
 use Rattle.btx_out.specs.laws.Places.{IsBreakInside, IsBreakPast, IsUnbroken}
 use Rattle.btx_out.proofs.PlaceLemmas.{place_inside, place_past, place_none}
 use Rattle.btx_core.specs.language.Lines.{IsBroken, IsWrapped, IsCommitted, continuation_lines}
-use Rattle.btx_core.specs.language.Lists.{Slot, own, parent, IsInherited}
+use Rattle.btx_core.specs.language.Lists.{ListedKey, own_value, parent_place, IsInherited}
 
-module _ (slots : List Slot) (one other : ℕ → List ℕ → Option (List ℕ)) (is : IsInherited slots one) (also : IsInherited slots other) where
+module _ (slots : List ListedKey) (one other : ℕ → List ℕ → Option (List ℕ)) (is : IsInherited slots one) (also : IsInherited slots other) where
   -- what is the same at all places before one is the same at it
   given_by : (k i : ℕ) (name : List ℕ) → ((j : ℕ) → j < i → one j name ≡ other j name) → (yes : Bool) → nat_lt k i ≡ yes
-      → (if yes then one k name else own slots k name) ≡ (if yes then other k name else own slots k name)
+      → (if yes then one k name else own_value slots k name) ≡ (if yes then other k name else own_value slots k name)
   given_by k i name h true lt = h k (ltb-true k i lt)
   given_by k i name h false lt = refl
 
   from_parent : (i : ℕ) (name : List ℕ) (p : Option ℕ) → ((j : ℕ) → j < i → one j name ≡ other j name)
-      → option_and_then (λ j. if nat_lt j i then one j name else own slots j name) p
-      ≡ option_and_then (λ j. if nat_lt j i then other j name else own slots j name) p
+      → option_and_then (λ j. if nat_lt j i then one j name else own_value slots j name) p
+      ≡ option_and_then (λ j. if nat_lt j i then other j name else own_value slots j name) p
   from_parent i name None h = refl
   from_parent i name (Some j) h = given_by j i name h (nat_lt j i) refl
 
   below : (n i : ℕ) (name : List ℕ) → i < n → one i name ≡ other i name
   below zero i name lt = absurd (omega (arith, lt))
   below (suc n) i name lt =
-      is i name ∙ ap (option_or (own slots i name)) (from_parent i name (parent slots i) (λ j le. below n j name (omega (arith, lt, le)))) ∙ sym (also i name)
+      is i name ∙ ap (option_or (own_value slots i name)) (from_parent i name (parent_place slots i) (λ j le. below n j name (omega (arith, lt, le)))) ∙ sym (also i name)
 
   -- there is one way to inherit
   pub one_inheritance : one ≡ other
@@ -85,20 +85,20 @@ module _ (most : ℕ) (short long f g : List ℕ → List ℕ) (is : IsBroken mo
 
 -- ---- and there is one of each
 
-module _ (slots : List Slot) where
+module _ (slots : List ListedKey) where
   -- what an entry has, with at most n parents above one another
   abbrev pub upto : ℕ → ℕ → List ℕ → Option (List ℕ)
   upto zero i name = None
-  upto (suc n) i name = option_or (own slots i name) (option_and_then (λ j. if nat_lt j i then upto n j name else own slots j name) (parent slots i))
+  upto (suc n) i name = option_or (own_value slots i name) (option_and_then (λ j. if nat_lt j i then upto n j name else own_value slots j name) (parent_place slots i))
 
   by_place : (n m i j : ℕ) (name : List ℕ) → (j < i → upto n j name ≡ upto m j name) → (yes : Bool) → nat_lt j i ≡ yes
-      → (if yes then upto n j name else own slots j name) ≡ (if yes then upto m j name else own slots j name)
+      → (if yes then upto n j name else own_value slots j name) ≡ (if yes then upto m j name else own_value slots j name)
   by_place n m i j name h true lt = h (ltb-true j i lt)
   by_place n m i j name h false lt = refl
 
   by_parent : (n i : ℕ) (name : List ℕ) (f : ℕ → ℕ) (p : Option ℕ) → ((j : ℕ) → j < i → upto n j name ≡ upto (f j) j name)
-      → option_and_then (λ j. if nat_lt j i then upto n j name else own slots j name) p
-      ≡ option_and_then (λ j. if nat_lt j i then upto (f j) j name else own slots j name) p
+      → option_and_then (λ j. if nat_lt j i then upto n j name else own_value slots j name) p
+      ≡ option_and_then (λ j. if nat_lt j i then upto (f j) j name else own_value slots j name) p
   by_parent n i name f None h = refl
   by_parent n i name f (Some j) h = by_place n (f j) i j name (h j) (nat_lt j i) refl
 
@@ -106,12 +106,12 @@ module _ (slots : List Slot) where
   enough zero m i name lt lt' = absurd (omega (arith, lt))
   enough (suc n) zero i name lt lt' = absurd (omega (arith, lt'))
   enough (suc n) (suc m) i name lt lt' =
-      ap (option_or (own slots i name)) (by_parent n i name (λ j. m) (parent slots i)
+      ap (option_or (own_value slots i name)) (by_parent n i name (λ j. m) (parent_place slots i)
       (λ j le. enough n m j name (omega (arith, lt, le)) (omega (arith, lt', le))))
 
   pub there_is_inheritance : IsInherited slots (λ i name. upto (suc i) i name)
   there_is_inheritance i name =
-      ap (option_or (own slots i name)) (by_parent i i name (λ j. suc j) (parent slots i) (λ j le. enough i (suc j) j name le (omega arith)))
+      ap (option_or (own_value slots i name)) (by_parent i i name (λ j. suc j) (parent_place slots i) (λ j le. enough i (suc j) j name le (omega arith)))
 
 -- ---- lines
 

@@ -59,9 +59,9 @@ commands_one means library (c ∷ cs) list left s a b h k =
 executed_one : (job : Job) (log : List Line) (options : Options) → 3 ≤ options.line → (a b : Product) → IsExecuted job log options a
     → IsExecuted job log options b → a ≡ b
 executed_one job log options wide a b h k =
-    let divisions = one_division h.the k.the h.divided k.divided in
-    let meant : IsMeaning k.the job h.means = subst (λ d. IsMeaning d job h.means) divisions h.meant in
-    let means : h.means ≡ k.means = one_meaning k.the job h.means k.means meant k.meant in
+    let alike = one_division h.divisions k.divisions h.divided k.divided in
+    let meant : IsMeaning k.divisions job h.means = subst (λ d. IsMeaning d job h.means) alike h.meant in
+    let means : h.means ≡ k.means = one_meaning k.divisions job h.means k.means meant k.meant in
     let come = subst (λ (m : Meaning). CommandsCome m job.library job.style.commands [] options.budget (first_state job log) h.outcome) means h.come in
     let outcome = commands_one k.means job.library job.style.commands [] options.budget (first_state job log) h.outcome k.outcome come k.come in
     let wrapped = one_breaking options.line _ _ h.wrapped k.wrapped h.are_wrapped k.are_wrapped wide in

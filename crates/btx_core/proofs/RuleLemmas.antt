@@ -7,16 +7,16 @@ use Rattle.btx_bst.specs.declared.command.Command.TheVariants as command
 use Rattle.btx_bst.specs.language.Complaints.{Complaint}
 use Rattle.btx_bst.specs.laws.TokenSpelling.{StyleNameHere, TextHere}
 use Rattle.btx_core.specs.language.Styles.{Command, Execute, Function, Iterate, Reverse}
-use Rattle.btx_core.specs.language.StyleTexts.{Behind, Closed, Executes, HasBody, Lists, Makes, Next, Opened, Rule, SoFar, Where}
+use Rattle.btx_core.specs.language.StyleTexts.{Arguments, Closed, Executes, HasBody, Lists, HasEffect, Next, Opened, Rule, SoFar, Requires}
 
 module _ (P : Rule → Type 0) (opened : (rest : Rule) → P rest → P (Opened rest)) (closed : (rest : Rule) → P rest → P (Closed rest))
     (named : (rest : List ℕ → Rule) → ((name : List ℕ) → P (rest name)) → P (Next StyleNameHere rest))
     (text_next : (rest : List ℕ → Rule) → ((text : List ℕ) → P (rest text)) → P (Next TextHere rest))
-    (where_so : (test : SoFar → Bool) (wrong : Complaint) (rest : Rule) → P rest → P (Where test wrong rest))
-    (makes : (change : SoFar → SoFar) → P (Makes change)) (lists : (k : Kind) (rest : Rule) → P rest → P (Lists k rest))
+    (where_so : (test : SoFar → Bool) (wrong : Complaint) (rest : Rule) → P rest → P (Requires test wrong rest))
+    (makes : (change : SoFar → SoFar) → P (HasEffect change)) (lists : (k : Kind) (rest : Rule) → P rest → P (Lists k rest))
     (has_body : (name : List ℕ) → P (HasBody name))
     (executes : (command : CommandName) (made : Function → Command) → P (Executes command made)) where
-  unfoldable pub behind_by : (c : CommandName) → P (Behind c)
+  unfoldable pub behind_by : (c : CommandName) → P (Arguments c)
   behind_by command.Entry = where_so _ _ _ (lists kind.Field _ (lists kind.EntryInteger _ (lists kind.EntryString _ (makes _))))
   behind_by command.Function = opened _ (named _ (λ name. where_so _ _ _ (closed _ (opened _ (has_body name)))))
   behind_by command.Read = where_so _ _ _ (where_so _ _ _ (makes _))

@@ -19,7 +19,7 @@ use Rattle.btx_bst.specs.language.Words.{BodyWord}
 use Rattle.btx_bst.specs.laws.Spelling.{Parts, Nothing, Plain, Group, Fragment, Here, After, AfterGroup, Inner, Made, made_named, made_word, nameless_begun}
 use Rattle.btx_bst.specs.laws.Spelling.{nameless_defined, made_by, made_till}
 use Rattle.btx_core.specs.laws.SameStyles.{Numbers, stands_for, word_of, IsBodyOf, AreFunctionsOf, AreCommandsOf, IsMeant}
-use Rattle.btx_core.specs.language.Styles.{Body, Command, Defined, Function, Integer, Push, Quoted, Run, Says, Text, Then, Word}
+use Rattle.btx_core.specs.language.Styles.{Body, Command, Defined, Function, Integer, Push, Quoted, Run, Says, Text, Then, StyleToken}
 use Rattle.btx_core.specs.language.StyleTexts.{and_word, body_of, wrong_in_word, wrong_in, wrong_till}
 use Rattle.btx_core.proofs.SameNumberLemmas.{Kept, kept_same, kept_push, last_of, Extends, extends_both, extends_by, still_stands, still_body, still_meant}
 use Rattle.btx_core.proofs.SameNumberLemmas.{still_functions, functions_length, one_more_word, one_more_function}
@@ -132,7 +132,7 @@ adds_nothing names means functions w m next e f g h = record {
   body = λ b x others rest k. subst (IsBodyOf b others) (sym (h rest)) k;
 }
 
-named_adds : (names : Names) (means : List ℕ → Option Function) (functions : List Function) (w : BodyWord) (kind : Callee → Token) (made : Function → Word)
+named_adds : (names : Names) (means : List ℕ → Option Function) (functions : List Function) (w : BodyWord) (kind : Callee → Token) (made : Function → StyleToken)
     (line : ℕ) (name : List ℕ) (c : Option Callee) (m : Made)
     → ((b : Numbers) (d : Callee) (f : Function) → stands_for b d ≡ Some f → word_of b (kind d) ≡ Some (made f))
     → ((rest : Body) → and_word means w rest ≡ option_map_or (λ (f : Function). Then (made f) rest) (means name) rest)

@@ -28,7 +28,7 @@ use Rattle.btx_step.specs.language.Entries.{entry_of}
 use Rattle.btx_step.specs.language.Jobs.{Job as NumberedJob}
 use Rattle.btx_core.specs.laws.SameLibraries.{IsSameEntry, AreSameEntries, IsSameLibrary}
 use Rattle.btx_core.specs.laws.SameStyles.{Numbers, numbers_of, stands_for, word_of, IsBodyOf, AreFunctionsOf, IsMeant, IsSameStyle}
-use Rattle.btx_core.specs.language.Styles.{Body, Built, Declared, Defined, Empty, Entry, Function, Integer, Library, Push, Quoted, Run, Style, Text, Then, Word}
+use Rattle.btx_core.specs.language.Styles.{Body, Built, Declared, Defined, Empty, Entry, Function, Integer, Library, Push, Quoted, Run, Style, Text, Then, StyleToken}
 use Rattle.btx_core.specs.language.Notes.{name_of as shown_name}
 use Rattle.btx_core.proofs.SameNumberLemmas.{functions_length}
 use Rattle.btx_core.proofs.VariableLemmas.{Numbering}
@@ -277,13 +277,13 @@ module _ (job : NumberedJob) (style : Style) (library : Library) (h : SameJob jo
 
   -- ---- bodies
 
-  abbrev pub word : Token → Word
+  abbrev pub word : Token → StyleToken
   word (token.Text n) = Push (Text (slice_index_or job.style.texts n []))
   word (token.Integer n) = Push (Integer n)
   word (token.Quote c) = Push (Quoted (of c))
   word (token.Run c) = Run (of c)
 
-  word_is : (t : Token) (w : Word) → word_of numbers t ≡ Some w → word t ≡ w
+  word_is : (t : Token) (w : StyleToken) → word_of numbers t ≡ Some w → word t ≡ w
   word_is (token.Text n) w e = by (slice_get job.style.texts n) refl where
     by : (o : Option (List ℕ)) → slice_get job.style.texts n ≡ o → word (token.Text n) ≡ w
     by None g = let no : None ≡ Some w = sym (ap (option_map (λ (text : List ℕ). Push (Text text))) g) ∙ e in absurd (cc)

@@ -31,19 +31,19 @@ use Rattle.btx_bib.specs.language.Known.{goes_on, stored_in, has_value}
 use Rattle.btx_bib.specs.language.MessageTexts.{message_line, message_text}
 use Rattle.btx_text.specs.declared.log_line.LineKind.TheVariants as line
 use Rattle.btx_text.specs.language.LogLines.{Line, mark_of}
-use Rattle.btx_bib.specs.language.Messages.{Database, Reading, event_messages, field_messages, value_messages, name_messages, read_next, spot_at, spot_before}
+use Rattle.btx_bib.specs.language.Messages.{Database, Reading, event_messages, field_messages, value_messages, name_messages, read_next, position_at, position_before}
 use Rattle.btx_bib.specs.language.Stored.{entry_with_key, parents_in, is_wanted}
 use Rattle.btx_bib.specs.language.Strings.{string_value, other_value, defined}
 use Rattle.btx_bib.specs.language.Values.{field_value}
 use Rattle.btx_bib.specs.language.Request.{Request as NumberedRequest}
 use Rattle.btx_bib.specs.laws.Databases.{with_macros as macros_known, nothing}
-use Rattle.btx_bib.specs.laws.Grammar.Reading.{IsOutcome, IsReading}
+use Rattle.btx_bib.specs.laws.Grammar.Reading.{IsEventOf, IsReading}
 use Rattle.btx_bib.proofs.DefinitionLemmas.{lookup-own, lookup-other}
 use Rattle.btx_bib.proofs.GrammarLemmas.ReadingLemmas.{is_reading}
 use Rattle.btx_bst.specs.declared.callee.Callee.TheVariants as callee
-use Rattle.btx_core.specs.language.Databases.{Request, Stored, DatabaseState, all_stored, closed, if_fits, stored_with, parents_named, is_asked, meaning_of}
-use Rattle.btx_core.specs.language.Databases.{part_messages, saying, field_read, known_after_event, known_after, keeping, AreEvents, IsReadBy, AreRead, with_macros}
-use Rattle.btx_core.specs.language.Databases.{at_spot}
+use Rattle.btx_core.specs.language.Databases.{Request, Stored, DatabaseState, all_stored, entry_closed, if_fits, stored_with, parents_named, is_asked, meaning_of}
+use Rattle.btx_core.specs.language.Databases.{part_messages, saying, field_read, known_after_event, known_after, stored_keys, AreEvents, IsReadBy, AreRead, with_macros}
+use Rattle.btx_core.specs.language.Databases.{at_position}
 use Rattle.btx_core.specs.laws.SameLibraries.{limit_met, value_named}
 use Rattle.btx_core.specs.laws.SameStyles.{IsMeant, Numbers}
 use Rattle.btx_core.specs.language.Styles.{Function, set}
@@ -250,7 +250,7 @@ all_stored_same R reading known h = given_both R reading.known.stored (option_to
     h.stored (current_list R reading.known.current known.current h.current)
 
 closed_same : (R : NumberedRequest) (reading : Reading) (known : DatabaseState) → SameReading R reading known
-    → SameReading R (record reading { known = numbered.with_current_stored reading.known }) (closed known)
+    → SameReading R (record reading { known = numbered.with_current_stored reading.known }) (entry_closed known)
 closed_same R reading known h = record {
   strings = h.strings;
   stored = all_stored_same R reading known h;
@@ -322,14 +322,14 @@ part_same R database reading known own (Digits text) h = refl
 part_same R database reading known own (Named string) h =
     by (option_map_or (λ (defined : List ℕ). is_same_key defined string.name) own false) (is_none (known.strings (folded string.name)))
     ∙ ap (λ (o : Option (List ℕ)). map message_line (if option_map_or (λ (defined : List ℕ). is_same_key defined string.name) own false then message.OwnString
-    string.name (spot_at database string.rest) ∷ [] else if is_none o then message.UndefinedString string.name (spot_at database string.rest) ∷ [] else []))
+    string.name (position_at database string.rest) ∷ [] else if is_none o then message.UndefinedString string.name (position_at database string.rest) ∷ [] else []))
     (h.strings (folded string.name)) where
       warned : List ℕ → List Line
-      warned text = at_spot line.Warning (codes "string name \"" ++ string.name ++ text) (spot_at database string.rest) ∷ []
+      warned text = at_position line.Warning (codes "string name \"" ++ string.name ++ text) (position_at database string.rest) ∷ []
 
       by : (own none : Bool) → (if own then warned (codes "\" is used in its own definition") else if none then warned (codes "\" is undefined") else [])
-          ≡ map message_line (if own then message.OwnString string.name (spot_at database string.rest) ∷ [] else if none then message.UndefinedString
-          string.name (spot_at database string.rest) ∷ [] else [])
+          ≡ map message_line (if own then message.OwnString string.name (position_at database string.rest) ∷ [] else if none then message.UndefinedString
+          string.name (position_at database string.rest) ∷ [] else [])
       by true none = refl
       by false true = refl
       by false false = refl
@@ -445,18 +445,18 @@ module _ (numbers : Numbers) (R : NumberedRequest) (Q : Request) (h : SameReques
         before = numbered.with_current_stored reading.known
 
         warned : List Message
-        warned = if is_none (R.kind (folded kind)) then message.UnknownKind key (spot_at database rest) ∷ [] else []
+        warned = if is_none (R.kind (folded kind)) then message.UnknownKind key (position_at database rest) ∷ [] else []
 
         new : Stored
         new = record { kind = kind; key = key; value = λ name. None }
 
         unknown : Line
-        unknown = at_spot line.Warning (codes "entry type for \"" ++ key ++ codes "\" isn't style-file defined") (spot_at database rest)
+        unknown = at_position line.Warning (codes "entry type for \"" ++ key ++ codes "\" isn't style-file defined") (position_at database rest)
 
         warned' : List Line
         warned' = only_if (is_none (Q.types (folded kind))) unknown
 
-        as_line : (b : Bool) → only_if b unknown ≡ map message_line (if b then message.UnknownKind key (spot_at database rest) ∷ [] else [])
+        as_line : (b : Bool) → only_if b unknown ≡ map message_line (if b then message.UnknownKind key (position_at database rest) ∷ [] else [])
         as_line true = refl
         as_line false = refl
 
@@ -471,23 +471,23 @@ module _ (numbers : Numbers) (R : NumberedRequest) (Q : Request) (h : SameReques
           empty None = refl
           empty (Some n) = refl
 
-        by : (t : Bool) → is_asked Q (all_stored known) key ≡ t → SameReading R (record reading { known = before }) (closed known)
+        by : (t : Bool) → is_asked Q (all_stored known) key ≡ t → SameReading R (record reading { known = before }) (entry_closed known)
             → SameReading R (record {
               known = if t then record before { current = Some (record { kind = kind; key = key; fields = [] }) } else before;
               messages = reading.messages ++ (if t then warned else []);
             })
-            (if not (is_asked Q (all_stored known) key) then closed known else saying warned' (record (closed known) { current = Some new }))
+            (if not (is_asked Q (all_stored known) key) then entry_closed known else saying warned' (record (entry_closed known) { current = Some new }))
         by false e shut =
             subst (λ (b : Bool). SameReading R (record { known = before; messages = reading.messages ++ [] })
-            (if not b then closed known else saying warned' (record (closed known) { current = Some new }))) (sym e)
-            (no_messages R (record reading { known = before }) (closed known) shut)
+            (if not b then entry_closed known else saying warned' (record (entry_closed known) { current = Some new }))) (sym e)
+            (no_messages R (record reading { known = before }) (entry_closed known) shut)
         by true e shut =
             subst (λ (b : Bool). SameReading R (record {
               known = record before { current = Some (record { kind = kind; key = key; fields = [] }) };
               messages =
                   reading.messages ++ warned;
             })
-            (if not b then closed known else saying warned' (record (closed known) { current = Some new }))) (sym e)
+            (if not b then entry_closed known else saying warned' (record (entry_closed known) { current = Some new }))) (sym e)
             (record {
               strings = shut.strings;
               stored = shut.stored;
@@ -539,10 +539,10 @@ module _ (numbers : Numbers) (R : NumberedRequest) (Q : Request) (h : SameReques
       said' = flat_map (part_messages database known None) field.value
 
       extra : Message
-      extra = message.ExtraField g.key field.name (spot_before database rest)
+      extra = message.ExtraField g.key field.name (position_before database rest)
 
       ignored : List ℕ → Line
-      ignored key = at_spot line.Warning (codes "I'm ignoring " ++ key ++ codes "'s extra \"" ++ field.name ++ codes "\" field") (spot_before database rest)
+      ignored key = at_position line.Warning (codes "I'm ignoring " ++ key ++ codes "'s extra \"" ++ field.name ++ codes "\" field") (position_before database rest)
 
       more : Given
       more = record g { fields = g.fields ++ record { name = field.name; value = text } ∷ [] }
@@ -623,8 +623,8 @@ module _ (numbers : Numbers) (R : NumberedRequest) (Q : Request) (h : SameReques
   event_same database reading known (Definition name value) rest k = definition_same database reading known name value rest k
   event_same database reading known (EntryHead kind key) rest k = entry_same database reading known kind key rest k
   event_same database reading known (FieldOf field) rest k = field_same database reading known field rest k
-  event_same database reading known items.End rest k = no_messages R reading known k
-  event_same database reading known (Wrong slip) rest k = says_same R reading known (message.Wrong slip (spot_at database rest) ∷ []) k
+  event_same database reading known items.ItemEnd rest k = no_messages R reading known k
+  event_same database reading known (Wrong slip) rest k = says_same R reading known (message.Wrong slip (position_at database rest) ∷ []) k
 
   goes_same : (reading : Reading) (known : DatabaseState) → Same reading known → is_some known.limit ≡ not (goes_on reading.known.ending)
   goes_same reading known k = ap is_some k.limit ∙ by reading.known.ending where
@@ -649,12 +649,12 @@ module _ (numbers : Numbers) (R : NumberedRequest) (Q : Request) (h : SameReques
         (if b then known else known_after_event Q database known placed.event placed.rest)) (sym e) (no_messages R reading known k)
 
   -- which keys are stored
-  stored_same : (reading : Reading) (known : DatabaseState) → Same reading known → keeping.is_stored known ≡ (numbered.keeping R).is_stored reading.known
+  stored_same : (reading : Reading) (known : DatabaseState) → Same reading known → stored_keys.is_stored known ≡ (numbered.stored_keys R).is_stored reading.known
   stored_same reading known k = λ i key. is_found R (entry_with_key (stored_in reading.known) key) (stored_with (all_stored known) key)
       (found_same R (stored_in reading.known) (all_stored known) (all_stored_same R reading known k) key) i
 
   outcome_same : (reading : Reading) (known : DatabaseState) → Same reading known → (event : Event) (next : Expected) (o : Result (Event × Expected) SyntaxError)
-      → IsOutcome (numbered.keeping R) reading.known event next o → IsOutcome keeping known event next o
+      → IsEventOf (numbered.stored_keys R) reading.known event next o → IsEventOf stored_keys known event next o
   outcome_same reading known k event next (Ok got) g = (
     subst (λ stored. event ≡ (as_known stored got).0) (sym (stored_same reading known k)) g.0,
     subst (λ stored. next ≡ (as_known stored got).1) (sym (stored_same reading known k)) g.1,
@@ -663,7 +663,7 @@ module _ (numbers : Numbers) (R : NumberedRequest) (Q : Request) (h : SameReques
 
   -- the events of a text
   events_same : (database : Database) (events : List Placed) (reading : Reading) (known : DatabaseState) (wanted : Expected) (text : List ℕ) → Same reading known
-      → IsReading (numbered.keeping R) reading.known wanted text events
+      → IsReading (numbered.stored_keys R) reading.known wanted text events
       → (last : DatabaseState) × AreEvents Q database known wanted text events last × Same (fold (read_next R database) reading events) last
   events_same database [] reading known wanted text k g = (known, (g.0, g.1, refl), k)
   events_same database (placed ∷ events) reading known wanted text k g =
@@ -681,7 +681,7 @@ module _ (numbers : Numbers) (R : NumberedRequest) (Q : Request) (h : SameReques
         if not goes then reading
         else if too_long then record reading { known = record reading.known { ending = end.FileLimit } }
         else
-        let last = fold (read_next R database) reading (events_from (numbered.keeping R) reading.known Item database.text) in
+        let last = fold (read_next R database) reading (events_from (numbered.stored_keys R) reading.known Item database.text) in
         record last { known = numbered.with_current_stored last.known }
 
     by : (goes too_long : Bool) → is_some known.limit ≡ not goes → (next : DatabaseState) × IsReadBy (is_some known.limit) too_long Q known database next
@@ -694,10 +694,10 @@ module _ (numbers : Numbers) (R : NumberedRequest) (Q : Request) (h : SameReques
           record { strings = k.strings; stored = k.stored; current = k.current; preamble = k.preamble; messages = k.messages; limit = refl },
         )
     by true false e =
-        let events = events_from (numbered.keeping R) reading.known Item database.text in
-        let r = events_same database events reading known Item database.text k (is_reading (numbered.keeping R) reading.known Item database.text) in (
-          closed r.0,
-          subst (λ b. IsReadBy b false Q known database (closed r.0)) (sym e) (events, r.0, r.1, refl),
+        let events = events_from (numbered.stored_keys R) reading.known Item database.text in
+        let r = events_same database events reading known Item database.text k (is_reading (numbered.stored_keys R) reading.known Item database.text) in (
+          entry_closed r.0,
+          subst (λ b. IsReadBy b false Q known database (entry_closed r.0)) (sym e) (events, r.0, r.1, refl),
           closed_same R (fold (read_next R database) reading events) r.0 r.2,
         )
 

@@ -46,7 +46,7 @@ use Rattle.btx_bst.specs.language.StyleText.{style_of}
 use Rattle.btx_bst.specs.laws.FirstNames.{FirstNamesLaw}
 use Rattle.btx_bst.proofs.FirstNameLemmas.{first-names}
 use Rattle.btx_core.specs.language.Databases.{Request, Stored, DatabaseState, parents_named, stored_with, with_macros}
-use Rattle.btx_core.specs.language.Lists.{Slot, slot_of, slots_of, listed_keys, IsInherited, keeps_parent, parent_key, parent_messages, entry_at, places}
+use Rattle.btx_core.specs.language.Lists.{ListedKey, listed_key, list_of, listed_keys, IsInherited, keeps_parent, parent_key, parent_messages, entry_at, places_of_list}
 use Rattle.btx_core.specs.language.Lists.{IsLibraryAtEnd, IsLibrary, no_entry_line}
 use Rattle.btx_core.specs.laws.SameLibraries.{value_named, IsSameEntry, AreSameEntries, limit_met, IsSameLibrary, asked_of, SameLibrary}
 use Rattle.btx_core.specs.laws.SameStyles.{IsMeant, IsSameStyle, Numbers, numbers_of}
@@ -111,7 +111,7 @@ module _ (numbers : Numbers) (R : NumberedRequest) (Q : Request) (h : SameReques
   found_key None (Some e) k = absurd k
   found_key (Some g) None k = absurd k
 
-  body_same : (C : List Slot) (g : Option Given) (e : Option Stored) → IsSameCurrent R g e → IsSameBody numbers R Q h C (option_map (body_of R) g) e
+  body_same : (C : List ListedKey) (g : Option Given) (e : Option Stored) → IsSameCurrent R g e → IsSameBody numbers R Q h C (option_map (body_of R) g) e
   unfolding body_of
   body_same C None None k = tt
   body_same C (Some g) (Some e) k = (ap (λ kind. R.kind (folded kind)) (sym k.kind), values_length R g.fields 0 R.count)
@@ -133,15 +133,15 @@ module _ (numbers : Numbers) (R : NumberedRequest) (Q : Request) (h : SameReques
   values_same (Some g) None k name = absurd k
 
   -- the place of a key
-  place_same : (C : List Slot) (gs : List Given) (es : List Stored) → AreSameGiven R gs es → (key : List ℕ) (j : ℕ) → slice_get C j ≡ Some (slot_of Q es key)
+  place_same : (C : List ListedKey) (gs : List Given) (es : List Stored) → AreSameGiven R gs es → (key : List ℕ) (j : ℕ) → slice_get C j ≡ Some (listed_key Q es key)
       → Own numbers R Q h C j (listing.slot_of R gs key)
   unfolding listing.slot_of
   place_same C gs es k key j there =
       let found = found_same R gs es k key in
-      let owned = λ (name : List ℕ). ap (λ (o : Option Slot). option_and_then
-      (λ (slot : Slot). option_and_then (λ (entry : Stored). entry.value name) slot.entry) o) there in
+      let owned = λ (name : List ℕ). ap (λ (o : Option ListedKey). option_and_then
+      (λ (slot : ListedKey). option_and_then (λ (entry : Stored). entry.value name) slot.entry) o) there in
       record {
-        c = slot_of Q es key;
+        c = listed_key Q es key;
         there = there;
         key = sym (ap₂ (λ (o p : Option (List ℕ)). unwrap_or (option_or o p) key) (ap (λ cited. listed_as cited key) h.cited)
             (found_key (entry_with_key gs key) (stored_with es key) found));
@@ -152,29 +152,29 @@ module _ (numbers : Numbers) (R : NumberedRequest) (Q : Request) (h : SameReques
             ∙ values_same (entry_with_key gs key) (stored_with es key) found (codes "crossref") ∙ sym (owned (codes "crossref"));
       }
 
-  all_places : (C : List Slot) (gs : List Given) (es : List Stored) → AreSameGiven R gs es → (keys : List (List ℕ)) (i : ℕ)
-      → ((n : ℕ) → slice_get C (i + n) ≡ slice_get (map (slot_of Q es) keys) n)
+  all_places : (C : List ListedKey) (gs : List Given) (es : List Stored) → AreSameGiven R gs es → (keys : List (List ℕ)) (i : ℕ)
+      → ((n : ℕ) → slice_get C (i + n) ≡ slice_get (map (listed_key Q es) keys) n)
       → AllFrom (Own numbers R Q h C) i (map (listing.slot_of R gs) keys)
   all_places C gs es k [] i there = tt
   all_places C gs es k (key ∷ keys) i there =
-      let first : slice_get C i ≡ Some (slot_of Q es key) = let z : i ≡ i + 0 = omega arith in ap (slice_get C) z ∙ there 0 in (
+      let first : slice_get C i ≡ Some (listed_key Q es key) = let z : i ≡ i + 0 = omega arith in ap (slice_get C) z ∙ there 0 in (
         place_same C gs es k key i first,
         all_places C gs es k keys (i + 1) (λ n. let e : i + 1 + n ≡ i + suc n = omega arith in ap (slice_get C) e ∙ there (suc n)),
       )
 
   -- the same keys stand in the list
   slot_keys : (gs : List Given) (es : List Stored) → AreSameGiven R gs es → (keys : List (List ℕ))
-      → map (λ (s : NumberedSlot). s.key) (map (listing.slot_of R gs) keys) ≡ map (λ (c : Slot). c.key) (map (slot_of Q es) keys)
+      → map (λ (s : NumberedSlot). s.key) (map (listing.slot_of R gs) keys) ≡ map (λ (c : ListedKey). c.key) (map (listed_key Q es) keys)
   slot_keys gs es k [] = refl
   slot_keys gs es k (key ∷ keys) =
-      let p = place_same (slot_of Q es key ∷ []) gs es k key 0 refl in
-      ap₂ (λ (x : List ℕ) (xs : List (List ℕ)). x ∷ xs) (p.key ∙ sym (ap (λ (c : Slot). c.key) (same_Some (slot_of Q es key) p.c p.there)))
+      let p = place_same (listed_key Q es key ∷ []) gs es k key 0 refl in
+      ap₂ (λ (x : List ℕ) (xs : List (List ℕ)). x ∷ xs) (p.key ∙ sym (ap (λ (c : ListedKey). c.key) (same_Some (listed_key Q es key) p.c p.there)))
       (slot_keys gs es k keys)
 
   -- ---- what is left of the list
 
-  module _ (C : List Slot) (value : ℕ → List ℕ → Option (List ℕ)) (inherits : IsInherited C value) where
-    abbrev entry_by : ℕ → Slot → List Entry
+  module _ (C : List ListedKey) (value : ℕ → List ℕ → Option (List ℕ)) (inherits : IsInherited C value) where
+    abbrev entry_by : ℕ → ListedKey → List Entry
     entry_by i c = entry_at C Q.types value i c
 
     one_entry : (e : Entry) (n : NumberedEntry) → IsSameEntry numbers R.field n e → (more : List NumberedEntry) (others : List Entry)
@@ -185,7 +185,7 @@ module _ (numbers : Numbers) (R : NumberedRequest) (Q : Request) (h : SameReques
         → AreSameEntries numbers R.field more others
         → AreSameEntries numbers R.field (passes.entry_at s ++ more) (option_map_or (entry_by i) (slice_get C i) [] ++ others)
     place_entry i s p more others m =
-        subst (λ (o : Option Slot). AreSameEntries numbers R.field (passes.entry_at s ++ more) (option_map_or (entry_by i) o [] ++ others)) (sym p.there)
+        subst (λ (o : Option ListedKey). AreSameEntries numbers R.field (passes.entry_at s ++ more) (option_map_or (entry_by i) o [] ++ others)) (sym p.there)
         (by s.body refl p.c.entry refl p.body s.stays refl) where
           by : (b : Option Body) → s.body ≡ b → (e : Option Stored) → p.c.entry ≡ e → IsSameBody numbers R Q h C s.body p.c.entry → (t : Bool) → s.stays ≡ t
               → AreSameEntries numbers R.field (passes.entry_at s ++ more) (entry_by i p.c ++ others)
@@ -249,10 +249,10 @@ module _ (numbers : Numbers) (R : NumberedRequest) (Q : Request) (h : SameReques
         (flat_map (λ i. option_map_or (entry_by i) (slice_get C i) []) (range_with_len (i + 1) (length L))) (entries_same L (i + 1) k.1)
 
     -- the keys that have no entry
-    missing_same : (L : List NumberedSlot) (D : List Slot) (i : ℕ) → AllFrom (Checked numbers R Q h C value inherits) i L
+    missing_same : (L : List NumberedSlot) (D : List ListedKey) (i : ℕ) → AllFrom (Checked numbers R Q h C value inherits) i L
         → ((n : ℕ) → slice_get C (i + n) ≡ slice_get D n) → length L ≡ length D
         → map message_line (flat_map (λ (s : NumberedSlot). if is_some s.body then [] else NoEntry s.key ∷ []) L)
-        ≡ flat_map (λ (c : Slot). only_if (is_none c.entry) (no_entry_line c.key)) D
+        ≡ flat_map (λ (c : ListedKey). only_if (is_none c.entry) (no_entry_line c.key)) D
     unfolding message_text mark_of
     missing_same [] [] i k there e = refl
     missing_same [] (c ∷ D) i k there e = absurd (omega (arith, e))
@@ -264,7 +264,7 @@ module _ (numbers : Numbers) (R : NumberedRequest) (Q : Request) (h : SameReques
         lines_more (if is_some s.body then [] else NoEntry s.key ∷ []) (flat_map (λ (s : NumberedSlot). if is_some s.body then [] else NoEntry s.key ∷ []) L)
         ∙ ap₂ (λ (ms ns : List Line). ms ++ ns)
         (ap (λ key. map message_line (if is_some s.body then [] else NoEntry key ∷ [])) p.key ∙ said p.c.key s.body p.c.entry p.body
-        ∙ ap (λ (c : Slot). only_if (is_none c.entry) (no_entry_line c.key)) one)
+        ∙ ap (λ (c : ListedKey). only_if (is_none c.entry) (no_entry_line c.key)) one)
         (missing_same L D (i + 1) k.1 (λ n. let z : i + 1 + n ≡ i + suc n = omega arith in ap (slice_get C) z ∙ there (suc n)) (omega (arith, e))) where
           said : (key : List ℕ) (b : Option Body) (e : Option Stored) → IsSameBody numbers R Q h C b e
               → map message_line (if is_some b then [] else NoEntry key ∷ []) ≡ only_if (is_none e) (no_entry_line key)
@@ -291,8 +291,8 @@ module _ (numbers : Numbers) (R : NumberedRequest) (Q : Request) (h : SameReques
     by end.FileLimit e = stopped end.FileLimit _ refl e
     by end.StringLimit e = stopped end.StringLimit _ refl e
     by end.Whole e = (library, subst (λ o. IsLibraryAtEnd o Q known library) (sym e) (slots, refl, value, there_is_inheritance slots, refl), same) where
-      slots : List Slot
-      slots = slots_of Q known.stored
+      slots : List ListedKey
+      slots = list_of Q known.stored
 
       numbered_slots : List NumberedSlot
       numbered_slots = listing.slots_of R reading.known.stored
@@ -302,26 +302,26 @@ module _ (numbers : Numbers) (R : NumberedRequest) (Q : Request) (h : SameReques
 
       library : Library
       library = record {
-        entries = flat_map (λ i. option_map_or (entry_at slots Q.types value i) (slice_get slots i) []) (places slots);
+        entries = flat_map (λ i. option_map_or (entry_at slots Q.types value i) (slice_get slots i) []) (places_of_list slots);
         preamble = known.preamble;
-        log = known.log ++ flat_map (parent_messages slots) (places slots) ++ flat_map (λ (slot : Slot). only_if (is_none slot.entry) (no_entry_line slot.key))
+        log = known.log ++ flat_map (parent_messages slots) (places_of_list slots) ++ flat_map (λ (slot : ListedKey). only_if (is_none slot.entry) (no_entry_line slot.key))
             slots;
         limit = None;
       }
 
-      keys : map (λ (s : NumberedSlot). s.key) numbered_slots ≡ map (λ (c : Slot). c.key) slots
+      keys : map (λ (s : NumberedSlot). s.key) numbered_slots ≡ map (λ (c : ListedKey). c.key) slots
       keys = slot_keys reading.known.stored known.stored k.stored (list_keys R reading.known.stored)
-          ∙ ap (λ ks. map (λ (c : Slot). c.key) (map (slot_of Q known.stored) ks)) (sym (keys_same reading.known.stored known.stored k.stored))
+          ∙ ap (λ ks. map (λ (c : ListedKey). c.key) (map (listed_key Q known.stored) ks)) (sym (keys_same reading.known.stored known.stored k.stored))
 
       start : AllFrom (Own numbers R Q h slots) 0 numbered_slots
       start = all_places slots reading.known.stored known.stored k.stored (list_keys R reading.known.stored) 0 (λ n.
           let z : 0 + n ≡ n = omega arith in
-          ap (slice_get slots) z ∙ ap (λ ks. slice_get (map (slot_of Q known.stored) ks) n) (keys_same reading.known.stored known.stored k.stored))
+          ap (slice_get slots) z ∙ ap (λ ks. slice_get (map (listed_key Q known.stored) ks) n) (keys_same reading.known.stored known.stored k.stored))
 
       first : AllFrom (Passed numbers R Q h slots value (there_is_inheritance slots)) 0 (after_first numbered_slots)
       first = first_pass numbers R Q h slots value (there_is_inheritance slots) numbered_slots [] keys tt start
 
-      keys_after : map (λ (s : NumberedSlot). s.key) (after_first numbered_slots) ≡ map (λ (c : Slot). c.key) slots
+      keys_after : map (λ (s : NumberedSlot). s.key) (after_first numbered_slots) ≡ map (λ (c : ListedKey). c.key) slots
       keys_after = view-passed (λ (s : NumberedSlot). s.key) inherited key-inherited numbered_slots [] ∙ keys
 
       second : Second numbers R Q h slots value (there_is_inheritance slots) [] (after_first numbered_slots)
@@ -340,11 +340,11 @@ module _ (numbers : Numbers) (R : NumberedRequest) (Q : Request) (h : SameReques
       long_as f g xs ys e = sym (length-map xs f) ∙ ap length e ∙ length-map ys g
 
       size : length last ≡ length slots
-      size = long_as (λ (s : NumberedSlot). s.key) (λ (c : Slot). c.key) last slots
+      size = long_as (λ (s : NumberedSlot). s.key) (λ (c : ListedKey). c.key) last slots
           (view-passed (λ (s : NumberedSlot). s.key) checked key-checked (after_first numbered_slots) [] ∙ keys_after)
 
       size_first : length (after_first numbered_slots) ≡ length slots
-      size_first = long_as (λ (s : NumberedSlot). s.key) (λ (c : Slot). c.key) (after_first numbered_slots) slots keys_after
+      size_first = long_as (λ (s : NumberedSlot). s.key) (λ (c : ListedKey). c.key) (after_first numbered_slots) slots keys_after
 
       same : IsSameLibrary numbers R.field (library_by end.Whole R reading.known reading.messages) library
       same = record {
@@ -352,8 +352,8 @@ module _ (numbers : Numbers) (R : NumberedRequest) (Q : Request) (h : SameReques
             (flat_map (λ i. option_map_or (entry_at slots Q.types value i) (slice_get slots i) []) (range_with_len 0 n))) size
             (entries_same slots value (there_is_inheritance slots) last 0 second.places);
         preamble = k.preamble;
-        log = append_assoc known.log (flat_map (parent_messages slots) (places slots))
-            (flat_map (λ (slot : Slot). only_if (is_none slot.entry) (no_entry_line slot.key)) slots)
+        log = append_assoc known.log (flat_map (parent_messages slots) (places_of_list slots))
+            (flat_map (λ (slot : ListedKey). only_if (is_none slot.entry) (no_entry_line slot.key)) slots)
             ∙ ap₂ (λ (ms ns : List Line). ms ++ ns) k.messages
             (ap₂ (λ (ms ns : List Line). ms ++ ns) (sym (second.logged ∙ ap (λ n. flat_map (parent_messages slots) (range_with_len 0 n)) size_first))
             (sym (missing_same slots value (there_is_inheritance slots) last slots 0 second.places (λ n. let z : 0 + n ≡ n = omega arith in

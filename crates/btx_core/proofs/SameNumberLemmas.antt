@@ -13,7 +13,7 @@ use Rattle.btx_bst.specs.language.Items as item
 use Rattle.btx_bst.specs.language.Items.{Item}
 use Rattle.btx_bst.specs.language.Names.{Names, name_of}
 use Rattle.btx_core.specs.laws.SameStyles.{Numbers, stands_for, word_of, IsBodyOf, AreFunctionsOf, commands_of, AreCommandsOf, IsMeant}
-use Rattle.btx_core.specs.language.Styles.{Body, Command, Declared, Defined, Execute, Function, Iterate, Push, Quoted, Reverse, Run, Text, Then, Word}
+use Rattle.btx_core.specs.language.Styles.{Body, Command, Declared, Defined, Execute, Function, Iterate, Push, Quoted, Reverse, Run, Text, Then, StyleToken}
 
 -- ---- lists that only grow
 
@@ -79,7 +79,7 @@ still_stands a b h (callee.GlobalInteger n) f e = map_kept (Declared kind.Global
 still_stands a b h (callee.GlobalString n) f e = map_kept (Declared kind.GlobalString) (slice_get a.names.global_strings n) (slice_get b.names.global_strings n)
     (h.names kind.GlobalString n) f e
 
-pub still_word : (a b : Numbers) → Extends a b → (t : Token) (w : Word) → word_of a t ≡ Some w → word_of b t ≡ Some w
+pub still_word : (a b : Numbers) → Extends a b → (t : Token) (w : StyleToken) → word_of a t ≡ Some w → word_of b t ≡ Some w
 still_word a b h (token.Text n) w e = map_kept (λ (text : List ℕ). Push (Text text)) (slice_get a.texts n) (slice_get b.texts n) (h.texts n) w e
 still_word a b h (token.Integer n) w e = e
 still_word a b h (token.Quote c) w e = map_kept (λ (f : Function). Push (Quoted f)) (stands_for a c) (stands_for b c) (still_stands a b h c) w e
@@ -133,7 +133,7 @@ still_commands a b h file (x ∷ items) commands k = (k.0, k.1, still_command a 
 
 -- ---- one more
 
-pub one_more_word : (a : Numbers) (t : Token) (w : Word) (tokens : List Token) (body : Body) → word_of a t ≡ Some w → IsBodyOf a tokens body
+pub one_more_word : (a : Numbers) (t : Token) (w : StyleToken) (tokens : List Token) (body : Body) → word_of a t ≡ Some w → IsBodyOf a tokens body
     → IsBodyOf a (t ∷ tokens) (Then w body)
 one_more_word a t w tokens body e k = (w, body, e, k, refl)
 

@@ -24,7 +24,7 @@ committed_lines most room written = (
 )
 
 pub one : OneDivision
-one the other is also = one_division the other is also
+one divisions other is also = one_division divisions other is also
 
 pub some : SomeDivision
 some = (_, divided)

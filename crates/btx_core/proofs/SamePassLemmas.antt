@@ -29,7 +29,7 @@ use Rattle.btx_bib.proofs.ListedKeyLemmas.{folded-same}
 use Rattle.btx_bib.proofs.PassLemmas.{inherited-alone, inherited-by, key-inherited, checked-alone, checked-is, messages-alone, messages-is, key-checked}
 use Rattle.btx_bib.proofs.StayingLemmas.{view-next}
 use Rattle.btx_core.specs.language.Databases.{Request, Stored}
-use Rattle.btx_core.specs.language.Lists.{Slot, own, place_of, parent, key_at, parent_key, has_entry, stays_at, IsInherited, keeps_parent, parent_messages}
+use Rattle.btx_core.specs.language.Lists.{ListedKey, own_value, place_of, parent_place, key_at, parent_key, has_entry, is_kept_at, IsInherited, keeps_parent, parent_messages}
 use Rattle.btx_core.specs.language.Lists.{bad_reference, nested_reference}
 use Rattle.btx_core.specs.laws.SameLibraries.{value_named}
 use Rattle.btx_core.specs.laws.SameStyles.{Numbers}
@@ -55,7 +55,7 @@ position_next test x xs =
 abbrev key_of : NumberedSlot → List ℕ
 key_of s = s.key
 
-abbrev named_key : Slot → List ℕ
+abbrev named_key : ListedKey → List ℕ
 named_key c = c.key
 
 shifted : {A : Type 0} (x : A) (xs : List A) (o : Option ℕ) → option_and_then (slice_get (x ∷ xs)) (option_map suc o) ≡ option_and_then (slice_get xs) o
@@ -63,7 +63,7 @@ shifted x xs None = refl
 shifted x xs (Some n) = refl
 
 -- a key is found at the same place of two lists with the same keys
-find_by : (key : List ℕ) (L : List NumberedSlot) (C : List Slot) → map key_of L ≡ map named_key C
+find_by : (key : List ℕ) (L : List NumberedSlot) (C : List ListedKey) → map key_of L ≡ map named_key C
     → slot_at L key ≡ option_and_then (slice_get L) (place_of C key)
 find_by key [] [] e = refl
 find_by key [] (c ∷ C) e = absurd (cc)
@@ -73,15 +73,15 @@ find_by key (s ∷ L) (c ∷ C) e =
     let rest : map key_of L ≡ map named_key C = cc in
     ap (λ (k : List ℕ). cond (is_same_key key k) (Some s) (slot_at L key)) first
     ∙ by (is_same_key key c.key) (find_by key L C rest)
-    ∙ sym (ap (option_and_then (slice_get (s ∷ L))) (position_next (λ (slot : Slot). is_same_key key slot.key) c C)) where
+    ∙ sym (ap (option_and_then (slice_get (s ∷ L))) (position_next (λ (slot : ListedKey). is_same_key key slot.key) c C)) where
       by : (t : Bool) → slot_at L key ≡ option_and_then (slice_get L) (place_of C key)
           → cond t (Some s) (slot_at L key) ≡ option_and_then (slice_get (s ∷ L)) (if t then Some 0 else option_map suc (place_of C key))
       by true h = refl
       by false h = h ∙ sym (shifted s L (place_of C key))
 
 -- what is found of a key: its place, with what stands there in both lists
-record Found (L : List NumberedSlot) (C : List Slot) (key : List ℕ) (j : ℕ) : Type 0 where
-  c : Slot
+record Found (L : List NumberedSlot) (C : List ListedKey) (key : List ℕ) (j : ℕ) : Type 0 where
+  c : ListedKey
   s : NumberedSlot
   there : slice_get C j ≡ Some c
   here : slice_get L j ≡ Some s
@@ -90,13 +90,13 @@ record Found (L : List NumberedSlot) (C : List Slot) (key : List ℕ) (j : ℕ) 
   found : slot_at L key ≡ Some s
 
 -- the place of a key is one where its key stands
-place_test : (key : List ℕ) (C : List Slot) (j : ℕ) → place_of C key ≡ Some j → (c : Slot) × (slice_get C j ≡ Some c) × (is_same_key key c.key ≡ true)
+place_test : (key : List ℕ) (C : List ListedKey) (j : ℕ) → place_of C key ≡ Some j → (c : ListedKey) × (slice_get C j ≡ Some c) × (is_same_key key c.key ≡ true)
 place_test key [] j e = absurd (cc)
 place_test key (c ∷ C) j e = by (is_same_key key c.key) refl (place_of C key) refl (λ k f. place_test key C k f)
-    (sym (position_next (λ (slot : Slot). is_same_key key slot.key) c C) ∙ e) where
+    (sym (position_next (λ (slot : ListedKey). is_same_key key slot.key) c C) ∙ e) where
       by : (t : Bool) → is_same_key key c.key ≡ t → (o : Option ℕ) → place_of C key ≡ o
-          → ((k : ℕ) → place_of C key ≡ Some k → (d : Slot) × (slice_get C k ≡ Some d) × (is_same_key key d.key ≡ true))
-          → (if t then Some 0 else option_map suc o) ≡ Some j → (d : Slot) × (slice_get (c ∷ C) j ≡ Some d) × (is_same_key key d.key ≡ true)
+          → ((k : ℕ) → place_of C key ≡ Some k → (d : ListedKey) × (slice_get C k ≡ Some d) × (is_same_key key d.key ≡ true))
+          → (if t then Some 0 else option_map suc o) ≡ Some j → (d : ListedKey) × (slice_get (c ∷ C) j ≡ Some d) × (is_same_key key d.key ≡ true)
       by true f o g more h = let z : 0 ≡ j = cc in (c, subst (λ n. slice_get (c ∷ C) n ≡ Some c) z refl, f)
       by false f None g more h = absurd (cc)
       by false f (Some k) g more h =
@@ -108,7 +108,7 @@ mapped : (o : Option NumberedSlot) (key : List ℕ) → option_map key_of o ≡ 
 mapped None key e = absurd (cc)
 mapped (Some s) key e = (s, refl, cc)
 
-find_key : (L : List NumberedSlot) (C : List Slot) (key : List ℕ) (j : ℕ) → map key_of L ≡ map named_key C → place_of C key ≡ Some j → Found L C key j
+find_key : (L : List NumberedSlot) (C : List ListedKey) (key : List ℕ) (j : ℕ) → map key_of L ≡ map named_key C → place_of C key ≡ Some j → Found L C key j
 find_key L C key j e f =
     let t = place_test key C j f in
     let keys : option_map key_of (slice_get L j) ≡ Some t.0.key =
@@ -117,8 +117,8 @@ find_key L C key j e f =
     record { c = t.0; s = m.0; there = t.1; here = m.1; keys = m.2; same = t.2; found = find_by key L C e ∙ ap (option_and_then (slice_get L)) f ∙ m.1 }
 
 -- two spellings of one key stand at one place
-place_spelled : (C : List Slot) (key other : List ℕ) → is_same_key key other ≡ true → place_of C other ≡ place_of C key
-place_spelled C key other same = ap (λ (name : List ℕ). position (λ (slot : Slot). bytes_eq name (folded slot.key)) C) (sym (folded-same key other same))
+place_spelled : (C : List ListedKey) (key other : List ℕ) → is_same_key key other ≡ true → place_of C other ≡ place_of C key
+place_spelled C key other same = ap (λ (name : List ℕ). position (λ (slot : ListedKey). bytes_eq name (folded slot.key)) C) (sym (folded-same key other same))
 
 -- ---- places, one after another
 
@@ -179,56 +179,56 @@ is_most k j le = by (nat_le k j) refl where
 
 -- ---- values
 
-or_length : (own parents : List (Option (List ℕ))) → length (or_values own parents) ≡ length own
+or_length : (own_value parents : List (Option (List ℕ))) → length (or_values own_value parents) ≡ length own_value
 or_length [] parents = refl
-or_length (v ∷ own) [] = refl
-or_length (v ∷ own) (p ∷ parents) = ap suc (or_length own parents)
+or_length (v ∷ own_value) [] = refl
+or_length (v ∷ own_value) (p ∷ parents) = ap suc (or_length own_value parents)
 
-or_at : (own parents : List (Option (List ℕ))) (n : ℕ) → n < length own → field_value n (or_values own parents)
-    ≡ option_or (field_value n own) (field_value n parents)
+or_at : (own_value parents : List (Option (List ℕ))) (n : ℕ) → n < length own_value → field_value n (or_values own_value parents)
+    ≡ option_or (field_value n own_value) (field_value n parents)
 or_at [] parents n lt = absurd (omega (arith, lt))
-or_at (v ∷ own) [] n lt = sym (plain (field_value n (v ∷ own))) where
+or_at (v ∷ own_value) [] n lt = sym (plain (field_value n (v ∷ own_value))) where
   plain : (o : Option (List ℕ)) → option_or o None ≡ o
   plain None = refl
   plain (Some x) = refl
-or_at (v ∷ own) (p ∷ parents) zero lt = refl
-or_at (v ∷ own) (p ∷ parents) (suc n) lt = or_at own parents n (omega (arith, lt))
+or_at (v ∷ own_value) (p ∷ parents) zero lt = refl
+or_at (v ∷ own_value) (p ∷ parents) (suc n) lt = or_at own_value parents n (omega (arith, lt))
 
 plain_or : (o : Option (List ℕ)) → option_or o None ≡ o
 plain_or None = refl
 plain_or (Some x) = refl
 
-inherited_length : (key : List ℕ) (own parents : List (Option (List ℕ))) → length (inherited_values key own parents) ≡ length own
+inherited_length : (key : List ℕ) (own_value parents : List (Option (List ℕ))) → length (inherited_values key own_value parents) ≡ length own_value
 inherited_length key [] parents = refl
-inherited_length key (v ∷ own) [] = refl
-inherited_length key (v ∷ own) (p ∷ parents) = ap suc (or_length own parents)
+inherited_length key (v ∷ own_value) [] = refl
+inherited_length key (v ∷ own_value) (p ∷ parents) = ap suc (or_length own_value parents)
 
-inherited_at : (key : List ℕ) (own parents : List (Option (List ℕ))) (n : ℕ) → suc n < length own → field_value (suc n) (inherited_values key own parents)
-    ≡ option_or (field_value (suc n) own) (field_value (suc n) parents)
+inherited_at : (key : List ℕ) (own_value parents : List (Option (List ℕ))) (n : ℕ) → suc n < length own_value → field_value (suc n) (inherited_values key own_value parents)
+    ≡ option_or (field_value (suc n) own_value) (field_value (suc n) parents)
 inherited_at key [] parents n lt = absurd (omega (arith, lt))
-inherited_at key (v ∷ own) [] n lt = sym (plain_or (field_value (suc n) (v ∷ own)))
-inherited_at key (v ∷ own) (p ∷ parents) n lt = or_at own parents n (omega (arith, lt))
+inherited_at key (v ∷ own_value) [] n lt = sym (plain_or (field_value (suc n) (v ∷ own_value)))
+inherited_at key (v ∷ own_value) (p ∷ parents) n lt = or_at own_value parents n (omega (arith, lt))
 
-inherited_parent : (key : List ℕ) (own parents : List (Option (List ℕ))) → 0 < length own → parent_in (inherited_values key own parents) ≡ Some key
+inherited_parent : (key : List ℕ) (own_value parents : List (Option (List ℕ))) → 0 < length own_value → parent_in (inherited_values key own_value parents) ≡ Some key
 inherited_parent key [] parents lt = absurd (omega (arith, lt))
-inherited_parent key (v ∷ own) [] lt = refl
-inherited_parent key (v ∷ own) (p ∷ parents) lt = refl
+inherited_parent key (v ∷ own_value) [] lt = refl
+inherited_parent key (v ∷ own_value) (p ∷ parents) lt = refl
 
-without_length : (own : List (Option (List ℕ))) → length (without_parent own) ≡ length own
+without_length : (own_value : List (Option (List ℕ))) → length (without_parent own_value) ≡ length own_value
 without_length [] = refl
-without_length (v ∷ own) = refl
+without_length (v ∷ own_value) = refl
 
-without_at : (own : List (Option (List ℕ))) (n : ℕ) → field_value (suc n) (without_parent own) ≡ field_value (suc n) own
+without_at : (own_value : List (Option (List ℕ))) (n : ℕ) → field_value (suc n) (without_parent own_value) ≡ field_value (suc n) own_value
 without_at [] n = refl
-without_at (v ∷ own) n = refl
+without_at (v ∷ own_value) n = refl
 
-without_none : (own : List (Option (List ℕ))) → parent_in (without_parent own) ≡ None
+without_none : (own_value : List (Option (List ℕ))) → parent_in (without_parent own_value) ≡ None
 without_none [] = refl
-without_none (v ∷ own) = refl
+without_none (v ∷ own_value) = refl
 
 -- ---- what stands at a place
 
-module _ (numbers : Numbers) (R : NumberedRequest) (Q : Request) (h : SameRequest numbers R Q) (C : List Slot) where
+module _ (numbers : Numbers) (R : NumberedRequest) (Q : Request) (h : SameRequest numbers R Q) (C : List ListedKey) where
   abbrev pub IsSameBody : Option Body → Option Stored → Type 0
   IsSameBody None None = Unit {0}
   IsSameBody (Some b) (Some e) = (b.kind ≡ R.kind (folded e.kind)) × (length b.values ≡ R.count)
@@ -236,7 +236,7 @@ module _ (numbers : Numbers) (R : NumberedRequest) (Q : Request) (h : SameReques
 
   -- a place with these values by names, and this parent
   pub record Place (values : List ℕ → Option (List ℕ)) (its_parent : Option (List ℕ)) (j : ℕ) (s : NumberedSlot) : Type 0 where
-    pub c : Slot
+    pub c : ListedKey
     pub there : slice_get C j ≡ Some c
     pub key : s.key ≡ c.key
     pub stays : s.stays ≡ c.stays
@@ -266,7 +266,7 @@ module _ (numbers : Numbers) (R : NumberedRequest) (Q : Request) (h : SameReques
   has_body (Some b) None k = absurd k
 
   abbrev pub Own : ℕ → NumberedSlot → Type 0
-  Own j s = Place (own C j) (own C j (codes "crossref")) j s
+  Own j s = Place (own_value C j) (own_value C j (codes "crossref")) j s
 
   module _ (value : ℕ → List ℕ → Option (List ℕ)) (inherits : IsInherited C value) where
     abbrev pub Passed : ℕ → NumberedSlot → Type 0
@@ -285,18 +285,18 @@ module _ (numbers : Numbers) (R : NumberedRequest) (Q : Request) (h : SameReques
     later_field name (suc m) apart e = (m, refl)
 
     -- an entry that names no parent that is listed keeps what it has
-    alone : (k : ℕ) (s : NumberedSlot) → Own k s → parent C k ≡ None → parent_key C k ≡ own C k (codes "crossref") → Passed k s
+    alone : (k : ℕ) (s : NumberedSlot) → Own k s → parent_place C k ≡ None → parent_key C k ≡ own_value C k (codes "crossref") → Passed k s
     alone k s p none same = with_values _ _ _ _ k s s p refl refl p.body (λ name apart. p.values_are name apart
-        ∙ sym (inherits k name ∙ ap (λ (o : Option ℕ). option_or (own C k name)
-        (option_and_then (λ j. if nat_lt j k then value j name else own C j name) o)) none
-        ∙ plain_or (own C k name)))
+        ∙ sym (inherits k name ∙ ap (λ (o : Option ℕ). option_or (own_value C k name)
+        (option_and_then (λ j. if nat_lt j k then value j name else own_value C j name) o)) none
+        ∙ plain_or (own_value C k name)))
         (p.parent_is ∙ sym same)
 
     -- the values that an entry takes from the place of its parent
     abbrev given : ℕ → ℕ → List ℕ → Option (List ℕ)
-    given k j name = if nat_lt j k then value j name else own C j name
+    given k j name = if nat_lt j k then value j name else own_value C j name
 
-    takes : (k j : ℕ) (s p : NumberedSlot) (key : List ℕ) (c : Slot) → Own k s → own C k (codes "crossref") ≡ Some key → place_of C key ≡ Some j
+    takes : (k j : ℕ) (s p : NumberedSlot) (key : List ℕ) (c : ListedKey) → Own k s → own_value C k (codes "crossref") ≡ Some key → place_of C key ≡ Some j
         → slice_get C j ≡ Some c → p.key ≡ c.key
         → ((name : List ℕ) → bytes_eq name (codes "crossref") ≡ false → value_named R.field (body_values p.body) name ≡ given k j name)
         → Passed k (inherited_from (Some p) s)
@@ -304,14 +304,14 @@ module _ (numbers : Numbers) (R : NumberedRequest) (Q : Request) (h : SameReques
       parents : List (Option (List ℕ))
       parents = body_values p.body
 
-      parent_place : parent C k ≡ Some j
-      parent_place = ap (option_and_then (place_of C)) is ∙ place
+      found_place : parent_place C k ≡ Some j
+      found_place = ap (option_and_then (place_of C)) is ∙ place
 
       named : parent_key C k ≡ Some p.key
       named =
           ap (option_map (λ key. option_map_or (key_at C) (place_of C key) key)) is
           ∙ ap (λ (o : Option ℕ). Some (option_map_or (key_at C) o key)) place
-          ∙ ap (λ (o : Option Slot). Some (option_map_or (λ (slot : Slot). slot.key) o [])) there ∙ ap Some (sym keys)
+          ∙ ap (λ (o : Option ListedKey). Some (option_map_or (λ (slot : ListedKey). slot.key) o [])) there ∙ ap Some (sym keys)
 
       by : (b : Option Body) → s.body ≡ b → (e : Option Stored) → own_k.c.entry ≡ e → IsSameBody s.body own_k.c.entry → Passed k (inherited_from (Some p) s)
       by None f e g same =
@@ -330,16 +330,16 @@ module _ (numbers : Numbers) (R : NumberedRequest) (Q : Request) (h : SameReques
           (subst (λ e. IsSameBody (Some (record b { values = new })) e) (sym g) (both.0, inherited_length p.key b.values parents ∙ size)))
           (λ name apart. ap (λ (x : Option Body). value_named R.field (body_values x) name) whole ∙ valued name apart (R.field name) refl size)
           (ap (λ (x : Option Body). parent_in (body_values x)) whole ∙ inherited_parent p.key b.values parents (omega (arith, first, size)) ∙ sym named) where
-            inherited_value : (name : List ℕ) → value k name ≡ option_or (own C k name) (given k j name)
-            inherited_value name = inherits k name ∙ ap (λ (o : Option ℕ). option_or (own C k name) (option_and_then (λ j. given k j name) o)) parent_place
+            inherited_value : (name : List ℕ) → value k name ≡ option_or (own_value C k name) (given k j name)
+            inherited_value name = inherits k name ∙ ap (λ (o : Option ℕ). option_or (own_value C k name) (option_and_then (λ j. given k j name) o)) found_place
 
-            own_value : (name : List ℕ) → bytes_eq name (codes "crossref") ≡ false → value_named R.field b.values name ≡ own C k name
-            own_value name apart = ap (λ (x : Option Body). value_named R.field (body_values x) name) (sym f) ∙ own_k.values_are name apart
+            own_named : (name : List ℕ) → bytes_eq name (codes "crossref") ≡ false → value_named R.field b.values name ≡ own_value C k name
+            own_named name apart = ap (λ (x : Option Body). value_named R.field (body_values x) name) (sym f) ∙ own_k.values_are name apart
 
             valued : (name : List ℕ) → bytes_eq name (codes "crossref") ≡ false → (o : Option ℕ) → R.field name ≡ o → length b.values ≡ R.count
                 → option_and_then (λ (n : ℕ). field_value n (inherited_values p.key b.values parents)) (R.field name) ≡ value k name
             valued name apart None q size =
-                let mine : own C k name ≡ None = sym (own_value name apart) ∙ ap (option_and_then (λ (n : ℕ). field_value n b.values)) q in
+                let mine : own_value C k name ≡ None = sym (own_named name apart) ∙ ap (option_and_then (λ (n : ℕ). field_value n b.values)) q in
                 let theirs : given k j name ≡ None = sym (gives name apart) ∙ ap (option_and_then (λ (n : ℕ). field_value n parents)) q in
                 ap (option_and_then (λ (n : ℕ). field_value n (inherited_values p.key b.values parents))) q
                 ∙ sym (inherited_value name ∙ ap₂ option_or mine theirs)
@@ -347,8 +347,8 @@ module _ (numbers : Numbers) (R : NumberedRequest) (Q : Request) (h : SameReques
                 let m = later_field name n apart q in
                 let within : n < R.count = h.within name n q in
                 let is_later = m.1 in
-                let mine : field_value (suc m.0) b.values ≡ own C k name = ap (λ n. field_value n b.values) (sym m.1)
-                ∙ sym (ap (option_and_then (λ (n : ℕ). field_value n b.values)) q) ∙ own_value name apart in
+                let mine : field_value (suc m.0) b.values ≡ own_value C k name = ap (λ n. field_value n b.values) (sym m.1)
+                ∙ sym (ap (option_and_then (λ (n : ℕ). field_value n b.values)) q) ∙ own_named name apart in
                 let theirs : field_value (suc m.0) parents ≡ given k j name = ap (λ n. field_value n parents) (sym m.1)
                 ∙ sym (ap (option_and_then (λ (n : ℕ). field_value n parents)) q) ∙ gives name apart in
                 ap (option_and_then (λ (n : ℕ). field_value n (inherited_values p.key b.values parents))) q
@@ -368,7 +368,7 @@ module _ (numbers : Numbers) (R : NumberedRequest) (Q : Request) (h : SameReques
 
       of_key : (key : List ℕ) → parent_at s ≡ Some key → (o : Option ℕ) → place_of C key ≡ o → Passed k (inherited L s)
       of_key key e None f =
-          let is : own C k (codes "crossref") ≡ Some key = sym mine.parent_is ∙ e in
+          let is : own_value C k (codes "crossref") ≡ Some key = sym mine.parent_is ∙ e in
           let none : slot_at L key ≡ None = find_by key L C keys ∙ ap (option_and_then (slice_get L)) f in
           let same : parent_key C k ≡ Some key = ap (option_map (λ key. option_map_or (key_at C) (place_of C key) key)) is
           ∙ ap (λ (o : Option ℕ). Some (option_map_or (key_at C) o key)) f in
@@ -387,16 +387,16 @@ module _ (numbers : Numbers) (R : NumberedRequest) (Q : Request) (h : SameReques
                 let lt = g.0 in
                 let zero_less : 0 + j ≡ j = omega arith in
                 let q : Passed j p = subst (λ m. Passed m p) zero_less g.1 in
-                q.values_are name apart ∙ sym (ap (λ (t : Bool). if t then value j name else own C j name) (lt-ltb j k (omega (arith, lt, size))))
+                q.values_are name apart ∙ sym (ap (λ (t : Bool). if t then value j name else own_value C j name) (lt-ltb j k (omega (arith, lt, size))))
             gives j p (inr g) name apart =
                 let le = g.0 in
                 let zero_less : 0 + j ≡ j = omega arith in
                 let q : Own j p = subst (λ m. Own m p) zero_less g.1 in
-                q.values_are name apart ∙ sym (ap (λ (t : Bool). if t then value j name else own C j name) (not_less j k (omega (arith, le, size))))
+                q.values_are name apart ∙ sym (ap (λ (t : Bool). if t then value j name else own_value C j name) (not_less j k (omega (arith, le, size))))
 
       by : (o : Option (List ℕ)) → parent_at s ≡ o → Passed k (inherited L s)
       by None e =
-          let is : own C k (codes "crossref") ≡ None = sym mine.parent_is ∙ e in
+          let is : own_value C k (codes "crossref") ≡ None = sym mine.parent_is ∙ e in
           subst (Passed k) (sym (inherited-alone L s e))
           (alone k s mine (ap (option_and_then (place_of C)) is) (ap (option_map (λ key. option_map_or (key_at C) (place_of C key) key)) is ∙ sym is))
       by (Some key) e = of_key key e (place_of C key) refl
@@ -417,12 +417,12 @@ module _ (numbers : Numbers) (R : NumberedRequest) (Q : Request) (h : SameReques
     -- ---- the second pass
 
     -- the parent's place is the one that its key has in the list
-    parent_found : (k : ℕ) (key : List ℕ) → parent_key C k ≡ Some key → place_of C key ≡ parent C k
-    parent_found k key e = by (own C k (codes "crossref")) refl where
-      by : (o : Option (List ℕ)) → own C k (codes "crossref") ≡ o → place_of C key ≡ parent C k
+    parent_found : (k : ℕ) (key : List ℕ) → parent_key C k ≡ Some key → place_of C key ≡ parent_place C k
+    parent_found k key e = by (own_value C k (codes "crossref")) refl where
+      by : (o : Option (List ℕ)) → own_value C k (codes "crossref") ≡ o → place_of C key ≡ parent_place C k
       by None f = let no : None ≡ Some key = sym (ap (option_map (λ key. option_map_or (key_at C) (place_of C key) key)) f) ∙ e in absurd (cc)
       by (Some own_key) f = at (place_of C own_key) refl where
-        at : (o : Option ℕ) → place_of C own_key ≡ o → place_of C key ≡ parent C k
+        at : (o : Option ℕ) → place_of C own_key ≡ o → place_of C key ≡ parent_place C k
         at None g =
             let is : Some own_key ≡ Some key = sym (ap (option_map (λ key. option_map_or (key_at C) (place_of C key) key)) f
             ∙ ap (λ (o : Option ℕ). Some (option_map_or (key_at C) o own_key)) g) ∙ e in
@@ -432,7 +432,7 @@ module _ (numbers : Numbers) (R : NumberedRequest) (Q : Request) (h : SameReques
             let t = place_test own_key C j g in
             let is : Some t.0.key ≡ Some key =
             sym (ap (option_map (λ key. option_map_or (key_at C) (place_of C key) key)) f ∙ ap (λ (o : Option ℕ). Some (option_map_or (key_at C) o own_key)) g
-            ∙ ap (λ (o : Option Slot). Some (option_map_or (λ (slot : Slot). slot.key) o [])) t.1) ∙ e in
+            ∙ ap (λ (o : Option ListedKey). Some (option_map_or (λ (slot : ListedKey). slot.key) o [])) t.1) ∙ e in
             let same : t.0.key ≡ key = cc in
             place_spelled C own_key key (subst (λ x. is_same_key own_key x ≡ true) same t.2) ∙ sym (ap (option_and_then (place_of C)) f)
 
@@ -476,16 +476,16 @@ module _ (numbers : Numbers) (R : NumberedRequest) (Q : Request) (h : SameReques
                 ∙ ap (λ n. field_value n b.values) (sym m.1) ∙ sym (ap (option_and_then (λ (n : ℕ). field_value n b.values)) q)
 
     -- a parent that has an entry and stays
-    stays_same : (j : ℕ) (s : NumberedSlot) (c : Slot) → slice_get C j ≡ Some c → s.stays ≡ c.stays → IsSameBody s.body c.entry
-        → is_parent (Some s) ≡ stays_at C j
+    stays_same : (j : ℕ) (s : NumberedSlot) (c : ListedKey) → slice_get C j ≡ Some c → s.stays ≡ c.stays → IsSameBody s.body c.entry
+        → is_parent (Some s) ≡ is_kept_at C j
     stays_same j s c there stays body =
         ap₂ (λ (t u : Bool). t && u) (sym (has_body s.body c.entry body)) stays
-        ∙ sym (ap₂ (λ (o p : Option Slot). option_map_or (λ (slot : Slot). is_some slot.entry) o false && option_map_or (λ (slot : Slot). slot.stays) p false)
+        ∙ sym (ap₂ (λ (o p : Option ListedKey). option_map_or (λ (slot : ListedKey). is_some slot.entry) o false && option_map_or (λ (slot : ListedKey). slot.stays) p false)
         there there)
 
     -- what is known of the place of a parent
     record Seen (k j : ℕ) (s : NumberedSlot) : Type 0 where
-      c : Slot
+      c : ListedKey
       there : slice_get C j ≡ Some c
       stays : s.stays ≡ c.stays
       body : IsSameBody s.body c.entry
@@ -505,14 +505,14 @@ module _ (numbers : Numbers) (R : NumberedRequest) (Q : Request) (h : SameReques
       of_checked false f = sym (and-false (is_some (parent_key C j)))
 
       -- the place of a parent, of which it is known whether the first pass has kept it
-      of_place : (t : Bool) → nat_le k j ≡ t → (c : Slot) → slice_get C j ≡ Some c → s.stays ≡ c.stays → IsSameBody s.body c.entry
+      of_place : (t : Bool) → nat_le k j ≡ t → (c : ListedKey) → slice_get C j ≡ Some c → s.stays ≡ c.stays → IsSameBody s.body c.entry
           → is_some (parent_at s) ≡ (is_some (parent_key C j) && (t || keeps_parent C j)) → Seen k j s
-      of_place t is c there stays body parent = record {
+      of_place t is c there stays body parent_place = record {
         c = c;
         there = there;
         stays = stays;
         body = body;
-        has_parent = parent ∙ sym (ap (λ (t : Bool). is_some (parent_key C j) && (t || keeps_parent C j)) is);
+        has_parent = parent_place ∙ sym (ap (λ (t : Bool). is_some (parent_key C j) && (t || keeps_parent C j)) is);
       }
 
       by : ((j < length done) × Checked (0 + j) s) ⊎ ((length done ≤ j) × Passed (0 + j) s) → Seen k j s
@@ -526,14 +526,14 @@ module _ (numbers : Numbers) (R : NumberedRequest) (Q : Request) (h : SameReques
           of_place true (is_most k j (omega (arith, le, size))) q.c q.there q.stays q.body (ap is_some q.parent_is ∙ sym (and-true (is_some (parent_key C j))))
 
     -- the lines of messages
-    bad_line : (child parent : List ℕ) → message_line (BadReference child parent) ∷ [] ≡ bad_reference child parent ∷ []
+    bad_line : (child parent_place : List ℕ) → message_line (BadReference child parent_place) ∷ [] ≡ bad_reference child parent_place ∷ []
     unfolding message_text mark_of
-    bad_line child parent = ap (λ t. record { text = mark_of line.Error ++ t; kind = line.Error } ∷ []) (append-nil (message_text (BadReference child parent)))
+    bad_line child parent_place = ap (λ t. record { text = mark_of line.Error ++ t; kind = line.Error } ∷ []) (append-nil (message_text (BadReference child parent_place)))
 
-    nested_line : (child parent : List ℕ) → message_line (NestedReference child parent) ∷ [] ≡ nested_reference child parent ∷ []
+    nested_line : (child parent_place : List ℕ) → message_line (NestedReference child parent_place) ∷ [] ≡ nested_reference child parent_place ∷ []
     unfolding message_text mark_of
-    nested_line child parent = ap (λ t. record { text = mark_of line.Warning ++ t; kind = line.Warning } ∷ [])
-        (append-nil (message_text (NestedReference child parent)))
+    nested_line child parent_place = ap (λ t. record { text = mark_of line.Warning ++ t; kind = line.Warning } ∷ [])
+        (append-nil (message_text (NestedReference child parent_place)))
 
     -- what the second pass makes of a place, and what it logs
     record Judged (k : ℕ) (L : List NumberedSlot) (s : NumberedSlot) : Type 0 where
@@ -550,7 +550,7 @@ module _ (numbers : Numbers) (R : NumberedRequest) (Q : Request) (h : SameReques
       mine = after.0
 
       key_same : key_at C k ≡ s.key
-      key_same = ap (λ (o : Option Slot). option_map_or (λ (slot : Slot). slot.key) o []) mine.there ∙ sym mine.key
+      key_same = ap (λ (o : Option ListedKey). option_map_or (λ (slot : ListedKey). slot.key) o []) mine.there ∙ sym mine.key
 
       -- what is said of a parent at a place, or of one that isn't listed
       says : List ℕ → Option ℕ → List Line
@@ -563,8 +563,8 @@ module _ (numbers : Numbers) (R : NumberedRequest) (Q : Request) (h : SameReques
       of_key key e None f =
           let is : parent_key C k ≡ Some key = sym mine.parent_is ∙ e in
           let none : slot_at L key ≡ None = find_by key L C keys ∙ ap (option_and_then (slice_get L)) f in
-          let no_parent : parent C k ≡ None = sym (parent_found k key is) ∙ f in
-          let lost : keeps_parent C k ≡ false = ap (λ (o : Option ℕ). option_map_or (stays_at C) o false) no_parent in
+          let no_parent : parent_place C k ≡ None = sym (parent_found k key is) ∙ f in
+          let lost : keeps_parent C k ≡ false = ap (λ (o : Option ℕ). option_map_or (is_kept_at C) o false) no_parent in
           record {
             place = subst (Checked k) (sym (checked-is L s key None e none)) (lost_parent k s mine lost);
             logged = ap (map message_line) (messages-is L s key None e none) ∙ bad_line s.key key
@@ -575,9 +575,9 @@ module _ (numbers : Numbers) (R : NumberedRequest) (Q : Request) (h : SameReques
           let is : parent_key C k ≡ Some key = sym mine.parent_is ∙ e in
           let found = find_key L C key j keys f in
           let known = seen k done (s ∷ left) j found.s size before after found.here in
-          let its_parent : parent C k ≡ Some j = sym (parent_found k key is) ∙ f in
+          let its_parent : parent_place C k ≡ Some j = sym (parent_found k key is) ∙ f in
           let keeps : keeps_parent C k ≡ is_parent (Some found.s) =
-          ap (λ (o : Option ℕ). option_map_or (stays_at C) o false) its_parent ∙ sym (stays_same j found.s known.c known.there known.stays known.body) in
+          ap (λ (o : Option ℕ). option_map_or (is_kept_at C) o false) its_parent ∙ sym (stays_same j found.s known.c known.there known.stays known.body) in
           record {
             place = subst (Checked k) (sym (checked-is L s key (Some found.s) e found.found)) (either (is_parent (Some found.s)) keeps);
             logged = ap (map message_line) (messages-is L s key (Some found.s) e found.found) ∙ said found.s known
@@ -593,7 +593,7 @@ module _ (numbers : Numbers) (R : NumberedRequest) (Q : Request) (h : SameReques
 
             said : (p : NumberedSlot) → Seen k j p → map message_line (passes.parent_messages s.key key (Some p)) ≡ says key (Some j)
             said p known =
-                let there : has_entry C j ≡ is_some p.body = ap (λ (o : Option Slot). option_map_or (λ (slot : Slot). is_some slot.entry) o false) known.there
+                let there : has_entry C j ≡ is_some p.body = ap (λ (o : Option ListedKey). option_map_or (λ (slot : ListedKey). is_some slot.entry) o false) known.there
                 ∙ has_body p.body known.c.entry known.body in
                 ap (map message_line) (ap₂ (λ x (t : Bool). if is_some p.body then (if t then NestedReference x key ∷ [] else []) else BadReference x key ∷ [])
                 (sym key_same) known.has_parent)
@@ -613,7 +613,7 @@ module _ (numbers : Numbers) (R : NumberedRequest) (Q : Request) (h : SameReques
           let is : parent_key C k ≡ None = sym mine.parent_is ∙ e in
           record {
             place = subst (Checked k) (sym (checked-alone L s e)) (kept_parent k s mine (either (keeps_parent C k) is));
-            logged = ap (map message_line) (messages-alone L s e) ∙ sym (ap (λ (o : Option (List ℕ)). option_map_or (λ key. says key (parent C k)) o []) is);
+            logged = ap (map message_line) (messages-alone L s e) ∙ sym (ap (λ (o : Option (List ℕ)). option_map_or (λ key. says key (parent_place C k)) o []) is);
           } where
             either : (t : Bool) → parent_key C k ≡ None → (if t then parent_key C k else None) ≡ parent_key C k
             either true f = refl

@@ -46,8 +46,8 @@ use Rattle.btx_bst.proofs.FurtherLemmas.{further-global_string, named-pad, padde
 use Rattle.btx_bst.proofs.TableLemmas.{IsFurther}
 use Rattle.btx_core.specs.laws.SameStyles.{Numbers, numbers_of, stands_for, IsBodyOf, AreFunctionsOf, commands_of, AreCommandsOf, IsMeant}
 use Rattle.btx_core.specs.language.Styles.{Body, Built, Command, Declared, Defined, Execute, Function, Iterate, Read, Reverse, Sort, set}
-use Rattle.btx_core.specs.language.StyleTexts.{SoFar, meaning, and_name, and_command, and_says, CommandEnd, ended_at, Rule, Next, Opened, Closed, Where, Makes}
-use Rattle.btx_core.specs.language.StyleTexts.{Names, Lists, body_of, wrong_in, wrong_till, HasBody, is_function, as_type, is_read, Executes, Behind}
+use Rattle.btx_core.specs.language.StyleTexts.{SoFar, meaning, and_name, and_command, and_says, CommandEnd, ended_at, Rule, Next, Opened, Closed, Requires, HasEffect}
+use Rattle.btx_core.specs.language.StyleTexts.{Names, Lists, body_of, wrong_in, wrong_till, HasBody, is_function, as_type, is_read, Executes, Arguments}
 use Rattle.btx_core.specs.language.StyleTexts as in_names
 use Rattle.btx_core.proofs.SameNumberLemmas.{Kept, kept_push, kept_same, last_of, Extends, extends_both, extends_by, still_body, still_meant, still_functions}
 use Rattle.btx_core.proofs.SameNumberLemmas.{still_commands}
@@ -125,27 +125,27 @@ closed_agree P rest other g = next_agree P (StyleSignHere close_brace NoClose) (
 
 where_agree : (test : NumberedStyle → Bool) (test' : SoFar → Bool) (wrong : Complaint) (rest : numbered.Rule) (other : Rule)
     → ((s : NumberedStyle) (t : SoFar) → SameSoFar s t → test' t ≡ test s) → Agree rest other
-    → Agree (numbered.Where test wrong rest) (Where test' wrong other)
+    → Agree (numbered.Where test wrong rest) (Requires test' wrong other)
 where_agree test test' wrong rest other same g s t p o h w (inl k) = let e = g s t p o h w k.1 in (e.0, inl (same s t h ∙ k.0, e.1), e.2)
 where_agree test test' wrong rest other same g s t p o h w (inr k) = (ended_at (Some wrong) t p, inr (same s t h ∙ k.0, refl), ends (Some wrong) s t p o h k.1)
 
 unless_agree : (test : NumberedStyle → Bool) (test' : SoFar → Bool) (wrong : Complaint) (rest : numbered.Rule) (other : Rule)
     → ((s : NumberedStyle) (t : SoFar) → SameSoFar s t → test' t ≡ not (test s)) → Agree rest other
-    → Agree (numbered.Unless test wrong rest) (Where test' wrong other)
+    → Agree (numbered.Unless test wrong rest) (Requires test' wrong other)
 unless_agree test test' wrong rest other same g s t p o h w (inl k) =
     (ended_at (Some wrong) t p, inr (same s t h ∙ ap not k.0, refl), ends (Some wrong) s t p o h k.1)
 unless_agree test test' wrong rest other same g s t p o h w (inr k) = let e = g s t p o h w k.1 in (e.0, inl (same s t h ∙ ap not k.0, e.1), e.2)
 
 new_agree : {A : Type 0} (means : NumberedStyle → Option A) (test : SoFar → Bool) (wrong : Complaint) (rest : numbered.Rule) (other : Rule)
     → ((s : NumberedStyle) (t : SoFar) → SameSoFar s t → test t ≡ is_none (means s))
-    → AgreeWhere (λ s t h. means s ≡ None) rest other → Agree (numbered.New means wrong rest) (Where test wrong other)
+    → AgreeWhere (λ s t h. means s ≡ None) rest other → Agree (numbered.New means wrong rest) (Requires test wrong other)
 new_agree {A} means test wrong rest other same g s t p o h w (inl k) = let e = g s t p o h k.0 k.1 in (e.0, inl (same s t h ∙ ap is_none k.0, e.1), e.2)
 new_agree {A} means test wrong rest other same g s t p o h w (inr k) =
     (ended_at (Some wrong) t p, inr (same s t h ∙ ap is_none k.1, refl), ends (Some wrong) s t p o h k.2)
 
 makes_agree : (P : Known) (change : NumberedStyle → NumberedStyle) (other : SoFar → SoFar)
     → ((s : NumberedStyle) (t : SoFar) (h : SameSoFar s t) → P s t h → SameSoFar (change s) (other t))
-    → AgreeWhere P (numbered.Makes change) (Makes other)
+    → AgreeWhere P (numbered.Makes change) (HasEffect other)
 makes_agree P change other same s t p o h w k = (ended_at None (other t) p, refl, ends None (change s) (other t) p o (same s t h w) k)
 
 -- ---- items
@@ -640,12 +640,12 @@ executes_agree : (c : CommandName) (x : Callee → Item) (made : Function → Co
 executes_agree c x made same = where_agree _ _ _ _ _ is_read_same (opened_agree Always _ _ (next_agree Always StyleNameHere _ _ by)) where
   by : (name : List ℕ) → Agree (numbered.HasMeaning (λ s. function_in (named.named s.names name)) (Unknown name)
       (λ d. numbered.Closed (numbered.Makes (with_item (x d))))) (λ style from o.
-      ((f : Function) × (meaning style name ≡ Some f) × (is_function f ≡ true) × Closed (Makes (and_command (made f))) style from o)
+      ((f : Function) × (meaning style name ≡ Some f) × (is_function f ≡ true) × Closed (HasEffect (and_command (made f))) style from o)
       ⊎ (((f : Function) → meaning style name ≡ Some f → is_function f ≡ true → ⊥) × (o ≡ ended_at (Some (Unknown name)) style from)))
   by name s t p o h w (inl k) =
       let found = function_found s t h (named.named s.names name) (meaning t name) (h.names (folded name)) k.0 k.1 in
       let f = found.0 in
-      let r = closed_agree (λ s t h. stands_for (numbers_of s h.functions) k.0 ≡ Some f) (numbered.Makes (with_item (x k.0))) (Makes (and_command (made f)))
+      let r = closed_agree (λ s t h. stands_for (numbers_of s h.functions) k.0 ≡ Some f) (numbered.Makes (with_item (x k.0))) (HasEffect (and_command (made f)))
       (makes_agree (λ s t h. stands_for (numbers_of s h.functions) k.0 ≡ Some f) (with_item (x k.0)) (and_command (made f))
       (λ s t h e. and_commands s t (x k.0) (made f ∷ []) h (same (numbers_of s h.functions) s.file k.0 ∙ ap (option_map (λ (f : Function). made f ∷ [])) e)))
       s t p o h found.3 k.2 in
@@ -764,7 +764,7 @@ adds_macro name text s t h =
     s.before_read t.types (no_more_command (numbers_of s h.functions) s.file s.items t.commands item.Macro h.commands refl)
     (ap (λ (ms : List (List ℕ × List ℕ)). ms ++ (name, text) ∷ []) h.macros) h.has_entry h.types h.behind
 
-pub behind_agree : (c : CommandName) → Agree (numbered.Behind c) (Behind c)
+pub behind_agree : (c : CommandName) → Agree (numbered.Behind c) (Arguments c)
 behind_agree command.Entry =
     unless_agree _ _ _ _ _ (λ s t h. ap not h.has_entry)
     (lists_agree kind.Field _ _ (lists_agree kind.EntryInteger _ _ (lists_agree kind.EntryString _ _ (makes_agree Always _ _ (λ s t h w. enters s t h)))))
@@ -792,6 +792,6 @@ behind_agree command.Macro =
     (makes_agree (λ s t h. macro_lower s.macros (folded name) ≡ None) _ _ (λ s t h w. adds_macro (folded name) text s t h)))))))))
 
 -- a command by its word
-pub word_agree : (letters : List ℕ) → Agree (numbered.Named letters) (in_names.Named letters)
+pub word_agree : (letters : List ℕ) → Agree (numbered.Named letters) (in_names.CommandNamed letters)
 word_agree letters s t p o h w (inl k) = let r = behind_agree k.0 s t p o h w k.2 in (r.0, inl (k.0, k.1, r.1), r.2)
 word_agree letters s t p o h w (inr k) = (ended_at (Some (NotCommand letters)) t p, inr (k.0, refl), ends (Some (NotCommand letters)) s t p o h k.1)

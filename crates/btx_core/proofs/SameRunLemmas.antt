@@ -31,8 +31,8 @@ use Rattle.btx_bst.specs.language.Names.{Names, named_lower}
 use Rattle.btx_stack.specs.declared.literal.Literal.{Literal as Numbered}
 use Rattle.btx_step.specs.declared.next.Next.TheVariants as next
 use Rattle.btx_step.specs.declared.said.Note.TheVariants as note
-use Rattle.btx_step.specs.declared.said.Said.{Said}
-use Rattle.btx_step.specs.declared.said.Said.TheVariants as said
+use Rattle.btx_step.specs.declared.said.StepOutput.{StepOutput}
+use Rattle.btx_step.specs.declared.said.StepOutput.TheVariants as step_output
 use Rattle.btx_step.specs.language.Answers as answers
 use Rattle.btx_step.specs.language.Answers.{with_literals}
 use Rattle.btx_step.specs.language.Jobs.{Job as NumberedJob}
@@ -54,12 +54,12 @@ use Rattle.btx_machine.specs.language.Saying.{logging}
 use Rattle.btx_machine.specs.language.States.{State as NumberedState, Outcome as Came, Done as CameDone, Stopped as CameStopped, Limit as CameLimit}
 use Rattle.btx_core.specs.language.Meanings.{Done, Limited, Meaning, Outcome, Stopped, then_do}
 use Rattle.btx_core.specs.language.Notes.{error, shows}
-use Rattle.btx_core.specs.language.Runs.{Ascends, CommandsCome, GoesOn, IsInOrder, IsListAfter, NoneBefore, cleared, command_does, sort_key, visits}
+use Rattle.btx_core.specs.language.Runs.{Ascends, CommandsCome, GoesOn, IsInOrder, IsListAfter, NoneBefore, with_empty_stack, command_does, sort_key, execute_once}
 use Rattle.btx_core.specs.language.Runs.{execute_for_each}
 use Rattle.btx_core.specs.laws.SameLibraries.{limit_met}
 use Rattle.btx_core.specs.laws.SameStyles.{AreCommandsOf, commands_of, stands_for}
 use Rattle.btx_core.specs.language.Styles.{Body, Command, Entry, Execute, Function, Iterate, Job, Library, Literal, Read, Reverse, Says, Sort, State, Style}
-use Rattle.btx_core.specs.language.Styles.{Word}
+use Rattle.btx_core.specs.language.Styles.{StyleToken}
 use Rattle.btx_core.proofs.ComputedLemmas.{computed}
 use Rattle.btx_core.proofs.MeaningLemmas as named
 use Rattle.btx_core.proofs.MeaningSame as meaning
@@ -146,7 +146,7 @@ module _ (job : NumberedJob) (style : Style) (library : Library) (h : SameJob jo
   abbrev naming : table.Naming job style library
   naming = steps.naming job style library h before
 
-  abbrev word : Token → Word
+  abbrev word : Token → StyleToken
   word = steps.word job style library h before
 
   abbrev known : Token → Type 0
@@ -162,7 +162,7 @@ module _ (job : NumberedJob) (style : Style) (library : Library) (h : SameJob jo
   means = named.by_steps computed here
 
   means_same : (f : Callee) → known (token.Run f) → (d w b : ℕ) (S : NumberedState) (s : State) → Same S s
-      → SameCame (by_steps.meaning job (token.Run f) d w b S) (means.word (word (token.Run f)) d w b s)
+      → SameCame (by_steps.meaning job (token.Run f) d w b S) (means.token (word (token.Run f)) d w b s)
   means_same f k = meaning.meaning_same job computed here word of (λ f. refl) Same known (steps.step_same job style library h before)
       (steps.test_same job style library h before) (steps.deepens_same job style library h before) (token.Run f) k
 
@@ -177,13 +177,13 @@ module _ (job : NumberedJob) (style : Style) (library : Library) (h : SameJob jo
   unfolding note_text note_kind has_place
   left_over_is = record { of_text = refl; of_kind = refl; of_place = refl }
 
-  abbrev left_over : Bool → List Numbered → Said
-  left_over t xs = if t then said.Nothing else said.Noted (note.LeftOver ∷ map note.Shown xs)
+  abbrev left_over : Bool → List Numbered → StepOutput
+  left_over t xs = if t then step_output.Nothing else step_output.Noted (note.LeftOver ∷ map note.Shown xs)
 
   abbrev named_frame : State → List ℕ → State
   named_frame frame name = record frame { executed = name }
 
-  abbrev saying : Said → Option ℕ → State → State
+  abbrev saying : StepOutput → Option ℕ → State → State
   saying = steps.saying job style library h before
 
   abbrev stacked : State → Store → State
@@ -216,19 +216,19 @@ module _ (job : NumberedJob) (style : Style) (library : Library) (h : SameJob jo
       (codes "The literal stack isn't empty") left_over_is)
       ∙ ap (λ (t : State). record t { literals = [] })
       (table.shows_same job style library naming xs
-      (saying (said.Noted (note.LeftOver ∷ [])) T.current (vars f T)) S)
+      (saying (step_output.Noted (note.LeftOver ∷ [])) T.current (vars f T)) S)
       ∙ ap (λ (l : List Line). record (stacked (vars f T) (with_literals [] T)) { log = l })
       (append_assoc frame.log (table.line_of job style library naming f T.current note.LeftOver ∷ [])
       (map (table.line_of job style library naming f T.current) (map note.Shown xs)))
 
   cleared_same : (c : Commanded) (name : List ℕ) → name ≡ command_word c → (S : NumberedState) (s : State) → Same S s
-      → Same (numbered.cleared job c S) (cleared name s)
+      → Same (numbered.cleared job c S) (with_empty_stack name s)
   cleared_same c name named S s r =
       let T = S.store in
       let xs = T.literals in
       let words = left_over (length xs == 0) xs in
-      let is : cleared name s ≡ stacked (saying words T.current (vars (named_frame s name) T)) (with_literals [] T) =
-      ap (cleared name) r.is ∙ ap (λ n. cleared_if (n == 0) name (state_of s T)) (length-map xs lit) ∙ cleared_at (length xs == 0) xs refl name s T in
+      let is : with_empty_stack name s ≡ stacked (saying words T.current (vars (named_frame s name) T)) (with_literals [] T) =
+      ap (with_empty_stack name) r.is ∙ ap (λ n. cleared_if (n == 0) name (state_of s T)) (length-map xs lit) ∙ cleared_at (length xs == 0) xs refl name s T in
       subst (Same (numbered.cleared job c S)) (sym is)
       (steps.behind job style library h before T S.out (named_frame s name) (command_word c) (answers.answer next.Nothing words (with_literals [] T)) refl
       (tt, tt) r.whole named r.out)
@@ -258,7 +258,7 @@ module _ (job : NumberedJob) (style : Style) (library : Library) (h : SameJob jo
 
   visit_same : (c : Commanded) (name : List ℕ) → name ≡ command_word c → (f : Callee) → known (token.Run f) → (e : Option ℕ)
       → ((i : ℕ) → e ≡ Some i → i < entries) → (left : ℕ) (S : NumberedState) (s : State) → Same S s
-      → SameCame (visit job c f e left S) (visits means name (of f) (option_map entry e) left s)
+      → SameCame (visit job c f e left S) (execute_once means name (of f) (option_map entry e) left s)
   unfolding visit
   visit_same c name named f k e lt left S s r =
       then_same _ _ (means_same f k 0 0 left _ _ (at_entry e lt S s r)) _ _ (λ b T t r. (cleared_same c name named T t r, refl))

@@ -23,8 +23,8 @@ use Rattle.btx_stack.specs.declared.literal.Literal.TheVariants as literal
 use Rattle.btx_step.specs.declared.next.Next.{Next}
 use Rattle.btx_step.specs.declared.next.Next.TheVariants as next
 use Rattle.btx_step.specs.declared.said.Note.TheVariants as note
-use Rattle.btx_step.specs.declared.said.Said.{Said}
-use Rattle.btx_step.specs.declared.said.Said.TheVariants as said
+use Rattle.btx_step.specs.declared.said.StepOutput.{StepOutput}
+use Rattle.btx_step.specs.declared.said.StepOutput.TheVariants as step_output
 use Rattle.btx_step.specs.language.Answers as answers
 use Rattle.btx_step.specs.language.Answers.{Answer, pushes_text, pushes, with_literals}
 use Rattle.btx_step.specs.language.Variables as variables
@@ -47,11 +47,11 @@ use Rattle.btx_machine.specs.language.States.{State as NumberedState}
 use Rattle.btx_machine.specs.language.Steps.{token_effect, turn_of}
 use Rattle.btx_core.specs.language.Files.Counts.{counts_of}
 use Rattle.btx_core.specs.language.Functions.{AFunction, AnyLiteral, Effect, Leaves, assigns, with_operands_checked, function_effect}
-use Rattle.btx_core.specs.language.Functions.{wrong_operand_text, on_literals, or_else_default, push, push_default, push_text, row, test_of, tested, word_effect}
+use Rattle.btx_core.specs.language.Functions.{wrong_operand_text, on_literals, or_else_default, push, push_default, push_text, row, test_result, test_on_literals, token_effect as named_effect}
 use Rattle.btx_core.specs.language.Meanings.{deeper}
 use Rattle.btx_core.specs.language.Notes.{empty_stack, error, errors}
 use Rattle.btx_core.specs.language.Notes.{name_of as shown_name}
-use Rattle.btx_core.specs.language.Styles.{Body, Declared, Entry, Function, Integer, Job, Library, Literal, Quoted, State, Style, Then, Word}
+use Rattle.btx_core.specs.language.Styles.{Body, Declared, Entry, Function, Integer, Job, Library, Literal, Quoted, State, Style, Then, StyleToken}
 use Rattle.btx_core.proofs.ComputedLemmas.{computed}
 use Rattle.btx_core.proofs.KnownStoreLemmas.{Has, HasLiteral, HasAll, HasNext, Fine, step_fine, tested_fine}
 use Rattle.btx_core.proofs.MeaningSame as meaning
@@ -226,16 +226,16 @@ module _ (job : NumberedJob) (style : Style) (library : Library) (h : SameJob jo
 
   -- ---- what is said
 
-  abbrev pub saying : Said → Option ℕ → State → State
+  abbrev pub saying : StepOutput → Option ℕ → State → State
   saying = table.saying job style library naming
 
-  said_same : (words : Said) (executed : List ℕ) (current : Option ℕ) (out : Out) (s : State) → s.executed ≡ executed → SameOut before out s
+  said_same : (words : StepOutput) (executed : List ℕ) (current : Option ℕ) (out : Out) (s : State) → s.executed ≡ executed → SameOut before out s
       → SameOut before (said_on job executed current words out) (saying words current s)
   unfolding said_on
-  said_same said.Nothing executed current out s e k = k
-  said_same (said.Wrote text) executed current out s e k =
+  said_same step_output.Nothing executed current out s e k = k
+  said_same (step_output.Wrote text) executed current out s e k =
       record { lines = k.lines; pending = ap (λ (t : List ℕ). t ++ text) k.pending; log = k.log; warnings = k.warnings; errors = k.errors }
-  said_same said.EndedLine executed current out s e k =
+  said_same step_output.EndedLine executed current out s e k =
       record {
         lines = ap₂ (λ (ls : List (List ℕ)) (t : List ℕ). ls ++ t ∷ []) k.lines k.pending;
         pending = refl;
@@ -244,26 +244,26 @@ module _ (job : NumberedJob) (style : Style) (library : Library) (h : SameJob jo
         errors =
             k.errors;
       }
-  said_same (said.Noted notes) executed current out s e k =
+  said_same (step_output.Noted notes) executed current out s e k =
       subst (λ (name : List ℕ). SameOut before (lines_logged (map (note_line job.style name (option_map (λ (e : ℕ). key_of (entry_of job e)) current)) notes)
       out)
-      (saying (said.Noted notes) current s)) e
+      (saying (step_output.Noted notes) current s)) e
       (logs_same before (map (note_line job.style s.executed (option_map (λ (e : ℕ). key_of (entry_of job e)) current)) notes) out s k)
 
   -- what is said changes nothing of a store in names
-  saying_of : (words : Said) (current : Option ℕ) (frame : State) (s : Store) → stacked (saying words current (vars frame s)) s
+  saying_of : (words : StepOutput) (current : Option ℕ) (frame : State) (s : Store) → stacked (saying words current (vars frame s)) s
       ≡ state_of (saying words current frame) s
-  saying_of said.Nothing current frame s = refl
-  saying_of (said.Wrote text) current frame s = refl
-  saying_of said.EndedLine current frame s = refl
-  saying_of (said.Noted notes) current frame s = refl
+  saying_of step_output.Nothing current frame s = refl
+  saying_of (step_output.Wrote text) current frame s = refl
+  saying_of step_output.EndedLine current frame s = refl
+  saying_of (step_output.Noted notes) current frame s = refl
 
   -- ---- steps
 
   abbrev pub known : Token → Type 0
   known t = Refers names (length job.style.texts) (length job.style.bodies) t
 
-  abbrev pub word : Token → Word
+  abbrev pub word : Token → StyleToken
   word = of_job.word job style library h
 
   abbrev pub SameEffect : Next → NumberedState → Effect → Type 0
@@ -345,7 +345,7 @@ module _ (job : NumberedJob) (style : Style) (library : Library) (h : SameJob jo
         restored : (S T : Store) → with_literals [] T ≡ with_literals [] S → with_literals S.literals T ≡ S
         restored S T e = ap (with_literals S.literals) e
 
-        again : (words : Said) (current : Option ℕ) (frame : State) (s : Store) → state_of (saying words current frame) s
+        again : (words : StepOutput) (current : Option ℕ) (frame : State) (s : Store) → state_of (saying words current frame) s
             ≡ state_of (state_of (saying words current frame) s) s
         again words current frame s = refl
 
@@ -374,25 +374,25 @@ module _ (job : NumberedJob) (style : Style) (library : Library) (h : SameJob jo
 
   -- ---- literals
 
-  silent : (x : Numbered) (s : Store) → (pushes said.Nothing x s).said ≡ said.Nothing
+  silent : (x : Numbered) (s : Store) → (pushes step_output.Nothing x s).said ≡ step_output.Nothing
   silent x s = by (nat_lt (length s.literals) MOST_LITERALS) where
-    by : (t : Bool) → (if t then answers.says said.Nothing (with_literals (x ∷ s.literals) s) else answers.answer (next.End limit.Literals) said.Nothing s).said
-        ≡ said.Nothing
+    by : (t : Bool) → (if t then answers.says step_output.Nothing (with_literals (x ∷ s.literals) s) else answers.answer (next.End limit.Literals) step_output.Nothing s).said
+        ≡ step_output.Nothing
     by true = refl
     by false = refl
 
-  silent_text : (text : List ℕ) (s : Store) → (pushes_text said.Nothing text s).said ≡ said.Nothing
+  silent_text : (text : List ℕ) (s : Store) → (pushes_text step_output.Nothing text s).said ≡ step_output.Nothing
   silent_text text s = by (nat_lt greatest_string (length text)) where
-    by : (t : Bool) → (if t then answers.quiet (next.End limit.String) s else pushes said.Nothing (literal.Text text) s).said ≡ said.Nothing
+    by : (t : Bool) → (if t then answers.quiet (next.End limit.String) s else pushes step_output.Nothing (literal.Text text) s).said ≡ step_output.Nothing
     by true = refl
     by false = silent (literal.Text text) s
 
-  nothing_said : (one other : List ℕ) (current : Option ℕ) (words : Said) (out : Out) → words ≡ said.Nothing → said_on job one current words out
+  nothing_said : (one other : List ℕ) (current : Option ℕ) (words : StepOutput) (out : Out) → words ≡ step_output.Nothing → said_on job one current words out
       ≡ said_on job other current words out
   unfolding said_on
   nothing_said one other current words out e = ap (λ w. said_on job one current w out) e ∙ sym (ap (λ w. said_on job other current w out) e)
 
-  literal_same : (S : NumberedState) (s : State) (a : Answer) (e : Effect) → SameState S s → a.said ≡ said.Nothing → with_literals [] a.store
+  literal_same : (S : NumberedState) (s : State) (a : Answer) (e : Effect) → SameState S s → a.said ≡ step_output.Nothing → with_literals [] a.store
       ≡ with_literals [] S.store → Fine job h.refers a
       → e ≡ follows a.next (stacked (saying a.said a.store.current (vars s S.store)) a.store)
       → SameEffect a.next (state a.store (said_on job [] a.store.current a.said S.out)) e
@@ -617,22 +617,22 @@ module _ (job : NumberedJob) (style : Style) (library : Library) (h : SameJob jo
 
   -- what a token does with numbers, its word does in names
   pub step_same : (x : Token) (S : NumberedState) (s : State) → known x → SameState S s → SameEffect (token_effect job x S).next (token_effect job x S).state
-      (word_effect computed here (word x) s)
+      (named_effect computed here (word x) s)
   unfolding token_effect step_of
   step_same (token.Text n) S s k r =
       let text = slice_index_or job.style.texts n [] in
-      literal_same S s (pushes_text said.Nothing text S.store) (push_text text s) r (silent_text text S.store) (variables_stay job (token.Text n) S.store refl)
+      literal_same S s (pushes_text step_output.Nothing text S.store) (push_text text s) r (silent_text text S.store) (variables_stay job (token.Text n) S.store refl)
       (fine_of (token.Text n) S s k r)
-      (ap (push_text text) r.is ∙ table.text_same job style library naming said.Nothing text (vars s S.store) S.store)
+      (ap (push_text text) r.is ∙ table.text_same job style library naming step_output.Nothing text (vars s S.store) S.store)
   step_same (token.Integer n) S s k r =
-      literal_same S s (pushes said.Nothing (literal.Integer n) S.store) (push (Integer n) s) r (silent (literal.Integer n) S.store)
+      literal_same S s (pushes step_output.Nothing (literal.Integer n) S.store) (push (Integer n) s) r (silent (literal.Integer n) S.store)
       (variables_stay job (token.Integer n) S.store refl) (fine_of (token.Integer n) S s k r)
-      (ap (push (Integer n)) r.is ∙ table.push_same job style library naming said.Nothing (literal.Integer n) (vars s S.store)
+      (ap (push (Integer n)) r.is ∙ table.push_same job style library naming step_output.Nothing (literal.Integer n) (vars s S.store)
       S.store)
   step_same (token.Quote c) S s k r =
-      literal_same S s (pushes said.Nothing (literal.Function c) S.store) (push (Quoted (of c)) s) r (silent (literal.Function c) S.store)
+      literal_same S s (pushes step_output.Nothing (literal.Function c) S.store) (push (Quoted (of c)) s) r (silent (literal.Function c) S.store)
       (variables_stay job (token.Quote c) S.store refl) (fine_of (token.Quote c) S s k r)
-      (ap (push (Quoted (of c))) r.is ∙ table.push_same job style library naming said.Nothing (literal.Function c) (vars s S.store)
+      (ap (push (Quoted (of c))) r.is ∙ table.push_same job style library naming step_output.Nothing (literal.Function c) (vars s S.store)
       S.store)
   step_same (token.Run c) S s k r =
       let frame : State = record s { executed = shown_name (of c) } in
@@ -651,15 +651,15 @@ module _ (job : NumberedJob) (style : Style) (library : Library) (h : SameJob jo
   tested_whole (literal.Function n ∷ xs) s = refl
   tested_whole (literal.Missing ∷ xs) s = refl
 
-  pub test_same : (S : NumberedState) (s : State) → SameState S s → ((turn_of job S).again ≡ (test_of s).0) × SameState (turn_of job S).state (test_of s).1
+  pub test_same : (S : NumberedState) (s : State) → SameState S s → ((turn_of job S).again ≡ (test_result s).0) × SameState (turn_of job S).state (test_result s).1
   unfolding turn_of
   test_same S s r =
       let name = built_in_name built_in.While in
       let frame : State = record s { executed = name } in
       let is : frame ≡ state_of frame S.store = ap (λ (u : State). record u { executed = name }) r.is in
       let test = control.tested S.store.literals S.store in
-      let same : test_of s ≡ (test.again, stacked (saying test.said test.store.current (vars frame S.store)) test.store) =
-      ap (λ (u : State). tested u.literals u) is ∙ table.tested_same job style library naming S.store.literals
+      let same : test_result s ≡ (test.again, stacked (saying test.said test.store.current (vars frame S.store)) test.store) =
+      ap (λ (u : State). test_on_literals u.literals u) is ∙ table.tested_same job style library naming S.store.literals
       (vars frame S.store) S.store
       ∙ ap (λ c. (test.again, stacked (saying test.said c (vars frame S.store)) test.store)) (current_kept S.store.literals S.store) in (
         sym (ap (λ (p : Bool × State). p.0) same),
@@ -674,7 +674,7 @@ module _ (job : NumberedJob) (style : Style) (library : Library) (h : SameJob jo
         current_kept (literal.Function n ∷ xs) s = refl
         current_kept (literal.Missing ∷ xs) s = refl
 
-        tested_state : (frame : State) (S : NumberedState) (words : Said) (store : Store) → with_literals [] store ≡ with_literals [] S.store
+        tested_state : (frame : State) (S : NumberedState) (words : StepOutput) (store : Store) → with_literals [] store ≡ with_literals [] S.store
             → HasAll job h.refers store.literals → Whole S.store → SameOut before S.out frame
             → SameState (state store (said_on job frame.executed store.current words S.out)) (stacked (saying words store.current (vars frame S.store)) store)
         tested_state frame S words store e k w o = behind S.store S.out frame frame.executed (answers.answer next.Nothing words store) e (k, tt) w refl o

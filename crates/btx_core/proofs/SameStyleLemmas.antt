@@ -23,7 +23,7 @@ use Rattle.btx_bst.proofs.CommandSpellingLemmas.{style-read}
 use Rattle.btx_bst.proofs.TokenSpellingLemmas.{gap_one}
 use Rattle.btx_core.specs.laws.SameStyles.{numbers_of, IsMeant, IsSameStyle, OneStyle, SameStyle}
 use Rattle.btx_core.specs.language.Styles.{Built, Function, Style}
-use Rattle.btx_core.specs.language.StyleTexts.{SoFar, unread, and_says, CommandEnd, ended_at, Next, Named, FollowsOn, AreCommands, is_a_field}
+use Rattle.btx_core.specs.language.StyleTexts.{SoFar, initial_style, and_says, CommandEnd, ended_at, Next, CommandNamed, FollowsOn, AreCommands, is_a_field}
 use Rattle.btx_core.proofs.StyleLemmas.{style_one}
 use Rattle.btx_core.proofs.StyleThere.{there_is_style, gap_again}
 use Rattle.btx_core.proofs.SameRuleLemmas.{SameSoFar, SameTypes, SameEnd, lower_meaning, and_messages, declares, own, word_agree}
@@ -35,7 +35,7 @@ abbrev bare : List ℕ → NumberedStyle
 bare file = unread_style file no_names
 
 abbrev bare_so_far : List ℕ → SoFar
-bare_so_far file = record (unread file) { names = λ name. None }
+bare_so_far file = record (initial_style file) { names = λ name. None }
 
 bare_names : (file : List ℕ) (name : List ℕ) → IsMeant (numbers_of (bare file) []) (named_lower no_names name) (lower_meaning (λ name. None) name)
 unfolding named_lower
@@ -59,7 +59,7 @@ same_bare file = record {
   behind = tt;
 }
 
-same_unread : (file : List ℕ) → SameSoFar (unread_style file predefined) (unread file)
+same_unread : (file : List ℕ) → SameSoFar (unread_style file predefined) (initial_style file)
 unfolding named_lower built_in_of built_ins
 same_unread file =
     declares kind.Field (codes "crossref") _ _
@@ -71,7 +71,7 @@ same_unread file =
 
 -- a command that stands here
 command_agree : (s : NumberedStyle) (t : SoFar) (here : Place) (o : CommandOutcome) → SameSoFar s t → Gap here here → numbered.CommandHere s here o
-    → (e : CommandEnd) × Next LettersHere Named t here e × SameEnd o e
+    → (e : CommandEnd) × Next LettersHere CommandNamed t here e × SameEnd o e
 command_agree s t here o h g (inl k) = let r = word_agree k.0 s t k.1 o h tt k.3 in (r.0, inl (k.0, k.1, (here, g, k.2), r.1), r.2)
 command_agree s t here o h g (inr k) = (
   ended_at (Some k.0) t k.1,
@@ -144,7 +144,7 @@ same_at s t h = record {
 pub same_style : SameStyle
 same_style file text style k =
     let read = style-read file text in
-    let c = commands_agree read.0 (style_state (unread_style file predefined) (beginning text)) (style_of file text) (unread file) (same_unread file) read.1 in
+    let c = commands_agree read.0 (style_state (unread_style file predefined) (beginning text)) (style_of file text) (initial_style file) (same_unread file) read.1 in
     let same = style_one file text (style_at c.1) style (c.0, c.1, c.2, refl) k in
     subst (IsSameStyle (style_of file text)) same (same_at (style_of file text) c.1 c.3)
 

@@ -15,7 +15,7 @@ use Rattle.btx_bst.proofs.CommandSpellingLemmas.{style-read, one-reading}
 use Rattle.btx_bib.specs.declared.end.End.TheVariants as end
 use Rattle.btx_bib.specs.declared.grammar.commands.Expected.TheVariants as wants
 use Rattle.btx_bib.specs.language.Grammar.Items.{events_from}
-use Rattle.btx_bib.specs.language.Known.{goes_on, keeping, with_current_stored}
+use Rattle.btx_bib.specs.language.Known.{goes_on, stored_keys, with_current_stored}
 use Rattle.btx_bib.specs.language.Databases.{library_of, library_by, read_one}
 use Rattle.btx_bib.specs.language.Library.{Library}
 use Rattle.btx_bib.specs.language.Messages.{Database, Reading, read_next}
@@ -172,7 +172,7 @@ one_by goes too_long wanted reading database =
     else
     let last =
     fold (read_next wanted database) reading
-    (events_from (keeping wanted) reading.known wants.Item database.text) in
+    (events_from (stored_keys wanted) reading.known wants.Item database.text) in
     record last { known = with_current_stored last.known }
 
 read_by : (goes too_long : Bool) (wanted : Request) (reading : Reading) (database : Database)
@@ -180,7 +180,7 @@ read_by : (goes too_long : Bool) (wanted : Request) (reading : Reading) (databas
 read_by false too_long wanted reading database = refl
 read_by true true wanted reading database = refl
 read_by true false wanted reading database =
-    (events_from (keeping wanted) reading.known wants.Item database.text, is_reading (keeping wanted) reading.known wants.Item database.text, refl)
+    (events_from (stored_keys wanted) reading.known wants.Item database.text, is_reading (stored_keys wanted) reading.known wants.Item database.text, refl)
 
 read_by_only : (goes too_long : Bool) (wanted : Request) (reading : Reading) (database : Database) (next : Reading)
     → IsReadBy goes too_long wanted reading database next → next ≡ one_by goes too_long wanted reading database
@@ -191,7 +191,7 @@ read_by_only true false wanted reading database next h =
       known =
           with_current_stored (fold (read_next wanted database) reading events).known;
     })
-    (one_reading (keeping wanted) h.0 reading.known wants.Item database.text h.1)
+    (one_reading (stored_keys wanted) h.0 reading.known wants.Item database.text h.1)
 
 all_read : (wanted : Request) (reading : Reading) (databases : List Database) → AreRead wanted reading databases (fold (read_one wanted) reading databases)
 all_read wanted reading [] = refl

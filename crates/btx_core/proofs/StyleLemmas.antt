@@ -6,7 +6,7 @@ use Rattle.btx_text.specs.language.Keys.{folded}
 use Rattle.btx_bst.specs.declared.command.Command.{Command as CommandName}
 use Rattle.btx_bst.specs.declared.callee.Kind.{Kind}
 use Rattle.btx_bst.specs.language.Places.{Place, ink, place_at, skipped, skipped_from}
-use Rattle.btx_bst.specs.language.Reads.{Read, Took, Slip}
+use Rattle.btx_bst.specs.language.Reads.{Read, Took, Mistake}
 use Rattle.btx_bst.specs.language.Complaints.{Complaint, NoOpen, NoClose, NoName, Unknown}
 use Rattle.btx_bst.specs.language.Complaints.{Defined as NameTaken}
 use Rattle.btx_bst.specs.language.Lists.{brace_in, name_in, quoted_in, letters_at}
@@ -24,8 +24,8 @@ use Rattle.btx_bst.proofs.CommandSpellingLemmas.{word_named}
 use Rattle.btx_bst.proofs.TokenSpellingLemmas.{gap_one, Agrees, spaced, sign_agrees, name_agrees, text_agrees, letters_agrees}
 use Rattle.btx_bst.proofs.WordSpellingLemmas.{token-met}
 use Rattle.btx_core.specs.language.Styles.{Function, Declared, Defined, Command, Style}
-use Rattle.btx_core.specs.language.StyleTexts.{SoFar, meaning, unread, and_name, and_command, and_says, CommandEnd, ended_at, Rule, Next, Opened, Closed, Where}
-use Rattle.btx_core.specs.language.StyleTexts.{Makes, Names, Lists, body_of, wrong_in, wrong_till, HasBody, is_function, Executes, Behind, Named, FollowsOn}
+use Rattle.btx_core.specs.language.StyleTexts.{SoFar, meaning, initial_style, and_name, and_command, and_says, CommandEnd, ended_at, Rule, Next, Opened, Closed, Requires}
+use Rattle.btx_core.specs.language.StyleTexts.{HasEffect, Names, Lists, body_of, wrong_in, wrong_till, HasBody, is_function, Executes, Arguments, CommandNamed, FollowsOn}
 use Rattle.btx_core.specs.language.StyleTexts.{AreCommands, IsStyle, is_a_field}
 use Rattle.btx_text.specs.laws.Bytes.{open_brace, close_brace}
 use Rattle.btx_core.proofs.RuleLemmas.{behind_by}
@@ -44,13 +44,13 @@ took_value a b p q e = cc
 took_place : {A : Type 0} (a b : A) (p q : Place) → Took a p ≡ Took b q → p ≡ q
 took_place a b p q e = cc
 
-slip_value : {A : Type 0} (a b : Complaint) (p q : Place) → ◌≡◌ {A = Read A} (Slip a p) (Slip b q) → a ≡ b
+slip_value : {A : Type 0} (a b : Complaint) (p q : Place) → ◌≡◌ {A = Read A} (Mistake a p) (Mistake b q) → a ≡ b
 slip_value a b p q e = cc
 
-slip_place : {A : Type 0} (a b : Complaint) (p q : Place) → ◌≡◌ {A = Read A} (Slip a p) (Slip b q) → p ≡ q
+slip_place : {A : Type 0} (a b : Complaint) (p q : Place) → ◌≡◌ {A = Read A} (Mistake a p) (Mistake b q) → p ≡ q
 slip_place a b p q e = cc
 
-took_slip : {A : Type 0} (a : A) (b : Complaint) (p q : Place) → Took a p ≡ Slip b q → ⊥
+took_slip : {A : Type 0} (a : A) (b : Complaint) (p q : Place) → Took a p ≡ Mistake b q → ⊥
 took_slip a b p q e = absurd (cc)
 
 -- what a grammar reads after whitespace is one thing
@@ -63,10 +63,10 @@ next_one {A} R r rest h g s p o o' (inl k) (inl l) =
     let x = subst (λ a. rest a s k.1 o) (took_value k.0 l.0 k.1 l.1 e) k.3 in
     let y = subst (λ q. rest l.0 s q o) (took_place k.0 l.0 k.1 l.1 e) x in
     g l.0 s l.1 o o' y l.3
-next_one {A} R r rest h g s p o o' (inl k) (inr l) = absurd (took_slip k.0 l.0 k.1 l.1 (one_read R r h p (Took k.0 k.1) (Slip l.0 l.1) k.2 l.2))
-next_one {A} R r rest h g s p o o' (inr k) (inl l) = absurd (took_slip l.0 k.0 l.1 k.1 (one_read R r h p (Took l.0 l.1) (Slip k.0 k.1) l.2 k.2))
+next_one {A} R r rest h g s p o o' (inl k) (inr l) = absurd (took_slip k.0 l.0 k.1 l.1 (one_read R r h p (Took k.0 k.1) (Mistake l.0 l.1) k.2 l.2))
+next_one {A} R r rest h g s p o o' (inr k) (inl l) = absurd (took_slip l.0 k.0 l.1 k.1 (one_read R r h p (Took l.0 l.1) (Mistake k.0 k.1) l.2 k.2))
 next_one {A} R r rest h g s p o o' (inr k) (inr l) =
-    let e = one_read R r h p (Slip k.0 k.1) (Slip l.0 l.1) k.2 l.2 in
+    let e = one_read R r h p (Mistake k.0 k.1) (Mistake l.0 l.1) k.2 l.2 in
     k.3 ∙ ap (λ c. ended_at (Some c) s k.1) (slip_value {A = A} k.0 l.0 k.1 l.1 e) ∙ ap (λ q. ended_at (Some l.0) s q) (slip_place {A = A} k.0 l.0 k.1 l.1 e)
     ∙ sym l.3
 
@@ -82,13 +82,13 @@ named_one rest g = next_one StyleNameHere (λ p. name_in p p.line) rest name_agr
 text_one : (rest : List ℕ → Rule) → ((text : List ℕ) → One (rest text)) → One (Next TextHere rest)
 text_one rest g = next_one TextHere (λ p. quoted_in p p.line) rest text_agrees g
 
-where_one : (test : SoFar → Bool) (wrong : Complaint) (rest : Rule) → One rest → One (Where test wrong rest)
+where_one : (test : SoFar → Bool) (wrong : Complaint) (rest : Rule) → One rest → One (Requires test wrong rest)
 where_one test wrong rest g s p o o' (inl k) (inl l) = g s p o o' k.1 l.1
 where_one test wrong rest g s p o o' (inl k) (inr l) = absurd (true≢false (sym k.0 ∙ l.0))
 where_one test wrong rest g s p o o' (inr k) (inl l) = absurd (true≢false (sym l.0 ∙ k.0))
 where_one test wrong rest g s p o o' (inr k) (inr l) = k.1 ∙ sym l.1
 
-makes_one : (change : SoFar → SoFar) → One (Makes change)
+makes_one : (change : SoFar → SoFar) → One (HasEffect change)
 makes_one change s p o o' k l = k ∙ sym l
 
 -- ---- lists
@@ -337,17 +337,17 @@ function_one f g e = cc
 executes_one : (command : CommandName) (made : Function → Command) → One (Executes command made)
 executes_one command made = where_one _ _ _ (opened_one _ (named_one _ by)) where
   by : (name : List ℕ) → One (λ style from o.
-      ((f : Function) × (meaning style name ≡ Some f) × (is_function f ≡ true) × Closed (Makes (and_command (made f))) style from o)
+      ((f : Function) × (meaning style name ≡ Some f) × (is_function f ≡ true) × Closed (HasEffect (and_command (made f))) style from o)
       ⊎ (((f : Function) → meaning style name ≡ Some f → is_function f ≡ true → ⊥) × (o ≡ ended_at (Some (Unknown name)) style from)))
   by name s p o o' (inl h) (inl k) =
       let same = function_one h.0 k.0 (sym h.1 ∙ k.1) in
-      closed_one (Makes (and_command (made k.0))) (makes_one (and_command (made k.0))) s p o o'
-      (subst (λ f. Closed (Makes (and_command (made f))) s p o) same h.3) k.3
+      closed_one (HasEffect (and_command (made k.0))) (makes_one (and_command (made k.0))) s p o o'
+      (subst (λ f. Closed (HasEffect (and_command (made f))) s p o) same h.3) k.3
   by name s p o o' (inl h) (inr k) = absurd (k.0 h.0 h.1 h.2)
   by name s p o o' (inr h) (inl k) = absurd (h.0 k.0 k.1 k.2)
   by name s p o o' (inr h) (inr k) = h.1 ∙ sym k.1
 
-behind_one : (c : CommandName) → One (Behind c)
+behind_one : (c : CommandName) → One (Arguments c)
 behind_one = behind_by One opened_one closed_one named_one text_one where_one makes_one lists_one body_one executes_one
 
 command_name : (c d : CommandName) → Some c ≡ Some d → c ≡ d
@@ -356,15 +356,15 @@ command_name c d e = cc
 one_command : (letters : List ℕ) (c d : CommandName) → IsWordOf c letters → IsWordOf d letters → c ≡ d
 one_command letters c d h k = command_name c d (sym (word_named c) ∙ ap command_named (sym h ∙ k) ∙ word_named d)
 
-word_one : (letters : List ℕ) → One (Named letters)
+word_one : (letters : List ℕ) → One (CommandNamed letters)
 word_one letters s p o o' (inl h) (inl k) =
-    behind_one k.0 s p o o' (subst (λ c. Behind c s p o) (one_command letters h.0 k.0 h.1 k.1) h.2) k.2
+    behind_one k.0 s p o o' (subst (λ c. Arguments c s p o) (one_command letters h.0 k.0 h.1 k.1) h.2) k.2
 word_one letters s p o o' (inl h) (inr k) = absurd (k.0 h.0 h.1)
 word_one letters s p o o' (inr h) (inl k) = absurd (h.0 k.0 k.1)
 word_one letters s p o o' (inr h) (inr k) = h.1 ∙ sym k.1
 
-command_one : One (Next LettersHere Named)
-command_one = next_one LettersHere letters_at Named letters_agrees word_one
+command_one : One (Next LettersHere CommandNamed)
+command_one = next_one LettersHere letters_at CommandNamed letters_agrees word_one
 
 -- ---- styles
 
@@ -388,7 +388,7 @@ commands_one [] (o ∷ os) s p end end' h k = absurd (k.2 (ap (λ (r : Place). r
 commands_one (o ∷ os) [] s p end end' h k = absurd (h.2 (ap (λ (r : Place). r.line) (one_gap p h.0 k.0 h.1 k.1) ∙ k.2))
 commands_one (o ∷ os) (x ∷ xs) s p end end' h k =
     let here = one_gap p h.0 k.0 h.1 k.1 in
-    let same = command_one s k.0 o x (subst (λ q. Next LettersHere Named s q o) here h.3) k.3 in
+    let same = command_one s k.0 o x (subst (λ q. Next LettersHere CommandNamed s q o) here h.3) k.3 in
     let goes = follows_one x x.wrong h.4 k.4 h.5 k.5 (subst (λ (y : CommandEnd). FollowsOn y y.wrong h.4 h.5) same h.6) k.6 in
     let style = subst (λ t. AreCommands os t h.5 end) goes.0 h.7 in
     commands_one os xs k.4 k.5 end end' (subst (λ q. AreCommands os k.4 q end) goes.1 style) k.7
@@ -400,4 +400,4 @@ style_one file text a b h k =
       is_field = λ name. is_a_field (end.names name);
       macros = end.macros;
       types = unwrap_or end.types (λ name. None);
-    }) (commands_one h.0 k.0 (unread file) (beginning text) h.1 k.1 h.2 k.2) ∙ sym k.3
+    }) (commands_one h.0 k.0 (initial_style file) (beginning text) h.1 k.1 h.2 k.2) ∙ sym k.3

@@ -7,7 +7,7 @@ use Rattle.btx_text.specs.laws.Bytes.{open_brace, close_brace}
 use Rattle.btx_bst.specs.declared.callee.Kind.{Kind}
 use Rattle.btx_bst.specs.declared.command.Command.{Command as CommandName}
 use Rattle.btx_bst.specs.language.Places.{Place, ink, place_at, size}
-use Rattle.btx_bst.specs.language.Reads.{Read, Took, Slip}
+use Rattle.btx_bst.specs.language.Reads.{Read, Took, Mistake}
 use Rattle.btx_bst.specs.language.Complaints.{Complaint, NoOpen, NoClose, NoName, NoCommand, NotCommand, Unknown, NoQuoteEnd, EndOfFile}
 use Rattle.btx_bst.specs.language.Complaints.{Defined as NameTaken}
 use Rattle.btx_bst.specs.language.Lists.{brace_in, name_in, quoted_in, letters_at, closing, next_name}
@@ -25,8 +25,8 @@ use Rattle.btx_bst.proofs.SizeLemmas.{ink-size, skipped-size}
 use Rattle.btx_bst.proofs.ListLemmas.{Sized, closing-size, opening-size, name_at-size, quoted_at-size, front_of-size}
 use Rattle.btx_bst.proofs.BodyTurnLemmas.{is_ended, met_at-size}
 use Rattle.btx_core.specs.language.Styles.{Function, Declared, Defined, Command, Style}
-use Rattle.btx_core.specs.language.StyleTexts.{SoFar, meaning, unread, and_name, and_command, and_says, CommandEnd, ended_at, Rule, Next, Opened, Closed, Where}
-use Rattle.btx_core.specs.language.StyleTexts.{Makes, Names, Lists, body_of, wrong_in, wrong_till, HasBody, is_function, Executes, Behind, Named, FollowsOn}
+use Rattle.btx_core.specs.language.StyleTexts.{SoFar, meaning, initial_style, and_name, and_command, and_says, CommandEnd, ended_at, Rule, Next, Opened, Closed, Requires}
+use Rattle.btx_core.specs.language.StyleTexts.{HasEffect, Names, Lists, body_of, wrong_in, wrong_till, HasBody, is_function, Executes, Arguments, CommandNamed, FollowsOn}
 use Rattle.btx_core.specs.language.StyleTexts.{AreCommands, IsStyle, is_a_field}
 use Rattle.btx_core.proofs.RuleLemmas.{behind_by}
 use Rattle.btx_core.proofs.StyleLemmas.{skips_one, is_list_byte}
@@ -41,7 +41,7 @@ unfoldable pub next_has : {A : Type 0} (R : StyleGrammar A) (r : Place → Read 
 next_has {A} R r rest h sized g n s p le = by (r (ink p)) ((spaced R r h).met p) (sized p) where
   by : (x : Read A) → BehindGap R p x → Sized (size p) x → (o : CommandEnd) × Next R rest s p o × (size o.place ≤ n)
   by (Took a q) m z = let k = g a n s q (omega (arith, z, le)) in (k.0, inl (a, q, m, k.1), k.2)
-  by (Slip c q) m z = (ended_at (Some c) s q, inr (c, q, m, refl), omega (arith, z, le))
+  by (Mistake c q) m z = (ended_at (Some c) s q, inr (c, q, m, refl), omega (arith, z, le))
 
 unfoldable pub opened_has : (rest : Rule) → Has rest → Has (Opened rest)
 opened_has rest g = next_has (StyleSignHere open_brace NoOpen) (λ p. brace_in 123 NoOpen p p.line) (λ none. rest) (sign_agrees 123 NoOpen) opening-size
@@ -57,13 +57,13 @@ named_has rest g = next_has StyleNameHere (λ p. name_in p p.line) rest name_agr
 unfoldable pub text_has : (rest : List ℕ → Rule) → ((text : List ℕ) → Has (rest text)) → Has (Next TextHere rest)
 text_has rest g = next_has TextHere (λ p. quoted_in p p.line) rest text_agrees quoted_at-size g
 
-unfoldable pub where_has : (test : SoFar → Bool) (wrong : Complaint) (rest : Rule) → Has rest → Has (Where test wrong rest)
+unfoldable pub where_has : (test : SoFar → Bool) (wrong : Complaint) (rest : Rule) → Has rest → Has (Requires test wrong rest)
 where_has test wrong rest g n s p le = by (test s) refl where
-  by : (t : Bool) → test s ≡ t → (o : CommandEnd) × Where test wrong rest s p o × (size o.place ≤ n)
+  by : (t : Bool) → test s ≡ t → (o : CommandEnd) × Requires test wrong rest s p o × (size o.place ≤ n)
   by true e = let k = g n s p le in (k.0, inl (e, k.1), k.2)
   by false e = (ended_at (Some wrong) s p, inr (e, refl), le)
 
-unfoldable pub makes_has : (change : SoFar → SoFar) → Has (Makes change)
+unfoldable pub makes_has : (change : SoFar → SoFar) → Has (HasEffect change)
 makes_has change n s p le = (ended_at None (change s) p, refl, le)
 
 -- ---- lists
@@ -92,14 +92,14 @@ names_within (suc m) k rest g n s p le lt =
           → Sized (size p) y
           → ((s : SoFar) (q : Place) → size q ≤ n → size q < m → NamesFrom k rest n s q) → NamesFrom k rest n s p
       by (Took none q) h z y i u again = let r = g n s q (omega (arith, z, le)) in (r.0, ([], inl (q, h, r.1)), r.2)
-      by (Slip c q) h z (Slip d r) i u again =
+      by (Mistake c q) h z (Mistake d r) i u again =
           let here = gap_same p i.0 h.0 i.1 h.1 in
           let missing = missing_both c d i.0.line (subst (λ (x : Place). IsMissing (λ b. b == close_brace) NoClose c x.line) (sym here) h.2.1) i.2.1 in (
             ended_at (Some d) s i.0,
             ([], inr (inl (d, i.0, i.1, missing, refl))),
             omega (arith, le, subst (λ (x : Place). size x ≤ size p) (gap_one p i.0 i.1) (ink-size p)),
           )
-      by (Slip c q) h z (Took name r) i u again = taken (is_some (meaning s name)) refl where
+      by (Mistake c q) h z (Took name r) i u again = taken (is_some (meaning s name)) refl where
         taken : (t : Bool) → is_some (meaning s name) ≡ t → NamesFrom k rest n s p
         taken true e = (ended_at (Some (NameTaken name)) s r, ([], inr (inr (name, r, i, e, refl))), omega (arith, u, le))
         taken false e =
@@ -199,35 +199,35 @@ some_function f g e = cc
 unfoldable pub executes_has : (command : CommandName) (made : Function → Command) → Has (Executes command made)
 executes_has command made = where_has _ _ _ (opened_has _ (named_has _ by)) where
   by : (name : List ℕ) → Has (λ style from o.
-      ((f : Function) × (meaning style name ≡ Some f) × (is_function f ≡ true) × Closed (Makes (and_command (made f))) style from o)
+      ((f : Function) × (meaning style name ≡ Some f) × (is_function f ≡ true) × Closed (HasEffect (and_command (made f))) style from o)
       ⊎ (((f : Function) → meaning style name ≡ Some f → is_function f ≡ true → ⊥) × (o ≡ ended_at (Some (Unknown name)) style from)))
   by name n s p le = of (meaning s name) refl where
     of : (m : Option Function) → meaning s name ≡ m → (o : CommandEnd)
-        × (((f : Function) × (meaning s name ≡ Some f) × (is_function f ≡ true) × Closed (Makes (and_command (made f))) s p o)
+        × (((f : Function) × (meaning s name ≡ Some f) × (is_function f ≡ true) × Closed (HasEffect (and_command (made f))) s p o)
         ⊎ (((f : Function) → meaning s name ≡ Some f → is_function f ≡ true → ⊥) × (o ≡ ended_at (Some (Unknown name)) s p))) × (size o.place ≤ n)
     of None e = (ended_at (Some (Unknown name)) s p, inr ((λ f h k. absurd (none_some f (sym e ∙ h))), refl), le) where
       none_some : (f : Function) → None ≡ Some f → ⊥
       none_some f e = absurd (cc)
     of (Some f) e = is (is_function f) refl where
       is : (t : Bool) → is_function f ≡ t → (o : CommandEnd)
-          × (((f : Function) × (meaning s name ≡ Some f) × (is_function f ≡ true) × Closed (Makes (and_command (made f))) s p o)
+          × (((f : Function) × (meaning s name ≡ Some f) × (is_function f ≡ true) × Closed (HasEffect (and_command (made f))) s p o)
           ⊎ (((f : Function) → meaning s name ≡ Some f → is_function f ≡ true → ⊥) × (o ≡ ended_at (Some (Unknown name)) s p))) × (size o.place ≤ n)
-      is true k = let r = closed_has (Makes (and_command (made f))) (makes_has (and_command (made f))) n s p le in (r.0, inl (f, e, k, r.1), r.2)
+      is true k = let r = closed_has (HasEffect (and_command (made f))) (makes_has (and_command (made f))) n s p le in (r.0, inl (f, e, k, r.1), r.2)
       is false k = (
         ended_at (Some (Unknown name)) s p,
         inr ((λ g h l. absurd (true≢false (sym l ∙ ap is_function (some_function g f (sym h ∙ e)) ∙ k))), refl),
         le,
       )
 
-unfoldable pub behind_has : (c : CommandName) → Has (Behind c)
+unfoldable pub behind_has : (c : CommandName) → Has (Arguments c)
 behind_has = behind_by Has opened_has closed_has named_has text_has where_has makes_has lists_has body_has executes_has
 
 unfoldable pub no_word : (letters : List ℕ) → command_named (folded letters) ≡ None → (c : CommandName) → IsWordOf c letters → ⊥
 no_word letters e c h = let f : command_named (folded letters) ≡ Some c = ap command_named h ∙ word_named c in absurd (cc)
 
-unfoldable pub word_has : (letters : List ℕ) → Has (Named letters)
+unfoldable pub word_has : (letters : List ℕ) → Has (CommandNamed letters)
 word_has letters n s p le = by (command_named (folded letters)) refl (named_word (folded letters)) where
-  by : (o : Option CommandName) → command_named (folded letters) ≡ o → IsItsWord (folded letters) o → (end : CommandEnd) × Named letters s p end
+  by : (o : Option CommandName) → command_named (folded letters) ≡ o → IsItsWord (folded letters) o → (end : CommandEnd) × CommandNamed letters s p end
       × (size end.place ≤ n)
   by None e w = (ended_at (Some (NotCommand letters)) s p, inr (no_word letters e, refl), le)
   by (Some c) e w = let k = behind_has c n s p le in (k.0, inl (c, w, k.1), k.2)
@@ -264,7 +264,7 @@ follows_by o (Some c) n (inr h) =
 
 -- a command where something stands
 abbrev Begun : SoFar → Place → Type 0
-Begun s p = (o : CommandEnd) × Next LettersHere Named s p o
+Begun s p = (o : CommandEnd) × Next LettersHere CommandNamed s p o
     × ((size o.place < size p) ⊎ ((size o.place ≤ size p) × (0 < length o.place.line) × (is_some o.wrong ≡ true)))
 
 unfoldable pub begun : (s : SoFar) (p : Place) → Gap p p → 0 < length p.line → Begun s p
@@ -273,7 +273,7 @@ begun s p g some = by (letters_at p) (letters_agrees.met p) (front_of-size NoCom
   by (Took word q) h z =
       let k = word_has word (size q) s q (omega arith) in
       (k.0, inl (word, q, (p, g, h), k.1), inl (omega (arith, k.2, z)))
-  by (Slip c q) h z = (ended_at (Some c) s q, inr (c, q, (p, g, h), refl), inr (z, subst (λ (x : Place). 0 < length x.line) (sym h.0) some, refl))
+  by (Mistake c q) h z = (ended_at (Some c) s q, inr (c, q, (p, g, h), refl), inr (z, subst (λ (x : Place). 0 < length x.line) (sym h.0) some, refl))
 
 unfoldable pub gap_again : (p : Place) → Gap (ink p) (ink p)
 gap_again p = subst (Gap (ink p)) (ink_twice p) (gap_met (ink p))
@@ -300,7 +300,7 @@ commands_within (suc m) s p lt =
 
 unfoldable pub there_is_style : (file text : List ℕ) → (style : Style) × IsStyle file text style
 there_is_style file text =
-    let k = commands_within (suc (size (beginning text))) (unread file) (beginning text) (omega arith) in (
+    let k = commands_within (suc (size (beginning text))) (initial_style file) (beginning text) (omega arith) in (
       record {
         commands = k.1.commands;
         is_field = λ name. is_a_field (k.1.names name);

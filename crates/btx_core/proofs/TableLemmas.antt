@@ -27,8 +27,8 @@ use Rattle.btx_step.specs.declared.next.Next.{Next}
 use Rattle.btx_step.specs.declared.next.Next.TheVariants as next
 use Rattle.btx_step.specs.declared.said.Note.{Note}
 use Rattle.btx_step.specs.declared.said.Note.TheVariants as note
-use Rattle.btx_step.specs.declared.said.Said.{Said}
-use Rattle.btx_step.specs.declared.said.Said.TheVariants as said
+use Rattle.btx_step.specs.declared.said.StepOutput.{StepOutput}
+use Rattle.btx_step.specs.declared.said.StepOutput.TheVariants as step_output
 use Rattle.btx_step.specs.declared.stand_in.StandIn.{StandIn}
 use Rattle.btx_step.specs.declared.stand_in.StandIn.TheVariants as stand_in
 use Rattle.btx_step.specs.language.Answers as answers
@@ -45,12 +45,12 @@ use Rattle.btx_core.specs.language.Styles.{set, Declared, Defined, Body, Entry, 
 use Rattle.btx_core.specs.language.Styles.{Style}
 use Rattle.btx_core.specs.language.Notes.{cut_to, name_of, shown, logs, place, error, errors, shows, empty_stack, no_entry, not_ascii}
 use Rattle.btx_core.specs.language.Functions.{Effect, Leaves, Meets, Runs, Opens, Loops, push, push_text_in, push_default, zero_default, empty_default, Operand}
-use Rattle.btx_core.specs.language.Functions.{AnyLiteral, AnInteger, AString, AFunction, AField, Value, wrong_operand_text, Does, on_literals, or_else_default}
+use Rattle.btx_core.specs.language.Functions.{AnyLiteral, AnInteger, AString, AFunction, AStringOrMissing, Value, wrong_operand_text, Does, on_literals, or_else_default}
 use Rattle.btx_core.specs.language.Functions.{with_operands_checked, takes}
 use Rattle.std.specs.Fmt.{signed_decimal}
 use Rattle.btx_core.specs.language.Functions.{function_effect, push_truth, push_text, in_entry, equals, push_result, code_of, character_of, changes_case}
 use Rattle.btx_core.specs.language.Functions.{is_empty_field, is_positive, calls_type, row, built_in_effect, missing_without_entry, swaps, formats_name}
-use Rattle.btx_core.specs.language.Functions.{assigns, tested}
+use Rattle.btx_core.specs.language.Functions.{assigns, test_on_literals}
 use Rattle.btx_core.specs.language.Names.{sections, has_third, numbered_name}
 use Rattle.btx_core.specs.language.Strings.{in_case}
 use Rattle.btx_core.proofs.ComputedLemmas.{computed, in_case_same, formatted_same}
@@ -169,11 +169,11 @@ module _ (job : NumberedJob) (style : Style) (library : Library) (naming : Namin
   line_of frame current n = note_line job.style frame.executed (key_now current) n
 
   -- what is said, in names
-  abbrev pub saying : Said → Option ℕ → State → State
-  saying said.Nothing current frame = frame
-  saying (said.Wrote text) current frame = record frame { pending = frame.pending ++ text }
-  saying said.EndedLine current frame = record frame { lines = frame.lines ++ frame.pending ∷ []; pending = [] }
-  saying (said.Noted notes) current frame = record frame { log = frame.log ++ map (line_of frame current) notes }
+  abbrev pub saying : StepOutput → Option ℕ → State → State
+  saying step_output.Nothing current frame = frame
+  saying (step_output.Wrote text) current frame = record frame { pending = frame.pending ++ text }
+  saying step_output.EndedLine current frame = record frame { lines = frame.lines ++ frame.pending ∷ []; pending = [] }
+  saying (step_output.Noted notes) current frame = record frame { log = frame.log ++ map (line_of frame current) notes }
 
   abbrev pub follows : Next → State → Effect
   follows next.Nothing t = Leaves t
@@ -215,7 +215,7 @@ module _ (job : NumberedJob) (style : Style) (library : Library) (naming : Namin
       ∙ ap (λ (z : Bool). message (note_kind n) (note_text job.style n ++ (if z then place_of frame.executed (key_now s.current) else []))) (sym h.of_place)
 
   pub error_same : (frame : State) (s : Store) (n : Note) (text : List ℕ) → IsError n text → error text (in_names frame s)
-      ≡ in_names (saying (said.Noted (n ∷ [])) s.current frame) s
+      ≡ in_names (saying (step_output.Noted (n ∷ [])) s.current frame) s
   error_same frame s n text h = ap (λ l. record (in_names frame s) { log = frame.log ++ l ∷ [] }) (line_same frame s n text h)
 
   abbrev pub AreErrors : List Note → List (List ℕ) → Type 0
@@ -224,11 +224,11 @@ module _ (job : NumberedJob) (style : Style) (library : Library) (naming : Namin
   AreErrors ns ts = true ≡ false
 
   pub errors_same : (ns : List Note) (ts : List (List ℕ)) → AreErrors ns ts → (frame : State) (s : Store) → errors ts (in_names frame s)
-      ≡ in_names (saying (said.Noted ns) s.current frame) s
+      ≡ in_names (saying (step_output.Noted ns) s.current frame) s
   errors_same [] [] h frame s = ap (λ l. record (in_names frame s) { log = l }) (sym (append-nil frame.log))
   errors_same (n ∷ ns) (t ∷ ts) (h, hs) frame s =
       ap (errors ts) (error_same frame s n t h)
-      ∙ errors_same ns ts hs (saying (said.Noted (n ∷ [])) s.current frame) s
+      ∙ errors_same ns ts hs (saying (step_output.Noted (n ∷ [])) s.current frame) s
       ∙ ap (λ l. record (in_names frame s) { log = l }) (append_assoc frame.log (line_of frame s.current n ∷ []) (map (line_of frame s.current) ns))
   errors_same [] (t ∷ ts) h frame s = absurd (true≢false h)
   errors_same (n ∷ ns) [] h frame s = absurd (true≢false h)
@@ -249,17 +249,17 @@ module _ (job : NumberedJob) (style : Style) (library : Library) (naming : Namin
   warning_line frame current text = ap (message line.Warning) (sym (append-nil text))
 
   pub shows_same : (xs : List Numbered) (frame : State) (s : Store) → shows (map lit xs) (in_names frame s)
-      ≡ in_names (saying (said.Noted (map note.Shown xs)) s.current frame) s
+      ≡ in_names (saying (step_output.Noted (map note.Shown xs)) s.current frame) s
   shows_same [] frame s = ap (λ l. record (in_names frame s) { log = l }) (sym (append-nil frame.log))
   shows_same (x ∷ xs) frame s =
       ap (λ l. shows (map lit xs) (record (in_names frame s) { log = frame.log ++ l ∷ [] })) (shown_line frame s.current x)
-      ∙ shows_same xs (saying (said.Noted (note.Shown x ∷ [])) s.current frame) s
+      ∙ shows_same xs (saying (step_output.Noted (note.Shown x ∷ [])) s.current frame) s
       ∙ ap (λ l. record (in_names frame s) { log = l })
       (append_assoc frame.log (line_of frame s.current (note.Shown x) ∷ []) (map (line_of frame s.current) (map note.Shown xs)))
 
   -- ---- results
 
-  pub push_same : (words : Said) (x : Numbered) (frame : State) (s : Store) → push (lit x) (in_names (saying words s.current frame) s)
+  pub push_same : (words : StepOutput) (x : Numbered) (frame : State) (s : Store) → push (lit x) (in_names (saying words s.current frame) s)
       ≡ answered frame (pushes words x s)
   push_same words x frame s =
       ap (λ n. if nat_lt n MOST_LITERALS then Leaves (record t { literals = lit x ∷ map lit s.literals }) else Meets limit.Literals t)
@@ -273,7 +273,7 @@ module _ (job : NumberedJob) (style : Style) (library : Library) (naming : Namin
         choose true = refl
         choose false = refl
 
-  pub text_same : (words : Said) (text : List ℕ) (frame : State) (s : Store) → push_text_in (in_names (saying words s.current frame) s) text (in_names frame s)
+  pub text_same : (words : StepOutput) (text : List ℕ) (frame : State) (s : Store) → push_text_in (in_names (saying words s.current frame) s) text (in_names frame s)
       ≡ answered frame (answers.pushes_text words text s)
   text_same words text frame s = choose (nat_lt greatest_string (length text)) where
     choose : (b : Bool) → (if b then Meets limit.String (in_names frame s) else push (Text text) (in_names (saying words s.current frame) s))
@@ -290,8 +290,8 @@ module _ (job : NumberedJob) (style : Style) (library : Library) (naming : Namin
       → Same (λ s. push_default (stand default) (errors ts s)) (answers.complained ns default)
   complained_same ns ts h stand_in.Nothing frame s = ap Leaves (errors_same ns ts h frame s)
   complained_same ns ts h stand_in.Zero frame s = ap (push (Integer (pos 0))) (errors_same ns ts h frame s)
-      ∙ push_same (said.Noted ns) (literal.Integer (pos 0)) frame s
-  complained_same ns ts h stand_in.Empty frame s = ap (push (Text [])) (errors_same ns ts h frame s) ∙ push_same (said.Noted ns) (literal.Text []) frame s
+      ∙ push_same (step_output.Noted ns) (literal.Integer (pos 0)) frame s
+  complained_same ns ts h stand_in.Empty frame s = ap (push (Text [])) (errors_same ns ts h frame s) ∙ push_same (step_output.Noted ns) (literal.Text []) frame s
 
   pub complains_same : (n : Note) (t : List ℕ) → IsError n t → (default : StandIn)
       → Same (λ s. push_default (stand default) (error t s)) (answers.complains n default)
@@ -304,14 +304,14 @@ module _ (job : NumberedJob) (style : Style) (library : Library) (naming : Namin
   asked AnInteger = Of wanted.Integer
   asked AString = Of wanted.Text
   asked AFunction = Of wanted.Function
-  asked AField = Of wanted.TextOrMissing
+  asked AStringOrMissing = Of wanted.TextOrMissing
 
   abbrev value : (o : Operand) → operands.Value (asked o) → Value o
   value AnyLiteral x = lit x
   value AnInteger n = n
   value AString text = text
   value AFunction f = of f
-  value AField field_ = field_
+  value AStringOrMissing field_ = field_
 
   abbrev Related : (os : List Operand) → Does os → operands.Does (map asked os) → Type 0
   Related [] does now = Same does now
@@ -342,7 +342,7 @@ module _ (job : NumberedJob) (style : Style) (library : Library) (naming : Namin
   unfolding note_text note_kind has_place
   no_function x = record { of_text = ap (λ t. t ++ codes " is not a function") (shown_same x); of_kind = refl; of_place = refl }
 
-  no_field : (x : Numbered) → IsError (note.WrongKind x wanted.TextOrMissing) (wrong_operand_text AField (lit x))
+  no_field : (x : Numbered) → IsError (note.WrongKind x wanted.TextOrMissing) (wrong_operand_text AStringOrMissing (lit x))
   unfolding note_text note_kind has_place
   no_field x = record { of_text = ap (λ t. t ++ codes " is not a string or missing field") (shown_same x); of_kind = refl; of_place = refl }
 
@@ -368,10 +368,10 @@ module _ (job : NumberedJob) (style : Style) (library : Library) (naming : Namin
   enough (AFunction ∷ os) does now rel (literal.Integer t ∷ xs) h = no_function (literal.Integer t)
   enough (AFunction ∷ os) does now rel (literal.Text f ∷ xs) h = no_function (literal.Text f)
   enough (AFunction ∷ os) does now rel (literal.Missing ∷ xs) h = no_function literal.Missing
-  enough (AField ∷ os) does now rel (literal.Text n ∷ xs) h = enough os (does (Some n)) (now (Some n)) (rel (Some n)) xs (omega (arith, h))
-  enough (AField ∷ os) does now rel (literal.Missing ∷ xs) h = enough os (does None) (now None) (rel None) xs (omega (arith, h))
-  enough (AField ∷ os) does now rel (literal.Integer t ∷ xs) h = no_field (literal.Integer t)
-  enough (AField ∷ os) does now rel (literal.Function f ∷ xs) h = no_field (literal.Function f)
+  enough (AStringOrMissing ∷ os) does now rel (literal.Text n ∷ xs) h = enough os (does (Some n)) (now (Some n)) (rel (Some n)) xs (omega (arith, h))
+  enough (AStringOrMissing ∷ os) does now rel (literal.Missing ∷ xs) h = enough os (does None) (now None) (rel None) xs (omega (arith, h))
+  enough (AStringOrMissing ∷ os) does now rel (literal.Integer t ∷ xs) h = no_field (literal.Integer t)
+  enough (AStringOrMissing ∷ os) does now rel (literal.Function f ∷ xs) h = no_field (literal.Function f)
 
   none_then : {A : Type 0} (m : Option A) (f : A → Option (Store → Answer)) → ((a : A) → f a ≡ None) → option_and_then f m ≡ None
   none_then None f h = refl
@@ -464,14 +464,14 @@ module _ (job : NumberedJob) (style : Style) (library : Library) (naming : Namin
     by false h = h
 
   truth_same : (b : Bool) → Same (push_truth b) (answers.pushed (answers.truth b))
-  truth_same true frame s = push_same said.Nothing (literal.Integer (pos 1)) frame s
-  truth_same false frame s = push_same said.Nothing (literal.Integer (pos 0)) frame s
+  truth_same true frame s = push_same step_output.Nothing (literal.Integer (pos 1)) frame s
+  truth_same false frame s = push_same step_output.Nothing (literal.Integer (pos 0)) frame s
 
   pushed_same : (x : Numbered) → Same (push (lit x)) (answers.pushed x)
-  pushed_same x frame s = push_same said.Nothing x frame s
+  pushed_same x frame s = push_same step_output.Nothing x frame s
 
   texts_same : (text : List ℕ) → Same (push_text text) (answers.pushed_text text)
-  texts_same text frame s = text_same said.Nothing text frame s
+  texts_same text frame s = text_same step_output.Nothing text frame s
 
   incomparable_is : IsError note.Incomparable incomparable
   unfolding note_text note_kind has_place
@@ -537,7 +537,7 @@ module _ (job : NumberedJob) (style : Style) (library : Library) (naming : Namin
         (record no_complaints { x9 = true })).x9 (note.NoConversion letter)))
         (option_map_or (λ (to : Conversion). cased_parts to [] (elements_of Bytes text)) c text) s)
     by None = ap (λ t. push_text_in t text (in_names frame s)) (error_same frame s (note.NoConversion letter) (no_conversion letter) (no_conversion_is letter))
-        ∙ text_same (said.Noted (note.NoConversion letter ∷ [])) text frame s
+        ∙ text_same (step_output.Noted (note.NoConversion letter ∷ [])) text frame s
     by (Some to) = ap (λ t. push_text t (in_names frame s)) (in_case_same to text) ∙ texts_same (cased_parts to [] (elements_of Bytes text)) frame s
 
   empty_same : (f : Option (List ℕ)) → Same (push_truth (is_empty_field f)) (strings.finds_empty f)
@@ -623,7 +623,7 @@ module _ (job : NumberedJob) (style : Style) (library : Library) (naming : Namin
       ∙ complains_same note.NoEntry no_entry no_entry_is stand_in.Nothing frame (answers.with_literals xs s)
 
   missing_row : RowSame built_in.Missing
-  missing_row = rule (AField ∷ []) stand_in.Zero (λ f. push_truth (is_none f)) entries.finds_missing missing_same
+  missing_row = rule (AStringOrMissing ∷ []) stand_in.Zero (λ f. push_truth (is_none f)) entries.finds_missing missing_same
 
   preamble_row : RowSame built_in.Preamble
   preamble_row = rule [] stand_in.Nothing (push (Text library.preamble)) ((table.row built_in.Preamble).does job)
@@ -796,7 +796,7 @@ module _ (job : NumberedJob) (style : Style) (library : Library) (naming : Namin
 
   -- ---- the test of a loop
 
-  pub tested_same : (xs : List Numbered) (frame : State) (s : Store) → tested (map lit xs) (in_names frame (answers.with_literals xs s))
+  pub tested_same : (xs : List Numbered) (frame : State) (s : Store) → test_on_literals (map lit xs) (in_names frame (answers.with_literals xs s))
       ≡ ((control.tested xs s).again, in_names (saying (control.tested xs s).said s.current frame) (control.tested xs s).store)
   tested_same [] frame s = ap (λ (t : State). (false, t)) (error_same frame (answers.with_literals [] s) note.EmptyStack empty_stack empty_is)
   tested_same (literal.Integer n ∷ xs) frame s = ap (λ (b : Bool). (b, in_names frame (answers.with_literals xs s))) (positive_same n)
@@ -966,11 +966,11 @@ module _ (job : NumberedJob) (style : Style) (library : Library) (naming : Namin
     -- ---- variables and fields that are run
 
     pub pushes_now : (x : Numbered) (frame : State) (s : Store) → push (lit x) (now_in_names frame s) ≡ answers_now frame (answers.pushed x s)
-    pushes_now x frame s = push_same said.Nothing x (vars frame s) s ∙ choose (nat_lt (length s.literals) MOST_LITERALS) where
+    pushes_now x frame s = push_same step_output.Nothing x (vars frame s) s ∙ choose (nat_lt (length s.literals) MOST_LITERALS) where
       choose : (b : Bool) → answered (vars frame s)
-          (if b then answers.says said.Nothing (answers.with_literals (x ∷ s.literals) s) else answers.answer (next.End limit.Literals) said.Nothing s)
-          ≡ answers_now frame (if b then answers.says said.Nothing (answers.with_literals (x ∷ s.literals) s) else answers.answer (next.End limit.Literals)
-          said.Nothing s)
+          (if b then answers.says step_output.Nothing (answers.with_literals (x ∷ s.literals) s) else answers.answer (next.End limit.Literals) step_output.Nothing s)
+          ≡ answers_now frame (if b then answers.says step_output.Nothing (answers.with_literals (x ∷ s.literals) s) else answers.answer (next.End limit.Literals)
+          step_output.Nothing s)
       choose true = refl
       choose false = refl
 

@@ -55,16 +55,16 @@ come_there means library (c ∷ cs) list left s =
     let g = goes_there (command_does means library list c left s) (CommandsCome means library cs b.0) (λ left s. come_there means library cs b.0 left s) in
     (g.0, (b.0, b.1, g.1))
 
-module _ (the : Divisions) (are : AreDivisions the) (options : Options) (wide : 3 ≤ options.line) where
+module _ (divisions : Divisions) (are : AreDivisions divisions) (options : Options) (wide : 3 ≤ options.line) where
   -- a style is executed as its commands come to
   pub executed_so : (job : Job) (log : List Line) (outcome : Outcome)
-      → CommandsCome (by_steps the job) job.library job.style.commands [] options.budget (first_state job log) outcome
+      → CommandsCome (by_steps divisions job) job.library job.style.commands [] options.budget (first_state job log) outcome
       → (product : Product) → product ≡ comes_to (wrap options.line) (committed options.line) options.budget outcome → IsExecuted job log options product
   executed_so job log outcome come product is = record {
-    the = the;
+    divisions = divisions;
     divided = are;
-    means = by_steps the job;
-    meant = there_is_meaning the job;
+    means = by_steps divisions job;
+    meant = there_is_meaning divisions job;
     wrapped = wrap options.line;
     are_wrapped = wrapped options.line wide;
     committed = committed options.line;
@@ -76,7 +76,7 @@ module _ (the : Divisions) (are : AreDivisions the) (options : Options) (wide : 
 
   unfoldable pub executed_there : (job : Job) (log : List Line) → (p : Product) × IsExecuted job log options p
   executed_there job log =
-      let c = come_there (by_steps the job) job.library job.style.commands [] options.budget (first_state job log) in
+      let c = come_there (by_steps divisions job) job.library job.style.commands [] options.budget (first_state job log) in
       let product : Product = comes_to (wrap options.line) (committed options.line) options.budget c.0 in
       (product, executed_so job log c.0 c.1 product refl)
 

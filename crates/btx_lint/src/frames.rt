@@ -60,7 +60,7 @@ pub struct Frame {
 
 /// A place outside a frame.
 #[derive(Clone, Copy, PartialEq, Eq)]
-pub enum Anchor {
+pub enum OuterPlace {
     /// On the stack, from the bottom.
     Stack(usize),
     /// A name, by its kind and number.
@@ -74,7 +74,7 @@ pub struct Framed {
     // Of each number of the description: that of the frame, from 1. 0 is none.
     inner: Vec<usize>,
     // Of each number of the frame: a place outside where it stands as well.
-    anchors: Vec<Option<Anchor>>,
+    anchors: Vec<Option<OuterPlace>>,
 }
 
 // Whether one of the literals on top is a function, which may touch anything.
@@ -201,7 +201,7 @@ impl Framed {
     }
 
     // A place outside the frame: what it is known by, where its number stands in the frame as well.
-    fn share(&mut self, number: usize, anchor: Anchor, by: usize) {
+    fn share(&mut self, number: usize, anchor: OuterPlace, by: usize) {
         let known = at(&self.inner, number);
         if known == 0 {
             return;
@@ -219,7 +219,7 @@ impl Framed {
         let stack = a.stack();
         for k in self.frame.depth..stack.len() {
             if k < stack.len() {
-                self.share(stack[k], Anchor::Stack(stack.len() - k), 1);
+                self.share(stack[k], OuterPlace::Stack(stack.len() - k), 1);
             }
         }
     }
@@ -229,7 +229,7 @@ impl Framed {
         for k in 0..numbers.len() {
             if let Some(number) = numbers[k] {
                 if !reaches.has(i, kind, k) {
-                    self.share(number, Anchor::Name(kind, k), reaches.flag(kind, k));
+                    self.share(number, OuterPlace::Name(kind, k), reaches.flag(kind, k));
                 }
             }
         }
@@ -237,16 +237,16 @@ impl Framed {
 }
 
 // The number at a place outside a frame.
-fn number_at(a: &State, anchor: Option<Anchor>) -> Option<usize> {
+fn number_at(a: &State, anchor: Option<OuterPlace>) -> Option<usize> {
     match anchor {
         None => None,
-        Some(Anchor::Stack(height)) => {
+        Some(OuterPlace::Stack(height)) => {
             if height == 0 || height > a.height() {
                 return None;
             }
             a.number_at(a.height() - height)
         }
-        Some(Anchor::Name(kind, k)) => {
+        Some(OuterPlace::Name(kind, k)) => {
             let numbers = names_of(a, kind);
             if k < numbers.len() { numbers[k] } else { None }
         }
@@ -351,7 +351,7 @@ impl End {
         a: &State,
         i: u32,
     ) -> Result<State, AllocError> {
-        let mut back = Back {
+        let mut back = FrameRestorer {
             values: Vec::with_capacity(alloc, self.values.len().saturating_add(a.values_len()))?,
             moved: vec![in alloc; 0; a.values_len()]?,
             used: 0,
@@ -371,7 +371,7 @@ impl End {
 
 // A description that is put together from an end and what is outside a frame.
 #[derive(Drop)]
-struct Back {
+struct FrameRestorer {
     values: Vec<Value>,
     // Of each number outside: its new one, from 1. 0 is none.
     moved: Vec<usize>,
@@ -379,7 +379,7 @@ struct Back {
     used: usize,
 }
 
-impl Back {
+impl FrameRestorer {
     // The new number of one outside the frame.
     fn outer(
         &mut self,

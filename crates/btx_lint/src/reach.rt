@@ -5,7 +5,7 @@ use std::alloc::{AllocError, Global};
 
 /// What a function of the style can touch.
 #[derive(Drop)]
-struct Reach {
+struct TouchedNames {
     is_known: bool,
     // Whether it may touch anything.
     is_whole: bool,
@@ -18,7 +18,7 @@ struct Reach {
 /// What functions of the style can touch.
 #[derive(Drop)]
 pub struct Reaches {
-    functions: Vec<Reach>,
+    functions: Vec<TouchedNames>,
     // The number of the first name of each kind.
     firsts: [usize; KINDS],
     // How many names there are.
@@ -48,7 +48,7 @@ impl Reaches {
             budget: MOST_LOOKS,
         };
         for _ in 0..style.functions() {
-            reaches.functions.push(Reach {
+            reaches.functions.push(TouchedNames {
                 is_known: false,
                 is_whole: true,
                 names: Vec::new(alloc),

@@ -13,15 +13,15 @@ use std::alloc::{AllocError, Global};
 
 /// Descriptions before any fault of a visit, and after one.
 #[derive(Drop)]
-pub struct Lanes {
+pub struct BeforeAndAfterFault {
     pub good: Vec<State>,
     pub spoilt: Vec<State>,
 }
 
-impl Lanes {
+impl BeforeAndAfterFault {
     /// No descriptions.
-    pub fn new(alloc: Global) -> Lanes {
-        Lanes {
+    pub fn new(alloc: Global) -> BeforeAndAfterFault {
+        BeforeAndAfterFault {
             good: Vec::new(alloc),
             spoilt: Vec::new(alloc),
         }
@@ -37,13 +37,13 @@ impl Lanes {
     }
 
     /// Adds all of these, each to one that it is like if there is one. One that describes nothing is left out.
-    pub fn join(&mut self, work: &Work, from: Lanes) -> Result<(), AllocError> {
+    pub fn join(&mut self, work: &Work, from: BeforeAndAfterFault) -> Result<(), AllocError> {
         add_possible(work, from.good, &mut self.good)?;
         add_possible(work, from.spoilt, &mut self.spoilt)
     }
 
     /// The same without a look whether they describe anything.
-    pub fn join_sure(&mut self, work: &Work, from: Lanes) -> Result<(), AllocError> {
+    pub fn join_sure(&mut self, work: &Work, from: BeforeAndAfterFault) -> Result<(), AllocError> {
         add_all(work, from.good, &mut self.good)?;
         add_all(work, from.spoilt, &mut self.spoilt)
     }

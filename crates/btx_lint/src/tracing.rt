@@ -5,7 +5,7 @@ use crate::findings::{Fault, Finding};
 use crate::frames::{End, Framed};
 use crate::least::{Least, SPARE_LITERALS};
 use crate::reach::Reaches;
-use crate::search::{Lanes, Search, add_type, is_even, mark};
+use crate::search::{BeforeAndAfterFault, Search, add_type, is_even, mark};
 use crate::traces::{Trace, mark_of};
 use btx_bst::{BuiltIn, Callee, Style, Token};
 use btx_check::State;
@@ -31,7 +31,7 @@ impl Search {
         a: State,
         is_first: bool,
         f: Callee,
-        out: &mut Lanes,
+        out: &mut BeforeAndAfterFault,
     ) -> Result<(), AllocError> {
         if room.fuel == 0 {
             self.work.gave_up = true;
@@ -65,7 +65,7 @@ impl Search {
         states: Vec<State>,
         is_first: bool,
         t: Token,
-        out: &mut Lanes,
+        out: &mut BeforeAndAfterFault,
     ) -> Result<(), AllocError> {
         for a in states {
             match t {
@@ -88,7 +88,7 @@ impl Search {
         a: State,
         is_first: bool,
         i: u32,
-        out: &mut Lanes,
+        out: &mut BeforeAndAfterFault,
     ) -> Result<(), AllocError> {
         if i as usize >= style.functions() {
             return Ok(());
@@ -117,7 +117,7 @@ impl Search {
         a: &State,
         framed: &Framed,
         i: u32,
-        out: &mut Lanes,
+        out: &mut BeforeAndAfterFault,
     ) -> Result<(), AllocError> {
         if k >= self.traces.table.entries.len() {
             return Ok(());
@@ -163,7 +163,7 @@ impl Search {
         a: State,
         is_first: bool,
         i: u32,
-        out: &mut Lanes,
+        out: &mut BeforeAndAfterFault,
     ) -> Result<(), AllocError> {
         let steps = self.work.steps;
         let types_asked = self.types_asked;
@@ -193,7 +193,7 @@ impl Search {
         from: &State,
         is_first: bool,
         i: u32,
-        to: &Lanes,
+        to: &BeforeAndAfterFault,
         steps: u64,
         found: Vec<usize>,
     ) -> Result<(), AllocError> {
@@ -231,16 +231,16 @@ impl Search {
         a: State,
         is_first: bool,
         i: u32,
-    ) -> Result<Lanes, AllocError> {
-        let mut now = Lanes::new(self.work.alloc);
+    ) -> Result<BeforeAndAfterFault, AllocError> {
+        let mut now = BeforeAndAfterFault::new(self.work.alloc);
         if i as usize >= style.functions() {
             return Ok(now);
         }
         self.work.enter(i, 0)?;
         now.lane(is_first).push(a)?;
         for t in style.body(i as usize) {
-            let mut after = Lanes::new(self.work.alloc);
-            let before = mem::replace(&mut now, Lanes::new(self.work.alloc));
+            let mut after = BeforeAndAfterFault::new(self.work.alloc);
+            let before = mem::replace(&mut now, BeforeAndAfterFault::new(self.work.alloc));
             self.token(style, room, before.good, true, *t, &mut after)?;
             self.token(style, room, before.spoilt, false, *t, &mut after)?;
             now = after;
@@ -261,7 +261,7 @@ impl Search {
         a: State,
         is_first: bool,
         f: Callee,
-        out: &mut Lanes,
+        out: &mut BeforeAndAfterFault,
     ) -> Result<(), AllocError> {
         self.touch(&a, f);
         let mut now = a;
@@ -304,7 +304,7 @@ impl Search {
         room: Room,
         a: State,
         is_first: bool,
-        out: &mut Lanes,
+        out: &mut BeforeAndAfterFault,
     ) -> Result<(), AllocError> {
         self.least.touched(a.height(), 3);
         let third = a.number_at(2);
@@ -344,7 +344,7 @@ impl Search {
         f: Callee,
         g: Callee,
         is_first: bool,
-        out: &mut Lanes,
+        out: &mut BeforeAndAfterFault,
     ) -> Result<(), AllocError> {
         let height = no.height();
         let after_yes = self.branch(style, room, yes, number, is_first, f)?;
@@ -367,8 +367,8 @@ impl Search {
         number: usize,
         is_first: bool,
         f: Callee,
-    ) -> Result<Lanes, AllocError> {
-        let mut after = Lanes::new(self.work.alloc);
+    ) -> Result<BeforeAndAfterFault, AllocError> {
+        let mut after = BeforeAndAfterFault::new(self.work.alloc);
         if room.fuel > 0 && a.is_impossible_at(number) {
             let _ = self.work.step();
             return Ok(after);
@@ -386,7 +386,7 @@ impl Search {
         room: Room,
         a: State,
         is_first: bool,
-        out: &mut Lanes,
+        out: &mut BeforeAndAfterFault,
     ) -> Result<(), AllocError> {
         self.least.touched(a.height(), 2);
         match (a.value_at(0), a.value_at(1)) {
@@ -424,19 +424,19 @@ impl Search {
         is_first: bool,
         f: Callee,
         g: Callee,
-        out: &mut Lanes,
+        out: &mut BeforeAndAfterFault,
     ) -> Result<(), AllocError> {
         let mut heads: Vec<State> = Vec::new(self.work.alloc);
         let head = b.copy()?;
         heads.push(head)?;
         for round in 0..40 {
-            let mut tests = Lanes::new(self.work.alloc);
+            let mut tests = BeforeAndAfterFault::new(self.work.alloc);
             let copies = copies_of(&self.work, &heads)?;
             self.token(style, room, copies, is_first, Token::Run(f), &mut tests)?;
             let mut again: Vec<State> = Vec::new(self.work.alloc);
             let mut ends: Vec<State> = Vec::new(self.work.alloc);
             self.turn(tests.lane(is_first), is_first, &mut again, &mut ends)?;
-            let mut bodies = Lanes::new(self.work.alloc);
+            let mut bodies = BeforeAndAfterFault::new(self.work.alloc);
             self.token(style, room, again, is_first, Token::Run(g), &mut bodies)?;
             let back = bodies.lane(is_first);
             if all_in(&self.work, back, &heads)? {
@@ -492,7 +492,7 @@ impl Search {
         room: Room,
         a: State,
         is_first: bool,
-        out: &mut Lanes,
+        out: &mut BeforeAndAfterFault,
     ) -> Result<(), AllocError> {
         if !a.has_entry() {
             return self.note(

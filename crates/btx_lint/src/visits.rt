@@ -2,7 +2,7 @@
 use crate::findings::{Cause, Fault, Finding};
 use crate::least::Least;
 use crate::reach::Reaches;
-use crate::search::{Lanes, Search, mark};
+use crate::search::{BeforeAndAfterFault, Search, mark};
 use crate::traces::Traces;
 use btx_bst::{Callee, Item, Style, Token};
 use btx_check::State;
@@ -82,9 +82,14 @@ impl Search {
     }
 
     // A function, executed for a command, from each of these: where it ends.
-    fn visit(&mut self, style: &Style, f: Callee, starts: &[State]) -> Result<Lanes, AllocError> {
+    fn visit(
+        &mut self,
+        style: &Style,
+        f: Callee,
+        starts: &[State],
+    ) -> Result<BeforeAndAfterFault, AllocError> {
         let room = most_room();
-        let mut out = Lanes::new(self.work.alloc);
+        let mut out = BeforeAndAfterFault::new(self.work.alloc);
         for start in starts {
             self.entry_type = None;
             self.work.open.clear();

@@ -15,7 +15,7 @@ unfoldable pub use Rattle.btx_code.specs.refinement.Codes.{tokens_left}
 pub use Rattle.btx_code.specs.refinement.Instructions.{token_as, token_of}
 pub use Rattle.btx_code.specs.refinement.Ops.{callee_of}
 pub use Rattle.btx_step.specs.declared.next.Next.{Next}
-pub use Rattle.btx_step.specs.declared.said.Said.{Said}
+pub use Rattle.btx_step.specs.declared.said.StepOutput.{StepOutput}
 pub use Rattle.btx_step.specs.language.Answers.{with_literals}
 pub use Rattle.btx_step.specs.language.Jobs.{Job}
 unfoldable pub use Rattle.btx_step.specs.language.Steps.{built_in_run, function_run, step_of}

@@ -15,7 +15,7 @@ use crate::report::{LogCounts, Report};
 use btx_bib::Message;
 use btx_out::{Breaker, LineLength, Sink};
 use btx_step::lines::line_of;
-use btx_step::{Job, Note, Said};
+use btx_step::{Job, Note, StepOutput};
 use btx_text::{Fault, LogLine};
 use std::alloc::Global;
 use std::marker::Model;
@@ -99,7 +99,7 @@ impl<'s, W: Sink, L: LogSink> Outputs<'s, W, L> {
         job: &Job<'_>,
         executed: &[u8],
         current: Option<usize>,
-        said: Said<'_>,
+        said: StepOutput<'_>,
     ) -> Result<(), Fault>
         requires { Writes self.old }
         ensures ok { OnOk result (Becomes self.old self.new (λ out. said_on job.now executed.now current said.entry out)) }
@@ -108,10 +108,16 @@ impl<'s, W: Sink, L: LogSink> Outputs<'s, W, L> {
         ensures counts { CountsOfBoth result self.old self.new }
     {
         match said {
-            Said::Nothing => Ok(()),
-            Said::Wrote(text) => self.write(text.as_bytes()),
-            Said::EndedLine => self.end_line(),
-            Said::Noted(notes) => self.note_all(alloc, job, executed, current, notes.as_slice()),
+            StepOutput::Nothing => Ok(()),
+            StepOutput::Wrote(text) => self.write(text.as_bytes()),
+            StepOutput::EndedLine => self.end_line(),
+            StepOutput::Noted(notes) => self.note_all(
+                alloc,
+                job,
+                executed,
+                current,
+                notes.as_slice(),
+            ),
         }
     }
 

@@ -1,7 +1,7 @@
 //! Tokens, abbreviated.
 ghost use Rattle.std.specs.Prelude.{◌≡◌};
 ghost use Rattle.btx_names.specs.language.FormattedNames as spec;
-ghost use Rattle.btx_names.specs.refinement.Lettered.{lettered_of};
+ghost use Rattle.btx_names.specs.refinement.Lettered.{from_abbreviation};
 ghost use Rattle.btx_names.specs.refinement.NameTokens.{Hold};
 ghost use Rattle.btx_names.specs.refinement.Places.{bytes_at};
 
@@ -24,8 +24,8 @@ pub fn initial_of<'a>(bytes: &'a [u8], token: &NameToken, mode: TextMode) -> &'a
 
 /// A token's text from where its abbreviation begins; none, where it has none.
 #[tactic(auto, using(crate::proofs::InitialLemmas::lettered_steps))]
-pub fn lettered_of(token: &[u8]) -> &[u8]
-    ensures { result.now ≡ lettered_of token.now }
+pub fn from_abbreviation(token: &[u8]) -> &[u8]
+    ensures { result.now ≡ from_abbreviation token.now }
 {
     for start in 0..token.len() {
         if begins_initial(&token[start..]) {

@@ -6,7 +6,7 @@ ghost use Rattle.btx_names.specs.language.Runs as spec;
 ghost use Rattle.btx_names.specs.refinement.NameTokens.{Hold, tokens_in};
 ghost use Rattle.btx_names.specs.refinement.Tokens.{token_at};
 
-use crate::initials::lettered_of;
+use crate::initials::from_abbreviation;
 use crate::name_token::NameToken;
 use crate::name_tokens::joint_of;
 use crate::place::Place;
@@ -30,7 +30,7 @@ pub struct ReadName {
 
 // The tokens and the commas that were read so far.
 #[derive(Drop)]
-struct Draft {
+struct NameBuilder {
     tokens: Vec<NameToken>,
     // How many commas there are outside the tokens.
     commas: usize,
@@ -50,7 +50,7 @@ impl ReadName {
         requires { from ≤ length names.now }
         ensures { IfOk result (IsNameAt names.now from) }
     {
-        let mut draft = Draft::new(list.tokens);
+        let mut draft = NameBuilder::new(list.tokens);
         let mut place = from;
         while place < names.len() {
             if !is_break(names[place]) {
@@ -69,16 +69,16 @@ impl ReadName {
     }
 }
 
-impl Draft {
+impl NameBuilder {
     // Without any, in the memory of some tokens.
-    fn new(tokens: Vec<NameToken>) -> Draft
+    fn new(tokens: Vec<NameToken>) -> NameBuilder
         ensures tokens { result.tokens.items ≡ [] }
         ensures commas { result.commas ≡ 0 }
         ensures followed { result.followed ≡ 0 }
     {
         let mut tokens = tokens;
         tokens.clear();
-        Draft {
+        NameBuilder {
             tokens,
             commas: 0,
             followed: 0,
@@ -118,7 +118,7 @@ impl Draft {
         let rest = &names[from..];
         let (text, after) = rest.split_at(run_len(rest, Stop::Break));
         let len = text.len();
-        let lettered = lettered_of(text).len();
+        let lettered = from_abbreviation(text).len();
         self.followed = self.commas;
         self.tokens.push(NameToken {
             text: Place { from, len },

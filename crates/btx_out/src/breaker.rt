@@ -125,7 +125,7 @@ fn break_full(line: &mut Kept, gathered: &mut Gathered) -> State
 }
 
 // How many bytes stand before the first whitespace byte.
-fn ink_len(bytes: &[u8]) -> usize
+fn non_whitespace_len(bytes: &[u8]) -> usize
     ensures { result ≡ length (take_while is_not_white bytes.now) }
 {
     bytes.iter().take_while(|byte| !is_white(**byte)).count()
@@ -136,7 +136,7 @@ fn split_at_white(bytes: &[u8]) -> (&[u8], &[u8])
     ensures before { result.0.now ≡ till_white bytes.now }
     ensures from { result.1.now ≡ from_white bytes.now }
 {
-    bytes.split_at(ink_len(bytes))
+    bytes.split_at(non_whitespace_len(bytes))
 }
 
 // How many whitespace bytes stand at the front.
@@ -276,7 +276,7 @@ fn pass<'a, W: Sink>(bytes: &'a [u8], sink: &mut W) -> Result<Next<'a>, Fault>
 }
 
 // Drops the whitespace at the front. What follows it goes on after two spaces. Answers what is done with the bytes that are left.
-fn swallow<'a>(line: &mut Kept, bytes: &'a [u8]) -> Next<'a>
+fn drop_leading_whitespace<'a>(line: &mut Kept, bytes: &'a [u8]) -> Next<'a>
     requires some { 0 < length bytes.now }
     ensures goes_on { (line_length : ℕ) (received : Option (List ℕ)) →
         Advances line_length Swallowing bytes.now (left_of result.state line.new.items) result.rest.now received received }
@@ -322,7 +322,7 @@ fn take_some<'a, W: Sink>(
     match state {
         State::Collecting => collect_lines(line_length, line, bytes, sink),
         State::Passing => pass(bytes, sink),
-        State::Swallowing => Ok(swallow(line, bytes)),
+        State::Swallowing => Ok(drop_leading_whitespace(line, bytes)),
     }
 }
 

@@ -7,7 +7,7 @@ use Rattle.btx_bib.specs.declared.grammar.commands.Expected.TheVariants.{Item}
 use Rattle.btx_bib.specs.declared.grammar.value_ends.Ends.TheVariants.{Kept, Trimmed}
 use Rattle.btx_bib.specs.language.Grammar.ByteSets.{past}
 use Rattle.btx_bib.specs.language.Grammar.Items as event
-use Rattle.btx_bib.specs.language.Grammar.Items.{Event, Placed, Keeping, behind_at, events_from}
+use Rattle.btx_bib.specs.language.Grammar.Items.{Event, Placed, StoredKeys, behind_at, events_from}
 use Rattle.btx_bib.specs.language.Grammar.PlaceLines.{lines_begun}
 use Rattle.btx_bib.specs.language.Grammar.ValueTexts.{value_text}
 use Rattle.btx_bib.specs.language.Strings.{string_value, other_value, defined}
@@ -29,7 +29,7 @@ content_of strings (event.Preamble value) = Preamble (fitting (value_text Kept (
 content_of strings (event.Definition name value) = Definition name (fitting (value_text Kept (other_value strings name) value))
 content_of strings (event.Entry kind key) = Entry kind key
 content_of strings (event.FieldOf field) = Field field.name (fitting (value_text Trimmed (string_value strings) field.value))
-content_of strings event.End = End
+content_of strings event.ItemEnd = End
 content_of strings (event.Wrong slip) = Wrong slip
 
 -- the strings that are known after a name was given a text: where the text is too long the name has the value that it had
@@ -59,7 +59,7 @@ left_at (event.Preamble value) before left = left_at_item before
 left_at (event.Definition name value) before left = left_at_item before
 left_at (event.Entry kind key) before left = left_at_item before
 left_at (event.FieldOf field) before left = left_at_field before
-left_at event.End before left = suc left
+left_at event.ItemEnd before left = suc left
 left_at (event.Wrong slip) before left = left
 
 -- ---- the records of a database
@@ -86,7 +86,7 @@ abbrev pub no_key : List ℕ → Bool
 no_key key = false
 
 -- nothing is kept of the events before, and no key is stored
-abbrev pub nothing_kept : Keeping (Unit {0})
+abbrev pub nothing_kept : StoredKeys (Unit {0})
 nothing_kept = record { is_stored = λ kept key. no_key key; after = λ kept event. kept }
 
 -- the records of a database, before which these strings are known

@@ -2,7 +2,7 @@
 use Rattle.std.specs.Prelude.{ℕ, ◌+◌, Bool, true, List, [], ◌∷◌, ◌++◌, Option, length, map, take, drop, is_some, unwrap_or}
 use Rattle.btx_bib.specs.declared.grammar.slip.SyntaxError.{SyntaxError}
 use Rattle.btx_bib.specs.declared.message.Message.TheVariants as message
-use Rattle.btx_bib.specs.declared.message.Spot.{Spot}
+use Rattle.btx_bib.specs.declared.message.SourcePosition.{SourcePosition}
 use Rattle.btx_bib.specs.language.MessageTexts.{message_line}
 use Rattle.btx_read.specs.declared.content.Content.{Content}
 use Rattle.btx_read.specs.declared.content.Content.TheVariants.{Comment, Preamble, Definition, Entry, Field, End, Wrong}
@@ -40,7 +40,7 @@ abbrev pub given : Option (List ℕ) → List ℕ
 given text = unwrap_or text []
 
 -- the line that a run logs of what is wrong at a place
-abbrev pub wrong_line : SyntaxError → Spot → List ℕ
+abbrev pub wrong_line : SyntaxError → SourcePosition → List ℕ
 wrong_line slip spot = (message_line (message.Wrong slip spot)).text
 
 -- the text of a record of a file: of an entry its key, of what is wrong the line that a run logs

@@ -2,6 +2,7 @@
 #![tactic(auto)]
 
 pub mod content;
+pub mod known_strings;
 pub mod laws;
 mod no_keys;
 mod places;
@@ -9,12 +10,12 @@ pub mod reading;
 pub mod record;
 pub mod row;
 pub mod rows;
-pub mod string_table;
 mod texts;
 
+pub use btx_bib::strings::StringTable;
 pub use content::Content;
+pub use known_strings::add_string;
 pub use reading::{RecordReader, read_records};
 pub use record::Record;
 pub use row::Row;
 pub use rows::{Rows, read_rows};
-pub use string_table::StringTable;

@@ -61,7 +61,7 @@ pub(crate) fn left_at(event: &Event<'_>, before: &[u8], rest: &[u8]) -> usize
             left_at_item(before)
         }
         Event::Field(_) => left_at_field(before),
-        Event::End => rest.len() + 1,
+        Event::ItemEnd => rest.len() + 1,
         Event::Wrong(_) => rest.len(),
     }
 }

@@ -8,11 +8,11 @@ use crate::content::Content;
 use crate::no_keys::NoKeys;
 use crate::places::left_at;
 use crate::record::Record;
-use crate::string_table::StringTable;
 use crate::texts::content_of;
 use btx_bib::grammar::events::{Event, Placed};
 use btx_bib::grammar::line_counter::LineCounter;
 use btx_bib::grammar::reader::Reader;
+use btx_bib::strings::StringTable;
 use std::alloc::{AllocError, Global};
 use std::marker::Model;
 

@@ -8,9 +8,9 @@ use crate::content::Content;
 use crate::reading::RecordReader;
 use crate::record::Record;
 use crate::row::Row;
-use crate::string_table::StringTable;
 use btx_bib::grammar::slip::SyntaxError;
-use btx_bib::{Message, Spot, Word};
+use btx_bib::strings::StringTable;
+use btx_bib::{Message, SourcePosition, Word};
 use btx_text::Text;
 use std::alloc::{AllocError, Global};
 
@@ -76,7 +76,7 @@ fn push_wrong(
     alloc: Global,
     texts: &mut Vec<u8>,
     slip: SyntaxError,
-    spot: Spot<'_>,
+    spot: SourcePosition<'_>,
 ) -> Result<(), AllocError>
     ensures { OnOk result (texts.new.items ≡ texts.old.items ++ spec.wrong_line slip spot.entry) }
 {
@@ -100,7 +100,7 @@ fn push_text(
             push_given(texts, text)
         }
         Content::Wrong(slip) => {
-            let spot = Spot::of(&Word::new(file), one.line, one.start);
+            let spot = SourcePosition::of(&Word::new(file), one.line, one.start);
             push_wrong(alloc, texts, *slip, spot)
         }
     }

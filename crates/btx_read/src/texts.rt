@@ -6,12 +6,12 @@ ghost use Rattle.btx_bib.specs.refinement.Grammar.EventViews.{event_view};
 ghost use Rattle.btx_read.specs.Records.{content_of, fitting, strings_after};
 
 use crate::content::Content;
-use crate::string_table::{Others, StringTable};
 use btx_bib::Word;
 use btx_bib::grammar::events::Event;
 use btx_bib::grammar::value_ends::Ends;
 use btx_bib::grammar::value_texts::{Strings, value_text};
 use btx_bib::grammar::values::Value;
+use btx_bib::strings::{StringTable, StringsWithout};
 use btx_text::{Fault, Text};
 use std::alloc::{AllocError, Global};
 
@@ -42,7 +42,7 @@ fn defined<'a>(
     ensures content { IfOk result (λ content. content ≡ content_of strings.old (spec.Definition name.entry.now value.now)) }
     ensures strings { OnOk result (strings.new ≡ strings_after strings.old (spec.Definition name.entry.now value.now)) }
 {
-    let others = Others { strings, own: name };
+    let others = StringsWithout { strings, own: name };
     let Some(text) = fitting_text(alloc, value, &others, Ends::Kept)? else {
         return Ok(Content::Definition(Word::new(name), None));
     };
@@ -71,7 +71,7 @@ pub(crate) fn content_of<'a>(
             let text = fitting_text(alloc, &field.value, strings, Ends::Trimmed)?;
             Ok(Content::Field(Word::new(field.name), text))
         }
-        Event::End => Ok(Content::End),
+        Event::ItemEnd => Ok(Content::End),
         Event::Wrong(slip) => Ok(Content::Wrong(*slip)),
     }
 }

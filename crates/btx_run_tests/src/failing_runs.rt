@@ -18,13 +18,12 @@ const BBL: &[u8] =
 const LOG: &[u8] =
     b"The top-level auxiliary file: job.aux\nThe style file: s.bst\nDatabase file #1: d.bib\nEnded: finished, warnings 0, errors 0, steps 9\n";
 
-// How an output takes what it is given: the most bytes at a time, how it fails and at which write, and how often it failed before.
+// How an output takes what it is given: the most bytes at a time, how it fails and at which write.
 #[derive(Clone, Copy)]
 struct Device {
     most: usize,
     how: Failing,
     at: u64,
-    before: u64,
 }
 
 // A device that takes at most `most` bytes at a time, and fails at no write.
@@ -34,36 +33,12 @@ fn sound(most: usize) -> Device {
 
 // A device that takes at most `most` bytes at a time, and fails at one write.
 fn failing(most: usize, how: Failing, at: u64) -> Device {
-    Device {
-        most,
-        how,
-        at,
-        before: 0,
-    }
-}
-
-// A device that has failed as often as can be counted.
-fn worn(device: Device) -> Device {
-    Device {
-        before: u64::MAX,
-        ..device
-    }
-}
-
-// Of a device that has failed this often, and not last.
-fn failures(count: u64) -> Failures {
-    Failures {
-        count,
-        last_failed: false,
-    }
+    Device { most, how, at }
 }
 
 // A sink over a device.
 fn sink(alloc: Global, device: Device) -> Over<FakeWriter> {
-    Over {
-        writer: FakeWriter::new(alloc, device.most, device.how, device.at),
-        failures: failures(device.before),
-    }
+    Over::new(FakeWriter::new(alloc, device.most, device.how, device.at))
 }
 
 // What a run has done whose devices may fail: its status, and its outputs. What holds one takes long to prove where a `?` follows, since
@@ -76,6 +51,12 @@ struct Tried {
     // How often the finder was asked, and how often it failed.
     fetches: (u64, u64),
 }
+
+// A finder that has failed as often as can be counted, and not last.
+const OFTEN: Failures = Failures {
+    count: u64::MAX,
+    last_failed: false,
+};
 
 // Runs a job whose finder fails at one fetch, over two devices.
 fn try_job(
@@ -90,7 +71,7 @@ fn try_job(
         fails_at,
         fault: FetchFault::Device,
         fetches: 0,
-        failures: failures(u64::MAX),
+        failures: OFTEN,
     };
     let mut bbl = sink(alloc, bbl);
     let mut log = sink(alloc, log);
@@ -152,6 +133,11 @@ fn stops_at_log(tried: &Tried, at: u64) -> bool {
     is_cut(&tried.log, at, LOG) && tried.bbl.writer.bytes.as_slice() == list
 }
 
+// Whether a run wrote all of the list and the log.
+fn is_whole(tried: &Tried) -> bool {
+    tried.bbl.writer.bytes.as_slice() == BBL && tried.log.writer.bytes.as_slice() == LOG
+}
+
 // Asserts that a run stopped where one output fails, or was past that write, and answers whether it was past it.
 fn is_past(rt: &impl Abort, tried: &Tried, side: Side, at: u64) -> bool {
     let (output, other) = match side {
@@ -160,7 +146,7 @@ fn is_past(rt: &impl Abort, tried: &Tried, side: Side, at: u64) -> bool {
     };
     assert!(rt; other.failures.count == 0);
     if tried.answer == Ok(0) {
-        assert!(rt; output.writer.writes == at);
+        assert!(rt; output.writer.writes == at && is_whole(tried));
         return true;
     }
     assert!(rt; tried.answer == Err(RunFault::Device));
@@ -266,41 +252,6 @@ fn keeps_step_at_a_warning(rt: HostRuntime) -> Result<(), Fail> {
     for at in 0..10u64 {
         assert!(rt; warns_in_step(rt.alloc(), at)?);
     }
-    Ok(())
-}
-
-// Whether a run is whole whose outputs take at most `most` bytes at a time.
-fn is_whole(alloc: Global, most: usize) -> Result<bool, FetchFault> {
-    let tried = try_style(alloc, LINES, sound(most), sound(most))?;
-    Ok(
-        tried.answer == Ok(0)
-            && (tried.bbl.failures.count == 0 && tried.bbl.writer.bytes.as_slice() == BBL)
-            && (tried.log.failures.count == 0 && tried.log.writer.bytes.as_slice() == LOG),
-    )
-}
-
-#[test]
-fn writes_in_pieces(rt: HostRuntime) -> Result<(), Fail> {
-    for most in 1..8usize {
-        assert!(rt; is_whole(rt.alloc(), most)?);
-    }
-    Ok(())
-}
-
-// Whether a count of failures goes from its greatest value to 0, where the list fails.
-fn goes_round(alloc: Global) -> Result<bool, FetchFault> {
-    let device = worn(failing(9, Failing::Error, 2));
-    let tried = try_style(alloc, LINES, device, worn(sound(9)))?;
-    Ok(
-        tried.answer == Err(RunFault::Device)
-            && tried.bbl.failures.count == 0
-            && tried.log.failures.count == u64::MAX,
-    )
-}
-
-#[test]
-fn counts_round(rt: HostRuntime) -> Result<(), Fail> {
-    assert!(rt; goes_round(rt.alloc())?);
     Ok(())
 }
 

@@ -1,11 +1,9 @@
 //! Jobs over files in memory, and how their runs end.
 use btx_run::{
-    End, KeptBytes, Limit, LineLength, MemoryFinder, Options, Over, Report, RunFault, TextMode, run,
+    KeptBytes, LineLength, MemoryFinder, Options, Over, Report, RunFault, TextMode, run,
 };
 use btx_text::Fault;
 use std::alloc::{AllocError, Global};
-use std::process::Abort;
-use std::test::Fail;
 
 /// A file's name and bytes.
 pub type File<'a> = (&'a [u8], &'a [u8]);
@@ -47,30 +45,17 @@ pub fn options(budget: u64) -> Options {
     }
 }
 
-/// Makes options whose numbers are the greatest that their types have.
-pub fn greatest_options() -> Options {
-    Options {
-        min_crossrefs: u32::MAX,
-        ..options(u64::MAX)
-    }
-}
-
 /// Makes the files of a job: its `.aux` file, its style and its database.
 pub fn job_of<'a>(aux: &'a [u8], style: &'a [u8], database: &'a [u8]) -> [File<'a>; 3] {
     [(b"job.aux", aux), (b"s.bst", style), (b"d.bib", database)]
 }
 
-/// Runs the job `name` over `files`, with these options.
-pub fn run_with(
-    alloc: Global,
-    files: &[File<'_>],
-    name: &[u8],
-    options: &Options,
-) -> Result<Outputs, Fault> {
+/// Runs the job `job` over `files`, with these options.
+pub fn run_with(alloc: Global, files: &[File<'_>], options: &Options) -> Result<Outputs, Fault> {
     let mut finder = MemoryFinder::new(alloc, files)?;
     let mut bbl = Over::new(Vec::new(alloc));
     let mut log = Over::new(Vec::new(alloc));
-    let answer = run(alloc, &mut finder, name, options, &mut bbl, &mut log);
+    let answer = run(alloc, &mut finder, b"job", options, &mut bbl, &mut log);
     Ok(Outputs {
         bbl: bbl.writer,
         log: log.writer,
@@ -78,101 +63,13 @@ pub fn run_with(
     })
 }
 
-/// Runs the job `name` over `files`, with at most `budget` steps.
-pub fn run_named(
-    alloc: Global,
-    files: &[File<'_>],
-    name: &[u8],
-    budget: u64,
-) -> Result<Outputs, Fault> {
-    run_with(alloc, files, name, &options(budget))
-}
-
-/// The status of a run of the job `name` over `files`, and 255 after a fault.
-pub fn status_with(
-    alloc: Global,
-    files: &[File<'_>],
-    name: &[u8],
-    options: &Options,
-) -> Result<u8, Fault> {
-    let mut finder = MemoryFinder::new(alloc, files)?;
-    let mut bbl = Over::new(Vec::new(alloc));
-    let mut log = Over::new(Vec::new(alloc));
-    match run(alloc, &mut finder, name, options, &mut bbl, &mut log) {
-        Ok(report) => Ok(report.status),
-        Err(_) => Ok(u8::MAX),
-    }
-}
-
 /// What a run answered, of its report the status alone.
 pub fn status_of(answer: Result<Report, RunFault>) -> Result<u8, RunFault> {
     Ok(answer?.status)
 }
 
-/// Runs the job `job` over `files`, with at most `budget` steps.
-pub fn run_over(alloc: Global, files: &[File<'_>], budget: u64) -> Result<Outputs, Fault> {
-    run_named(alloc, files, b"job", budget)
-}
-
-/// How a run has to end.
-#[derive(Clone, Copy)]
-pub enum Ending {
-    /// It finished without a warning: the errors, the steps, and the most bodies open at once.
-    Finished(u64, u64, usize),
-    /// It was stopped: the steps done, and the most bodies open at once.
-    Stopped(u64, usize),
-    /// It went past a limit: the steps done, and the most bodies open at once.
-    Past(Limit, u64, usize),
-    /// There was no top file.
-    NoTopFile,
-}
-
-impl Ending {
-    // The report.
-    fn report(self) -> Report {
-        let (status, end, errors, steps, deepest) = match self {
-            Ending::Finished(0, steps, deepest) => (0, End::Finished, 0, steps, deepest),
-            Ending::Finished(errors, steps, deepest) => (2, End::Finished, errors, steps, deepest),
-            Ending::Stopped(steps, deepest) => (4, End::Stopped, 0, steps, deepest),
-            Ending::Past(limit, steps, deepest) => (3, End::Limit(limit), 0, steps, deepest),
-            Ending::NoTopFile => (3, End::NoTopFile, 0, 0, 0),
-        };
-        Report {
-            status,
-            end,
-            steps,
-            deepest,
-            warnings: 0,
-            errors,
-        }
-    }
-}
-
-// The words for a limit in the log.
-fn limit_words(limit: Limit) -> &'static str {
-    match limit {
-        Limit::Literals => "limit literals",
-        Limit::Calls => "limit calls",
-        Limit::Loops => "limit loops",
-        Limit::String => "limit string",
-        Limit::File => "limit file",
-        Limit::Files => "limit files",
-    }
-}
-
-// The words for an end in the log.
-fn words_of(end: End) -> &'static str {
-    match end {
-        End::Finished => "finished",
-        End::Stopped => "stopped",
-        End::Limit(limit) => limit_words(limit),
-        End::NoTopFile => "no top file",
-    }
-}
-
 // The log's last line.
-fn last_line(alloc: Global, report: &Report) -> Result<String, AllocError> {
-    let words = words_of(report.end);
+fn last_line(alloc: Global, words: &str, report: &Report) -> Result<String, AllocError> {
     let (warnings, errors, steps) = (report.warnings, report.errors, report.steps);
     format!(in alloc; "Ended: {words}, warnings {warnings}, errors {errors}, steps {steps}\n")
 }
@@ -186,31 +83,19 @@ fn behind<'a>(text: &'a [u8], pieces: &[&[u8]]) -> Option<&'a [u8]> {
     Some(rest)
 }
 
-/// Whether a run wrote and answered so; the log is given in pieces, without the last line, which the report gives.
+/// Whether a run wrote and answered so; the log is given in pieces, without the last line, which follows from the report and the words for its end.
 pub fn is_ended(
     alloc: Global,
     ran: &Outputs,
     bbl: &[u8],
     log: &[&[u8]],
     report: Report,
+    words: &str,
 ) -> Result<bool, AllocError> {
-    let last = last_line(alloc, &report)?;
+    let last = last_line(alloc, words, &report)?;
     Ok(
         ran.answer == Ok(report)
             && ran.bbl.as_slice() == bbl
             && behind(ran.log.as_slice(), log) == Some(last.as_bytes()),
     )
-}
-
-/// Asserts what a run wrote and answered; the log is given in pieces, without the last line, which is the ending's.
-pub fn ends_as(
-    rt: &(impl Abort + AllocGlobal),
-    ran: Result<Outputs, Fault>,
-    bbl: &[u8],
-    log: &[&[u8]],
-    ending: Ending,
-) -> Result<(), Fail> {
-    let ran = ran?;
-    assert!(rt; is_ended(rt.alloc(), &ran, bbl, log, ending.report())?);
-    Ok(())
 }

@@ -12,8 +12,6 @@ mod noted_runs;
 #[cfg(test)]
 mod rows;
 #[cfg(test)]
-mod runs;
-#[cfg(test)]
 mod spoilt;
 #[cfg(test)]
 mod worked;

@@ -1,6 +1,6 @@
 //! Jobs that were worked by hand, with all that they write and answer.
 use crate::jobs::{AUX, DATABASE, FILES, Outputs, TOP, is_ended, job_of, options, run_with};
-use btx_run::{End, KeptBytes, Limit, LineLength, Options, Report};
+use btx_run::{End, Limit, Report};
 use btx_tests::texts::joined;
 use btx_text::Fault;
 use std::alloc::{AllocError, Global};
@@ -26,10 +26,8 @@ pub struct Row<'a> {
     /// The style after its READ.
     pub text: &'a [u8],
     pub budget: u64,
-    pub line: u32,
-    pub global_max: u32,
     pub bbl: &'a [u8],
-    /// What the log has after the line of the top file.
+    /// What the log has between the lines of the top file and of the style.
     pub before: &'a [u8],
     /// What the log has after the line of the database, without its last line.
     pub after: &'a [u8],
@@ -50,8 +48,6 @@ pub const USUAL: Row<'static> = Row {
     declared: DECLARED,
     text: b"",
     budget: 1_000_000_000,
-    line: 79,
-    global_max: 20_000,
     bbl: b"",
     before: b"",
     after: b"",
@@ -63,41 +59,32 @@ pub const USUAL: Row<'static> = Row {
 };
 
 impl Ends {
-    // The end, and the status of a run that ends so with `errors` errors.
-    fn end(self, errors: u64) -> (End, u8) {
+    // The end, the status of a run that ends so with `errors` errors, and the words for it in the log.
+    fn end(self, errors: u64) -> (End, u8, &'static str) {
         match self {
-            Ends::Finished => (End::Finished, if errors == 0 { 0 } else { 2 }),
-            Ends::Stopped => (End::Stopped, 4),
-            Ends::Literals => (End::Limit(Limit::Literals), 3),
-            Ends::Calls => (End::Limit(Limit::Calls), 3),
-            Ends::Loops => (End::Limit(Limit::Loops), 3),
-            Ends::String => (End::Limit(Limit::String), 3),
+            Ends::Finished => (End::Finished, if errors == 0 { 0 } else { 2 }, "finished"),
+            Ends::Stopped => (End::Stopped, 4, "stopped"),
+            Ends::Literals => (End::Limit(Limit::Literals), 3, "limit literals"),
+            Ends::Calls => (End::Limit(Limit::Calls), 3, "limit calls"),
+            Ends::Loops => (End::Limit(Limit::Loops), 3, "limit loops"),
+            Ends::String => (End::Limit(Limit::String), 3, "limit string"),
         }
     }
 }
 
 impl Row<'_> {
-    // What the run answers.
-    fn report(&self) -> Report {
-        let (end, status) = self.ends.end(self.errors);
-        Report {
+    // What the run answers, and the words for its end.
+    fn report(&self) -> (Report, &'static str) {
+        let (end, status, words) = self.ends.end(self.errors);
+        let report = Report {
             status,
             end,
             steps: self.steps,
             deepest: self.deepest,
             warnings: self.warnings,
             errors: self.errors,
-        }
-    }
-
-    // What is asked of the run; a number outside its range is the default.
-    fn options(&self) -> Options {
-        let usual = options(self.budget);
-        Options {
-            line: LineLength::new(self.line).unwrap_or(usual.line),
-            global_max: KeptBytes::new(self.global_max).unwrap_or(usual.global_max),
-            ..usual
-        }
+        };
+        (report, words)
     }
 }
 
@@ -110,13 +97,14 @@ pub fn style_of(alloc: Global, row: &Row<'_>) -> Result<Vec<u8>, AllocError> {
 pub fn run_row(alloc: Global, row: &Row<'_>) -> Result<Outputs, Fault> {
     let style = style_of(alloc, row)?;
     let files = job_of(row.aux, &style, row.database);
-    run_with(alloc, &files, b"job", &row.options())
+    run_with(alloc, &files, &options(row.budget))
 }
 
 /// Whether a run wrote and answered what a row says.
 pub fn is_given(alloc: Global, ran: &Outputs, row: &Row<'_>) -> Result<bool, Fault> {
     let log = [TOP, row.before, FILES, row.after];
-    Ok(is_ended(alloc, ran, row.bbl, &log, row.report())?)
+    let (report, words) = row.report();
+    Ok(is_ended(alloc, ran, row.bbl, &log, report, words)?)
 }
 
 /// Whether the job of a row writes and answers what the row says.

@@ -1,6 +1,6 @@
 -- What an assignment leaves.
 use Rattle.std.proofs.Common.{◌≡◌, ◌≢◌, ℕ, zero, suc, List, [], ◌∷◌, drop, take, slice_get, slice_set, Option, Some, None, refl, ap, arith}
-use Rattle.btx_step.proofs.Common.{Callee, Literal, Integer, Text, Function, Said, Job, Store, EntryVariables, Answer, says, with_literals, on_operands, row}
+use Rattle.btx_step.proofs.Common.{Callee, Literal, Integer, Text, Function, StepOutput, Job, Store, EntryVariables, Answer, says, with_literals, on_operands, row}
 use Rattle.btx_bst.specs.declared.built_in.BuiltIn.TheVariants as built_in
 use Rattle.btx_bst.specs.declared.callee.Callee.TheVariants as callee
 use Rattle.btx_step.specs.laws.Leaves.{StandUnder, IsOther}
@@ -25,7 +25,7 @@ nothing_above : (below : List Literal) → StandUnder below below
 nothing_above below = record { results = []; few = omega arith; above = refl }
 
 -- entries are as they were
-untouched : (changed : Option ℕ) (words : Said) (s : Store) → Leaves s.literals s.current s.entries s.deepest changed (says words s)
+untouched : (changed : Option ℕ) (words : StepOutput) (s : Store) → Leaves s.literals s.current s.entries s.deepest changed (says words s)
 untouched changed words s = record { stand = nothing_above s.literals; stays = refl; deep = refl; others = λ entry apart. refl }
 
 entry_integer : (i entry : ℕ) (v : Literal) (s : Store)

@@ -11,7 +11,7 @@ pub use Rattle.btx_step.specs.declared.operands.Default.TheVariants.{Back, Push}
 pub use Rattle.btx_step.specs.declared.operands.Operand.{Operand}
 pub use Rattle.btx_step.specs.declared.operands.Operand.TheVariants.{Any, Of}
 pub use Rattle.btx_step.specs.declared.said.Note.{Note}
-pub use Rattle.btx_step.specs.declared.said.Said.{Said}
+pub use Rattle.btx_step.specs.declared.said.StepOutput.{StepOutput}
 pub use Rattle.btx_step.specs.declared.stand_in.StandIn.{StandIn}
 pub use Rattle.btx_step.specs.language.Answers.{Answer, answer, done, pushed, pushes, pushes_text, quiet, says, with_literals}
 pub use Rattle.btx_step.specs.language.Entries.{finds_missing}

@@ -1,11 +1,11 @@
 -- What the steps that assign nothing leave: all but the literals, and the literals below their operands.
 use Rattle.std.proofs.Common.{◌≡◌, ℕ, true, false, Bool, cond, nat_lt, List, [], ◌∷◌, length, drop, Option, Some, None, refl, arith}
-use Rattle.btx_step.proofs.Common.{BuiltIn, Literal, Integer, Text, Missing, Next, Said, StandIn, Job, Store, Answer, answer, with_literals, pushes}
+use Rattle.btx_step.proofs.Common.{BuiltIn, Literal, Integer, Text, Missing, Next, StepOutput, StandIn, Job, Store, Answer, answer, with_literals, pushes}
 use Rattle.btx_step.proofs.Common.{pushes_text, Operand, Push, Back, Does, on_operands, row, misses_entry}
 use Rattle.btx_bst.specs.declared.built_in.BuiltIn.TheVariants as built_in
 use Rattle.btx_step.specs.declared.next.Next.TheVariants as next
 use Rattle.btx_text.specs.declared.limits.Limit.TheVariants as limit
-use Rattle.btx_step.specs.declared.said.Said.TheVariants as said
+use Rattle.btx_step.specs.declared.said.StepOutput.TheVariants as step_output
 use Rattle.btx_step.specs.laws.Leaves.{StandUnder}
 use Rattle.btx_step.specs.refinement.Entries as kept_entries
 use Rattle.btx_step.specs.refinement.Stacks as stacks
@@ -20,22 +20,22 @@ pub record Keeps (all : Store) (below : List Literal) (a : Answer) : Type 0 wher
 -- ---- answers
 
 -- no result
-pub answered : (next : Next) (words : Said) (s : Store) → Keeps (with_literals [] s) s.literals (answer next words s)
+pub answered : (next : Next) (words : StepOutput) (s : Store) → Keeps (with_literals [] s) s.literals (answer next words s)
 answered next words s = record { rest = refl; stand = record { results = []; few = omega arith; above = refl } }
 
 -- one result
-one_more : (next : Next) (words : Said) (v : Literal) (s : Store) → Keeps (with_literals [] s) s.literals (answer next words (with_literals (v ∷ s.literals) s))
+one_more : (next : Next) (words : StepOutput) (v : Literal) (s : Store) → Keeps (with_literals [] s) s.literals (answer next words (with_literals (v ∷ s.literals) s))
 one_more next words v s = record { rest = refl; stand = record { results = v ∷ []; few = omega arith; above = refl } }
 
 either : {all : Store} {below : List Literal} (b : Bool) (x y : Answer) → Keeps all below x → Keeps all below y → Keeps all below (cond b x y)
 either true x y one other = one
 either false x y one other = other
 
-pub pushing : (words : Said) (v : Literal) (s : Store) → Keeps (with_literals [] s) s.literals (pushes words v s)
+pub pushing : (words : StepOutput) (v : Literal) (s : Store) → Keeps (with_literals [] s) s.literals (pushes words v s)
 pushing words v s = either (nat_lt (length s.literals) 1000) _ _ (one_more next.Nothing words v s) (answered (next.End limit.Literals) words s)
 
-pub pushing_text : (words : Said) (text : List ℕ) (s : Store) → Keeps (with_literals [] s) s.literals (pushes_text words text s)
-pushing_text words text s = either (nat_lt 1000000 (length text)) _ _ (answered (next.End limit.String) said.Nothing s) (pushing words (Text text) s)
+pub pushing_text : (words : StepOutput) (text : List ℕ) (s : Store) → Keeps (with_literals [] s) s.literals (pushes_text words text s)
+pushing_text words text s = either (nat_lt 1000000 (length text)) _ _ (answered (next.End limit.String) step_output.Nothing s) (pushing words (Text text) s)
 
 -- ---- operands
 
@@ -55,7 +55,7 @@ plain = record {
   integer = λ words n s r. pushing words (Integer n) s;
   string = λ words text s r. pushing words (Text text) s;
   text = λ words text s r. pushing_text words text s;
-  missing = λ s r. pushing said.Nothing Missing s;
+  missing = λ s r. pushing step_output.Nothing Missing s;
 }
 
 abbrev pub KeepsEach : (operands : List Operand) → Does operands → Type 0
@@ -89,8 +89,8 @@ swaps (x ∷ y ∷ xs) s = record { rest = refl; stand = record { results = y �
 -- ---- entries and variables
 
 type_run : (f : Option ℕ) (s : Store) → Keeps (with_literals [] s) s.literals (kept_entries.runs_type f s)
-type_run None s = answered next.Nothing said.Nothing s
-type_run (Some f) s = answered _ said.Nothing s
+type_run None s = answered next.Nothing step_output.Nothing s
+type_run (Some f) s = answered _ step_output.Nothing s
 
 pub calls_type : (job : Job) (current : Option ℕ) (s : Store) → Keeps (with_literals [] s) s.literals (kept_entries.calls_type job current s)
 calls_type job None s = answered next.Nothing _ s
@@ -112,8 +112,8 @@ pub row_kept : (job : Job) (f : BuiltIn) → TakesItsOwn f → KeepsEach (row f)
 row_kept job built_in.Assign own = absurd own
 row_kept job built_in.CallType own = λ s r. calls_type job s.current s
 row_kept job built_in.Duplicate own = λ v p s r. duplicated v s
-row_kept job built_in.If own = λ f p g q n t s r. answered _ said.Nothing s
+row_kept job built_in.If own = λ f p g q n t s r. answered _ step_output.Nothing s
 row_kept job built_in.Stack own = absurd own
 row_kept job built_in.Swap own = λ x p y q s r. record { rest = refl; stand = record { results = y ∷ x ∷ []; few = omega arith; above = refl } }
-row_kept job built_in.While own = λ body p test q s r. answered _ said.Nothing s
+row_kept job built_in.While own = λ body p test q s r. answered _ step_output.Nothing s
 row_kept job f own = plain_row Any_below Kept plain Any_taken job f tt

@@ -6,7 +6,7 @@ use Rattle.btx_bst.specs.declared.callee.Callee.TheVariants as callee
 use Rattle.btx_bst.specs.declared.token.Token.{Token}
 use Rattle.btx_bst.specs.declared.token.Token.TheVariants as token
 use Rattle.btx_step.specs.declared.next.Next.TheVariants as next
-use Rattle.btx_step.specs.declared.said.Said.TheVariants as said
+use Rattle.btx_step.specs.declared.said.StepOutput.TheVariants as step_output
 use Rattle.btx_step.specs.declared.stand_in.StandIn.TheVariants as stand_in
 use Rattle.btx_step.specs.language.Steps.{step_of}
 use Rattle.btx_step.specs.laws.Leaves.{is_assignment, is_listing, operands_taken, VariablesStay, OtherEntriesStay, CurrentStays, DeepestStays}
@@ -39,19 +39,19 @@ run_kept : (job : Job) (f : Callee) (s : Store) → is_assignment (token.Run f) 
     → Keeps (with_literals [] s) (drop (operands_taken (token.Run f)) s.literals) (function_run job f s)
 unfolding function_run
 run_kept job (callee.BuiltIn f) s a l = built_in_kept job f s a l
-run_kept job (callee.User i) s a l = keep.answered (next.Open i) said.Nothing s
+run_kept job (callee.User i) s a l = keep.answered (next.Open i) step_output.Nothing s
 run_kept job (callee.Field i) s a l = plain.field keep.Any_below keep.Kept keep.plain job i s.current s tt
 run_kept job (callee.EntryInteger i) s a l = plain.entry_integer keep.Any_below keep.Kept keep.plain i s.current s tt
 run_kept job (callee.EntryString i) s a l = plain.entry_string keep.Any_below keep.Kept keep.plain i s.current s tt
-run_kept job (callee.GlobalInteger i) s a l = keep.pushing said.Nothing _ s
-run_kept job (callee.GlobalString i) s a l = keep.pushing said.Nothing _ s
+run_kept job (callee.GlobalInteger i) s a l = keep.pushing step_output.Nothing _ s
+run_kept job (callee.GlobalString i) s a l = keep.pushing step_output.Nothing _ s
 
 kept : (job : Job) (t : Token) (s : Store) → is_assignment t ≡ false → is_listing t ≡ false
     → Keeps (with_literals [] s) (drop (operands_taken t) s.literals) (step_of job t s)
 unfolding step_of
-kept job (token.Text i) s a l = keep.pushing_text said.Nothing _ s
-kept job (token.Integer n) s a l = keep.pushing said.Nothing _ s
-kept job (token.Quote f) s a l = keep.pushing said.Nothing _ s
+kept job (token.Text i) s a l = keep.pushing_text step_output.Nothing _ s
+kept job (token.Integer n) s a l = keep.pushing step_output.Nothing _ s
+kept job (token.Quote f) s a l = keep.pushing step_output.Nothing _ s
 kept job (token.Run f) s a l = run_kept job f s a l
 
 -- ---- the laws

@@ -2,7 +2,7 @@
 use Rattle.std.proofs.Common.{◌≡◌, ℕ, ℤ, ◌<◌, Bool, true, false, cond, nat_lt, List, [], ◌∷◌, length, take, Option, Some, None, refl, arith, sym}
 use Rattle.std.proofs.Common.{subst}
 use Rattle.std.specs.Prelude.{slice_get, slice_index_or}
-use Rattle.btx_step.proofs.Common.{BuiltIn, Callee, Literal, OperandKind, Next, Note, Said, StandIn, Job, Store, Answer, answer, quiet, says, with_literals, pushes}
+use Rattle.btx_step.proofs.Common.{BuiltIn, Callee, Literal, OperandKind, Next, Note, StepOutput, StandIn, Job, Store, Answer, answer, quiet, says, with_literals, pushes}
 use Rattle.btx_step.proofs.Common.{pushes_text, Operand, Push, Back, Does, on_operands, row, runs_missing, built_in_run, function_run, misses_entry}
 use Rattle.btx_text.specs.language.Limits.{greatest_string}
 use Rattle.btx_bst.specs.declared.built_in.BuiltIn.TheVariants as built_in
@@ -15,7 +15,7 @@ use Rattle.btx_step.specs.declared.literal.OperandKind.TheVariants as wanted
 use Rattle.btx_text.specs.declared.limits.Limit.TheVariants as limit
 use Rattle.btx_step.specs.declared.next.Next.TheVariants as next
 use Rattle.btx_step.specs.declared.said.Note.TheVariants as note
-use Rattle.btx_step.specs.declared.said.Said.TheVariants as said
+use Rattle.btx_step.specs.declared.said.StepOutput.TheVariants as step_output
 use Rattle.btx_step.specs.declared.stand_in.StandIn.TheVariants as stand_in
 use Rattle.btx_step.specs.language.Answers.{complains}
 use Rattle.btx_step.proofs.RuleLemmas.{Each, Taken, by_rule, pushed_by}
@@ -91,17 +91,17 @@ module _ (r : ℕ) where
   pick true x y h k = h
   pick false x y h k = k
 
-  pushes_low : (words : Said) (v : Literal) (s : Store) → Under 0 v → Free s.literals → Low r (pushes words v s)
+  pushes_low : (words : StepOutput) (v : Literal) (s : Store) → Under 0 v → Free s.literals → Low r (pushes words v s)
   pushes_low words v s u h = pick (nat_lt (length s.literals) 1000) (says words (with_literals (v ∷ s.literals) s)) (answer (next.End limit.Literals) words s)
       (tt, (u, h)) (tt, h)
 
-  integer_low : (words : Said) (n : ℤ) (s : Store) → Free s.literals → Low r (pushes words (literal.Integer n) s)
+  integer_low : (words : StepOutput) (n : ℤ) (s : Store) → Free s.literals → Low r (pushes words (literal.Integer n) s)
   integer_low words n s h = pushes_low words (literal.Integer n) s tt h
 
-  string_low : (words : Said) (text : List ℕ) (s : Store) → Free s.literals → Low r (pushes words (literal.Text text) s)
+  string_low : (words : StepOutput) (text : List ℕ) (s : Store) → Free s.literals → Low r (pushes words (literal.Text text) s)
   string_low words text s h = pushes_low words (literal.Text text) s tt h
 
-  text_low : (words : Said) (text : List ℕ) (s : Store) → Free s.literals → Low r (pushes_text words text s)
+  text_low : (words : StepOutput) (text : List ℕ) (s : Store) → Free s.literals → Low r (pushes_text words text s)
   text_low words text s h = pick (nat_lt greatest_string (length text)) (quiet (next.End limit.String) s) (pushes words (literal.Text text) s) (tt, h)
       (string_low words text s h)
 
@@ -114,7 +114,7 @@ module _ (r : ℕ) where
     integer = integer_low;
     string = string_low;
     text = text_low;
-    missing = λ s h. pushes_low said.Nothing literal.Missing s tt h;
+    missing = λ s h. pushes_low step_output.Nothing literal.Missing s tt h;
   }
 
   complains_low : (note : Note) (instead : StandIn) (s : Store) → Free s.literals → Low r (complains note instead s)
@@ -216,7 +216,7 @@ module _ (r : ℕ) where
   row_low : (job : Job) (f : BuiltIn) → IsCalm f → Each_low (Under 0) (row f).operands ((row f).does job)
   row_low job built_in.Assign c = λ f u x v s h. assigned_low job f x s h
   row_low job built_in.CallType c = absurd c
-  row_low job built_in.Duplicate c = λ x u s h. pushes_low said.Nothing x (with_literals (x ∷ s.literals) s) u (u, h)
+  row_low job built_in.Duplicate c = λ x u s h. pushes_low step_output.Nothing x (with_literals (x ∷ s.literals) s) u (u, h)
   row_low job built_in.If c = λ f u g v n w s h. (chosen_below (control.is_positive n) g f (below_more r g v) (below_more r f u), h)
   row_low job built_in.Stack c = λ s h. (tt, tt)
   row_low job built_in.Swap c = λ x u y v s h. (tt, (v, (u, h)))
@@ -238,8 +238,8 @@ module _ (r : ℕ) where
   run_low job (callee.Field i) s b h = plain.field Free Lowers pushed_low job i s.current s h
   run_low job (callee.EntryInteger i) s b h = plain.entry_integer Free Lowers pushed_low i s.current s h
   run_low job (callee.EntryString i) s b h = plain.entry_string Free Lowers pushed_low i s.current s h
-  run_low job (callee.GlobalInteger i) s b h = integer_low said.Nothing (kept_variables.integer_in (slice_get s.integers i)) s h
-  run_low job (callee.GlobalString i) s b h = string_low said.Nothing (kept_variables.string_in (slice_get s.strings i)) s h
+  run_low job (callee.GlobalInteger i) s b h = integer_low step_output.Nothing (kept_variables.integer_in (slice_get s.integers i)) s h
+  run_low job (callee.GlobalString i) s b h = string_low step_output.Nothing (kept_variables.string_in (slice_get s.strings i)) s h
 
   -- an `if$` or a `while$`, over two of the first functions
   pub choice_low : (job : Job) (f : BuiltIn) (s : Store) → So (is_choice (Some (token.Run (callee.BuiltIn f)))) → TwoUnder s.literals
@@ -263,9 +263,9 @@ module _ (r : ℕ) where
 
   pub step_low : (job : Job) (x : Token) (s : Store) → Alone x → Free s.literals → Low r (step_of job x s)
   unfolding step_of
-  step_low job (token.Text i) s a h = text_low said.Nothing (slice_index_or job.style.texts i []) s h
-  step_low job (token.Integer n) s a h = integer_low said.Nothing n s h
-  step_low job (token.Quote f) s a h = pushes_low said.Nothing (literal.Function f) s a h
+  step_low job (token.Text i) s a h = text_low step_output.Nothing (slice_index_or job.style.texts i []) s h
+  step_low job (token.Integer n) s a h = integer_low step_output.Nothing n s h
+  step_low job (token.Quote f) s a h = pushes_low step_output.Nothing (literal.Function f) s a h
   step_low job (token.Run f) s a h = run_low job f s a h
 
 -- so is what a loop's test leaves

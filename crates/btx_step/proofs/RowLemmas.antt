@@ -8,7 +8,7 @@ use Rattle.btx_bst.specs.declared.built_in.BuiltIn.TheVariants as built_in
 use Rattle.btx_bst.specs.declared.callee.Callee.TheVariants as callee
 use Rattle.btx_text.specs.declared.limits.Limit.TheVariants as limit
 use Rattle.btx_step.specs.declared.next.Next.TheVariants as next
-use Rattle.btx_step.specs.declared.said.Said.TheVariants as said
+use Rattle.btx_step.specs.declared.said.StepOutput.TheVariants as step_output
 use Rattle.btx_step.specs.language.Answers.{pushed_text}
 use Rattle.btx_step.specs.language.Variables as variables
 use Rattle.btx_step.specs.refinement.Variables as kept_variables
@@ -27,7 +27,7 @@ swap_twice job x y xs s e =
 -- a literal that has room is pushed
 pushed_done : (v : Literal) (s : Store) → length s.literals < 1000 → pushed v s ≡ done (with_literals (v ∷ s.literals) s)
 pushed_done v s room =
-    ap (λ b. cond b (says said.Nothing (with_literals (v ∷ s.literals) s)) (answer (next.End limit.Literals) said.Nothing s))
+    ap (λ b. cond b (says step_output.Nothing (with_literals (v ∷ s.literals) s)) (answer (next.End limit.Literals) step_output.Nothing s))
     (lt-ltb (length s.literals) 1000 room)
 
 pub duplicate_pop : DuplicatePop

@@ -23,6 +23,6 @@ pub use kept_bytes::KeptBytes;
 pub use literal::{Literal, OperandKind};
 pub use next::Next;
 pub use outcome::Outcome;
-pub use said::{Note, Notes, Said};
+pub use said::{Note, Notes, StepOutput};
 pub use store::Store;
 pub use values::EntryValues;

@@ -1,16 +1,16 @@
 //! What a step gives beside the store.
 ghost use Rattle.std.specs.Prelude.{◌≡◌};
-ghost use Rattle.btx_step.specs.declared.said.Said.TheVariants as words;
+ghost use Rattle.btx_step.specs.declared.said.StepOutput.TheVariants as words;
 
 use crate::next::Next;
-use crate::said::Said;
+use crate::said::StepOutput;
 use std::alloc::AllocError;
 
 /// What follows a step, and what it says.
 #[derive(Drop)]
 pub struct Outcome<'a> {
     pub next: Next,
-    pub said: Said<'a>,
+    pub said: StepOutput<'a>,
 }
 
 /// What a step answers: its outcome, unless memory is refused.
@@ -24,12 +24,12 @@ impl<'a> Outcome<'a> {
     {
         Outcome {
             next,
-            said: Said::Nothing,
+            said: StepOutput::Nothing,
         }
     }
 
     /// Makes the outcome of a step that says something.
-    pub fn saying(next: Next, said: Said<'a>) -> Self
+    pub fn saying(next: Next, said: StepOutput<'a>) -> Self
         ensures next { result.next ≡ next }
         ensures said { result.said ≡ said.entry }
     {

@@ -64,7 +64,7 @@ impl<'a> Model for Notes<'a> {
 
 /// What a step says: nothing, a text that is appended to the pending line, the end of that line, or lines of the log.
 #[derive(Drop)]
-pub enum Said<'a> {
+pub enum StepOutput<'a> {
     Nothing,
     Wrote(Text<'a>),
     EndedLine,

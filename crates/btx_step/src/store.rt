@@ -9,7 +9,7 @@ ghost use Rattle.btx_step.specs.refinement.Quick.{next_of_push};
 ghost use Rattle.btx_step.specs.language.Steps.{built_in_run, function_run, step_of};
 ghost use Rattle.btx_step.specs.refinement.Steps.{with_current, with_depth};
 ghost use Rattle.btx_stack.specs.declared.literal.Literal.TheVariants as literal;
-ghost use Rattle.btx_step.specs.declared.said.Said.{Said as Words};
+ghost use Rattle.btx_step.specs.declared.said.StepOutput.{StepOutput as Words};
 
 mod apart;
 mod arithmetic;
@@ -29,7 +29,7 @@ use crate::job::Job;
 use crate::literal::Literal;
 use crate::next::Next;
 use crate::outcome::{Outcome, Stepped};
-use crate::said::{Note, Notes, Said};
+use crate::said::{Note, Notes, StepOutput};
 use crate::stand_in::StandIn;
 use crate::values::EntryValues;
 use btx_bst::{BuiltIn, Callee, Token};
@@ -108,7 +108,7 @@ impl<'a> Store<'a> {
         if function == BuiltIn::Missing && self.current.is_none() {
             return self.miss_entry_for_missing();
         }
-        match self.misfit(function)? {
+        match self.check_operands(function)? {
             Some(outcome) => Ok(outcome),
             None => self.apply(job, function),
         }
@@ -141,7 +141,7 @@ impl<'a> Store<'a> {
             BuiltIn::IntToChr => self.push_character(),
             BuiltIn::IntToStr => self.push_decimal(),
             BuiltIn::Missing => self.find_missing(),
-            BuiltIn::NewLine => Ok(Outcome::saying(Next::Nothing, Said::EndedLine)),
+            BuiltIn::NewLine => Ok(Outcome::saying(Next::Nothing, StepOutput::EndedLine)),
             BuiltIn::NumNames => self.count_names(),
             BuiltIn::Pop => self.drop_top(),
             BuiltIn::Preamble => Ok(self.push_preamble(job)),
@@ -279,7 +279,7 @@ impl<'a> Store<'a> {
             StandIn::Zero => self.push_number(0).next,
             StandIn::Empty => self.push_lent(&[]).next,
         };
-        Outcome::saying(next, Said::Noted(notes))
+        Outcome::saying(next, StepOutput::Noted(notes))
     }
 
     // A line of the log, and what stands in for a result.

@@ -1,114 +1,13 @@
 //! What the `.aux` files of a job say, and files in memory. A helper answers whether a job says what it is to say, so no test holds a job or a finder.
-use crate::finders::{EveryFinder, FaultyFinder};
+use crate::finders::FaultyFinder;
 use crate::texts::joined;
-use btx_aux::{AuxJob, End, FetchFault, Finder, History, MemoryFinder, read_aux};
+use btx_aux::{AuxJob, End, FetchFault, Finder, MemoryFinder, read_aux};
 use btx_text::{Failures, Fault, LineKind, LogLine};
-use std::alloc::{AllocError, Global};
-use std::ops::Range;
+use std::alloc::Global;
 use std::test::Fail;
 
 // How many lines, errors and keys a job has, and how its reading ended.
 type Counts = (usize, usize, usize, End);
-
-// A top file's first lines, before one for a database and one for a style; its keys, its log and its counts, in the form of `Wanted::Job`.
-#[derive(Clone, Copy)]
-struct Row {
-    lines: &'static [u8],
-    keys: &'static [u8],
-    log: &'static [u8],
-    counts: Counts,
-}
-
-// The worked rows.
-const ROWS: [Row; 14] = [
-    Row {
-        lines: b"\\citation{k,K}",
-        keys: b"k;",
-        log: b"The top-level auxiliary file: job.aux\n!Error--Case mismatch error between cite keys k and K--line 1 of file job.aux\n",
-        counts: (2, 1, 1, End::Whole),
-    },
-    // Keys with capital letters after some without.
-    Row {
-        lines: b"\\citation{a,b,C,a,c,B,C,d}",
-        keys: b"a;b;C;d;",
-        log: b"The top-level auxiliary file: job.aux\n!Error--Case mismatch error between cite keys C and c--line 1 of file job.aux\n!Error--Case mismatch error between cite keys b and B--line 1 of file job.aux\n",
-        counts: (3, 2, 4, End::Whole),
-    },
-    Row {
-        lines: b"\\citation{k, j}",
-        keys: b"k;",
-        log: b"The top-level auxiliary file: job.aux\n!Error--White space in argument--line 1 of file job.aux\n",
-        counts: (2, 1, 1, End::Whole),
-    },
-    Row {
-        lines: b"\\citation{k",
-        keys: b"",
-        log: b"The top-level auxiliary file: job.aux\n!Error--No \"}\"--line 1 of file job.aux\n!Error--I found no \\citation commands\n",
-        counts: (3, 2, 0, End::Whole),
-    },
-    Row {
-        lines: b"\\citation{k \t\r",
-        keys: b"",
-        log: b"The top-level auxiliary file: job.aux\n!Error--No \"}\"--line 1 of file job.aux\n!Error--I found no \\citation commands\n",
-        counts: (3, 2, 0, End::Whole),
-    },
-    Row {
-        lines: b"\\citation{k} x",
-        keys: b"",
-        log: b"The top-level auxiliary file: job.aux\n!Error--Stuff after \"}\"--line 1 of file job.aux\n!Error--I found no \\citation commands\n",
-        counts: (3, 2, 0, End::Whole),
-    },
-    Row {
-        lines: b"\\citation\n\\citations{x}\n {\\citation{y}\nx\\citation{z}",
-        keys: b"",
-        log: b"The top-level auxiliary file: job.aux\n!Error--I found no \\citation commands\n",
-        counts: (2, 1, 0, End::Whole),
-    },
-    Row {
-        lines: b"\\citation{a,*,b,*}",
-        keys: b"a;b;",
-        log: b"The top-level auxiliary file: job.aux\n!Error--Multiple inclusions of entire database--line 1 of file job.aux\n",
-        counts: (2, 1, 2, End::Whole),
-    },
-    Row {
-        lines: b"\\citation{,k,}\n\\citation{}",
-        keys: b";k;",
-        log: b"The top-level auxiliary file: job.aux\n",
-        counts: (1, 0, 2, End::Whole),
-    },
-    Row {
-        lines: b"\\citation{\x00,\x80,\xc9,\xe9}",
-        keys: b"\x00;\x80;\xc9;\xe9;",
-        log: b"The top-level auxiliary file: job.aux\n",
-        counts: (1, 0, 4, End::Whole),
-    },
-    Row {
-        lines: b"\\citation{k}\r\n\\citation{j}\r",
-        keys: b"k;j;",
-        log: b"The top-level auxiliary file: job.aux\n",
-        counts: (1, 0, 2, End::Whole),
-    },
-    Row {
-        lines: b"\\citation{k}\n\\bibdata{e,e.bib,,f}",
-        keys: b"k;",
-        log: b"The top-level auxiliary file: job.aux\n!Error--This database file appears more than once: e.bib--line 2 of file job.aux\n!Error--Illegal, another \\bibdata command--line 3 of file job.aux\n",
-        counts: (3, 2, 1, End::Whole),
-    },
-    Row {
-        lines: b"\\citation{k}\n\\bibstyle{t t}",
-        keys: b"k;",
-        log: b"The top-level auxiliary file: job.aux\n!Error--White space in argument--line 2 of file job.aux\n!Error--Illegal, another \\bibstyle command--line 4 of file job.aux\n",
-        counts: (3, 2, 1, End::Whole),
-    },
-    Row {
-        lines: b"\\citation{k}\n\\@input{x}\n\\@input{}\n\\@input{x.aux}\n\\@input{x.aux}\n\\@input{job.aux}",
-        keys: b"k;",
-        log: b"The top-level auxiliary file: job.aux\n!Error--x has a wrong extension--line 2 of file job.aux\n!Error-- has a wrong extension--line 3 of file job.aux\n!Error--I couldn't open auxiliary file x.aux--line 4 of file job.aux\n!Error--Already encountered file x.aux--line 5 of file job.aux\n!Error--Already encountered file job.aux--line 6 of file job.aux\n",
-        counts: (6, 5, 1, End::Whole),
-    },
-];
-
-const FOUND_TOP: &[u8] = b"The top-level auxiliary file: job.aux\n";
 
 // What a job is to say: keys, each with a semicolon; the log's lines, each with its end and an error after a `!`; and databases, each with a
 // semicolon, with the style after a colon.
@@ -116,8 +15,6 @@ const FOUND_TOP: &[u8] = b"The top-level auxiliary file: job.aux\n";
 enum Wanted<'a> {
     // Its keys, its log and its counts.
     Job(&'a [u8], &'a [u8], Counts),
-    // Its keys and its counts.
-    Keys(&'a [u8], Counts),
     // Its databases and its style, and the place of `*`.
     Files(&'a [u8], Option<usize>),
     // A key's lowered form, and its place.
@@ -191,7 +88,6 @@ fn job_says(job: &AuxJob, wanted: Wanted<'_>) -> bool {
         Wanted::Job(keys, log, counts) => {
             has_keys(job, keys, counts) && is_all(behind_lines(log, job.log()))
         }
-        Wanted::Keys(keys, counts) => has_keys(job, keys, counts),
         Wanted::Files(files, all) => has_files(job, files) && job.all() == all,
         Wanted::Place(lowered, place) => job.position(lowered) == place,
     }
@@ -254,51 +150,6 @@ fn through() -> [File<'static>; 3] {
         ),
         (b"a.aux", b"\\citation{k}\n\\@input{job.aux}\n"),
     ]
-}
-
-// A chain of files, each of which inputs the next.
-const CHAIN: [File<'static>; 21] = [
-    (b"job.aux", b"\\@input{f1.aux}\n\\citation{k0}"),
-    (b"f1.aux", b"\\@input{f2.aux}\n\\citation{k1}"),
-    (b"f2.aux", b"\\@input{f3.aux}\n\\citation{k2}"),
-    (b"f3.aux", b"\\@input{f4.aux}\n\\citation{k3}"),
-    (b"f4.aux", b"\\@input{f5.aux}\n\\citation{k4}"),
-    (b"f5.aux", b"\\@input{f6.aux}\n\\citation{k5}"),
-    (b"f6.aux", b"\\@input{f7.aux}\n\\citation{k6}"),
-    (b"f7.aux", b"\\@input{f8.aux}\n\\citation{k7}"),
-    (b"f8.aux", b"\\@input{f9.aux}\n\\citation{k8}"),
-    (b"f9.aux", b"\\@input{f10.aux}\n\\citation{k9}"),
-    (b"f10.aux", b"\\@input{f11.aux}\n\\citation{k10}"),
-    (b"f11.aux", b"\\@input{f12.aux}\n\\citation{k11}"),
-    (b"f12.aux", b"\\@input{f13.aux}\n\\citation{k12}"),
-    (b"f13.aux", b"\\@input{f14.aux}\n\\citation{k13}"),
-    (b"f14.aux", b"\\@input{f15.aux}\n\\citation{k14}"),
-    (b"f15.aux", b"\\@input{f16.aux}\n\\citation{k15}"),
-    (b"f16.aux", b"\\@input{f17.aux}\n\\citation{k16}"),
-    (b"f17.aux", b"\\@input{f18.aux}\n\\citation{k17}"),
-    (b"f18.aux", b"\\@input{f19.aux}\n\\citation{k18}"),
-    (b"f19.aux", b"\\@input{f20.aux}\n\\citation{k19}"),
-    (b"f20.aux", b"\\@input{f21.aux}\n\\citation{k20}"),
-];
-
-// The number of the first row that isn't so, which is that of all where each is.
-fn first_wrong_row(alloc: Global, rows: &[Row]) -> usize {
-    for (number, row) in rows.iter().enumerate() {
-        if !lines_say(alloc, row.lines, Wanted::Job(row.keys, row.log, row.counts)) {
-            return number;
-        }
-    }
-    rows.len()
-}
-
-fn wrong_row(alloc: Global) -> usize {
-    first_wrong_row(alloc, &ROWS)
-}
-
-#[test]
-fn logs_what_is_wrong(rt: HostRuntime) {
-    let row = wrong_row(rt.alloc());
-    assert!(rt; row == 14, "row {row}");
 }
 
 const PARTS: &[u8] = b"\\citation{a,B}\n\\citation{*,c}\n\\bibdata{x,y.bib}";
@@ -368,80 +219,6 @@ fn reads_no_file_twice(rt: HostRuntime) {
     assert!(rt; says(rt.alloc(), &through(), through_job()) == true);
 }
 
-// Adds a text, in which these digits stand in the place of each `#`.
-fn add_numbered(whole: &mut Vec<u8>, digits: &[u8], text: &[u8]) -> Result<(), AllocError> {
-    for byte in text {
-        let piece = [*byte];
-        let added = if *byte == b'#' {
-            digits
-        } else {
-            piece.as_slice()
-        };
-        whole.extend_from_slice(added)?;
-    }
-    Ok(())
-}
-
-// Adds a text, in which a number stands in the place of each `#`.
-fn add_number(alloc: Global, whole: &mut Vec<u8>, number: u32, text: &[u8]) -> Result<(), Fail> {
-    let digits = format!(in alloc; "{number}")?;
-    Ok(add_numbered(whole, digits.as_bytes(), text)?)
-}
-
-// A text once for each of these numbers, which stands there in the place of each `#`.
-fn numbered(alloc: Global, numbers: Range<u32>, text: &[u8]) -> Result<Vec<u8>, Fail> {
-    let mut whole = Vec::new(alloc);
-    for number in numbers {
-        add_number(alloc, &mut whole, number, text)?;
-    }
-    Ok(whole)
-}
-
-// A log of the top file, the nineteen files after it, and these lines.
-fn chain_log(alloc: Global, lines: &[u8]) -> Result<Vec<u8>, Fail> {
-    let found = numbered(alloc, 1..20, b"A level-# auxiliary file: f#.aux\n")?;
-    Ok(joined(alloc, &[FOUND_TOP, &found, lines])?)
-}
-
-// Whether the chain of all files stops so.
-fn chain_stops(alloc: Global, log: &[u8]) -> bool {
-    says(
-        alloc,
-        &CHAIN,
-        Wanted::Job(b"", log, (20, 0, 0, End::TooManyOpen)),
-    )
-}
-
-#[test]
-fn opens_twenty_files(rt: HostRuntime) -> Result<(), Fail> {
-    let log = chain_log(rt.alloc(), b"")?;
-    assert!(rt; chain_stops(rt.alloc(), &log) == true);
-    Ok(())
-}
-
-// The log's last lines for a chain of twenty files, the last of which inputs one that isn't there.
-fn missing_file() -> &'static [u8] {
-    b"!Error--I couldn't open auxiliary file f20.aux--line 1 of file f19.aux\n!Error--I found no \\bibdata command\n!Error--I found no \\bibstyle command\n"
-}
-
-// The keys of the twenty files.
-fn twenty_keys() -> &'static [u8] {
-    b"k19;k18;k17;k16;k15;k14;k13;k12;k11;k10;k9;k8;k7;k6;k5;k4;k3;k2;k1;k0;"
-}
-
-// Whether the chain of twenty files ends so.
-fn chain_ends(alloc: Global, log: &[u8]) -> bool {
-    let wanted = Wanted::Job(twenty_keys(), log, (23, 3, 20, End::Whole));
-    says(alloc, &CHAIN[..20], wanted)
-}
-
-#[test]
-fn goes_on_behind_the_twentieth(rt: HostRuntime) -> Result<(), Fail> {
-    let log = chain_log(rt.alloc(), missing_file())?;
-    assert!(rt; chain_ends(rt.alloc(), &log) == true);
-    Ok(())
-}
-
 // How a read ended whose finder fails: its fault, and how often the finder was asked and failed.
 type Tried = (Option<Fault>, u64, u64);
 
@@ -477,60 +254,6 @@ fn is_met(alloc: Global, fault: FetchFault, met: Fault, failures: u64) -> bool {
 fn stops_at_a_fault_of_a_fetch(rt: HostRuntime) {
     assert!(rt; is_met(rt.alloc(), FetchFault::Device, Fault::Device, 1));
     assert!(rt; is_met(rt.alloc(), FetchFault::Memory, Fault::Memory, 0));
-}
-
-// Whether a job of 100,000 lines has these keys.
-fn many_say(alloc: Global, top: &[u8], keys: &[u8]) -> bool {
-    let counts = (100_003, 100_002, 100_000, End::Whole);
-    keys.len() == 888_890 && top_says(alloc, top, Wanted::Keys(keys, counts))
-}
-
-// Each line cites a key, the same in another case, and the first again.
-#[test]
-fn reads_many_citations(rt: HostRuntime) -> Result<(), Fail> {
-    let top = numbered(rt.alloc(), 0..100_000, b"\\citation{Key#,key#,Key#}\n")?;
-    let keys = numbered(rt.alloc(), 0..100_000, b"Key#;")?;
-    assert!(rt; many_say(rt.alloc(), &top, &keys) == true);
-    Ok(())
-}
-
-// Whether a top file that inputs 5,000 others has the key of these alone.
-fn inputs_say(alloc: Global, top: &[u8]) -> bool {
-    let mut finder = EveryFinder {
-        name: b"job.aux",
-        bytes: top,
-        others: b"\\citation{k}",
-        history: History::new(alloc),
-    };
-    let wanted = Wanted::Keys(b"k;", (5_003, 2, 1, End::Whole));
-    says_over(alloc, &mut finder, b"job.aux", wanted) == Ok(true)
-}
-
-// Each line inputs a file of its own.
-#[test]
-fn reads_many_files(rt: HostRuntime) -> Result<(), Fail> {
-    let top = numbered(rt.alloc(), 0..5_000, b"\\@input{i#.aux}\n")?;
-    assert!(rt; inputs_say(rt.alloc(), &top) == true);
-    Ok(())
-}
-
-// Whether a line that cites this key says so, where the text of its keys has a semicolon more.
-fn key_says(alloc: Global, key: Vec<u8>) -> Result<bool, AllocError> {
-    let top = joined(alloc, &[b"\\citation{", &key, b"}"])?;
-    let mut keys = key;
-    keys.push(b';')?;
-    let wanted = Wanted::Keys(&keys, (3, 2, 1, End::Whole));
-    Ok(top_says(alloc, &top, wanted))
-}
-
-// Whether it is so of a key of `length` bytes.
-fn long_key_says(alloc: Global, length: usize) -> Result<bool, AllocError> {
-    key_says(alloc, vec![in alloc; b'K'; length]?)
-}
-
-#[test]
-fn reads_a_long_line(rt: HostRuntime) {
-    assert!(rt; long_key_says(rt.alloc(), 10_000_000) == Ok(true));
 }
 
 // Fetches one of the files that input one another.

@@ -12,7 +12,7 @@ use Rattle.btx_where.specs.Notes.{found_note, since_note}
 use Rattle.btx_where.specs.Scenes.{IsScene}
 use Rattle.btx_where.specs.declared.course.Event.{Event}
 use Rattle.btx_where.specs.declared.place.Place.{Place}
-use Rattle.btx_where.specs.declared.scene.Scene.{Scene}
+use Rattle.btx_where.specs.declared.scene.StoppedState.{StoppedState}
 
 -- the notes so far are such that with those of the events that are left they are those of all
 pub record NotedSoFar (style : Style) (job : Job) (counts : LogCounts) (places : StylePlaces) (left all : List Event) (old new : List ℕ) : Type 0 where
@@ -22,7 +22,7 @@ pub record NotedSoFar (style : Style) (job : Job) (counts : LogCounts) (places :
 
 module _ (style : Style) (job : Job) (counts : LogCounts) (places : StylePlaces) where
   -- an event, part by part
-  pub one_noted : (event : Event) (since : List (Option Place)) (began : Option Place) (found : Option Scene) (old head left new : List ℕ)
+  pub one_noted : (event : Event) (since : List (Option Place)) (began : Option Place) (found : Option StoppedState) (old head left new : List ℕ)
       → length since ≡ length event.since.items
       → IfSome found (λ scene. IsScene job counts (steps_before event.word event.moment.steps) scene)
       → IfSome found (λ scene. scene.item ≡ event.item)
@@ -69,9 +69,9 @@ module _ (style : Style) (job : Job) (counts : LogCounts) (places : StylePlaces)
   }
 
 -- what holds of a scene holds of it where it is kept
-pub still_holds : (found kept : Option Scene) (P : Scene → Type 0) → IfSome found P → IfSome kept (λ scene. found ≡ Some scene) → IfSome kept P
+pub still_holds : (found kept : Option StoppedState) (P : StoppedState → Type 0) → IfSome found P → IfSome kept (λ scene. found ≡ Some scene) → IfSome kept P
 still_holds found None P holds same = tt
-still_holds found (Some scene) P holds same = subst (λ (found : Option Scene). IfSome found P) same holds
+still_holds found (Some scene) P holds same = subst (λ (found : Option StoppedState). IfSome found P) same holds
 
 -- a run without an event
 pub nothing_explained : (job : Job) (counts : LogCounts) (places : StylePlaces) (old : List ℕ) → Explains job counts places old old

@@ -26,14 +26,14 @@ use Rattle.btx_where.specs.Calls.{AreCalls}
 use Rattle.btx_where.specs.Rests.{IsMidstOf, StandsInStyle, rest_of_style}
 use Rattle.btx_where.specs.Scenes.{IsScene}
 use Rattle.btx_where.specs.Shown.{frames_shown}
-use Rattle.btx_where.specs.declared.scene.Scene.{Scene}
+use Rattle.btx_where.specs.declared.scene.StoppedState.{StoppedState}
 
 module _ (job : Job) (code : Coded) (at : Position) (opens : List Open) (old new : Work) (budget taken : ℕ) (store' : Store) (same : new.store ≡ store')
     (number : ℕ) (running : Callee) where
   abbrev counts : LogCounts
   counts = log_counts old.outputs.log.warnings old.outputs.log.errors
 
-  is_scene : (scene : Scene) → IsLineLength old.outputs.breaker.line_length → old.store ≡ first_store job
+  is_scene : (scene : StoppedState) → IsLineLength old.outputs.breaker.line_length → old.store ≡ first_store job
       → old.outputs.breaker ≡ holding old.outputs.breaker.line_length (Collecting []) → taken ≡ budget
       → Comes old new (StandsInStyle job.style.items number running job code at opens (do_items job job.style.items []) taken)
       → scene.next ≡ next_token code at → frames_shown job.style scene.levels.items ≡ frames_of code at.place opens
@@ -64,7 +64,7 @@ module _ (job : Job) (code : Coded) (at : Position) (opens : List Open) (old new
       }
 
   -- what is shown, if anything is
-  pub shows : (found : Option Scene) → IsLineLength old.outputs.breaker.line_length → old.store ≡ first_store job
+  pub shows : (found : Option StoppedState) → IsLineLength old.outputs.breaker.line_length → old.store ≡ first_store job
       → old.outputs.breaker ≡ holding old.outputs.breaker.line_length (Collecting []) → taken ≡ budget
       → Comes old new (StandsInStyle job.style.items number running job code at opens (do_items job job.style.items []) taken)
       → IfSome found (λ scene. scene.next ≡ next_token code at)

@@ -5,8 +5,8 @@ use Rattle.btx_bst.specs.declared.token.Token.TheVariants.{Run}
 use Rattle.btx_code.specs.refinement.Codes.{Coded}
 use Rattle.btx_step.specs.language.Jobs.{Job}
 use Rattle.btx_machine.specs.declared.ending.Ending.TheVariants as ends
-use Rattle.btx_machine.specs.declared.machine.Lead.{Lead}
-use Rattle.btx_machine.specs.declared.machine.Lead.TheVariants as lead
+use Rattle.btx_machine.specs.declared.machine.StepOutcome.{StepOutcome}
+use Rattle.btx_machine.specs.declared.machine.StepOutcome.TheVariants as step_outcome
 use Rattle.btx_machine.specs.declared.machine.Position.{Position}
 use Rattle.btx_machine.specs.declared.command.Command.{Command}
 use Rattle.btx_machine.specs.language.Commands.{cleared, visit}
@@ -34,8 +34,8 @@ begins job code at opens work k z =
     ap (λ b. execute_at job code at opens b (state work.store out)) f)
 
 pub goes : (job : Job) (code : Coded) (at : Position) (opens : List Open) (mid_at : Position) (mid_opens : List Open) (to : Position) (opens' : List Open)
-    (l : Lead) (old mid new : Work) (k k' : ℕ)
-    → l ≡ lead.Goes → k' ≡ k + 1 → Comes old mid (Keeps job code at opens mid_at mid_opens k)
+    (l : StepOutcome) (old mid new : Work) (k k' : ℕ)
+    → l ≡ step_outcome.Goes → k' ≡ k + 1 → Comes old mid (Keeps job code at opens mid_at mid_opens k)
     → Comes mid new (λ s t. (left : ℕ) → lead_as job code l to opens' left t ≡ execute_at job code mid_at mid_opens (left + 1) s)
     → Comes old new (Keeps job code at opens to opens' k')
 goes job code at opens mid_at mid_opens to opens' l old mid new k k' is e first second =
@@ -46,9 +46,9 @@ goes job code at opens mid_at mid_opens to opens' l old mid new k k' is e first 
     ∙ ap (λ b. execute_at job code at opens b s) f) first second
 
 module _ (job : Job) (code : Coded) (at : Position) (opens : List Open) (mid_at : Position) (mid_opens : List Open) (to : Position) (opens' : List Open)
-    (l : Lead) (old mid new : Work) (k k' : ℕ) where
+    (l : StepOutcome) (old mid new : Work) (k k' : ℕ) where
   -- the step after which nothing is left
-  pub over : l ≡ lead.Over ends.Finished → k' ≡ k + 1 → Comes old mid (Keeps job code at opens mid_at mid_opens k)
+  pub over : l ≡ step_outcome.Over ends.Finished → k' ≡ k + 1 → Comes old mid (Keeps job code at opens mid_at mid_opens k)
       → Comes mid new (λ s t. (left : ℕ) → lead_as job code l to opens' left t ≡ execute_at job code mid_at mid_opens (left + 1) s)
       → Comes old new (Runs (execute_at job code at opens) k' ends.Finished)
   over is e first second =

@@ -20,7 +20,7 @@ use Rattle.btx_where.specs.declared.course.Event.{Event}
 use Rattle.btx_where.specs.declared.course.Word.{Word}
 use Rattle.btx_where.specs.declared.course.Word.TheVariants as kind
 use Rattle.btx_where.specs.declared.place.Place.{Place}
-use Rattle.btx_where.specs.declared.scene.Scene.{Scene}
+use Rattle.btx_where.specs.declared.scene.StoppedState.{StoppedState}
 
 -- after how many steps the run stands that is shown for an event of this word: where the run was stopped, after all of them; else before the last of them,
 -- which is the event's
@@ -42,7 +42,7 @@ pub record IsNoteOf (style : Style) (job : Job) (counts : LogCounts) (places : S
   pub since : List (Option Place)
   pub as_many : length since ≡ length event.since.items
   pub began : Option Place
-  pub found : Option Scene
+  pub found : Option StoppedState
   pub of_run : IfSome found (λ scene. IsScene job counts (steps_before event.word event.moment.steps) scene)
   pub of_item : IfSome found (λ scene. scene.item ≡ event.item)
   pub is : text ≡ head_note style places event ++ flat_map (since_note style (token_line places)) since

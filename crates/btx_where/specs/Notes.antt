@@ -23,7 +23,7 @@ use Rattle.btx_where.specs.declared.course.Word.TheVariants as kind
 use Rattle.btx_where.specs.declared.place.Place.{Place}
 use Rattle.btx_where.specs.declared.scene.Level.{Level}
 use Rattle.btx_where.specs.declared.scene.Level.TheVariants as level
-use Rattle.btx_where.specs.declared.scene.Scene.{Scene}
+use Rattle.btx_where.specs.declared.scene.StoppedState.{StoppedState}
 
 -- ---- a text
 
@@ -124,7 +124,7 @@ literals_note style depth literals = codes "depth " ++ decimal depth ++ codes "\
 
 -- a scene of a run of `job`, whose style is `style`: the current entry, what comes next, the token where the run stands, who called the function in which that
 -- stands, and the literals on top
-unfoldable pub scene_note : Style → Job → (Place → ℕ) → Option Place → Scene → List ℕ
+unfoldable pub scene_note : Style → Job → (Place → ℕ) → Option Place → StoppedState → List ℕ
 scene_note style job line_of at scene =
     entry_note job scene.entry ++ next_note style scene.next ++ at_note style line_of at ++ callers_note style line_of
     (callers_of at (places_of scene.levels.items))
@@ -137,7 +137,7 @@ noted_at kind.Test began levels = began
 noted_at _ began levels = slice_get (places_of levels) 0
 
 -- a scene that was found for an event of this word; nothing, if none was found
-abbrev pub found_note : Style → Job → (Place → ℕ) → Word → Option Place → Option Scene → List ℕ
+abbrev pub found_note : Style → Job → (Place → ℕ) → Word → Option Place → Option StoppedState → List ℕ
 found_note style job line_of event began None = []
 found_note style job line_of event began (Some scene) = scene_note style job line_of (noted_at event began scene.levels.items) scene
 

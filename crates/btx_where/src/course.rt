@@ -30,7 +30,7 @@ impl Word {
 
 /// The number of a step, and what the log has counted before it and after it.
 #[derive(Clone, Copy, PartialEq, Eq, Debug)]
-pub struct Moment {
+pub struct StepRecord {
     pub steps: u64,
     pub before: LogCounts,
     pub after: LogCounts,
@@ -41,7 +41,7 @@ pub struct Moment {
 #[derive(Drop)]
 pub struct Event {
     pub word: Word,
-    pub moment: Moment,
+    pub moment: StepRecord,
     pub item: usize,
     pub visit: u64,
     pub place: usize,
@@ -51,7 +51,7 @@ pub struct Event {
 /// What is followed of a run, and what is noted of it. A visit is one execution of a command's function; they are numbered from 0. Visits that are followed
 /// are executed step by step, and their events are noted; of others only whether they logged errors.
 #[derive(Drop)]
-pub struct Course {
+pub struct RunTrace {
     alloc: Global,
     // How many steps the run has.
     budget: u64,
@@ -72,10 +72,10 @@ pub struct Course {
     pub events: Vec<Event>,
 }
 
-impl Course {
+impl RunTrace {
     /// Follows these visits, which are in order, of a run with this budget, and notes at most `most` events.
     pub fn following(alloc: Global, budget: u64, followed: Vec<u64>, most: usize) -> Self {
-        Course {
+        RunTrace {
             alloc,
             budget,
             followed,
@@ -93,12 +93,12 @@ impl Course {
     pub fn to(alloc: Global, budget: u64, visit: u64) -> Result<Self, AllocError> {
         let mut followed = Vec::new(alloc);
         followed.push(visit)?;
-        Ok(Course::following(alloc, budget, followed, 0))
+        Ok(RunTrace::following(alloc, budget, followed, 0))
     }
 
     /// The moment at which `left` steps are left.
-    pub fn moment(&self, left: u64, before: LogCounts, after: LogCounts) -> Moment {
-        Moment {
+    pub fn moment(&self, left: u64, before: LogCounts, after: LogCounts) -> StepRecord {
+        StepRecord {
             steps: self.budget.saturating_sub(left),
             before,
             after,
@@ -153,7 +153,12 @@ impl Course {
     }
 
     /// Notes what logged errors, the token before a place, if it did.
-    pub fn note(&mut self, word: Word, moment: &Moment, place: usize) -> Result<(), AllocError> {
+    pub fn note(
+        &mut self,
+        word: Word,
+        moment: &StepRecord,
+        place: usize,
+    ) -> Result<(), AllocError> {
         if moment.after.errors > moment.before.errors && self.events.len() < self.most {
             let since = Vec::new(self.alloc);
             self.add(word, moment, place, since)?;
@@ -162,7 +167,7 @@ impl Course {
     }
 
     /// Notes that a command left `depth` literals, if that logged errors.
-    pub fn note_left(&mut self, moment: &Moment, depth: usize) -> Result<(), AllocError> {
+    pub fn note_left(&mut self, moment: &StepRecord, depth: usize) -> Result<(), AllocError> {
         if moment.after.errors > moment.before.errors && self.events.len() < self.most {
             let mut since = Vec::new(self.alloc);
             for turn in 0..depth.min(MOST_LITERALS) {
@@ -177,7 +182,7 @@ impl Course {
     fn add(
         &mut self,
         word: Word,
-        moment: &Moment,
+        moment: &StepRecord,
         place: usize,
         since: Vec<usize>,
     ) -> Result<(), AllocError> {

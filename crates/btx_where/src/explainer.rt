@@ -3,13 +3,13 @@ ghost use Rattle.std.specs.Prelude.{◌≡◌, ◌≤◌, ◌++◌, IfOk, IfSome
 ghost use Rattle.btx_where.specs.Events.{AreNotesOf, Explains, GrowsBy, IsNoteOf, head_note, steps_before};
 ghost use Rattle.btx_where.specs.Scenes.{IsScene};
 
-use crate::course::{Course, Event, Moment, Word};
+use crate::course::{Event, RunTrace, StepRecord, Word};
 use crate::items::do_items;
 use crate::machine::beginning;
 use crate::notes::{Known, note_event};
-use crate::scene::Scene;
-use crate::scratch::Scratch;
-use crate::stand::Stand;
+use crate::scene::StoppedState;
+use crate::scratch::ResettableSink;
+use crate::stand::ExecutionEnd;
 use crate::stops::scene_after;
 use btx_bst::{BuiltIn, Callee, Item, Style, StylePlaces};
 use btx_code::Code;
@@ -36,7 +36,7 @@ pub struct Explainer<'j, 'a, 'o> {
 impl<'j, 'a, 'o> Explainer<'j, 'a, 'o> {
     /// Notes the places of the first `most` events that log errors, and of the end; answers the report of the run. `places` says where the style's tokens and
     /// items stand. What the runs write goes to `list` and `log`, and is forgotten.
-    pub fn explain<W: Scratch, L: Scratch>(
+    pub fn explain<W: ResettableSink, L: ResettableSink>(
         &self,
         places: &StylePlaces,
         most: usize,
@@ -53,7 +53,7 @@ impl<'j, 'a, 'o> Explainer<'j, 'a, 'o> {
             job: self.job,
             code: &code,
         };
-        let mut first = Course::following(
+        let mut first = RunTrace::following(
             self.alloc,
             self.options.budget,
             Vec::new(self.alloc),
@@ -74,10 +74,10 @@ impl<'j, 'a, 'o> Explainer<'j, 'a, 'o> {
     }
 
     // Runs the style, notes in `course` what is to be noted on the way, and answers the report.
-    fn pass<W: Scratch, L: Scratch>(
+    fn pass<W: ResettableSink, L: ResettableSink>(
         &self,
         program: Program<'_, 'a>,
-        course: &mut Course,
+        course: &mut RunTrace,
         list: &mut W,
         log: &mut L,
     ) -> Result<Report, Fault>
@@ -119,10 +119,10 @@ impl<'j, 'a, 'o> Explainer<'j, 'a, 'o> {
     }
 
     // The events of a run: those that log errors, in the visits that `first` found to do so, and that at its end.
-    fn events<W: Scratch, L: Scratch>(
+    fn events<W: ResettableSink, L: ResettableSink>(
         &self,
         program: Program<'_, 'a>,
-        first: &Course,
+        first: &RunTrace,
         report: &Report,
         most: usize,
         list: &mut W,
@@ -136,7 +136,7 @@ impl<'j, 'a, 'o> Explainer<'j, 'a, 'o> {
     }
 
     // The events in these visits that log errors.
-    fn faults<W: Scratch, L: Scratch>(
+    fn faults<W: ResettableSink, L: ResettableSink>(
         &self,
         program: Program<'_, 'a>,
         faulty: &[u64],
@@ -145,7 +145,7 @@ impl<'j, 'a, 'o> Explainer<'j, 'a, 'o> {
         log: &mut L,
     ) -> Result<Vec<Event>, Fault> {
         let followed = Vec::from_slice(self.alloc, faulty)?;
-        let mut second = Course::following(self.alloc, self.options.budget, followed, most);
+        let mut second = RunTrace::following(self.alloc, self.options.budget, followed, most);
         if !faulty.is_empty() {
             self.pass(program, &mut second, list, log)?;
         }
@@ -153,7 +153,7 @@ impl<'j, 'a, 'o> Explainer<'j, 'a, 'o> {
     }
 
     // Notes these events, one after another.
-    fn note_all<W: Scratch, L: Scratch>(
+    fn note_all<W: ResettableSink, L: ResettableSink>(
         &self,
         known: &Known<'_>,
         events: &[Event],
@@ -170,7 +170,7 @@ impl<'j, 'a, 'o> Explainer<'j, 'a, 'o> {
     }
 
     // Notes an event, and where the run stood before its step, or where it was stopped.
-    fn note_one<W: Scratch, L: Scratch>(
+    fn note_one<W: ResettableSink, L: ResettableSink>(
         &self,
         known: &Known<'_>,
         event: &Event,
@@ -190,12 +190,12 @@ impl<'j, 'a, 'o> Explainer<'j, 'a, 'o> {
     }
 
     // The scene of an event, in its item: where the run stands before its step, or where it was stopped. Of literals that were left there is none.
-    fn scene_of<W: Scratch, L: Scratch>(
+    fn scene_of<W: ResettableSink, L: ResettableSink>(
         &self,
         event: &Event,
         list: &mut W,
         log: &mut L,
-    ) -> Result<Option<Scene<'a>>, Fault>
+    ) -> Result<Option<StoppedState<'a>>, Fault>
         ensures run { IfOk result (λ found. IfSome found (λ scene. IsScene self.now.job.now self.now.counts (steps_before event.now.word event.now.moment.steps) scene)) }
         ensures item { IfOk result (λ found. IfSome found (λ scene. scene.item ≡ event.now.item)) }
     {
@@ -219,7 +219,7 @@ impl<'j, 'a, 'o> Explainer<'j, 'a, 'o> {
 }
 
 // A scene, if it stands in the item of this number.
-fn in_item(found: Option<Scene<'_>>, item: usize) -> Option<Scene<'_>>
+fn in_item(found: Option<StoppedState<'_>>, item: usize) -> Option<StoppedState<'_>>
     ensures same { IfSome result (λ scene. found.entry ≡ Some scene) }
     ensures item { IfSome result (λ scene. scene.item ≡ item) }
 {
@@ -244,12 +244,17 @@ fn note_head(known: &Known<'_>, event: &Event, notes: &mut Vec<u8>) -> Result<()
 }
 
 // Whether a run logged no error in its visits, and did all of the style.
-fn is_quiet(course: &Course, report: &Report) -> bool {
+fn is_quiet(course: &RunTrace, report: &Report) -> bool {
     course.faulty.is_empty() && report.end == End::Finished
 }
 
 // The event at the end of a run: where it was stopped, or met a limit but in READ, which takes no step.
-fn end_event(alloc: Global, style: &Style<'_>, course: &Course, report: &Report) -> Option<Event> {
+fn end_event(
+    alloc: Global,
+    style: &Style<'_>,
+    course: &RunTrace,
+    report: &Report,
+) -> Option<Event> {
     let is_read = matches!(style.items().get(course.item), Some(Item::Read));
     let word = match report.end {
         End::Stopped => Word::Stop,
@@ -262,7 +267,7 @@ fn end_event(alloc: Global, style: &Style<'_>, course: &Course, report: &Report)
     };
     Some(Event {
         word,
-        moment: Moment {
+        moment: StepRecord {
             steps: report.steps,
             before: counts,
             after: counts,
@@ -275,10 +280,10 @@ fn end_event(alloc: Global, style: &Style<'_>, course: &Course, report: &Report)
 }
 
 // The end of a run.
-fn end_of(stand: Stand) -> End {
+fn end_of(stand: ExecutionEnd) -> End {
     match stand {
-        Stand::Finished => End::Finished,
-        Stand::Limit(limit) => End::Limit(limit),
-        Stand::Here(_) | Stand::Somewhere => End::Stopped,
+        ExecutionEnd::Finished => End::Finished,
+        ExecutionEnd::Limit(limit) => End::Limit(limit),
+        ExecutionEnd::Here(_) | ExecutionEnd::Somewhere => End::Stopped,
     }
 }

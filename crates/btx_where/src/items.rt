@@ -8,10 +8,10 @@ ghost use Rattle.btx_machine.specs.refinement.Faults.{Writes};
 ghost use Rattle.btx_machine.specs.refinement.Marks.{StandInCode};
 ghost use Rattle.btx_machine.specs.refinement.Written.{Comes, Runs};
 ghost use Rattle.btx_where.specs.Rests.{IsCommandOf, StandsInCommand, StandsInStyle};
-ghost use Rattle.btx_where.specs.declared.stand.Stand.TheVariants.{Finished, Here};
+ghost use Rattle.btx_where.specs.declared.stand.ExecutionEnd.TheVariants.{Finished, Here};
 
-use crate::course::Course;
-use crate::stand::Stand;
+use crate::course::RunTrace;
+use crate::stand::ExecutionEnd;
 use crate::visits::{visit, visit_all};
 use btx_bst::Item;
 use btx_machine::lists::{all_entries, read_limit, reversed};
@@ -35,8 +35,8 @@ pub fn do_items<'a, W: Sink, L: LogSink>(
     marks: &mut Marks,
     at: &mut Position,
     left: &mut u64,
-    course: &mut Course,
-) -> Result<Stand, Fault>
+    course: &mut RunTrace,
+) -> Result<ExecutionEnd, Fault>
     requires empty { marks.old ≡ [] }
     requires writes { Writes work.old.outputs }
     ensures stands { IfOk result (λ end. (running : AnyCallee) → end ≡ Here running → Comes work.old work.new (StandsInStyle (items_view items.now) course.new.item running program.entry.job.now program.entry.code.now at.new marks.new (do_items program.entry.job.now (items_view items.now) []) (left.old - left.new))) }
@@ -49,7 +49,7 @@ pub fn do_items<'a, W: Sink, L: LogSink>(
     for (number, item) in items.iter().enumerate() {
         course.stand_in(number);
         match do_item(work, program, &mut list, marks, item, at, left, course)? {
-            Stand::Finished => {}
+            ExecutionEnd::Finished => {}
             end => {
                 // The number is still this one: it is said once more for the contract.
                 course.stand_in(number);
@@ -57,7 +57,7 @@ pub fn do_items<'a, W: Sink, L: LogSink>(
             }
         }
     }
-    Ok(Stand::Finished)
+    Ok(ExecutionEnd::Finished)
 }
 
 // Does an item, and leaves the entries in the order that it leaves.
@@ -70,8 +70,8 @@ fn do_item<'a, W: Sink, L: LogSink>(
     item: &Item<'_>,
     at: &mut Position,
     left: &mut u64,
-    course: &mut Course,
-) -> Result<Stand, Fault>
+    course: &mut RunTrace,
+) -> Result<ExecutionEnd, Fault>
     requires empty { marks.old ≡ [] }
     requires writes { Writes work.old.outputs }
     ensures finishes { IfOk result (λ end. end ≡ Finished → Comes work.old work.new (Runs (do_item program.entry.job.now list.old.items (item_view item.now)) (left.old - left.new) ending.Finished)) }
@@ -87,16 +87,16 @@ fn do_item<'a, W: Sink, L: LogSink>(
         Item::Message(message) => {
             let line = message.log_line(work.alloc, program.job.style().file_name())?;
             work.log_one(&line, About::Style)?;
-            Ok(Stand::Finished)
+            Ok(ExecutionEnd::Finished)
         }
         Item::Read => {
             let all = all_entries(work.alloc, program.job)?;
             work.log_library(program.job)?;
             match read_limit(program.job) {
-                Some(kind) => Ok(Stand::Limit(kind)),
+                Some(kind) => Ok(ExecutionEnd::Limit(kind)),
                 None => {
                     *list = all;
-                    Ok(Stand::Finished)
+                    Ok(ExecutionEnd::Finished)
                 }
             }
         }
@@ -138,10 +138,10 @@ fn do_item<'a, W: Sink, L: LogSink>(
         }
         Item::Sort => {
             sort(list, &work.store, SORT_VARIABLE)?;
-            Ok(Stand::Finished)
+            Ok(ExecutionEnd::Finished)
         }
         Item::Entry | Item::Function(_) | Item::Integers | Item::Strings | Item::Macro => {
-            Ok(Stand::Finished)
+            Ok(ExecutionEnd::Finished)
         }
     }
 }

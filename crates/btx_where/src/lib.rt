@@ -19,6 +19,6 @@ pub mod visits;
 
 pub use place::Place;
 pub use runner::locate;
-pub use scene::{Level, Scene};
-pub use scratch::{Nowhere, Scratch};
+pub use scene::{Level, StoppedState};
+pub use scratch::{DiscardingSink, ResettableSink};
 pub use stops::scene_after;

@@ -8,7 +8,7 @@ ghost use Rattle.btx_where.specs.Notes as spec;
 
 use crate::course::{Event, Word};
 use crate::place::{Place, function_name, place_before};
-use crate::scene::{Level, Scene};
+use crate::scene::{Level, StoppedState};
 use btx_bst::{Callee, Item, Span, Style, StylePlaces, Token};
 use btx_code::Code;
 use btx_stack::Literal;
@@ -306,7 +306,7 @@ impl<'s> Known<'s> {
         alloc: Global,
         notes: &mut Vec<u8>,
         job: &Job<'_>,
-        scene: Scene<'_>,
+        scene: StoppedState<'_>,
         at: Option<Place>,
     ) -> Result<(), AllocError>
         ensures { OnOk result (notes.new.items ≡ notes.old.items ++ spec.scene_note self.now.style.now job.now (token_line self.now.places.now) at scene.entry) }
@@ -327,7 +327,7 @@ impl<'s> Known<'s> {
         job: &Job<'_>,
         word: Word,
         began: Option<Place>,
-        found: Option<Scene<'_>>,
+        found: Option<StoppedState<'_>>,
     ) -> Result<(), AllocError>
         ensures { OnOk result (notes.new.items ≡ notes.old.items ++ spec.found_note self.now.style.now job.now (token_line self.now.places.now) word began found.entry) }
     {

@@ -7,7 +7,7 @@ ghost use Rattle.btx_run.specs.refinement.Product.{work_in};
 ghost use Rattle.btx_where.specs.Events.{Explains, ExplainsFiles, ExplainsJob, ExplainsReading};
 
 use crate::explainer::Explainer;
-use crate::scratch::Scratch;
+use crate::scratch::ResettableSink;
 use btx_aux::{AuxJob, Finder};
 use btx_bst::read_placed_style;
 use btx_machine::report::report_of;
@@ -20,7 +20,7 @@ use btx_text::Fault;
 use std::alloc::Global;
 
 // Explains a style that was found: its text and the databases are read first.
-fn explain_found<'a, W: Scratch, L: Scratch>(
+fn explain_found<'a, W: ResettableSink, L: ResettableSink>(
     alloc: Global,
     job: &'a AuxJob,
     found: &'a JobFiles<'a>,
@@ -55,7 +55,7 @@ fn explain_found<'a, W: Scratch, L: Scratch>(
 }
 
 // Goes on from the files of a job.
-fn after_files<'a, W: Scratch, L: Scratch>(
+fn after_files<'a, W: ResettableSink, L: ResettableSink>(
     alloc: Global,
     job: &'a AuxJob,
     read: FilesRead<'a>,
@@ -79,7 +79,7 @@ fn after_files<'a, W: Scratch, L: Scratch>(
 }
 
 // Explains a job whose `.aux` files are read.
-fn explain_job<F: Finder, W: Scratch, L: Scratch>(
+fn explain_job<F: Finder, W: ResettableSink, L: ResettableSink>(
     alloc: Global,
     finder: &mut F,
     job: &AuxJob,
@@ -104,7 +104,7 @@ fn explain_job<F: Finder, W: Scratch, L: Scratch>(
 
 /// Runs the job of this name again, and notes where its style stands: at each of the first `most` events that log errors in its execution, and where the run is stopped or
 /// met a limit. What the runs write goes to `list` and `log`, and is forgotten. The contract speaks of the finder's files where these don't change.
-pub fn locate<F: Finder, W: Scratch, L: Scratch>(
+pub fn locate<F: Finder, W: ResettableSink, L: ResettableSink>(
     alloc: Global,
     finder: &mut F,
     name: &[u8],

@@ -14,7 +14,7 @@ pub enum Level {
 /// Where a run stands that was stopped: in the command of which of the style's items, the token that comes next, what is open, innermost first, the current
 /// entry, how many literals there are, and those on top, the uppermost first.
 #[derive(Drop)]
-pub struct Scene<'a> {
+pub struct StoppedState<'a> {
     pub item: usize,
     pub next: Token,
     pub levels: Vec<Level>,

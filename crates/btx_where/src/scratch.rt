@@ -5,16 +5,16 @@ ghost use Rattle.btx_text.specs.refinement.Counts.{no_failures};
 use btx_out::{Sink, SinkFault};
 
 /// An output that is written again for each run, and read by nobody.
-pub trait Scratch: Sink {
+pub trait ResettableSink: Sink {
     /// Forgets what was written.
     fn forget(&mut self);
 }
 
 /// Takes all that is written, and keeps nothing.
 #[derive(Drop)]
-pub struct Nowhere {}
+pub struct DiscardingSink {}
 
-impl Sink for Nowhere {
+impl Sink for DiscardingSink {
     ghost received = { λ _. None };
 
     ghost failures = { λ _. no_failures };
@@ -24,6 +24,6 @@ impl Sink for Nowhere {
     }
 }
 
-impl Scratch for Nowhere {
+impl ResettableSink for DiscardingSink {
     fn forget(&mut self) {}
 }

@@ -4,7 +4,7 @@ use btx_text::Limit;
 
 /// How the execution of a style, or of a part of it, came to its end.
 #[derive(Clone, Copy, Debug, PartialEq, Eq)]
-pub enum Stand {
+pub enum ExecutionEnd {
     /// All of it was executed.
     Finished,
     /// A limit was met.

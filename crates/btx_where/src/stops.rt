@@ -12,12 +12,12 @@ ghost use Rattle.btx_where.specs.Scenes.{IsScene};
 ghost use Rattle.btx_where.specs.Shown.{frames_shown};
 
 use crate::calls::are_calls;
-use crate::course::{Course, MOST_LITERALS};
+use crate::course::{MOST_LITERALS, RunTrace};
 use crate::items::do_items;
 use crate::levels::levels_of;
 use crate::machine::beginning;
-use crate::scene::Scene;
-use crate::stand::Stand;
+use crate::scene::StoppedState;
+use crate::stand::ExecutionEnd;
 use btx_bst::{BuiltIn, Callee};
 use btx_code::Code;
 use btx_machine::machine::Position;
@@ -58,7 +58,7 @@ fn scene_of<'a>(
     item: usize,
     at: &Position,
     store: &mut Store<'a>,
-) -> Result<Option<Scene<'a>>, AllocError>
+) -> Result<Option<StoppedState<'a>>, AllocError>
     requires placed { StandInCode program.code.now at.now.place marks.old }
     ensures item { IfOk result (λ found. IfSome found (λ scene. scene.item ≡ item)) }
     ensures next { IfOk result (λ found. IfSome found (λ scene. scene.next ≡ next_token program.entry.code.now at.now)) }
@@ -79,7 +79,7 @@ fn scene_of<'a>(
     }
     let depth = store.depth();
     let literals = literals_of(alloc, store)?;
-    Ok(Some(Scene {
+    Ok(Some(StoppedState {
         item,
         next,
         levels,
@@ -95,7 +95,7 @@ fn stop<'a, W: Sink, L: LogSink>(
     job: &Job<'a>,
     budget: u64,
     visit: u64,
-) -> Result<Option<Scene<'a>>, Fault>
+) -> Result<Option<StoppedState<'a>>, Fault>
     requires store { work.old.store ≡ first_store job.now }
     requires fresh { work.old.outputs.breaker ≡ holding work.old.outputs.breaker.line_length (Collecting []) }
     requires range { IsLineLength work.old.outputs.breaker.line_length }
@@ -106,7 +106,7 @@ fn stop<'a, W: Sink, L: LogSink>(
     let mut marks = Marks::new(work.alloc)?;
     let mut at = beginning(&code, Callee::BuiltIn(BuiltIn::Skip));
     let mut left = budget;
-    let mut course = Course::to(work.alloc, budget, visit)?;
+    let mut course = RunTrace::to(work.alloc, budget, visit)?;
     let items = job.style().items();
     let end = do_items(
         work,
@@ -118,7 +118,7 @@ fn stop<'a, W: Sink, L: LogSink>(
         &mut course,
     )?;
     match end {
-        Stand::Here(function) => {
+        ExecutionEnd::Here(function) => {
             let scene = scene_of(
                 work.alloc,
                 program,
@@ -145,7 +145,7 @@ pub fn scene_after<'a, W: Sink, L: Sink>(
     visit: u64,
     list: &mut W,
     log: &mut L,
-) -> Result<Option<Scene<'a>>, Fault>
+) -> Result<Option<StoppedState<'a>>, Fault>
     ensures { IfOk result (λ found. IfSome found (λ scene. IsScene job.now counts budget scene)) }
 {
     let store = Store::new(alloc, job)?;

@@ -8,11 +8,11 @@ ghost use Rattle.btx_machine.specs.refinement.Faults.{Writes};
 ghost use Rattle.btx_machine.specs.refinement.Marks.{StandInCode};
 ghost use Rattle.btx_machine.specs.refinement.Written.{Comes, Runs};
 ghost use Rattle.btx_where.specs.Rests.{Executes, StandsInFunction, StandsInCommand};
-ghost use Rattle.btx_where.specs.declared.stand.Stand.TheVariants.{Finished, Here};
+ghost use Rattle.btx_where.specs.declared.stand.ExecutionEnd.TheVariants.{Finished, Here};
 
-use crate::course::Course;
+use crate::course::RunTrace;
 use crate::machine::{beginning, execute};
-use crate::stand::Stand;
+use crate::stand::ExecutionEnd;
 use btx_bst::Callee;
 use btx_machine::machine::Position;
 use btx_machine::marks::Marks;
@@ -32,8 +32,8 @@ fn follow<'a, W: Sink, L: LogSink>(
     entry: Option<usize>,
     at: &mut Position,
     left: &mut u64,
-    course: &mut Course,
-) -> Result<Stand, Fault>
+    course: &mut RunTrace,
+) -> Result<ExecutionEnd, Fault>
     requires empty { marks.old ≡ [] }
     requires writes { Writes work.old.outputs }
     ensures finishes { IfOk result (λ end. end ≡ Finished → Comes work.old work.new (Runs (visit program.entry.job.now command function entry) (left.old - left.new) ending.Finished)) }
@@ -56,10 +56,10 @@ fn follow<'a, W: Sink, L: LogSink>(
             let moment = course.moment(*left, before, work.outputs.counts());
             course.note_left(&moment, depth)?;
             course.end_visit();
-            Ok(Stand::Finished)
+            Ok(ExecutionEnd::Finished)
         }
-        Ending::Stopped => Ok(Stand::Here(function)),
-        Ending::Limit(limit) => Ok(Stand::Limit(limit)),
+        Ending::Stopped => Ok(ExecutionEnd::Here(function)),
+        Ending::Limit(limit) => Ok(ExecutionEnd::Limit(limit)),
     }
 }
 
@@ -72,8 +72,8 @@ fn pass<'a, W: Sink, L: LogSink>(
     function: Callee,
     entry: Option<usize>,
     left: &mut u64,
-    course: &mut Course,
-) -> Result<Stand, Fault>
+    course: &mut RunTrace,
+) -> Result<ExecutionEnd, Fault>
     requires empty { marks.old ≡ [] }
     requires writes { Writes work.old.outputs }
     ensures finishes { IfOk result (λ end. end ≡ Finished → Comes work.old work.new (Runs (visit program.entry.job.now command function entry) (left.old - left.new) ending.Finished)) }
@@ -88,10 +88,10 @@ fn pass<'a, W: Sink, L: LogSink>(
     match end {
         Ending::Finished => {
             course.end_visit();
-            Ok(Stand::Finished)
+            Ok(ExecutionEnd::Finished)
         }
-        Ending::Stopped => Ok(Stand::Somewhere),
-        Ending::Limit(limit) => Ok(Stand::Limit(limit)),
+        Ending::Stopped => Ok(ExecutionEnd::Somewhere),
+        Ending::Limit(limit) => Ok(ExecutionEnd::Limit(limit)),
     }
 }
 
@@ -106,8 +106,8 @@ pub fn visit<'a, W: Sink, L: LogSink>(
     entry: Option<usize>,
     at: &mut Position,
     left: &mut u64,
-    course: &mut Course,
-) -> Result<Stand, Fault>
+    course: &mut RunTrace,
+) -> Result<ExecutionEnd, Fault>
     requires empty { marks.old ≡ [] }
     requires writes { Writes work.old.outputs }
     ensures finishes { IfOk result (λ end. end ≡ Finished → Comes work.old work.new (Runs (visit program.entry.job.now command function entry) (left.old - left.new) ending.Finished)) }
@@ -138,8 +138,8 @@ pub fn visit_all<'a, W: Sink, L: LogSink>(
     list: &[usize],
     at: &mut Position,
     left: &mut u64,
-    course: &mut Course,
-) -> Result<Stand, Fault>
+    course: &mut RunTrace,
+) -> Result<ExecutionEnd, Fault>
     requires empty { marks.old ≡ [] }
     requires writes { Writes work.old.outputs }
     ensures finishes { IfOk result (λ end. end ≡ Finished → Comes work.old work.new (Runs (visits program.entry.job.now command function list.now) (left.old - left.new) ending.Finished)) }
@@ -162,9 +162,9 @@ pub fn visit_all<'a, W: Sink, L: LogSink>(
             left,
             course,
         )? {
-            Stand::Finished => {}
+            ExecutionEnd::Finished => {}
             end => return Ok(end),
         }
     }
-    Ok(Stand::Finished)
+    Ok(ExecutionEnd::Finished)
 }

@@ -1,7 +1,7 @@
 -- What an event adds to what is known so far.
 use Rattle.std.specs.Prelude.{ℕ, ◌||◌, Bool, false, List, [], ◌∷◌, ◌++◌, map, fold, length, Option, None, Some, is_some, if◌then◌else◌, codes}
 use Rattle.std.specs.Option.{option_or}
-use Rattle.btx_aux.specs.declared.draft.Draft.{Draft}
+use Rattle.btx_aux.specs.declared.draft.AuxJobBuilder.{AuxJobBuilder}
 use Rattle.btx_aux.specs.declared.end.End.{End}
 use Rattle.btx_aux.specs.declared.end.End.TheVariants as end
 use Rattle.btx_aux.specs.language.Names.{with_name_once, with_key, with_ending}
@@ -16,7 +16,7 @@ use Rattle.btx_aux.specs.refinement.Job.{cited, style_name_in}
 use Rattle.btx_aux.specs.refinement.Notes.{aux_note_line}
 
 -- nothing is known
-abbrev pub blank : Draft
+abbrev pub blank : AuxJobBuilder
 blank = record {
   keys = [];
   all = None;
@@ -57,7 +57,7 @@ ending_after end.TopMissing before = end.TopMissing
 ending_after end.FileLimit before = end.FileLimit
 
 -- what is known after a further event
-unfoldable pub learned : Draft → AuxEvent → Draft
+unfoldable pub learned : AuxJobBuilder → AuxEvent → AuxJobBuilder
 learned draft event = record {
   keys = fold with_key draft.keys (cited event);
   all = first_or (first_of (star_by event.word (length draft.keys))) draft.all;
@@ -71,7 +71,7 @@ learned draft event = record {
 }
 
 -- what is known after a line's words
-abbrev pub learned_words : List ℕ → ℕ → Draft → List EventKind → Draft
+abbrev pub learned_words : List ℕ → ℕ → AuxJobBuilder → List EventKind → AuxJobBuilder
 learned_words file line draft [] = draft
 learned_words file line draft (word ∷ words) = learned_words file line (learned draft (event_at file line word)) words
 
@@ -81,18 +81,18 @@ asked_in files [] = None
 asked_in files (word ∷ words) = option_or (asked_of files word) (asked_in files words)
 
 -- a draft with complaints at a place
-abbrev pub complaining : List ℕ → ℕ → Draft → List AuxComplaint → Draft
+abbrev pub complaining : List ℕ → ℕ → AuxJobBuilder → List AuxComplaint → AuxJobBuilder
 complaining file line draft complaints = record draft { log = with_notes draft.log (map (λ (complaint : AuxComplaint). Wrong complaint line file) complaints) }
 
 -- a draft with a database that a piece names, and what is wrong with it
-abbrev pub with_database : List ℕ → ℕ → Draft → List ℕ → Draft
+abbrev pub with_database : List ℕ → ℕ → AuxJobBuilder → List ℕ → AuxJobBuilder
 with_database file line draft name =
     let database = with_ending (codes ".bib") name in
     complaining file line (record draft { databases = with_name_once draft.databases database })
     (only_if (is_among draft.databases database) (RepeatedDatabase database))
 
 -- a draft with the databases of some pieces, and what is wrong with them
-abbrev pub with_databases : List ℕ → ℕ → Draft → List Piece → Draft
+abbrev pub with_databases : List ℕ → ℕ → AuxJobBuilder → List Piece → AuxJobBuilder
 with_databases file line draft [] = draft
 with_databases file line draft (Taken name ∷ pieces) = with_databases file line (with_database file line draft name) pieces
 with_databases file line draft (Cut slip ∷ pieces) = with_databases file line (complaining file line draft (Slipped slip ∷ [])) pieces

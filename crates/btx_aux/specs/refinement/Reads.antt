@@ -3,7 +3,7 @@
 use Rattle.std.specs.Prelude.{◌≡◌, ◌⊎◌, ℕ, zero, suc, ◌-◌, Bool, true, false, List, [], ◌∷◌, ◌++◌, map, fold, Option, None, Some, if◌then◌else◌}
 use Rattle.std.specs.List.{IsDistinct}
 use Rattle.std.specs.Str.{bytes_eq}
-use Rattle.btx_aux.specs.declared.draft.Draft.{Draft}
+use Rattle.btx_aux.specs.declared.draft.AuxJobBuilder.{AuxJobBuilder}
 use Rattle.btx_aux.specs.declared.reading.TheConstants.{MOST_OPEN}
 use Rattle.btx_aux.specs.language.Files.{Files}
 use Rattle.btx_aux.specs.language.Names.{with_name_once}
@@ -16,31 +16,31 @@ use Rattle.btx_text.specs.language.Limits.{is_too_long}
 use Rattle.btx_aux.specs.refinement.Notes.{aux_note_line}
 
 -- what is known after an event, which counts only where the reading hasn't ended
-abbrev pub after : Draft → AuxEvent → Draft
+abbrev pub after : AuxJobBuilder → AuxEvent → AuxJobBuilder
 after draft event = if is_whole draft.ending then learned draft event else draft
 
 -- what is known after a file of this name and these bytes
 abbrev pub Opening : Type 0
-Opening = Draft → List ℕ → List ℕ → Draft
+Opening = AuxJobBuilder → List ℕ → List ℕ → AuxJobBuilder
 
 -- what is known after an include of a file at a place
-unfoldable pub included : Opening → Draft → List ℕ → ℕ → List ℕ → Option (List ℕ) → Draft
+unfoldable pub included : Opening → AuxJobBuilder → List ℕ → ℕ → List ℕ → Option (List ℕ) → AuxJobBuilder
 included opening draft file line name None = after draft (event_at file line (Absent name))
 included opening draft file line name (Some text) = opening draft name text
 
 -- what is known after the include that a place asks for, if it asks for one
-abbrev pub asked_for : Files → Opening → Draft → List ℕ → ℕ → Option (List ℕ) → Draft
+abbrev pub asked_for : Files → Opening → AuxJobBuilder → List ℕ → ℕ → Option (List ℕ) → AuxJobBuilder
 asked_for files opening draft file line None = draft
 asked_for files opening draft file line (Some name) = included opening draft file line name (files name)
 
 -- what is known after all that is said
-unfoldable pub run : Files → Opening → Draft → List AuxEvent → Draft
+unfoldable pub run : Files → Opening → AuxJobBuilder → List AuxEvent → AuxJobBuilder
 run files opening draft [] = draft
 run files opening draft (event ∷ events) = run files opening (asked_for files opening (after draft event) event.file event.line
     (asked_of draft.files event.word)) events
 
 -- what is known after the inside of an opened file
-unfoldable pub within : Bool → Files → Opening → Draft → List ℕ → List ℕ → Draft
+unfoldable pub within : Bool → Files → Opening → AuxJobBuilder → List ℕ → List ℕ → AuxJobBuilder
 within true files opening draft name text = after draft (event_at name 0 TooLong)
 within false files opening draft name text = run files opening draft (said name text)
 
@@ -51,12 +51,12 @@ opened_by files (suc room) draft name text = within (is_too_long text) files (op
     (after draft (event_at name 0 (Opens (19 - room)))) name text
 
 -- what is known after the top file
-unfoldable pub topped : Files → List ℕ → Option (List ℕ) → Draft
+unfoldable pub topped : Files → List ℕ → Option (List ℕ) → AuxJobBuilder
 topped files top None = after blank (event_at top 0 NoTop)
 topped files top (Some text) = opened_by files MOST_OPEN blank top text
 
 -- what is known, as what the job says, with what is missing in the whole
-abbrev pub closed : Draft → AuxJob
+abbrev pub closed : AuxJobBuilder → AuxJob
 closed draft = record {
   keys = draft.keys;
   all = draft.all;

@@ -7,8 +7,8 @@ use Rattle.btx_bib.specs.declared.grammar.byte_sets.Delimiter.{Delimiter}
 use Rattle.btx_bib.specs.declared.grammar.byte_sets.ByteSet.TheVariants.{Gap, NameByte, Digit, KeyByte}
 use Rattle.btx_bib.specs.declared.grammar.byte_sets.Enclosure.{Enclosure}
 use Rattle.btx_bib.specs.declared.grammar.byte_sets.Enclosure.TheVariants.{Group, Quotes}
-use Rattle.btx_bib.specs.declared.grammar.commands.Command.{Command}
-use Rattle.btx_bib.specs.declared.grammar.commands.Command.TheVariants as command
+use Rattle.btx_bib.specs.declared.grammar.commands.DatabaseCommand.{DatabaseCommand}
+use Rattle.btx_bib.specs.declared.grammar.commands.DatabaseCommand.TheVariants as command
 use Rattle.btx_bib.specs.declared.grammar.commands.Expected.{Expected}
 use Rattle.btx_bib.specs.declared.grammar.commands.Expected.TheVariants.{Item, Closing, Fields}
 use Rattle.btx_bib.specs.declared.grammar.slip.SyntaxError.{SyntaxError}
@@ -18,7 +18,7 @@ use Rattle.btx_bib.specs.language.Grammar.Tokens.{Parsed, followed_by, name_here
 use Rattle.btx_bib.specs.language.Grammar.Tokens.{closing_delimiter}
 use Rattle.btx_bib.specs.language.Grammar.Values.{Part, closed_part, enclosed_in, part_in, part_at, next_part, value_within, value_at}
 use Rattle.btx_bib.specs.language.Grammar.Fields.{Field, field_at, after_comma, more_in}
-use Rattle.btx_bib.specs.language.Grammar.Items.{Event, Wrong, Keeping, is_repeated, as_known, next_step, command_of, head_of, head_at, field_event, Step}
+use Rattle.btx_bib.specs.language.Grammar.Items.{Event, Wrong, StoredKeys, is_repeated, as_known, next_step, command_of, head_of, head_at, field_event, Step}
 use Rattle.btx_bib.specs.language.Grammar.Items.{step_by, behind_at, expected_step, Placed, events_within, events_from}
 use Rattle.btx_bib.proofs.GrammarLemmas.ValueLemmas.{Within, behind_hash-within, past-le}
 use Rattle.btx_bib.specs.refinement.Grammar.Items.{item_end, known_step, events_by}
@@ -150,7 +150,7 @@ begun : (r : Parsed (Event × Expected)) (n : ℕ) → Stays n r → left (step_
 begun (Ok got) n h = let le = left-le got.0.1 (length got.1) in omega arith
 begun (Err wrong) n h = omega arith
 
-head_of-stays : (c : Command) (name s : List ℕ) (n : ℕ) → length s ≤ n → Stays n (head_of c name s)
+head_of-stays : (c : DatabaseCommand) (name s : List ℕ) (n : ℕ) → length s ≤ n → Stays n (head_of c name s)
 unfolding head_of
 head_of-stays command.Comment name s n le = le
 head_of-stays command.Preamble name s n le =
@@ -261,39 +261,39 @@ known-steps is_stored n (Some step) h = let le = known-left is_stored step.event
 pub next-leaves : (is_stored : List ℕ → Bool) (wanted : Expected) (s : List ℕ) → StepsTo (left wanted (length s)) (next_step is_stored wanted s)
 next-leaves is_stored wanted s = known-steps is_stored (left wanted (length s)) (expected_step wanted s) (step-leaves wanted s)
 
-by-enough : {S : Type 0} (keeping : Keeping S) (f g : S → Expected → List ℕ → List Placed) (n : ℕ) (state : S) (o : Option Step) → StepsTo n o →
-    ((q : S) (w : Expected) (s : List ℕ) → left w (length s) < n → f q w s ≡ g q w s) → events_by keeping f state o ≡ events_by keeping g state o
-by-enough keeping f g n state None h same = refl
-by-enough keeping f g n state (Some step) h same = rw (same (keeping.after state step.event) step.wanted step.rest h) refl
+by-enough : {S : Type 0} (stored_keys : StoredKeys S) (f g : S → Expected → List ℕ → List Placed) (n : ℕ) (state : S) (o : Option Step) → StepsTo n o →
+    ((q : S) (w : Expected) (s : List ℕ) → left w (length s) < n → f q w s ≡ g q w s) → events_by stored_keys f state o ≡ events_by stored_keys g state o
+by-enough stored_keys f g n state None h same = refl
+by-enough stored_keys f g n state (Some step) h same = rw (same (stored_keys.after state step.event) step.wanted step.rest h) refl
 
-within-enough : {S : Type 0} (keeping : Keeping S) (n m : ℕ) (state : S) (w : Expected) (s : List ℕ) → left w (length s) < n → left w (length s) < m →
-    events_within keeping n state w s ≡ events_within keeping m state w s
+within-enough : {S : Type 0} (stored_keys : StoredKeys S) (n m : ℕ) (state : S) (w : Expected) (s : List ℕ) → left w (length s) < n → left w (length s) < m →
+    events_within stored_keys n state w s ≡ events_within stored_keys m state w s
 unfolding events_within
-within-enough keeping zero m state w s h k = absurd (omega arith)
-within-enough keeping (suc n) zero state w s h k = absurd (omega arith)
-within-enough keeping (suc n) (suc m) state w s h k =
-    by-enough keeping (events_within keeping n) (events_within keeping m) (left w (length s)) state (next_step (keeping.is_stored state) w s)
-    (next-leaves (keeping.is_stored state) w s)
-    (λ q v t lt. within-enough keeping n m q v t (omega arith) (omega arith))
+within-enough stored_keys zero m state w s h k = absurd (omega arith)
+within-enough stored_keys (suc n) zero state w s h k = absurd (omega arith)
+within-enough stored_keys (suc n) (suc m) state w s h k =
+    by-enough stored_keys (events_within stored_keys n) (events_within stored_keys m) (left w (length s)) state (next_step (stored_keys.is_stored state) w s)
+    (next-leaves (stored_keys.is_stored state) w s)
+    (λ q v t lt. within-enough stored_keys n m q v t (omega arith) (omega arith))
 
-pub events_from-step : {S : Type 0} (keeping : Keeping S) (state : S) (w : Expected) (s : List ℕ) →
-    events_from keeping state w s ≡ events_by keeping (events_from keeping) state (next_step (keeping.is_stored state) w s)
+pub events_from-step : {S : Type 0} (stored_keys : StoredKeys S) (state : S) (w : Expected) (s : List ℕ) →
+    events_from stored_keys state w s ≡ events_by stored_keys (events_from stored_keys) state (next_step (stored_keys.is_stored state) w s)
 unfolding events_from events_within
-events_from-step keeping state w s =
-    by-enough keeping (events_within keeping (2 * length s + 1)) (events_from keeping) (left w (length s)) state (next_step (keeping.is_stored state) w s)
-    (next-leaves (keeping.is_stored state) w s)
-    (λ q v t lt. within-enough keeping (2 * length s + 1) (suc (2 * length t + 1)) q v t (let le = left-le w (length s) in omega arith)
+events_from-step stored_keys state w s =
+    by-enough stored_keys (events_within stored_keys (2 * length s + 1)) (events_from stored_keys) (left w (length s)) state (next_step (stored_keys.is_stored state) w s)
+    (next-leaves (stored_keys.is_stored state) w s)
+    (λ q v t lt. within-enough stored_keys (2 * length s + 1) (suc (2 * length t + 1)) q v t (let le = left-le w (length s) in omega arith)
     (let le = left-le v (length t) in omega arith))
 
 -- at the end of the text
-pub events-none : {S : Type 0} (keeping : Keeping S) (state : S) (w : Expected) (s : List ℕ) → next_step (keeping.is_stored state) w s ≡ None
-    → events_from keeping state w s ≡ []
-events-none keeping state w s e = events_from-step keeping state w s ∙ ap (events_by keeping (events_from keeping) state) e
+pub events-none : {S : Type 0} (stored_keys : StoredKeys S) (state : S) (w : Expected) (s : List ℕ) → next_step (stored_keys.is_stored state) w s ≡ None
+    → events_from stored_keys state w s ≡ []
+events-none stored_keys state w s e = events_from-step stored_keys state w s ∙ ap (events_by stored_keys (events_from stored_keys) state) e
 
 -- the reader's next event, and the others
-pub events-some : {S : Type 0} (keeping : Keeping S) (state : S) (w : Expected) (s : List ℕ) (step : Step) → next_step (keeping.is_stored state) w s ≡ Some step →
-    events_from keeping state w s ≡ record { event = step.event; rest = step.rest } ∷ events_from keeping (keeping.after state step.event) step.wanted step.rest
-events-some keeping state w s step e = events_from-step keeping state w s ∙ ap (events_by keeping (events_from keeping) state) e
+pub events-some : {S : Type 0} (stored_keys : StoredKeys S) (state : S) (w : Expected) (s : List ℕ) (step : Step) → next_step (stored_keys.is_stored state) w s ≡ Some step →
+    events_from stored_keys state w s ≡ record { event = step.event; rest = step.rest } ∷ events_from stored_keys (stored_keys.after state step.event) step.wanted step.rest
+events-some stored_keys state w s step e = events_from-step stored_keys state w s ∙ ap (events_by stored_keys (events_from stored_keys) state) e
 
 -- each event leaves less to read: the measure of a loop that reads to the end
 pub events-less : (is_stored : List ℕ → Bool) (w : Expected) (s : List ℕ) (step : Step) → next_step is_stored w s ≡ Some step

@@ -7,8 +7,8 @@ use Rattle.btx_bib.specs.declared.grammar.byte_sets.ByteSet.{ByteSet}
 use Rattle.btx_bib.specs.declared.grammar.byte_sets.ByteSet.TheVariants.{Gap, NameByte, Digit, KeyByte}
 use Rattle.btx_bib.specs.declared.grammar.byte_sets.Delimiter.{Delimiter}
 use Rattle.btx_bib.specs.declared.grammar.byte_sets.Delimiter.TheVariants.{Braces, Parens}
-use Rattle.btx_bib.specs.declared.grammar.commands.Command.{Command}
-use Rattle.btx_bib.specs.declared.grammar.commands.Command.TheVariants as command
+use Rattle.btx_bib.specs.declared.grammar.commands.DatabaseCommand.{DatabaseCommand}
+use Rattle.btx_bib.specs.declared.grammar.commands.DatabaseCommand.TheVariants as command
 use Rattle.btx_bib.specs.declared.grammar.commands.Expected.{Expected}
 use Rattle.btx_bib.specs.declared.grammar.commands.Expected.TheVariants.{Item, Closing, Fields}
 use Rattle.btx_bib.specs.declared.grammar.slip.SyntaxError.{SyntaxError}
@@ -17,10 +17,10 @@ use Rattle.btx_bib.specs.language.Grammar.ByteSets.{is_gap, is_in, begins}
 use Rattle.btx_bib.specs.language.Grammar.Tokens.{slip_at, closing_delimiter}
 use Rattle.btx_bib.specs.language.Grammar.Values.{Part, Braced, Quoted, Digits, Named}
 use Rattle.btx_bib.specs.language.Grammar.Fields.{Field}
-use Rattle.btx_bib.specs.language.Grammar.Items.{Event, Comment, Preamble, Definition, Entry, FieldOf, End, Wrong, Placed, Keeping, as_known, command_of}
+use Rattle.btx_bib.specs.language.Grammar.Items.{Event, Comment, Preamble, Definition, Entry, FieldOf, ItemEnd, Wrong, Placed, StoredKeys, as_known, command_of}
 use Rattle.btx_bib.specs.laws.Grammar.Spelling.{Grammar, Gives, Both, Then, AllIn, IsWord, IsWrongHere, White, Spaced, NameHere, SignHere, IsWrongPart}
 use Rattle.btx_bib.specs.laws.Grammar.Spelling.{PartHere, EndsThere, OthersFollow, ValueOf, ValueSpelling, FieldSpelling}
-use Rattle.btx_bib.specs.laws.Grammar.Reading.{OnSign, WrongHere, OpenHere, KeyHere, AfterComma, MoreHere, HeadOf, Head, more_event, HasNoAt, Stands, IsOutcome}
+use Rattle.btx_bib.specs.laws.Grammar.Reading.{OnSign, WrongHere, OpenHere, KeyHere, AfterComma, MoreHere, HeadOf, Head, more_event, HasNoAt, Stands, IsEventOf}
 use Rattle.btx_bib.specs.laws.Grammar.Reading.{IsReading}
 use Rattle.btx_bib.specs.laws.Cuts.{EndsOutside}
 use Rattle.std.specs.Char.{is_ascii_digit}
@@ -307,7 +307,7 @@ module _ (more : List ℕ) where
   event_on (Definition name value) = Definition name (parts_on value)
   event_on (Entry kind key) = Entry kind key
   event_on (FieldOf field) = FieldOf (field_on field)
-  event_on End = End
+  event_on ItemEnd = ItemEnd
   event_on (Wrong slip) = Wrong slip
 
   abbrev head_on : Event × Expected → Event × Expected
@@ -325,13 +325,13 @@ module _ (more : List ℕ) where
   behind_event (Definition name value) next rest = After next rest
   behind_event (Entry kind key) next rest = Unit {0}
   behind_event (FieldOf field) next rest = After next rest
-  behind_event End next rest = After next rest
+  behind_event ItemEnd next rest = After next rest
   behind_event (Wrong slip) next rest = After next rest
 
   abbrev Behind : Event × Expected → List ℕ → Type 0
   Behind got rest = behind_event got.0 got.1 rest
 
-  head_of-goes : (c : Command) (name : List ℕ) → Goes Behind head_on (HeadOf c name) (HeadOf c name)
+  head_of-goes : (c : DatabaseCommand) (name : List ℕ) → Goes Behind head_on (HeadOf c name) (HeadOf c name)
   head_of-goes command.Comment name = gives-goes Behind head_on (Comment, Item)
   head_of-goes command.Preamble name =
       then-same Behind head_on (Spaced OpenHere) _ (spaced-goes Any same OpenHere OpenHere open-goes) (λ d.
@@ -365,7 +365,7 @@ module _ (more : List ℕ) where
   stands-goes (Closing d) o front rest h r =
       then-same Behind head_on (Spaced (SignHere (closing_delimiter d) (NoClosing d))) _
       (spaced-goes Any same (SignHere (closing_delimiter d) (NoClosing d)) (SignHere (closing_delimiter d) (NoClosing d))
-      (sign-goes (closing_delimiter d) (NoClosing d))) (λ sign. gives-goes Behind head_on (End, Item)) o front rest h r
+      (sign-goes (closing_delimiter d) (NoClosing d))) (λ sign. gives-goes Behind head_on (ItemEnd, Item)) o front rest h r
   stands-goes (Fields d) o front rest h r =
       last-goes Behind SeenField more_on head_on (Spaced (MoreHere d)) (Spaced (MoreHere d)) (more_event d) (more_event d)
       (spaced-goes SeenField more_on (MoreHere d) (MoreHere d) (more-goes d)) (more_event-on d) (more_event-behind d) o front rest h r
@@ -374,7 +374,7 @@ module _ (more : List ℕ) where
 
   -- only what is wanted of an item can be its end
   abbrev IsNoEnd : Event → Type 0
-  IsNoEnd End = ⊥
+  IsNoEnd ItemEnd = ⊥
   IsNoEnd _ = Unit {0}
 
   -- only a comment is read as one
@@ -414,7 +414,7 @@ module _ (more : List ℕ) where
       then-begins P (Spaced OpenHere) (λ d. Then (Spaced (KeyHere d)) (λ key. Gives (Entry name key, Fields d))) (λ d.
       then-begins P (Spaced (KeyHere d)) (λ key. Gives (Entry name key, Fields d)) (λ key. gives-begins P (Entry name key, Fields d) (is name key)))
 
-  head_of-begins : (c : Command) (name : List ℕ) → Begins IsNoEnd (HeadOf c name)
+  head_of-begins : (c : DatabaseCommand) (name : List ℕ) → Begins IsNoEnd (HeadOf c name)
   head_of-begins command.Comment name = gives-begins IsNoEnd (Comment, Item) tt
   head_of-begins command.Preamble name = preamble-begins IsNoEnd (λ value. tt) name
   head_of-begins command.Definition name = definition-begins IsNoEnd (λ string value. tt) name
@@ -466,10 +466,10 @@ module _ (more : List ℕ) where
   )
   more-free d rest inner (inr (other, inr (not_comma, r))) = absurd r
 
-  no-end : (event : Event) → IsNoEnd event → event ≡ End → ⊥
+  no-end : (event : Event) → IsNoEnd event → event ≡ ItemEnd → ⊥
   no-end event h is = subst IsNoEnd is h
 
-  end-goes : (next : Expected) (got : Event × Expected) (front rest : List ℕ) → got.0 ≡ End → Stands next (Ok got) front rest
+  end-goes : (next : Expected) (got : Event × Expected) (front rest : List ℕ) → got.0 ≡ ItemEnd → Stands next (Ok got) front rest
       → Stands next (Ok (head_on got)) front (rest ++ more)
   end-goes Item got front rest end (ignored, behind, is, none, r) = absurd (no-end got.0 (head-begins got behind rest r) end)
   end-goes (Closing d) got front rest end (inl r) = absurd r
@@ -517,7 +517,7 @@ module _ (more : List ℕ) where
   no-comment : (event : Event) → IsNoComment event → event ≡ Comment → ⊥
   no-comment event h is = subst IsNoComment is h
 
-  comment_of-goes : (c : Command) (name : List ℕ) (next : Expected) (front rest : List ℕ) → HeadOf c name (Ok (Comment, next)) front rest
+  comment_of-goes : (c : DatabaseCommand) (name : List ℕ) (next : Expected) (front rest : List ℕ) → HeadOf c name (Ok (Comment, next)) front rest
       → HeadOf c name (Ok (Comment, next)) front (rest ++ more)
   comment_of-goes command.Comment name next front rest r = r
   comment_of-goes command.Preamble name next front rest r = absurd (preamble-begins IsNoComment (λ value. tt) name (Comment, next) front rest r)
@@ -543,10 +543,10 @@ module _ (more : List ℕ) where
   comment-stands stops Item next front rest (ignored, behind, is, none, r) = (ignored, behind, is, none, comment-goes stops next behind rest r)
   comment-stands stops (Closing d) next front rest (inl r) = absurd r
   comment-stands stops (Closing d) next front rest (inr (none, first, second, whole, r, g)) =
-      absurd (no-comment End tt (sym (ap (λ (x : Event × Expected). x.0) g.1)))
+      absurd (no-comment ItemEnd tt (sym (ap (λ (x : Event × Expected). x.0) g.1)))
   comment-stands stops (Fields d) next front rest (inl r) = absurd r
   comment-stands stops (Fields d) next front rest (inr (None, first, second, whole, r, g)) =
-      absurd (no-comment End tt (sym (ap (λ (x : Event × Expected). x.0) g.1)))
+      absurd (no-comment ItemEnd tt (sym (ap (λ (x : Event × Expected). x.0) g.1)))
   comment-stands stops (Fields d) next front rest (inr (Some field, first, second, whole, r, g)) =
       absurd (no-comment (FieldOf field) tt (sym (ap (λ (x : Event × Expected). x.0) g.1)))
 
@@ -587,28 +587,28 @@ module _ (more : List ℕ) where
   abbrev pub placed_on : Placed → Placed
   placed_on placed = record { event = event_on placed.event; rest = placed.rest ++ more }
 
-  module _ {S : Type 0} (keeping : Keeping S) (after-on : (state : S) (event : Event) → keeping.after state (event_on event) ≡ keeping.after state event) where
-    item-left : (p : Placed) (events : List Placed) (state : S) (text : List ℕ) → IsReading keeping state Item text (p ∷ events) → Left text
+  module _ {S : Type 0} (stored_keys : StoredKeys S) (after-on : (state : S) (event : Event) → stored_keys.after state (event_on event) ≡ stored_keys.after state event) where
+    item-left : (p : Placed) (events : List Placed) (state : S) (text : List ℕ) → IsReading stored_keys state Item text (p ∷ events) → Left text
     item-left p events state text (o, next, front, whole, outcome, (ignored, behind, is, none, r), others) =
         subst Left whole (left-front front p.rest (subst Left (sym is) (left-append ignored (64 ∷ behind) tt)))
 
     err-left : (p : Placed) (events : List Placed) (state : S) (o : Result (Event × Expected) SyntaxError) (next : Expected) → EndsOutside (p ∷ events) more
-        → IsOutcome keeping state p.event next o
-        → IsReading keeping (keeping.after state p.event) next p.rest events → ErrLeft o p.rest
+        → IsEventOf stored_keys state p.event next o
+        → IsReading stored_keys (stored_keys.after state p.event) next p.rest events → ErrLeft o p.rest
     err-left p events state (Ok got) next ends outcome others = tt
     err-left p [] state (Err slip) next (inl end) outcome others = absurd (no-end (Wrong slip) tt (sym outcome.0 ∙ end))
     err-left p [] state (Err slip) next (inr (inl some)) outcome others = left-some p.rest some
     err-left p [] state (Err slip) next (inr (inr comment)) outcome others = absurd (no-comment (Wrong slip) tt (sym outcome.0 ∙ comment.0))
     err-left p (q ∷ events) state (Err slip) next ends outcome others =
-        item-left q events (keeping.after state p.event) p.rest
-        (subst (λ n. IsReading keeping (keeping.after state p.event) n p.rest (q ∷ events)) outcome.1 others)
+        item-left q events (stored_keys.after state p.event) p.rest
+        (subst (λ n. IsReading stored_keys (stored_keys.after state p.event) n p.rest (q ∷ events)) outcome.1 others)
 
     -- where an event stands something is left, and what isn't whitespace where something of an item is wanted
     there : (p : Placed) (events : List Placed) (state : S) (next : Expected) (text : List ℕ) → EndsOutside (p ∷ events) more
-        → IsReading keeping state next text (p ∷ events) → Left text × After next text
+        → IsReading stored_keys state next text (p ∷ events) → Left text × After next text
     there p events state Item text ends h = (item-left p events state text h, tt)
     there p events state (Closing d) text ends (o, next, front, whole, outcome, r, others) =
-        let white = subst NotWhite whole (last-white (SignHere (closing_delimiter d) (NoClosing d)) (λ sign. (End, Item))
+        let white = subst NotWhite whole (last-white (SignHere (closing_delimiter d) (NoClosing d)) (λ sign. (ItemEnd, Item))
         (sign-some (closing_delimiter d) (NoClosing d)) o front p.rest (err-left p events state o next ends outcome others) r) in
         (white-left text white, white)
     there p events state (Fields d) text ends (o, next, front, whole, outcome, r, others) =
@@ -623,12 +623,12 @@ module _ (more : List ℕ) where
     behind-known is_stored (Definition name value) first next rest is h = subst (λ n. After n rest) is h
     behind-known is_stored (Entry kind key) first next rest is h = tt
     behind-known is_stored (FieldOf field) first next rest is h = subst (λ n. After n rest) is h
-    behind-known is_stored End first next rest is h = subst (λ n. After n rest) is h
+    behind-known is_stored ItemEnd first next rest is h = subst (λ n. After n rest) is h
     behind-known is_stored (Wrong slip) first next rest is h = subst (λ n. After n rest) is h
 
-    if-known : (state : S) (event : Event) (next : Expected) (o : Result (Event × Expected) SyntaxError) (rest : List ℕ) → IsOutcome keeping state event next o → Left rest
+    if-known : (state : S) (event : Event) (next : Expected) (o : Result (Event × Expected) SyntaxError) (rest : List ℕ) → IsEventOf stored_keys state event next o → Left rest
         → After next rest → If Behind o rest
-    if-known state event next (Ok (got, first)) rest outcome left h = (left, behind-known (keeping.is_stored state) got first next rest outcome.1 h)
+    if-known state event next (Ok (got, first)) rest outcome left h = (left, behind-known (stored_keys.is_stored state) got first next rest outcome.1 h)
     if-known state event next (Err slip) rest outcome left h = left
 
     -- what is known to be something else than a repeated entry was read as that
@@ -643,34 +643,34 @@ module _ (more : List ℕ) where
     known-read other differs is_stored (Preamble value) first is = is
     known-read other differs is_stored (Definition name value) first is = is
     known-read other differs is_stored (FieldOf field) first is = is
-    known-read other differs is_stored End first is = is
+    known-read other differs is_stored ItemEnd first is = is
     known-read other differs is_stored (Wrong slip) first is = is
 
-    ended-on : (state : S) (p : Placed) (next first : Expected) (o : Result (Event × Expected) SyntaxError) (front : List ℕ) → p.event ≡ End
-        → IsOutcome keeping state p.event next o → Stands first o front p.rest → Stands first (outcome_on head_on o) front (p.rest ++ more)
+    ended-on : (state : S) (p : Placed) (next first : Expected) (o : Result (Event × Expected) SyntaxError) (front : List ℕ) → p.event ≡ ItemEnd
+        → IsEventOf stored_keys state p.event next o → Stands first o front p.rest → Stands first (outcome_on head_on o) front (p.rest ++ more)
     ended-on state p next first (Err slip) front end outcome r = absurd (no-end (Wrong slip) tt (sym outcome.0 ∙ end))
     ended-on state p next first (Ok (event, wanted)) front end outcome r =
-        end-goes first (event, wanted) front p.rest (known-read End (no-end (Wrong Repeated) tt) (keeping.is_stored state) event wanted (sym outcome.0 ∙ end)) r
+        end-goes first (event, wanted) front p.rest (known-read ItemEnd (no-end (Wrong Repeated) tt) (stored_keys.is_stored state) event wanted (sym outcome.0 ∙ end)) r
 
     comment-on : (state : S) (p : Placed) (next first : Expected) (o : Result (Event × Expected) SyntaxError) (front : List ℕ) → p.event ≡ Comment
-        → begins (is_in NameByte) more ≡ false → IsOutcome keeping state p.event next o
+        → begins (is_in NameByte) more ≡ false → IsEventOf stored_keys state p.event next o
         → Stands first o front p.rest → Stands first (outcome_on head_on o) front (p.rest ++ more)
     comment-on state p next first (Err slip) front comment stops outcome r = absurd (no-comment (Wrong slip) tt (sym outcome.0 ∙ comment))
     comment-on state p next first (Ok (event, wanted)) front comment stops outcome r =
-        let is : event ≡ Comment = known-read Comment (no-comment (Wrong Repeated) tt) (keeping.is_stored state) event wanted (sym outcome.0 ∙ comment) in
+        let is : event ≡ Comment = known-read Comment (no-comment (Wrong Repeated) tt) (stored_keys.is_stored state) event wanted (sym outcome.0 ∙ comment) in
         subst (λ (x : Event). Stands first (Ok (event_on x, wanted)) front (p.rest ++ more)) (sym is)
         (comment-stands stops first wanted front p.rest (subst (λ (x : Event). Stands first (Ok (x, wanted)) front p.rest) is r))
 
     stands-on : (p : Placed) (events : List Placed) (state : S) (o : Result (Event × Expected) SyntaxError) (next first : Expected) (front : List ℕ)
-        → EndsOutside (p ∷ events) more → IsOutcome keeping state p.event next o → Stands first o front p.rest
-        → IsReading keeping (keeping.after state p.event) next p.rest events → Stands first (outcome_on head_on o) front (p.rest ++ more)
+        → EndsOutside (p ∷ events) more → IsEventOf stored_keys state p.event next o → Stands first o front p.rest
+        → IsReading stored_keys (stored_keys.after state p.event) next p.rest events → Stands first (outcome_on head_on o) front (p.rest ++ more)
     stands-on p [] state o next first front (inl end) outcome r others = ended-on state p next first o front end outcome r
     stands-on p [] state o next first front (inr (inr comment)) outcome r others = comment-on state p next first o front comment.0 comment.1 outcome r
     stands-on p [] state o next first front (inr (inl some)) outcome r others =
         stands-goes first o front p.rest (if-known state p.event next o p.rest outcome (left-some p.rest some) (subst (λ n. After n p.rest) (sym others.0) tt))
         r
     stands-on p (q ∷ events) state o next first front ends outcome r others =
-        let h = there q events (keeping.after state p.event) next p.rest ends others in
+        let h = there q events (stored_keys.after state p.event) next p.rest ends others in
         stands-goes first o front p.rest (if-known state p.event next o p.rest outcome h.0 h.1) r
 
     known-on : (is_stored : List ℕ → Bool) (event : Event) (first : Expected) → as_known is_stored (event_on event, first)
@@ -684,14 +684,14 @@ module _ (more : List ℕ) where
     known-on is_stored (Preamble value) first = refl
     known-on is_stored (Definition name value) first = refl
     known-on is_stored (FieldOf field) first = refl
-    known-on is_stored End first = refl
+    known-on is_stored ItemEnd first = refl
     known-on is_stored (Wrong slip) first = refl
 
-    outcome-on : (state : S) (event : Event) (next : Expected) (o : Result (Event × Expected) SyntaxError) → IsOutcome keeping state event next o
-        → IsOutcome keeping state (event_on event) next (outcome_on head_on o)
+    outcome-on : (state : S) (event : Event) (next : Expected) (o : Result (Event × Expected) SyntaxError) → IsEventOf stored_keys state event next o
+        → IsEventOf stored_keys state (event_on event) next (outcome_on head_on o)
     outcome-on state event next (Err slip) h = (ap event_on h.0, h.1)
     outcome-on state event next (Ok (got, first)) h =
-        let same_known = sym (known-on (keeping.is_stored state) got first) in
+        let same_known = sym (known-on (stored_keys.is_stored state) got first) in
         (ap event_on h.0 ∙ ap (λ (g : Event × Expected). g.0) same_known, h.1 ∙ ap (λ (g : Event × Expected). g.1) same_known)
 
     no_at-append : (text behind : List ℕ) → HasNoAt text → HasNoAt behind → HasNoAt (text ++ behind)
@@ -699,8 +699,8 @@ module _ (more : List ℕ) where
     no_at-append (b ∷ bs) behind h k = (h.0, no_at-append bs behind h.1 k)
 
     -- what stands before the first item is passed
-    passed : (text : List ℕ) (events : List Placed) (state : S) (behind : List ℕ) → HasNoAt text → IsReading keeping state Item behind events
-        → IsReading keeping state Item (text ++ behind) events
+    passed : (text : List ℕ) (events : List Placed) (state : S) (behind : List ℕ) → HasNoAt text → IsReading stored_keys state Item behind events
+        → IsReading stored_keys state Item (text ++ behind) events
     passed text [] state behind none h = (h.0, no_at-append text behind none h.1)
     passed text (p ∷ events) state behind none (o, next, front, whole, outcome, (ignored, inner, is, no_at, r), others) = (
       o,
@@ -717,14 +717,14 @@ module _ (more : List ℕ) where
     outside-tail p (q ∷ events) h = h
 
     abbrev pub after_events : S → List Placed → S
-    after_events state events = fold (λ (s : S) (p : Placed). keeping.after s p.event) state events
+    after_events state events = fold (λ (s : S) (p : Placed). stored_keys.after s p.event) state events
 
     -- a text that ends outside any item, and more after it, are read one after the other
     pub reading-on : (events behind : List Placed) (state : S) (first : Expected) (text : List ℕ) → EndsOutside events more
-        → IsReading keeping state first text events → IsReading keeping (after_events state events) Item more behind
-        → IsReading keeping state first (text ++ more) (map placed_on events ++ behind)
+        → IsReading stored_keys state first text events → IsReading stored_keys (after_events state events) Item more behind
+        → IsReading stored_keys state first (text ++ more) (map placed_on events ++ behind)
     reading-on [] behind state first text ends h rest =
-        subst (λ n. IsReading keeping state n (text ++ more) behind) (sym h.0) (passed text behind state more h.1 rest)
+        subst (λ n. IsReading stored_keys state n (text ++ more) behind) (sym h.0) (passed text behind state more h.1 rest)
     reading-on (p ∷ events) behind state first text ends (o, next, front, whole, outcome, r, others) rest = (
       outcome_on head_on o,
       next,
@@ -732,6 +732,6 @@ module _ (more : List ℕ) where
       sym (append_assoc front p.rest more) ∙ ap (λ t. t ++ more) whole,
       outcome-on state p.event next o outcome,
       stands-on p events state o next first front ends outcome r others,
-      subst (λ s. IsReading keeping s next (p.rest ++ more) (map placed_on events ++ behind)) (sym (after-on state p.event))
-          (reading-on events behind (keeping.after state p.event) next p.rest (outside-tail p events ends) others rest),
+      subst (λ s. IsReading stored_keys s next (p.rest ++ more) (map placed_on events ++ behind)) (sym (after-on state p.event))
+          (reading-on events behind (stored_keys.after state p.event) next p.rest (outside-tail p events ends) others rest),
     )

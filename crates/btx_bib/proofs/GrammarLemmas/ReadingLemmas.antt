@@ -7,8 +7,8 @@ use Rattle.std.specs.Option.{option_map}
 use Rattle.btx_bib.specs.declared.grammar.byte_sets.Delimiter.{Delimiter}
 use Rattle.btx_bib.specs.declared.grammar.byte_sets.Delimiter.TheVariants.{Braces, Parens}
 use Rattle.btx_bib.specs.declared.grammar.byte_sets.ByteSet.TheVariants.{KeyByte, Gap}
-use Rattle.btx_bib.specs.declared.grammar.commands.Command.{Command}
-use Rattle.btx_bib.specs.declared.grammar.commands.Command.TheVariants as command
+use Rattle.btx_bib.specs.declared.grammar.commands.DatabaseCommand.{DatabaseCommand}
+use Rattle.btx_bib.specs.declared.grammar.commands.DatabaseCommand.TheVariants as command
 use Rattle.btx_bib.specs.declared.grammar.commands.Expected.{Expected}
 use Rattle.btx_bib.specs.declared.grammar.commands.Expected.TheVariants.{Item, Closing, Fields}
 use Rattle.btx_bib.specs.declared.grammar.slip.SyntaxError.{SyntaxError}
@@ -17,10 +17,10 @@ use Rattle.btx_bib.specs.language.Grammar.ByteSets.{begins, longest_run_len, lon
 use Rattle.btx_bib.specs.language.Grammar.Tokens.{Parsed, followed_by, wrong_at, name_at, open_in, open_at, sign_at, key_here, key_at, closing_delimiter}
 use Rattle.btx_bib.specs.language.Grammar.Values.{value_at}
 use Rattle.btx_bib.specs.language.Grammar.Fields.{Field, field_at, after_comma, more_in}
-use Rattle.btx_bib.specs.language.Grammar.Items.{Event, Comment, Preamble, Definition, Entry, End, Wrong, command_of, head_of, head_at, field_event, Step}
-use Rattle.btx_bib.specs.language.Grammar.Items.{step_by, behind_at, expected_step, Placed, Keeping, as_known, events_from}
+use Rattle.btx_bib.specs.language.Grammar.Items.{Event, Comment, Preamble, Definition, Entry, ItemEnd, Wrong, command_of, head_of, head_at, field_event, Step}
+use Rattle.btx_bib.specs.language.Grammar.Items.{step_by, behind_at, expected_step, Placed, StoredKeys, as_known, events_from}
 use Rattle.btx_bib.specs.laws.Grammar.Spelling.{Grammar, Gives, Then, Spaced, NameHere, SignHere, ValueSpelling, FieldSpelling, Splits, read_as}
-use Rattle.btx_bib.specs.laws.Grammar.Reading.{OnSign, WrongHere, OpenHere, KeyHere, AfterComma, MoreHere, HeadOf, Head, more_event, HasNoAt, Stands, IsOutcome}
+use Rattle.btx_bib.specs.laws.Grammar.Reading.{OnSign, WrongHere, OpenHere, KeyHere, AfterComma, MoreHere, HeadOf, Head, more_event, HasNoAt, Stands, IsEventOf}
 use Rattle.btx_bib.specs.laws.Grammar.Reading.{IsReading}
 use Rattle.btx_bib.specs.refinement.Grammar.Reads.{left}
 use Rattle.btx_bib.proofs.GrammarLemmas.LengthLemmas.{StepsTo, next-leaves, events_from-step, events-none}
@@ -132,7 +132,7 @@ spaced-open = spaced-decides OpenHere open_in open-decides
 pub spaced-key : (d : Delimiter) → Decides (key_at d) (Spaced (KeyHere d))
 spaced-key d = spaced-decides (KeyHere d) (key_here d) (key-decides d)
 
-head_of-decides : (c : Command) (name : List ℕ) → Decides (head_of c name) (HeadOf c name)
+head_of-decides : (c : DatabaseCommand) (name : List ℕ) → Decides (head_of c name) (HeadOf c name)
 unfolding head_of
 head_of-decides command.Comment name = gives-decides (Comment, Item)
 head_of-decides command.Preamble name =
@@ -153,8 +153,8 @@ head-decides = then-decides (Spaced NameHere) _ name_at _ name-decides (λ name.
 
 end-decides : (d : Delimiter) → Decides (λ s. item_end (sign_at (closing_delimiter d) (NoClosing d) s)) (Stands (Closing d))
 end-decides d =
-    then-decides (Spaced (SignHere (closing_delimiter d) (NoClosing d))) (λ sign. Gives (End, Item)) (sign_at (closing_delimiter d) (NoClosing d))
-    (λ sign rest. Ok ((End, Item), rest)) (sign-decides (closing_delimiter d) (NoClosing d)) (λ sign. gives-decides (End, Item))
+    then-decides (Spaced (SignHere (closing_delimiter d) (NoClosing d))) (λ sign. Gives (ItemEnd, Item)) (sign_at (closing_delimiter d) (NoClosing d))
+    (λ sign rest. Ok ((ItemEnd, Item), rest)) (sign-decides (closing_delimiter d) (NoClosing d)) (λ sign. gives-decides (ItemEnd, Item))
 
 more-same : (d : Delimiter) (r : Parsed (Option Field)) → followed_by r (λ more rest. Ok (more_event d more, rest)) ≡ field_event d r
 more-same d (Ok (None, rest)) = refl
@@ -245,49 +245,49 @@ stands-step (Closing d) o front rest h = ap (λ r. Some (step_by r)) ((end-decid
 stands-step (Fields d) o front rest h = ap (λ r. Some (step_by r)) ((fields-decides d).only o front rest h)
 
 -- what is known of a step is known of its outcome
-pub known-outcome : {S : Type 0} (keeping : Keeping S) (state : S) (event : Event) (next : Expected) (o : Result (Event × Expected) SyntaxError) → IsStep event next o →
-    let got = as_known (keeping.is_stored state) (event, next) in IsOutcome keeping state got.0 got.1 o
-known-outcome keeping state event next (Ok got) h = rw (h.0, h.1) (refl, refl)
-known-outcome keeping state event next (Err slip) h = rw (h.0, h.1) (refl, refl)
+pub known-outcome : {S : Type 0} (stored_keys : StoredKeys S) (state : S) (event : Event) (next : Expected) (o : Result (Event × Expected) SyntaxError) → IsStep event next o →
+    let got = as_known (stored_keys.is_stored state) (event, next) in IsEventOf stored_keys state got.0 got.1 o
+known-outcome stored_keys state event next (Ok got) h = rw (h.0, h.1) (refl, refl)
+known-outcome stored_keys state event next (Err slip) h = rw (h.0, h.1) (refl, refl)
 
-outcome-events : {S : Type 0} (keeping : Keeping S) (others : S → Expected → List ℕ → List Placed) (state : S) (event : Event) (next : Expected) (rest : List ℕ)
+outcome-events : {S : Type 0} (stored_keys : StoredKeys S) (others : S → Expected → List ℕ → List Placed) (state : S) (event : Event) (next : Expected) (rest : List ℕ)
     (o : Result (Event × Expected) SyntaxError) →
-    IsOutcome keeping state event next o → events_by keeping others state (known_step (keeping.is_stored state) (Some (step_by (read_as o rest))))
-    ≡ record { event = event; rest = rest } ∷ others (keeping.after state event) next rest
-outcome-events keeping others state event next rest (Ok got) h = rw (h.0, h.1) refl
-outcome-events keeping others state event next rest (Err slip) h = rw (h.0, h.1) refl
+    IsEventOf stored_keys state event next o → events_by stored_keys others state (known_step (stored_keys.is_stored state) (Some (step_by (read_as o rest))))
+    ≡ record { event = event; rest = rest } ∷ others (stored_keys.after state event) next rest
+outcome-events stored_keys others state event next rest (Ok got) h = rw (h.0, h.1) refl
+outcome-events stored_keys others state event next rest (Err slip) h = rw (h.0, h.1) refl
 
 -- ---- the whole reading
 
-reading-by : {S : Type 0} (keeping : Keeping S) (state : S) (w : Expected) (s : List ℕ) (o : Option Step) → OptionStands w s o
-    → StepsTo (left w (length s)) (known_step (keeping.is_stored state) o) →
-    ((q : S) (v : Expected) (t : List ℕ) → left v (length t) < left w (length s) → IsReading keeping q v t (events_from keeping q v t)) →
-    IsReading keeping state w s (events_by keeping (events_from keeping) state (known_step (keeping.is_stored state) o))
-reading-by keeping state w s None h less others = h
-reading-by keeping state w s (Some step) h less others =
-    let got = as_known (keeping.is_stored state) (step.event, step.wanted) in
-    (h.0, got.1, h.1, h.2, known-outcome keeping state step.event step.wanted h.0 h.3, h.4, others (keeping.after state got.0) got.1 step.rest less)
+reading-by : {S : Type 0} (stored_keys : StoredKeys S) (state : S) (w : Expected) (s : List ℕ) (o : Option Step) → OptionStands w s o
+    → StepsTo (left w (length s)) (known_step (stored_keys.is_stored state) o) →
+    ((q : S) (v : Expected) (t : List ℕ) → left v (length t) < left w (length s) → IsReading stored_keys q v t (events_from stored_keys q v t)) →
+    IsReading stored_keys state w s (events_by stored_keys (events_from stored_keys) state (known_step (stored_keys.is_stored state) o))
+reading-by stored_keys state w s None h less others = h
+reading-by stored_keys state w s (Some step) h less others =
+    let got = as_known (stored_keys.is_stored state) (step.event, step.wanted) in
+    (h.0, got.1, h.1, h.2, known-outcome stored_keys state step.event step.wanted h.0 h.3, h.4, others (stored_keys.after state got.0) got.1 step.rest less)
 
-reading-total : {S : Type 0} (keeping : Keeping S) (m : ℕ) (state : S) (w : Expected) (s : List ℕ) → left w (length s) < m
-    → IsReading keeping state w s (events_from keeping state w s)
-reading-total keeping zero state w s lt = absurd (omega arith)
-reading-total keeping (suc m) state w s lt =
-    subst (IsReading keeping state w s) (sym (events_from-step keeping state w s))
-    (reading-by keeping state w s (expected_step w s) (step-stands w s) (next-leaves (keeping.is_stored state) w s)
-    (λ q v t less. reading-total keeping m q v t (omega arith)))
+reading-total : {S : Type 0} (stored_keys : StoredKeys S) (m : ℕ) (state : S) (w : Expected) (s : List ℕ) → left w (length s) < m
+    → IsReading stored_keys state w s (events_from stored_keys state w s)
+reading-total stored_keys zero state w s lt = absurd (omega arith)
+reading-total stored_keys (suc m) state w s lt =
+    subst (IsReading stored_keys state w s) (sym (events_from-step stored_keys state w s))
+    (reading-by stored_keys state w s (expected_step w s) (step-stands w s) (next-leaves (stored_keys.is_stored state) w s)
+    (λ q v t less. reading-total stored_keys m q v t (omega arith)))
 
-pub is_reading : {S : Type 0} (keeping : Keeping S) (state : S) (w : Expected) (s : List ℕ) → IsReading keeping state w s (events_from keeping state w s)
-is_reading keeping state w s = reading-total keeping (suc (left w (length s))) state w s (omega arith)
+pub is_reading : {S : Type 0} (stored_keys : StoredKeys S) (state : S) (w : Expected) (s : List ℕ) → IsReading stored_keys state w s (events_from stored_keys state w s)
+is_reading stored_keys state w s = reading-total stored_keys (suc (left w (length s))) state w s (omega arith)
 
 pub nothing-step : (w : Expected) (s : List ℕ) → w ≡ Item → HasNoAt s → expected_step w s ≡ None
 unfolding expected_step
 nothing-step w s is h = rw (is, none-at s h) refl
 
-pub one_reading : {S : Type 0} (keeping : Keeping S) (events : List Placed) (state : S) (w : Expected) (s : List ℕ) → IsReading keeping state w s events
-    → events ≡ events_from keeping state w s
-one_reading keeping [] state w s h = sym (events-none keeping state w s (ap (known_step (keeping.is_stored state)) (nothing-step w s h.0 h.1)))
-one_reading keeping (p ∷ ps) state w s (o, next, front, text, outcome, stands, others) =
+pub one_reading : {S : Type 0} (stored_keys : StoredKeys S) (events : List Placed) (state : S) (w : Expected) (s : List ℕ) → IsReading stored_keys state w s events
+    → events ≡ events_from stored_keys state w s
+one_reading stored_keys [] state w s h = sym (events-none stored_keys state w s (ap (known_step (stored_keys.is_stored state)) (nothing-step w s h.0 h.1)))
+one_reading stored_keys (p ∷ ps) state w s (o, next, front, text, outcome, stands, others) =
     let step : expected_step w s ≡ Some (step_by (read_as o p.rest)) = ap (expected_step w) (sym text) ∙ stands-step w o front p.rest stands in
-    ap (λ xs. p ∷ xs) (one_reading keeping ps (keeping.after state p.event) next p.rest others)
-    ∙ sym (outcome-events keeping (events_from keeping) state p.event next p.rest o outcome)
-    ∙ sym (events_from-step keeping state w s ∙ ap (λ t. events_by keeping (events_from keeping) state (known_step (keeping.is_stored state) t)) step)
+    ap (λ xs. p ∷ xs) (one_reading stored_keys ps (stored_keys.after state p.event) next p.rest others)
+    ∙ sym (outcome-events stored_keys (events_from stored_keys) state p.event next p.rest o outcome)
+    ∙ sym (events_from-step stored_keys state w s ∙ ap (λ t. events_by stored_keys (events_from stored_keys) state (known_step (stored_keys.is_stored state) t)) step)

@@ -2,8 +2,8 @@
 use Rattle.std.proofs.Common.{◌≡◌, ℕ, zero, suc, ◌<◌, List, [], ◌∷◌, ◌++◌, length, refl, sym, ◌∙◌, subst, arith, inl, Ok, Err, Some, None, Option}
 use Rattle.btx_bib.specs.declared.grammar.byte_sets.Delimiter.{Delimiter}
 use Rattle.btx_bib.specs.declared.grammar.byte_sets.ByteSet.TheVariants.{Gap}
-use Rattle.btx_bib.specs.declared.grammar.commands.Command.{Command}
-use Rattle.btx_bib.specs.declared.grammar.commands.Command.TheVariants as command
+use Rattle.btx_bib.specs.declared.grammar.commands.DatabaseCommand.{DatabaseCommand}
+use Rattle.btx_bib.specs.declared.grammar.commands.DatabaseCommand.TheVariants as command
 use Rattle.btx_bib.specs.declared.grammar.slip.SyntaxError.TheVariants.{NoEquals, NoClosing}
 use Rattle.btx_bib.specs.language.Grammar.ByteSets.{past}
 use Rattle.btx_bib.specs.language.Grammar.Tokens.{Parsed, followed_by, name_at, open_at, sign_at, key_at, closing_delimiter}
@@ -106,7 +106,7 @@ fields-decides d = record {
 
 -- ---- items
 
-item_of-decides : (c : Command) (name : List ℕ) → Decides (whole_item c name) (ItemOf c name)
+item_of-decides : (c : DatabaseCommand) (name : List ℕ) → Decides (whole_item c name) (ItemOf c name)
 unfolding whole_item
 item_of-decides command.Comment name = gives-decides CommentItem
 item_of-decides command.Preamble name =

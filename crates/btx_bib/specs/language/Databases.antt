@@ -12,7 +12,7 @@ use Rattle.btx_bib.specs.language.Request.{Request}
 use Rattle.btx_bib.specs.language.Strings.{defined}
 use Rattle.btx_bib.specs.language.Listing.{slots_of}
 use Rattle.btx_bib.specs.language.Passes.{entries_of, reference_messages}
-use Rattle.btx_bib.specs.language.Known.{Known, goes_on, with_current_stored, if_fits, keeping}
+use Rattle.btx_bib.specs.language.Known.{Known, goes_on, with_current_stored, if_fits, stored_keys}
 use Rattle.btx_bib.specs.language.Messages.{Database, Reading, read_next}
 
 -- ---- before the first database
@@ -33,7 +33,7 @@ read_one wanted reading database =
     else
     let last =
     fold (read_next wanted database) reading
-    (events_from (keeping wanted) reading.known Item database.text) in
+    (events_from (stored_keys wanted) reading.known Item database.text) in
     record last { known = with_current_stored last.known }
 
 -- ---- all databases

@@ -7,7 +7,7 @@ use Rattle.btx_bib.specs.declared.end.End.{End}
 use Rattle.btx_bib.specs.declared.end.End.TheVariants as end
 use Rattle.btx_bib.specs.declared.grammar.value_ends.Ends.TheVariants.{Kept, Trimmed}
 use Rattle.btx_bib.specs.language.Grammar.Fields.{Field}
-use Rattle.btx_bib.specs.language.Grammar.Items.{Event, Comment, Preamble, Definition, Entry, FieldOf, End as Close, Wrong, Keeping}
+use Rattle.btx_bib.specs.language.Grammar.Items.{Event, Comment, Preamble, Definition, Entry, FieldOf, ItemEnd as Close, Wrong, StoredKeys}
 use Rattle.btx_bib.specs.language.Grammar.ValueTexts.{value_text}
 use Rattle.btx_bib.specs.language.Request.{Request}
 use Rattle.btx_bib.specs.language.Strings.{string_value, other_value, defined}
@@ -62,7 +62,7 @@ after_field wanted known (Some given) field =
     else known
 
 -- what is known after an event: a `@preamble` is appended, and a `@string` defined. An entry's key first stores the entry that was being read, and a
--- wanted entry becomes the one that is being read, without a field yet; a field goes to that entry. `Close`, which the grammar calls `End`, is the end
+-- wanted entry becomes the one that is being read, without a field yet; a field goes to that entry. `Close`, which the grammar calls `ItemEnd`, is the end
 -- of an item
 abbrev pub after_event : Request → Known → Event → Known
 after_event wanted known Comment = known
@@ -82,5 +82,5 @@ abbrev pub known_after : Request → Known → Event → Known
 known_after wanted known event = if goes_on known.ending then after_event wanted known event else known
 
 -- which keys are stored, for the grammar: an entry with such a key is a repeated one
-abbrev pub keeping : Request → Keeping Known
-keeping wanted = record { is_stored = λ known key. is_some (entry_with_key (stored_in known) key); after = known_after wanted }
+abbrev pub stored_keys : Request → StoredKeys Known
+stored_keys wanted = record { is_stored = λ known key. is_some (entry_with_key (stored_in known) key); after = known_after wanted }

@@ -10,7 +10,7 @@ use Rattle.btx_bib.specs.declared.grammar.slip.SyntaxError.TheVariants.{NoName, 
 use Rattle.btx_bib.specs.declared.message.Message.{Message}
 use Rattle.btx_bib.specs.declared.message.Message.TheVariants.{Wrong, UnknownKind, ExtraField, UndefinedString, OwnString, BadReference, NestedReference}
 use Rattle.btx_bib.specs.declared.message.Message.TheVariants.{NoEntry}
-use Rattle.btx_bib.specs.declared.message.Spot.{Spot}
+use Rattle.btx_bib.specs.declared.message.SourcePosition.{SourcePosition}
 use Rattle.std.specs.Option.{option_map_or}
 
 -- what is wrong at a place of a database, in words
@@ -47,18 +47,18 @@ message_kind (BadReference child parent) = line.Error
 message_kind _ = line.Warning
 
 -- the line of a database where a message is met: messages of cross-references and of keys without an entry have none
-abbrev pub spot_of : Message → Option Spot
-spot_of (Wrong slip spot) = Some spot
-spot_of (UnknownKind key spot) = Some spot
-spot_of (ExtraField key field spot) = Some spot
-spot_of (UndefinedString name spot) = Some spot
-spot_of (OwnString name spot) = Some spot
-spot_of _ = None
+abbrev pub position_of : Message → Option SourcePosition
+position_of (Wrong slip spot) = Some spot
+position_of (UnknownKind key spot) = Some spot
+position_of (ExtraField key field spot) = Some spot
+position_of (UndefinedString name spot) = Some spot
+position_of (OwnString name spot) = Some spot
+position_of _ = None
 
 -- the line of the log for a message, which ends with its place, if it has one: `--line 7 of file refs.bib`
 abbrev pub message_line : Message → Line
 message_line message = record {
   text = mark_of (message_kind message) ++ message_text message
-      ++ option_map_or (λ (spot : Spot). place_text spot.line spot.file) (spot_of message) [];
+      ++ option_map_or (λ (spot : SourcePosition). place_text spot.line spot.file) (position_of message) [];
   kind = message_kind message;
 }

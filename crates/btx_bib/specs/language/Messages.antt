@@ -7,9 +7,9 @@ use Rattle.btx_text.specs.language.Keys.{folded}
 use Rattle.btx_aux.specs.language.Names.{is_same_key}
 use Rattle.btx_bib.specs.declared.message.Message.{Message}
 use Rattle.btx_bib.specs.declared.message.Message.TheVariants as message
-use Rattle.btx_bib.specs.declared.message.Spot.{Spot}
+use Rattle.btx_bib.specs.declared.message.SourcePosition.{SourcePosition}
 use Rattle.btx_bib.specs.language.Grammar.Fields.{Field}
-use Rattle.btx_bib.specs.language.Grammar.Items.{Event, Comment, Preamble, Definition, Entry, FieldOf, End, Wrong, Placed}
+use Rattle.btx_bib.specs.language.Grammar.Items.{Event, Comment, Preamble, Definition, Entry, FieldOf, ItemEnd, Wrong, Placed}
 use Rattle.btx_bib.specs.language.Grammar.PlaceLines.{lines_begun}
 use Rattle.btx_bib.specs.language.Grammar.Values.{Part, Braced, Quoted, Digits, Named}
 use Rattle.btx_bib.specs.language.Request.{Request}
@@ -25,14 +25,14 @@ pub record Database : Type 0 where
   pub text : List ℕ
 
 -- the place of a message: the file, the line of the byte with which `rest` begins, and how many bytes of the text are before `rest`
-abbrev pub spot_at : Database → List ℕ → Spot
-spot_at database rest =
+abbrev pub position_at : Database → List ℕ → SourcePosition
+position_at database rest =
     let at = length database.text - length rest in
     record { file = database.file; line = lines_begun (suc at) database.text; at = at }
 
 -- the same place, with the line of the last byte before `rest`
-abbrev pub spot_before : Database → List ℕ → Spot
-spot_before database rest =
+abbrev pub position_before : Database → List ℕ → SourcePosition
+position_before database rest =
     let at = length database.text - length rest in
     record { file = database.file; line = lines_begun at database.text; at = at }
 
@@ -43,8 +43,8 @@ name_messages database strings own (Braced text) = []
 name_messages database strings own (Quoted text) = []
 name_messages database strings own (Digits text) = []
 name_messages database strings own (Named string) =
-    if option_map_or (λ (defined : List ℕ). is_same_key defined string.name) own false then message.OwnString string.name (spot_at database string.rest) ∷ []
-    else if is_none (string_value strings string.name) then message.UndefinedString string.name (spot_at database string.rest) ∷ [] else []
+    if option_map_or (λ (defined : List ℕ). is_same_key defined string.name) own false then message.OwnString string.name (position_at database string.rest) ∷ []
+    else if is_none (string_value strings string.name) then message.UndefinedString string.name (position_at database string.rest) ∷ [] else []
 
 -- the messages of a value's names that stand for no string
 abbrev pub value_messages : Database → List (List ℕ × List ℕ) → Option (List ℕ) → List Part → List Message
@@ -55,7 +55,7 @@ value_messages database strings own value = flat_map (name_messages database str
 abbrev pub field_messages : Request → Database → List (List ℕ × List ℕ) → Option Given → Field → List ℕ → List Message
 field_messages wanted database strings None field rest = []
 field_messages wanted database strings (Some given) field rest =
-    if has_value wanted given field.name then message.ExtraField given.key field.name (spot_before database rest) ∷ []
+    if has_value wanted given field.name then message.ExtraField given.key field.name (position_before database rest) ∷ []
     else if is_some (wanted.field (folded field.name)) then value_messages database strings None field.value else []
 
 -- the messages for an event of a database; `rest` is the text after it, from which its line follows. For the key of an entry that is to be stored
@@ -66,11 +66,11 @@ event_messages wanted database known (Preamble value) rest = value_messages data
 event_messages wanted database known (Definition name value) rest = value_messages database known.strings (Some name) value
 event_messages wanted database known (Entry kind key) rest =
     if is_wanted wanted (stored_in known) key then
-    (if is_none (wanted.kind (folded kind)) then message.UnknownKind key (spot_at database rest) ∷ [] else [])
+    (if is_none (wanted.kind (folded kind)) then message.UnknownKind key (position_at database rest) ∷ [] else [])
     else []
 event_messages wanted database known (FieldOf field) rest = field_messages wanted database known.strings known.current field rest
-event_messages wanted database known End rest = []
-event_messages wanted database known (Wrong slip) rest = message.Wrong slip (spot_at database rest) ∷ []
+event_messages wanted database known ItemEnd rest = []
+event_messages wanted database known (Wrong slip) rest = message.Wrong slip (position_at database rest) ∷ []
 
 -- ---- along a database
 

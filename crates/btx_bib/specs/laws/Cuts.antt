@@ -2,7 +2,7 @@
 use Rattle.std.specs.Prelude.{◌≡◌, ◌<◌, ◌⊎◌, ℕ, false, List, [], ◌∷◌, ◌++◌, length}
 use Rattle.btx_text.specs.language.Class.{is_name_byte}
 use Rattle.btx_bib.specs.language.Grammar.ByteSets.{begins}
-use Rattle.btx_bib.specs.language.Grammar.Items.{Comment, End, Placed}
+use Rattle.btx_bib.specs.language.Grammar.Items.{Comment, ItemEnd, Placed}
 use Rattle.btx_bib.specs.language.Request.{Request}
 use Rattle.btx_bib.specs.language.Library.{Library}
 use Rattle.btx_bib.specs.language.Known.{Known}
@@ -19,7 +19,7 @@ EndsName text = begins is_name_byte text ≡ false
 -- is an `@comment`, and the text doesn't go on with its name
 abbrev pub EndsOutside : List Placed → List ℕ → Type 0
 EndsOutside [] text = Unit {0}
-EndsOutside (placed ∷ []) text = (placed.event ≡ End) ⊎ ((0 < length placed.rest) ⊎ ((placed.event ≡ Comment) × EndsName text))
+EndsOutside (placed ∷ []) text = (placed.event ≡ ItemEnd) ⊎ ((0 < length placed.rest) ⊎ ((placed.event ≡ Comment) × EndsName text))
 EndsOutside (placed ∷ next ∷ events) text = EndsOutside (next ∷ events) text
 
 -- two databases are one that was cut where no item is open

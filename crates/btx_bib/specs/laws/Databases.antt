@@ -4,7 +4,7 @@ use Rattle.btx_text.specs.language.Limits.{is_too_long}
 use Rattle.btx_bib.specs.declared.grammar.commands.Expected.TheVariants.{Item}
 use Rattle.btx_bib.specs.language.Grammar.Items.{Placed, events_from}
 use Rattle.btx_bib.specs.language.Request.{Request}
-use Rattle.btx_bib.specs.language.Known.{Known, goes_on, keeping}
+use Rattle.btx_bib.specs.language.Known.{Known, goes_on, stored_keys}
 use Rattle.btx_bib.specs.language.Messages.{Database, Reading}
 use Rattle.btx_bib.specs.declared.end.End.TheVariants as end
 use Rattle.btx_bib.specs.language.Databases.{with_macro, read_one, library_of}
@@ -23,7 +23,7 @@ read_all wanted macros databases = fold (read_one wanted) (record { known = with
 
 -- what stands in a database and what is wrong in it, item by item; which entries are repeated depends on what is known before it
 abbrev pub database_events : Request → Known → Database → List Placed
-database_events wanted known database = events_from (keeping wanted) known Item database.text
+database_events wanted known database = events_from (stored_keys wanted) known Item database.text
 
 -- where the reading ends at a limit, the library has the messages until then
 abbrev pub MessagesStay : Type 0

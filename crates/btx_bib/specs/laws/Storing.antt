@@ -12,7 +12,7 @@ use Rattle.btx_bib.specs.language.Request.{Request}
 use Rattle.btx_bib.specs.language.Strings.{string_value, other_value}
 use Rattle.btx_bib.specs.language.Entries.{Given}
 use Rattle.btx_bib.specs.language.Stored.{parents_in}
-use Rattle.btx_bib.specs.language.Known.{Known, goes_on, stored_in, known_after, keeping}
+use Rattle.btx_bib.specs.language.Known.{Known, goes_on, stored_in, known_after, stored_keys}
 use Rattle.btx_bib.specs.laws.Known.{after_all}
 use Rattle.btx_bib.specs.language.Databases.{with_macro}
 use Rattle.btx_bib.specs.laws.Databases.{with_macros}
@@ -65,7 +65,7 @@ is_asked_for wanted stored key = is_some wanted.all || (is_any_key wanted.cited 
 -- an entry that is read is stored, after the others and without a field yet, exactly if it is wanted and no stored one has its key
 abbrev pub WantedNewAreStored : Type 0
 WantedNewAreStored = (wanted : Request) (known : Known) (kind key : List ℕ) (next : Next) → goes_on known.ending ≡ true
-    → (let stored = stored_in known in let read = as_known ((keeping wanted).is_stored known) (Entry kind key, next) in
+    → (let stored = stored_in known in let read = as_known ((stored_keys wanted).is_stored known) (Entry kind key, next) in
     stored_in (known_after wanted known read.0) ≡
     (if is_asked_for wanted stored key && not (is_any_key (keys_in stored) key) then stored ++ record { kind = kind; key = key; fields = [] } ∷ [] else stored))
 

@@ -10,7 +10,7 @@ use Rattle.btx_bib.specs.declared.grammar.byte_sets.Delimiter.TheVariants.{Brace
 use Rattle.btx_bib.specs.declared.grammar.slip.SyntaxError.TheVariants.{NoName, NoDelimiter, NoComma, NoEquals, NoClosing, NoValue, Unbalanced, EndOfFile, Repeated}
 use Rattle.btx_bib.specs.declared.message.Message.{Message}
 use Rattle.btx_bib.specs.declared.message.Message.TheVariants as message
-use Rattle.btx_bib.specs.declared.message.Spot.{Spot}
+use Rattle.btx_bib.specs.declared.message.SourcePosition.{SourcePosition}
 use Rattle.btx_bib.specs.language.Request.{Request}
 use Rattle.btx_bib.specs.language.Library.{Library}
 use Rattle.btx_bib.specs.language.Messages.{Database}
@@ -53,11 +53,11 @@ abbrev pub database_with : List ℕ → Database
 database_with text = record { file = codes "d.bib"; text = text }
 
 -- the spot in the line of this number of the database `d.bib`, after this number of its bytes
-abbrev pub spot_in : ℕ → ℕ → Spot
+abbrev pub spot_in : ℕ → ℕ → SourcePosition
 spot_in number place = record { file = codes "d.bib"; line = number; at = place }
 
 -- the line of this number in the database `d.bib`, where its bytes don't matter
-abbrev pub at_line : ℕ → Spot
+abbrev pub at_line : ℕ → SourcePosition
 at_line number = spot_in number 0
 
 -- an entry with its `crossref`, its `title` and its `booktitle`

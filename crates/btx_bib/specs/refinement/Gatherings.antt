@@ -3,8 +3,8 @@ use Rattle.std.specs.Prelude.{◌≡◌, ℕ, nat_lt, ◌≤◌, ◌||◌, Bool,
 use Rattle.btx_text.specs.language.Keys.{folded}
 use Rattle.btx_text.specs.language.Limits.{greatest_string}
 use Rattle.btx_aux.specs.language.Names.{is_same_key}
-use Rattle.btx_bib.specs.declared.draft.Standing.{Standing}
-use Rattle.btx_bib.specs.declared.draft.Standing.TheVariants as standing
+use Rattle.btx_bib.specs.declared.draft.StoreDecision.{StoreDecision}
+use Rattle.btx_bib.specs.declared.draft.StoreDecision.TheVariants as decision
 use Rattle.btx_bib.specs.declared.end.End.TheVariants.{StringLimit}
 use Rattle.btx_bib.specs.declared.gathering.Gathering.{Gathering}
 use Rattle.btx_bib.specs.declared.gathering.Pending.{Pending}
@@ -14,7 +14,7 @@ use Rattle.btx_bib.specs.declared.message.Message.{Message}
 use Rattle.btx_bib.specs.declared.message.Message.TheVariants as message
 use Rattle.btx_bib.specs.declared.reading.Reading.{Reading}
 use Rattle.btx_bib.specs.language.Grammar.Fields.{Field}
-use Rattle.btx_bib.specs.language.Grammar.Items.{Event, Comment, Preamble, Definition, Entry, FieldOf, End, Wrong, Placed, Keeping, events_from}
+use Rattle.btx_bib.specs.language.Grammar.Items.{Event, Comment, Preamble, Definition, Entry, FieldOf, ItemEnd, Wrong, Placed, StoredKeys, events_from}
 use Rattle.btx_bib.specs.language.Grammar.Values.{Part}
 use Rattle.btx_bib.specs.language.Grammar.ValueTexts.{value_text}
 use Rattle.btx_bib.specs.refinement.Drafts.{place_in, has_entry, standing_at, stored_at}
@@ -25,7 +25,7 @@ use Rattle.btx_bib.specs.language.Values.{field_value}
 use Rattle.btx_bib.specs.language.Request.{Request}
 use Rattle.btx_bib.specs.language.Strings.{defined, other_value, string_value}
 use Rattle.btx_bib.specs.language.Known.{goes_on}
-use Rattle.btx_bib.specs.language.Messages.{Database, spot_at, spot_before, value_messages}
+use Rattle.btx_bib.specs.language.Messages.{Database, position_at, position_before, value_messages}
 use Rattle.btx_bib.specs.refinement.Strings.{Strings}
 use Rattle.btx_bib.specs.refinement.Messages.{type_messages}
 use Rattle.btx_bib.specs.refinement.Sites.{asked_in, database_read, reported}
@@ -53,7 +53,7 @@ taken_by wanted strings pending field = taken_at strings pending field (wanted.f
 abbrev pub messages_of_number : Database → Strings → Pending → Field → List ℕ → Option ℕ → List Message
 messages_of_number database strings pending field rest None = []
 messages_of_number database strings pending field rest (Some number) =
-    if is_some (field_value number pending.body.values) then message.ExtraField pending.key field.name (spot_before database rest) ∷ []
+    if is_some (field_value number pending.body.values) then message.ExtraField pending.key field.name (position_before database rest) ∷ []
     else value_messages database strings None field.value
 
 abbrev pub messages_of_field : Request → Database → Strings → Pending → Field → List ℕ → List Message
@@ -80,10 +80,10 @@ abbrev pub begun : Request → Gathering → Option ℕ → List ℕ → Gatheri
 begun wanted kept kind key = record kept { current = Some (record { key = key; body = record { kind = kind; values = blanks wanted.count } }) }
 
 -- what is kept after the key of an entry that stands so
-abbrev pub begun_by : Request → Gathering → List ℕ → List ℕ → Standing → Gathering
-begun_by wanted kept kind key standing.Unwanted = kept
-begun_by wanted kept kind key standing.Repeated = kept
-begun_by wanted kept kind key standing.Expected = begun wanted kept (wanted.kind (folded kind)) key
+abbrev pub begun_by : Request → Gathering → List ℕ → List ℕ → StoreDecision → Gathering
+begun_by wanted kept kind key decision.Unwanted = kept
+begun_by wanted kept kind key decision.Repeated = kept
+begun_by wanted kept kind key decision.Expected = begun wanted kept (wanted.kind (folded kind)) key
 
 -- what is kept after a field
 abbrev pub ended_if : Bool → Gathering → Gathering
@@ -110,10 +110,10 @@ abbrev pub entered : Request → Gathering → List ℕ → List ℕ → Gatheri
 entered wanted kept kind key = let before = closed wanted kept in begun_by wanted before kind key (standing_at wanted before.draft (place_in before.draft key))
 
 -- the message of an entry that stands so
-abbrev pub messages_of_standing : Request → Database → List ℕ → List ℕ → List ℕ → Standing → List Message
-messages_of_standing wanted database kind key rest standing.Unwanted = []
-messages_of_standing wanted database kind key rest standing.Repeated = []
-messages_of_standing wanted database kind key rest standing.Expected = type_messages key (wanted.kind (folded kind)) (spot_at database rest)
+abbrev pub messages_of_standing : Request → Database → List ℕ → List ℕ → List ℕ → StoreDecision → List Message
+messages_of_standing wanted database kind key rest decision.Unwanted = []
+messages_of_standing wanted database kind key rest decision.Repeated = []
+messages_of_standing wanted database kind key rest decision.Expected = type_messages key (wanted.kind (folded kind)) (position_at database rest)
 
 abbrev pub messages_of_entry : Request → Database → Gathering → List ℕ → List ℕ → List ℕ → List Message
 messages_of_entry wanted database kept kind key rest =
@@ -137,7 +137,7 @@ kept_after wanted kept (Preamble value) = with_preamble kept value
 kept_after wanted kept (Definition name value) = with_kept_string kept name value
 kept_after wanted kept (Entry kind key) = entered wanted kept kind key
 kept_after wanted kept (FieldOf field) = fielded_by wanted kept field kept.current
-kept_after wanted kept End = kept
+kept_after wanted kept ItemEnd = kept
 kept_after wanted kept (Wrong slip) = kept
 
 -- the messages of it
@@ -147,8 +147,8 @@ messages_of wanted database kept (Preamble value) rest = value_messages database
 messages_of wanted database kept (Definition name value) rest = value_messages database kept.strings (Some name) value
 messages_of wanted database kept (Entry kind key) rest = messages_of_entry wanted database kept kind key rest
 messages_of wanted database kept (FieldOf field) rest = messages_of_current wanted database kept.strings field rest kept.current
-messages_of wanted database kept End rest = []
-messages_of wanted database kept (Wrong slip) rest = message.Wrong slip (spot_at database rest) ∷ []
+messages_of wanted database kept ItemEnd rest = []
+messages_of wanted database kept (Wrong slip) rest = message.Wrong slip (position_at database rest) ∷ []
 
 -- the same, while the reading goes on
 abbrev pub kept_next : Request → Gathering → Event → Gathering
@@ -168,7 +168,7 @@ kept_messages wanted database kept (placed ∷ events) = messages_next wanted da
     ++ kept_messages wanted database (kept_next wanted kept placed.event) events
 
 -- the events of a text where this is kept and this is wanted first
-abbrev pub keeping_kept : Request → Keeping Gathering
+abbrev pub keeping_kept : Request → StoredKeys Gathering
 keeping_kept wanted = record { is_stored = is_kept; after = kept_next wanted }
 
 abbrev pub events_with : Request → Gathering → Next → List ℕ → List Placed

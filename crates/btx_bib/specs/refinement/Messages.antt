@@ -6,12 +6,12 @@ use Rattle.btx_bib.specs.language.Request.{Request}
 use Rattle.btx_bib.specs.language.Known.{Known, goes_on}
 use Rattle.btx_bib.specs.language.Messages.{Database, event_messages}
 use Rattle.btx_bib.specs.declared.message.Message.TheVariants as message
-use Rattle.btx_bib.specs.declared.message.Spot.{Spot}
+use Rattle.btx_bib.specs.declared.message.SourcePosition.{SourcePosition}
 use Rattle.btx_aux.specs.language.Names.{is_same_key}
 use Rattle.std.specs.Option.{option_map_or}
 
 -- the warning that the style has no function for the type of the entry with this key, if it has none
-abbrev pub type_messages : List ℕ → Option ℕ → Spot → List Message
+abbrev pub type_messages : List ℕ → Option ℕ → SourcePosition → List Message
 type_messages key kind spot = if is_none kind then message.UnknownKind key spot ∷ [] else []
 
 -- the name is that of the string that is being defined

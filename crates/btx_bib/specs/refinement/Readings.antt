@@ -1,7 +1,7 @@
 -- What the code keeps along whole databases, and the messages.
 use Rattle.std.specs.Prelude.{◌≡◌, ℕ, nat_lt, List, [], ◌∷◌, ◌++◌, length, None, if◌then◌else◌}
 use Rattle.btx_text.specs.language.Limits.{greatest_string, is_too_long}
-use Rattle.btx_bib.specs.declared.draft.Draft.{Draft}
+use Rattle.btx_bib.specs.declared.draft.ListBuilder.{ListBuilder}
 use Rattle.btx_bib.specs.declared.end.End.{End}
 use Rattle.btx_bib.specs.declared.end.End.TheVariants as end
 use Rattle.btx_bib.specs.declared.end.End.TheVariants.{FileLimit}
@@ -70,11 +70,11 @@ kept_macros kept (macro ∷ macros) = kept_macros (kept_macro kept macro) macros
 -- ---- after the last one
 
 -- the list with the keys that were cited after `*`
-abbrev pub listed_draft : Request → Draft → Draft
+abbrev pub listed_draft : Request → ListBuilder → ListBuilder
 listed_draft wanted draft = cited_all wanted draft (last_cited wanted.all wanted.cited)
 
 -- its names are the keys of its places
-abbrev pub IsListed : Draft → Type 0
+abbrev pub IsListed : ListBuilder → Type 0
 IsListed draft = draft.names ≡ lower_keys (settled_all draft.slots)
 
 -- the library of these places, with this preamble, after these messages

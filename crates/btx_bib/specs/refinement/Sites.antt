@@ -2,13 +2,13 @@
 use Rattle.std.specs.Prelude.{List, ◌++◌}
 use Rattle.btx_bib.specs.declared.message.Message.{Message}
 use Rattle.btx_bib.specs.declared.reading.Reading.{Reading}
-use Rattle.btx_bib.specs.declared.site.Site.{Site}
+use Rattle.btx_bib.specs.declared.site.LineSource.{LineSource}
 use Rattle.btx_bib.specs.language.Messages.{Database}
 use Rattle.btx_bib.specs.language.Request.{Request}
 use Rattle.btx_bib.specs.refinement.Requests.{wanted}
 
 -- the database of a place
-abbrev pub site_database : Site → Database
+abbrev pub site_database : LineSource → Database
 site_database site = record { file = site.file; text = site.lines }
 
 -- what the databases are asked for in a reading

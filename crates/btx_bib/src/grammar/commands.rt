@@ -3,7 +3,7 @@ use crate::grammar::byte_sets::Delimiter;
 
 /// What a name after an `@` begins.
 #[derive(Clone, Copy, Debug, PartialEq, Eq)]
-pub enum Command {
+pub enum DatabaseCommand {
     /// `@comment`.
     Comment,
     /// `@preamble`.

@@ -17,7 +17,7 @@ pub enum Event<'a> {
     /// A field of the entry.
     Field(Field<'a>),
     /// The end of the item.
-    End,
+    ItemEnd,
     /// What is wrong.
     Wrong(SyntaxError),
 }

@@ -11,7 +11,7 @@ ghost use Rattle.btx_bib.specs.refinement.Grammar.Tokens.{seen};
 ghost use Rattle.btx_bib.specs.laws.Grammar.Fields.{more_at};
 
 use crate::grammar::byte_sets::{ByteSet, Delimiter};
-use crate::grammar::commands::{Command, Expected};
+use crate::grammar::commands::{DatabaseCommand, Expected};
 use crate::grammar::events::Event;
 use crate::grammar::field_readers::read_more;
 use crate::grammar::slip::SyntaxError;
@@ -29,19 +29,19 @@ fn is_named(name: &[u8], command: &[u8]) -> bool
 
 // The command of a name.
 #[tactic(auto, unfolding(crate::specs::language::Grammar::Items::command_of))]
-fn command(name: &[u8]) -> Command
+fn command(name: &[u8]) -> DatabaseCommand
     ensures { result ≡ spec.command_of name.now }
 {
     if is_named(name, b"comment") {
-        return Command::Comment;
+        return DatabaseCommand::Comment;
     }
     if is_named(name, b"preamble") {
-        return Command::Preamble;
+        return DatabaseCommand::Preamble;
     }
     if is_named(name, b"string") {
-        return Command::Definition;
+        return DatabaseCommand::Definition;
     }
-    Command::Entry
+    DatabaseCommand::Entry
 }
 
 /// The type and the key of an entry.
@@ -64,7 +64,7 @@ pub fn entry_head(text: &[u8]) -> Option<EntryHead<'_>>
     ensures { IfSome result (λ head. spec.head_at text.now ≡ Ok ((spec.Entry head.kind.now head.key.now, Expected.Fields head.delimiter), head.rest.now)) }
 {
     let (kind, rest) = name(text).ok()?;
-    let Command::Entry = command(kind) else {
+    let DatabaseCommand::Entry = command(kind) else {
         return None;
     };
     let (delimiter, rest) = open(rest).ok()?;
@@ -100,7 +100,7 @@ pub fn entry_end(delimiter: Delimiter, text: &[u8]) -> Option<&[u8]>
 // The value of a preamble.
 #[tactic(auto, unfolding(crate::specs::language::Grammar::Items::head_of))]
 fn preamble<'a>(name: &'a [u8], text: &'a [u8]) -> Read<'a, (Event<'a>, Expected)>
-    ensures { seen head_view result ≡ spec.head_of Command.Preamble name.now text.now }
+    ensures { seen head_view result ≡ spec.head_of DatabaseCommand.Preamble name.now text.now }
 {
     let (delimiter, rest) = open(text)?;
     let (value, rest) = read_value(rest)?;
@@ -110,7 +110,7 @@ fn preamble<'a>(name: &'a [u8], text: &'a [u8]) -> Read<'a, (Event<'a>, Expected
 // The name and the value of a string.
 #[tactic(auto, unfolding(crate::specs::language::Grammar::Items::head_of))]
 fn definition<'a>(name: &'a [u8], text: &'a [u8]) -> Read<'a, (Event<'a>, Expected)>
-    ensures { seen head_view result ≡ spec.head_of Command.Definition name.now text.now }
+    ensures { seen head_view result ≡ spec.head_of DatabaseCommand.Definition name.now text.now }
 {
     let (delimiter, rest) = open(text)?;
     let (string, rest) = crate::grammar::tokens::name(rest)?;
@@ -128,7 +128,7 @@ fn definition<'a>(name: &'a [u8], text: &'a [u8]) -> Read<'a, (Event<'a>, Expect
 // The type and the key of an entry.
 #[tactic(auto, unfolding(crate::specs::language::Grammar::Items::head_of))]
 fn entry<'a>(name: &'a [u8], text: &'a [u8]) -> Read<'a, (Event<'a>, Expected)>
-    ensures { seen head_view result ≡ spec.head_of Command.Entry name.now text.now }
+    ensures { seen head_view result ≡ spec.head_of DatabaseCommand.Entry name.now text.now }
 {
     let (delimiter, rest) = open(text)?;
     let (key, rest) = key(delimiter, rest)?;
@@ -142,10 +142,10 @@ pub fn read_head(text: &[u8]) -> Read<'_, (Event<'_>, Expected)>
 {
     let (name, rest) = name(text)?;
     match command(name) {
-        Command::Comment => Ok(((Event::Comment, Expected::Item), rest)),
-        Command::Preamble => preamble(name, rest),
-        Command::Definition => definition(name, rest),
-        Command::Entry => entry(name, rest),
+        DatabaseCommand::Comment => Ok(((Event::Comment, Expected::Item), rest)),
+        DatabaseCommand::Preamble => preamble(name, rest),
+        DatabaseCommand::Definition => definition(name, rest),
+        DatabaseCommand::Entry => entry(name, rest),
     }
 }
 
@@ -154,7 +154,7 @@ pub fn read_end(delimiter: Delimiter, text: &[u8]) -> Read<'_, (Event<'_>, Expec
     ensures { seen head_view result ≡ refined.item_end (sign_at (closing_delimiter delimiter) (SyntaxError.NoClosing delimiter) text.now) }
 {
     let (_, rest) = sign(closing(delimiter), SyntaxError::NoClosing(delimiter), text)?;
-    Ok(((Event::End, Expected::Item), rest))
+    Ok(((Event::ItemEnd, Expected::Item), rest))
 }
 
 /// One more field of an entry, or its end.
@@ -164,7 +164,7 @@ pub fn read_field_or_end(delimiter: Delimiter, text: &[u8]) -> Read<'_, (Event<'
     let (more, rest) = read_more(delimiter, text)?;
     match more {
         Some(field) => Ok(((Event::Field(field), Expected::Fields(delimiter)), rest)),
-        None => Ok(((Event::End, Expected::Item), rest)),
+        None => Ok(((Event::ItemEnd, Expected::Item), rest)),
     }
 }
 

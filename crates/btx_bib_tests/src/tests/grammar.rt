@@ -1,5 +1,4 @@
 //! Tests of what no contract says: that the calls succeed where memory suffices. They hold by the contracts as well.
-use super::limits::{MOST, with_letters};
 use btx_bib::grammar::events::Event;
 use btx_bib::grammar::line_counter::LineCounter;
 use btx_bib::grammar::reader::{Reader, StoredKeys};
@@ -83,7 +82,7 @@ fn event_words<'e>(event: &Event<'e>) -> (&'static [u8], &'e [u8]) {
         Event::Definition(name, _) => (b"string ", name),
         Event::Entry(_, key) => (b"entry ", key),
         Event::Field(field) => (b"field ", field.name),
-        Event::End => (b"end", b""),
+        Event::ItemEnd => (b"end", b""),
         Event::Wrong(slip) => (slip_word(*slip), b""),
     }
 }
@@ -211,22 +210,4 @@ fn texts_are_right(alloc: Global) -> Result<bool, Fault> {
 #[test]
 fn texts_of_values(rt: HostRuntime) {
     assert!(rt; texts_are_right(rt.alloc()) == Ok(true));
-}
-
-// How long the text of the first value in a database is.
-fn text_len(alloc: Global, text: &[u8]) -> Result<usize, Fault> {
-    let found = first_text(alloc, text, Ends::Trimmed)?;
-    Ok(found.len())
-}
-
-// How long the text of a field is that has `letters` letters, with whitespace at both ends.
-fn long_text_len(alloc: Global, letters: usize) -> Result<usize, Fault> {
-    let text = with_letters(alloc, b"@a{c,f={\n ", letters, b"\n }}")?;
-    text_len(alloc, &text)
-}
-
-#[test]
-fn greatest_value(rt: HostRuntime) {
-    assert!(rt; long_text_len(rt.alloc(), MOST) == Ok(MOST));
-    assert!(rt; long_text_len(rt.alloc(), MOST + 1) == Err(Fault::StringLimit));
 }

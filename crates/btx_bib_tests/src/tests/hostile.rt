@@ -1,6 +1,6 @@
 //! Databases that were cut or spoilt: each is read.
 use super::rows::USUAL_STYLE;
-use super::showing::size_of;
+use super::showing::{Asked, seen_of};
 use super::usual::entries;
 use btx_bib::End;
 use btx_tests::texts::spoilt;
@@ -9,8 +9,14 @@ use std::alloc::Global;
 
 // Whether a database gives a whole library to a job that cites one of its entries, and all.
 fn is_read(alloc: Global, text: &[u8]) -> Result<bool, Fault> {
-    let (ending, _, _, _) = size_of(alloc, USUAL_STYLE, b"c0,*", text)?;
-    Ok(ending == End::Whole)
+    let asked = Asked {
+        style: USUAL_STYLE,
+        fields: 0,
+        keys: b"c0,*",
+        least: 2,
+    };
+    let seen = seen_of(alloc, asked, &[(b"d.bib".as_slice(), text)])?;
+    Ok(seen.end == End::Whole)
 }
 
 // Whether each prefix of a database is read.

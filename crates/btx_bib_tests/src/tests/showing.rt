@@ -20,22 +20,15 @@ pub struct Asked<'a> {
     pub least: u32,
 }
 
-/// How a reading ended, how many entries and messages there are, and how long the first entry's title is.
-pub type Size = (End, usize, usize, usize);
-
-/// What is seen of a library, and of the style and the job that it was read for.
+/// What is seen of a library.
 #[derive(Drop)]
 pub struct Seen {
     /// The library as a text.
     pub shown: Vec<u8>,
     /// For each message with a place, a space and how many bytes of its database are before that.
     pub places: Vec<u8>,
-    /// Its size.
-    pub size: Size,
-    /// How many fields the style has, with `crossref`.
-    pub fields: usize,
-    /// How many keys the job has.
-    pub keys: usize,
+    /// How its reading ended.
+    pub end: End,
 }
 
 // A value and a `;`: a `-` where it is missing.
@@ -173,33 +166,12 @@ fn citing(alloc: Global, keys: &[u8]) -> Result<AuxJob, Fault> {
     job_of(alloc, &top)
 }
 
-// How long the first entry's title is.
-fn title_len(library: &Library<'_>) -> usize {
-    match library.value(0, 1) {
-        Some(title) => title.len(),
-        None => 0,
-    }
-}
-
-// What is seen of a library, and of the style and the job that it was read for.
-fn seen_in(
-    alloc: Global,
-    fields: u32,
-    style: &Style<'_>,
-    job: &AuxJob,
-    library: &Library<'_>,
-) -> Result<Seen, Fault> {
+// What is seen of a library.
+fn seen_in(alloc: Global, fields: u32, library: &Library<'_>) -> Result<Seen, Fault> {
     Ok(Seen {
         shown: library_shown(alloc, fields, library)?,
         places: places_shown(alloc, library)?,
-        size: (
-            library.end(),
-            library.len(),
-            library.messages().len(),
-            title_len(library),
-        ),
-        fields: style.fields(),
-        keys: job.keys().len(),
+        end: library.end(),
     })
 }
 
@@ -212,7 +184,7 @@ fn seen_with(
     databases: &[(&[u8], &[u8])],
 ) -> Result<Seen, Fault> {
     let library = read_databases(alloc, style, job, databases, asked.least)?;
-    seen_in(alloc, asked.fields, style, job, &library)
+    seen_in(alloc, asked.fields, &library)
 }
 
 // What databases give, with a style.
@@ -244,17 +216,4 @@ pub fn shown_of(
 ) -> Result<Vec<u8>, Fault> {
     let seen = seen_of(alloc, asked, databases)?;
     Ok(seen.shown)
-}
-
-/// Answers the size of what the database `text` gives to the style `style` and a job that cites `keys`.
-pub fn size_of(alloc: Global, style: &[u8], keys: &[u8], text: &[u8]) -> Result<Size, Fault> {
-    let asked = Asked {
-        style,
-        fields: 0,
-        keys,
-        least: 2,
-    };
-    let databases = [(b"d.bib".as_slice(), text)];
-    let seen = seen_of(alloc, asked, &databases)?;
-    Ok(seen.size)
 }

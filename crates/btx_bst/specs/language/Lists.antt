@@ -6,7 +6,7 @@ use Rattle.btx_text.specs.language.Keys.{folded}
 use Rattle.btx_bst.specs.declared.callee.Kind.{Kind}
 use Rattle.btx_bst.specs.language.Places.{Place, ink, further, size}
 use Rattle.btx_bst.specs.language.Complaints.{Complaint, NoOpen, NoClose, NoName, NoCommand, NoQuote, Defined, EndOfFile}
-use Rattle.btx_bst.specs.language.Reads.{Read, Took, Slip}
+use Rattle.btx_bst.specs.language.Reads.{Read, Took, Mistake}
 use Rattle.btx_bst.specs.language.Fronts.{name_len, quote_len, len_till}
 use Rattle.btx_bst.specs.language.Names.{Names, named, with_name}
 use Rattle.btx_bst.specs.language.Turns.{Turn, Again, Ends, turns_within}
@@ -16,8 +16,8 @@ use Rattle.std.specs.Str.{byte}
 -- reads the byte `brace` at a place that isn't in whitespace or a comment, or says what is wrong: `complaint`, or that the file ends. What is read has
 -- no value of its own, so it is `tt`
 abbrev pub brace_in : ℕ → Complaint → Place → List ℕ → Read (Unit {0})
-brace_in brace complaint place [] = Slip EndOfFile place
-brace_in brace complaint place (b ∷ bs) = if b == brace then Took tt (further place bs) else Slip complaint place
+brace_in brace complaint place [] = Mistake EndOfFile place
+brace_in brace complaint place (b ∷ bs) = if b == brace then Took tt (further place bs) else Mistake complaint place
 
 -- the `{` that stands next, after whitespace and comments, or the complaint that it is missing
 abbrev pub opening : Place → Read (Unit {0})
@@ -29,12 +29,12 @@ closing place = brace_in (byte "}") NoClose (ink place) (ink place).line
 
 -- the first `n` bytes of a line, and the place after them; the complaint if `n` is 0
 abbrev pub front_of : Complaint → Place → List ℕ → ℕ → Read (List ℕ)
-front_of complaint place line zero = Slip complaint place
+front_of complaint place line zero = Mistake complaint place
 front_of complaint place line (suc n) = Took (take (suc n) line) (further place (drop (suc n) line))
 
 -- the name at a place that isn't in whitespace or a comment, whose line goes on as the bytes given; or the complaint that there is none
 abbrev pub name_in : Place → List ℕ → Read (List ℕ)
-name_in place [] = Slip EndOfFile place
+name_in place [] = Mistake EndOfFile place
 name_in place (b ∷ bs) = front_of NoName place (b ∷ bs) (name_len (b ∷ bs))
 
 -- the name that stands next, after whitespace and comments, or the complaint that there is none
@@ -47,13 +47,13 @@ letters_at place = front_of NoCommand place place.line (len_till (λ b. not (is_
 
 -- the text of a quoted string, and the place after the quote that ends it; or the complaint that its line has no such quote
 abbrev pub quoted_text : Place → List ℕ → List ℕ → Read (List ℕ)
-quoted_text place text [] = Slip NoQuote place
+quoted_text place text [] = Mistake NoQuote place
 quoted_text place text (quote ∷ rest) = Took text (further place rest)
 
 -- the text in quotes at a place that isn't in whitespace or a comment; or the complaint that a quote is missing
 abbrev pub quoted_in : Place → List ℕ → Read (List ℕ)
-quoted_in place [] = Slip EndOfFile place
-quoted_in place (b ∷ bs) = if b == byte "\"" then quoted_text place (take (quote_len bs) bs) (drop (quote_len bs) bs) else Slip NoQuote place
+quoted_in place [] = Mistake EndOfFile place
+quoted_in place (b ∷ bs) = if b == byte "\"" then quoted_text place (take (quote_len bs) bs) (drop (quote_len bs) bs) else Mistake NoQuote place
 
 -- the text in quotes that stands next, after whitespace and comments, or the complaint that a quote is missing
 abbrev pub quoted_at : Place → Read (List ℕ)
@@ -79,14 +79,14 @@ listed complaint names place = record { complaint = complaint; listing = listing
 
 -- declares the next name of a list. If there is no name, or it names something already, that is an error, which ends the list
 abbrev pub name_turn : Kind → Names → Read (List ℕ) → Turn Listing Listed
-name_turn kind names (Slip complaint place) = Ends (listed (Some complaint) names place)
+name_turn kind names (Mistake complaint place) = Ends (listed (Some complaint) names place)
 name_turn kind names (Took name place) =
     if is_some (named names name) then Ends (listed (Some (Defined name)) names place) else Again (listing (with_name kind (folded name) names) place)
 
 -- given whether a `}` stands next, which ends the list; else the next name is read, and if there is none its own complaint is logged
 abbrev pub list_turn_in : Kind → Names → Read (Unit {0}) → Turn Listing Listed
 list_turn_in kind names (Took _ behind) = Ends (listed None names behind)
-list_turn_in kind names (Slip complaint before) = name_turn kind names (next_name before)
+list_turn_in kind names (Mistake complaint before) = name_turn kind names (next_name before)
 
 -- reads the next name of a list, or its `}`
 unfoldable pub list_turn : Kind → Listing → Turn Listing Listed
@@ -101,7 +101,7 @@ list_end kind listing =
 
 -- a list of names in braces
 abbrev pub list_read : Kind → Names → Read (Unit {0}) → Listed
-list_read kind names (Slip complaint place) = listed (Some complaint) names place
+list_read kind names (Mistake complaint place) = listed (Some complaint) names place
 list_read kind names (Took _ place) = list_end kind (listing names place)
 
 -- the list of names in braces that stands next: each of its names is declared, as a field or a variable of the kind

@@ -2,7 +2,7 @@
 use Rattle.std.specs.Prelude.{[], ◌∷◌, ◌++◌, Option, Some}
 use Rattle.btx_bst.specs.language.Places.{Place}
 use Rattle.btx_bst.specs.language.Complaints.{Complaint}
-use Rattle.btx_bst.specs.language.Reads.{Read, Took, Slip}
+use Rattle.btx_bst.specs.language.Reads.{Read, Took, Mistake}
 use Rattle.btx_bst.specs.language.Items.{Item}
 use Rattle.btx_bst.specs.language.Style.{Style}
 
@@ -20,7 +20,7 @@ outcome complaint style place = record { complaint = complaint; style = style; p
 -- goes on with what was read and the place after it; a complaint ends the command
 abbrev pub after_read : {A : Type 0} → Style → Read A → (A → Place → CommandOutcome) → CommandOutcome
 after_read style (Took x place) go = go x place
-after_read style (Slip complaint place) go = outcome (Some complaint) style place
+after_read style (Mistake complaint place) go = outcome (Some complaint) style place
 
 -- a style with a further item
 abbrev pub with_item : Item → Style → Style

@@ -5,4 +5,4 @@ use Rattle.btx_bst.specs.language.Complaints.{Complaint}
 -- what was read and the place after it, or what is wrong and the place of the fault
 pub data Read (A : Type 0) : Type 0 where
   Took : A → Place → Read A
-  Slip : Complaint → Place → Read A
+  Mistake : Complaint → Place → Read A

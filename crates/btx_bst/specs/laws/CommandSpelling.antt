@@ -9,7 +9,7 @@ use Rattle.btx_bst.specs.declared.callee.Kind.TheVariants as kind
 use Rattle.btx_bst.specs.declared.command.Command.{Command}
 use Rattle.btx_bst.specs.declared.command.Command.TheVariants.{Entry, Function, Read, Execute, Iterate, Reverse, Sort, Integers, Strings, Macro}
 use Rattle.btx_bst.specs.language.Places.{Place, place_at}
-use Rattle.btx_bst.specs.language.Reads.{Took, Slip}
+use Rattle.btx_bst.specs.language.Reads.{Took, Mistake}
 use Rattle.btx_bst.specs.language.Complaints.{Complaint, NotCommand, NoOpen, NoClose, NoName, Defined, Unknown, Another, BeforeRead, BeforeEntry, AfterRead}
 use Rattle.btx_bst.specs.language.Items as item
 use Rattle.btx_bst.specs.language.Items.{Item}
@@ -41,7 +41,7 @@ Rule = Style → Place → CommandOutcome → Type 0
 abbrev pub AndThen : {A : Type 0} → StyleGrammar A → (A → Rule) → Rule
 AndThen {A} R rest style from o =
     ((a : A) × (to : Place) × R from (Took a to) × rest a style to o)
-    ⊎ ((complaint : Complaint) × (to : Place) × R from (Slip complaint to) × (o ≡ outcome (Some complaint) style to))
+    ⊎ ((complaint : Complaint) × (to : Place) × R from (Mistake complaint to) × (o ≡ outcome (Some complaint) style to))
 
 -- a `{` stands here, and `rest` says how the command goes on. (`none` is the value of a brace, `tt`, which isn't used; it isn't the `None` of an option)
 abbrev pub Opened : Rule → Rule

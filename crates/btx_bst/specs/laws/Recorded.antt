@@ -8,7 +8,7 @@ use Rattle.btx_bst.specs.declared.span.Spot.{Spot}
 use Rattle.btx_bst.specs.declared.span.Stretch.{Stretch}
 use Rattle.btx_bst.specs.language.Places.{Place, ink, size}
 use Rattle.btx_bst.specs.language.Complaints.{Complaint}
-use Rattle.btx_bst.specs.language.Reads.{Read, Took, Slip}
+use Rattle.btx_bst.specs.language.Reads.{Read, Took, Mistake}
 use Rattle.btx_bst.specs.language.Items.{Item}
 use Rattle.btx_bst.specs.language.Words.{BodyWord, Open, Close, Unended, Ended, met_at}
 use Rattle.btx_bst.specs.language.Names.{Names, named}
@@ -153,7 +153,7 @@ function_recorded names inside r = ended (length r.bodies) (is_whole (body_end n
 -- goes on with what was read; a complaint ends the command
 abbrev pub recorded_after : {A : Type 0} → Read A → (A → Place → Recorded → Recorded) → Recorded → Recorded
 recorded_after (Took x place) go r = go x place r
-recorded_after (Slip complaint place) go r = r
+recorded_after (Mistake complaint place) go r = r
 
 -- what is recorded of the body of a FUNCTION, if it has one; the command is read from the place after its word on
 unfoldable pub function_command_recorded : Style → Place → Recorded → Recorded
@@ -178,7 +178,7 @@ known_recorded style place (Some command) r = command_recorded command style pla
 -- the place where a reading ends
 abbrev pub read_place : {A : Type 0} → Read A → Place
 read_place (Took x place) = place
-read_place (Slip complaint place) = place
+read_place (Mistake complaint place) = place
 
 -- where an item stands: at the word of its command or, of a fault, at the place of the fault
 abbrev pub item_stretch : Stretch → Option Complaint → Place → Stretch

@@ -1,10 +1,10 @@
 -- How the words of a style are spelled: relations between a place `from` and what is read there. `Took x to` holds where an x stands at `from` and
--- the text goes on at the place `to`; `Slip complaint to` holds where the complaint is met, at the place `to`.
+-- the text goes on at the place `to`; `Mistake complaint to` holds where the complaint is met, at the place `to`.
 use Rattle.std.specs.Prelude.{ℕ, ◌+◌, ◌≡◌, ◌==◌, ◌||◌, ◌⊎◌, Bool, true, false, not, List, [], ◌∷◌, ◌++◌}
 use Rattle.btx_text.specs.language.Class.{is_white, begins_name}
 use Rattle.btx_bst.specs.language.Places.{Place, place_at, further}
 use Rattle.btx_bst.specs.language.Complaints.{Complaint, NoCommand, NoName, NoQuote, EndOfFile}
-use Rattle.btx_bst.specs.language.Reads.{Read, Took, Slip}
+use Rattle.btx_bst.specs.language.Reads.{Read, Took, Mistake}
 use Rattle.btx_bst.specs.laws.Fronts.{is_no_letter, ends_name, is_quote}
 use Rattle.btx_text.specs.laws.Bytes.{double_quote, percent}
 
@@ -85,12 +85,12 @@ IsMissing test wrong complaint (b ∷ bs) = (test b ≡ false) × (complaint ≡
 -- the byte `sign` stands here, or the complaint is `wrong`. A sign has no value of its own: `none` is `tt`, and not the `None` of an option
 abbrev pub StyleSignHere : ℕ → Complaint → StyleGrammar (Unit {0})
 StyleSignHere sign wrong from (Took none to) = (rest : List ℕ) × (from.line ≡ sign ∷ rest) × (to ≡ further from rest)
-StyleSignHere sign wrong from (Slip complaint to) = (to ≡ from) × IsMissing (λ b. b == sign) wrong complaint from.line
+StyleSignHere sign wrong from (Mistake complaint to) = (to ≡ from) × IsMissing (λ b. b == sign) wrong complaint from.line
 
 -- a name stands here, which goes on up to the first byte that no name has; or there is none
 abbrev pub StyleNameHere : StyleGrammar (List ℕ)
 StyleNameHere from (Took name to) = (rest : List ℕ) × IsUpTo ends_name name from.line rest × Begins begins_name name × (to ≡ further from rest)
-StyleNameHere from (Slip complaint to) = (to ≡ from) × IsMissing begins_name NoName complaint from.line
+StyleNameHere from (Mistake complaint to) = (to ≡ from) × IsMissing begins_name NoName complaint from.line
 
 -- what is wrong where no text in quotes stands: no quote begins it, none ends it on its line, or the file ends
 abbrev pub IsNoText : Complaint → List ℕ → Type 0
@@ -100,9 +100,9 @@ IsNoText complaint (b ∷ bs) = (complaint ≡ NoQuote) × ((is_quote b ≡ fals
 -- a text stands here between quotes, on one line; or there is none
 abbrev pub TextHere : StyleGrammar (List ℕ)
 TextHere from (Took text to) = (rest : List ℕ) × (from.line ≡ double_quote ∷ (text ++ double_quote ∷ rest)) × NoneIn is_quote text × (to ≡ further from rest)
-TextHere from (Slip complaint to) = (to ≡ from) × IsNoText complaint from.line
+TextHere from (Mistake complaint to) = (to ≡ from) × IsNoText complaint from.line
 
 -- the word of a command stands here, up to the first byte that is no letter; or the complaint is that a command is missing
 abbrev pub LettersHere : StyleGrammar (List ℕ)
 LettersHere from (Took word to) = (rest : List ℕ) × IsUpTo is_no_letter word from.line rest × (word ≡ [] → ⊥) × (to ≡ further from rest)
-LettersHere from (Slip complaint to) = (to ≡ from) × (complaint ≡ NoCommand) × EndsBefore is_no_letter from.line
+LettersHere from (Mistake complaint to) = (to ≡ from) × (complaint ≡ NoCommand) × EndsBefore is_no_letter from.line

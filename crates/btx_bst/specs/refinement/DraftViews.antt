@@ -6,10 +6,10 @@ use Rattle.btx_bst.specs.language.StyleText.{StyleState, style_state}
 use Rattle.btx_bst.specs.language.Places.{Place}
 use Rattle.btx_bst.specs.language.Outcomes.{CommandOutcome, outcome}
 use Rattle.btx_bst.specs.refinement.Views.{items_view, texts_view, complaint_view}
-use Rattle.btx_bst.specs.declared.draft.Draft.{Draft}
+use Rattle.btx_bst.specs.declared.draft.StyleBuilder.{StyleBuilder}
 use Rattle.btx_bst.specs.declared.complaint.Complaint.{Complaint}
 
-abbrev pub draft_view : Draft → Style
+abbrev pub draft_view : StyleBuilder → Style
 draft_view draft = record {
   file = draft.file_name.now;
   items = items_view draft.items.items;

@@ -4,7 +4,7 @@ use Rattle.std.specs.Borrow.{Bor}
 use Rattle.btx_bst.specs.language.Complaints as spec
 use Rattle.btx_bst.specs.language.Items as items
 use Rattle.btx_bst.specs.language.Places.{Place}
-use Rattle.btx_bst.specs.language.Reads.{Read, Took, Slip}
+use Rattle.btx_bst.specs.language.Reads.{Read, Took, Mistake}
 use Rattle.btx_bst.specs.language.Words as words
 use Rattle.btx_bst.specs.language.Names.{Names}
 use Rattle.btx_bst.specs.language.BodyText.{Inside, BodyEnd, Whole, Broken}
@@ -76,12 +76,12 @@ word_view word.Ended = words.Ended
 -- what a reading of nothing but its place comes to
 abbrev pub read_unit : Result (Unit {0}) Complaint → Place → Read (Unit {0})
 read_unit (Ok x) place = Took tt place
-read_unit (Err complaint) place = Slip (complaint_view complaint) place
+read_unit (Err complaint) place = Mistake (complaint_view complaint) place
 
 -- what the reading of a text comes to
 abbrev pub read_text : Result (Bor (List ℕ)) Complaint → Place → Read (List ℕ)
 read_text (Ok text) place = Took text.now place
-read_text (Err complaint) place = Slip (complaint_view complaint) place
+read_text (Err complaint) place = Mistake (complaint_view complaint) place
 
 -- how a list ended
 abbrev pub listed_view : Option Complaint → Names → Place → Listed

@@ -1,11 +1,13 @@
 //! Where the tokens and the items of styles stand, worked out by hand: braces over lines, comments, whitespace at the ends of lines, and mistakes.
-use super::showing::Row;
 use btx_bst::{PlacedStyle, Span, read_placed_style};
 use btx_text::Fault;
 use std::alloc::{AllocError, Global};
 use std::process::Abort;
 
-// A text, and its places: a line for each function with those of its tokens, and one for each item; each place by its line and its bytes.
+// A style's text, and its places.
+type Row = (&'static [u8], &'static [u8]);
+
+// The places are a line for each function with those of its tokens, and one for each item; each place by its line and its bytes.
 const ROWS: [Row; 6] = [
     (
         b"FUNCTION {f}\r\n{ % c }\r\n  {\r\n    #1 % {\r\n  }\r\n  {skip$}\tif$ \"a b\"% d\r\n}\r\n",

@@ -4,14 +4,14 @@ use Rattle.btx_bib.specs.declared.grammar.commands.Expected.{Expected}
 use Rattle.btx_bib.specs.declared.grammar.commands.Expected.TheVariants.{Item}
 use Rattle.btx_bib.specs.declared.grammar.slip.SyntaxError.{SyntaxError}
 use Rattle.btx_bib.specs.declared.grammar.value_ends.Ends.TheVariants.{Kept, Trimmed}
-use Rattle.btx_bib.specs.declared.message.Spot.{Spot}
+use Rattle.btx_bib.specs.declared.message.SourcePosition.{SourcePosition}
 use Rattle.btx_bib.specs.language.Grammar.Fields.{Field}
-use Rattle.btx_bib.specs.language.Grammar.Items.{Comment, Definition, End, Event, FieldOf, Keeping, Placed, Preamble, Wrong}
+use Rattle.btx_bib.specs.language.Grammar.Items.{Comment, Definition, ItemEnd, Event, FieldOf, StoredKeys, Placed, Preamble, Wrong}
 use Rattle.btx_bib.specs.language.Grammar.ValueTexts.{squeezed, value_text}
 use Rattle.btx_bib.specs.language.Grammar.Values.{Named, Part}
 use Rattle.btx_bib.specs.language.MessageTexts.{slip_text}
-use Rattle.btx_bib.specs.language.Messages.{Database, spot_at, spot_before}
-use Rattle.btx_bib.specs.laws.Grammar.Reading.{HasNoAt, IsOutcome, Stands}
+use Rattle.btx_bib.specs.language.Messages.{Database, position_at, position_before}
+use Rattle.btx_bib.specs.laws.Grammar.Reading.{HasNoAt, IsEventOf, Stands}
 use Rattle.btx_core.specs.language.Styles.{Function, set}
 use Rattle.btx_text.specs.declared.limits.Limit.{Limit}
 use Rattle.btx_text.specs.declared.log_line.LineKind.{LineKind}
@@ -57,8 +57,8 @@ abbrev pub all_stored : DatabaseState → List Stored
 all_stored known = known.stored ++ option_to_list known.current
 
 -- the entry that is being read is at its end
-abbrev pub closed : DatabaseState → DatabaseState
-closed known = record known { stored = all_stored known; current = None }
+abbrev pub entry_closed : DatabaseState → DatabaseState
+entry_closed known = record known { stored = all_stored known; current = None }
 
 -- a string of this text has been made: one that is too long ends the reading with what is known so far; else `next` is known
 abbrev pub if_fits : List ℕ → DatabaseState → DatabaseState → DatabaseState
@@ -82,8 +82,8 @@ is_asked request stored key = is_some request.all || list_any (is_same_key key) 
 -- ---- item by item
 
 -- a line of the log about a database: what is wrong, and where
-abbrev pub at_spot : LineKind → List ℕ → Spot → Line
-at_spot kind text spot = message kind (text ++ place_text spot.line spot.file)
+abbrev pub at_position : LineKind → List ℕ → SourcePosition → Line
+at_position kind text spot = message kind (text ++ place_text spot.line spot.file)
 
 -- the string that a name in a value stands for; `own` is the name that is being defined, which stands for none in its own value
 abbrev pub meaning_of : DatabaseState → Option (List ℕ) → List ℕ → Option (List ℕ)
@@ -92,7 +92,7 @@ meaning_of known own name = if option_map_or (λ (defined : List ℕ). is_same_k
 -- a name in a value that stands for no string is a warning, and so is one in its own value (the original warns of values that aren't stored, too)
 abbrev pub part_messages : Database → DatabaseState → Option (List ℕ) → Part → List Line
 part_messages database known own (Named string) =
-    let warned : List ℕ → List Line = λ text. at_spot Warning (codes "string name \"" ++ string.name ++ text) (spot_at database string.rest) ∷ [] in
+    let warned : List ℕ → List Line = λ text. at_position Warning (codes "string name \"" ++ string.name ++ text) (position_at database string.rest) ∷ [] in
     if option_map_or (λ (defined : List ℕ). is_same_key defined string.name) own false then warned (codes "\" is used in its own definition")
     else if is_none (known.strings (folded string.name)) then warned (codes "\" is undefined") else []
 part_messages database known own _ = []
@@ -106,7 +106,7 @@ abbrev pub field_read : Request → Database → DatabaseState → Stored → Fi
 field_read request database known entry field rest =
     let name = folded field.name in
     let text = value_text Trimmed (meaning_of known None) field.value in
-    let ignored = at_spot Warning (codes "I'm ignoring " ++ entry.key ++ codes "'s extra \"" ++ field.name ++ codes "\" field") (spot_before database rest) in
+    let ignored = at_position Warning (codes "I'm ignoring " ++ entry.key ++ codes "'s extra \"" ++ field.name ++ codes "\" field") (position_before database rest) in
     if not (request.is_field name) then known
     else if is_some (entry.value name) then saying (ignored ∷ []) known
     else
@@ -117,7 +117,7 @@ field_read request database known entry field rest =
 abbrev pub entry_begun : Request → Database → DatabaseState → List ℕ → List ℕ → List ℕ → DatabaseState
 entry_begun request database known kind key rest =
     let entry : Stored = record { kind = kind; key = key; value = λ name. None } in
-    let unknown = at_spot Warning (codes "entry type for \"" ++ key ++ codes "\" isn't style-file defined") (spot_at database rest) in
+    let unknown = at_position Warning (codes "entry type for \"" ++ key ++ codes "\" isn't style-file defined") (position_at database rest) in
     if not (is_asked request known.stored key) then known
     else saying (only_if (is_none (request.types (folded kind))) unknown) (record known { current = Some entry })
 
@@ -133,21 +133,21 @@ known_after_event request database known (Definition name value) rest =
     let text = value_text Kept (meaning_of known (Some name)) value in
     let said = saying (flat_map (part_messages database known (Some name)) value) known in
     if_fits text said (record said { strings = set (folded name) (Some text) known.strings })
-known_after_event request database known (EntryHead kind key) rest = entry_begun request database (closed known) kind key rest
+known_after_event request database known (EntryHead kind key) rest = entry_begun request database (entry_closed known) kind key rest
 known_after_event request database known (FieldOf field) rest =
     option_map_or (λ (entry : Stored). field_read request database known entry field rest) known.current known
-known_after_event request database known End rest = known
-known_after_event request database known (Wrong slip) rest = saying (at_spot Error (slip_text slip) (spot_at database rest) ∷ []) known
+known_after_event request database known ItemEnd rest = known
+known_after_event request database known (Wrong slip) rest = saying (at_position Error (slip_text slip) (position_at database rest) ∷ []) known
 
--- and once a limit was met nothing changes any more
+-- the state after an event and the text after it; once a limit was met nothing changes any more
 abbrev pub known_after : Request → Database → DatabaseState → Placed → DatabaseState
 known_after request database known placed = if is_some known.limit then known else known_after_event request database known placed.event placed.rest
 
 -- ---- databases, one after another
 
 -- the key of an entry that is stored already makes it a repeated one, which is an error
-abbrev pub keeping : Keeping DatabaseState
-keeping = record { is_stored = λ known key. is_some (stored_with (all_stored known) key); after = λ known event. known }
+abbrev pub stored_keys : StoredKeys DatabaseState
+stored_keys = record { is_stored = λ known key. is_some (stored_with (all_stored known) key); after = λ known event. known }
 
 -- these are the events of a text from where `expected` stands first, and `last` is what is known after them: each event is what its front of the text spells,
 -- or what is wrong at its end; and after the last no `@` is left (the original doesn't read an item that follows another one on the last line)
@@ -155,7 +155,7 @@ abbrev pub AreEvents : Request → Database → DatabaseState → Expected → L
 AreEvents request database known expected text [] last = (expected ≡ Item) × HasNoAt text × (last ≡ known)
 AreEvents request database known expected text (placed ∷ others) last =
     (spelled : Result (Event × Expected) SyntaxError) × (next : Expected) × (front : List ℕ) × (front ++ placed.rest ≡ text)
-    × Stands expected spelled front placed.rest × IsOutcome keeping known placed.event next spelled
+    × Stands expected spelled front placed.rest × IsEventOf stored_keys known placed.event next spelled
     × AreEvents request database (known_after request database known placed) next placed.rest others last
 
 -- a database is read: all of it, unless a limit was met before it, or its file is too long, which is one
@@ -163,7 +163,7 @@ abbrev pub IsReadBy : Bool → Bool → Request → DatabaseState → Database �
 IsReadBy true too_long request known database next = next ≡ known
 IsReadBy false true request known database next = next ≡ record known { limit = Some limit.File }
 IsReadBy false false request known database next =
-    (events : List Placed) × (last : DatabaseState) × AreEvents request database known Item database.text events last × (next ≡ closed last)
+    (events : List Placed) × (last : DatabaseState) × AreEvents request database known Item database.text events last × (next ≡ entry_closed last)
 
 -- databases are read, one after another
 abbrev pub AreRead : Request → DatabaseState → List Database → DatabaseState → Type 0

@@ -7,7 +7,7 @@ use Rattle.btx_core.specs.language.Names.{formatted_name, name_errors}
 use Rattle.btx_core.specs.language.Notes.{cut_to, empty_stack, error, errors, logs, name_of, no_entry, not_ascii, shown, shows}
 use Rattle.btx_core.specs.language.Strings.{in_case, purified, text_length, text_prefix, width}
 use Rattle.btx_core.specs.language.Styles.{Body, Built, Declared, Defined, Entry, Function, Integer, Job, Literal, Missing, Push, Quoted, Run, State, Text}
-use Rattle.btx_core.specs.language.Styles.{Word, set}
+use Rattle.btx_core.specs.language.Styles.{StyleToken, set}
 use Rattle.btx_step.specs.language.Arithmetic.{fits}
 use Rattle.btx_strings.specs.declared.conversions.Conversion.{Conversion}
 use Rattle.btx_strings.specs.language.Case.{conversion_of}
@@ -43,8 +43,8 @@ pub data Effect : Type 0 where
 abbrev pub push : Literal → State → Effect
 push x s = if nat_lt (length s.literals) MOST_LITERALS then Leaves (record s { literals = x ∷ s.literals }) else Meets limit.Literals s
 
--- a string is pushed, if it isn't too long: one of more than 1,000,000 bytes ends the run (this project's own). `t` is the state in which it is pushed; where
--- it is too long the run ends in `s`, and what `t` logs isn't logged
+-- a string is pushed onto the stack of `t`, which is `s` with what is logged beside the push. If it has more than 1,000,000 bytes, the run ends in `s` (this
+-- project's own), and what `t` logs isn't logged
 abbrev pub push_text_in : State → List ℕ → State → Effect
 push_text_in t text s = if nat_lt greatest_string (length text) then Meets limit.String s else push (Text text) t
 
@@ -82,15 +82,15 @@ pub data Operand : Type 0 where
   AnInteger : Operand
   AString : Operand
   AFunction : Operand
-  AField : Operand
+  AStringOrMissing : Operand
 
--- what the function gets of it
+-- what the function gets of an operand: of one that may be missing, the string or `None`
 abbrev pub Value : Operand → Type 0
 Value AnyLiteral = Literal
 Value AnInteger = ℤ
 Value AString = List ℕ
 Value AFunction = Function
-Value AField = Option (List ℕ)
+Value AStringOrMissing = Option (List ℕ)
 
 -- the value of a literal, if the literal is what is asked for
 abbrev pub value_as : (operand : Operand) → Literal → Option (Value operand)
@@ -98,8 +98,8 @@ value_as AnyLiteral x = Some x
 value_as AnInteger (Integer n) = Some n
 value_as AString (Text text) = Some text
 value_as AFunction (Quoted f) = Some f
-value_as AField (Text text) = Some (Some text)
-value_as AField Missing = Some None
+value_as AStringOrMissing (Text text) = Some (Some text)
+value_as AStringOrMissing Missing = Some None
 value_as operand x = None
 
 -- the error about a literal that isn't what is asked for
@@ -108,7 +108,7 @@ wrong_operand_text AnyLiteral x = []
 wrong_operand_text AnInteger x = shown x ++ codes " is not an integer"
 wrong_operand_text AString x = shown x ++ codes " is not a string"
 wrong_operand_text AFunction x = shown x ++ codes " is not a function"
-wrong_operand_text AField x = shown x ++ codes " is not a string or missing field"
+wrong_operand_text AStringOrMissing x = shown x ++ codes " is not a string or missing field"
 
 -- what a function does on its operands, the top one first
 abbrev pub Does : List Operand → Type 0
@@ -124,13 +124,13 @@ on_literals (operand ∷ more) does (x ∷ xs) =
     option_map_or (λ value. on_literals more (does value) xs) (value_as operand x) (Err (wrong_operand_text operand x))
 
 -- a row of the table: what a built-in function takes, the top operand first; what is pushed in place of a result; and what the function does
-pub record Row : Type 0 where
+pub record BuiltInRule : Type 0 where
   pub operands : List Operand
   pub default : Option Literal
   pub does : Does operands
 
 -- a row, of its three parts
-abbrev pub takes : (operands : List Operand) → Option Literal → Does operands → Row
+abbrev pub takes : (operands : List Operand) → Option Literal → Does operands → BuiltInRule
 takes operands default does = record { operands = operands; default = default; does = does }
 
 -- the function on its operands, which are off the stack in `s`; or an error, and what is pushed in place of a result
@@ -141,7 +141,7 @@ or_else_default (Err text) default s = push_default default (error text s)
 -- The rule of operands: all are taken off the stack. Where some aren't there, that is an error for each of them; else, where one isn't what is asked for,
 -- the first of these is an error. Then the function isn't done, and what the table says is pushed in place of a result. (The original leaves a marker in place
 -- of an operand that isn't there, which later functions take in silence.)
-abbrev pub with_operands_checked : Row → State → Effect
+abbrev pub with_operands_checked : BuiltInRule → State → Effect
 with_operands_checked row s =
     let count = length row.operands in
     let taken = record s { literals = drop count s.literals } in
@@ -209,15 +209,15 @@ is_empty_field (Some text) = list_all is_white text
 
 -- ---- the table
 
-module _ (the : Divisions) (job : Job) where
+module _ (divisions : Divisions) (job : Job) where
   -- `format.name$`: all that is wrong is logged, and the name in the format is pushed
   abbrev pub formats_name : List ℕ → ℤ → List ℕ → State → Effect
-  formats_name format number names s = push_text_in (errors (name_errors the format number names) s) (formatted_name the job.mode format number names) s
+  formats_name format number names s = push_text_in (errors (name_errors divisions format number names) s) (formatted_name divisions job.mode format number names) s
 
   -- `change.case$`: in the case that is asked for, or, with an error, as it is
   abbrev pub changes_case : List ℕ → List ℕ → State → Effect
   changes_case letter text s =
-      option_map_or (λ (to : Conversion). push_text (in_case the to text) s)
+      option_map_or (λ (to : Conversion). push_text (in_case divisions to text) s)
       (conversion_of letter) (push_text_in (error (codes "\"" ++ letter ++ codes "\" is an illegal case-conversion string") s) text s)
 
   -- `call.type$`: the function of the entry's type; `default.type` for a type that the style doesn't know; and nothing where the style has none above READ (in
@@ -229,7 +229,7 @@ module _ (the : Divisions) (job : Job) where
   -- difference, `b` stands on top, and so does `last` in `*`. In `if$` the function for a positive integer stands below the other one, and in `while$` the
   -- test below the body. `swap$` alone puts back what it finds, and `missing$` without an entry takes its operand whatever it is: see `built_in_effect`.
   -- (In the original `text.length$` of what is no string pushes the empty string.)
-  abbrev pub row : BuiltIn → Row
+  abbrev pub row : BuiltIn → BuiltInRule
   row built_in.Equals = takes (AnyLiteral ∷ AnyLiteral ∷ []) zero_default equals
   row built_in.Greater = takes (AnInteger ∷ AnInteger ∷ []) zero_default (λ b a. push_truth (int_lt b a))
   row built_in.Less = takes (AnInteger ∷ AnInteger ∷ []) zero_default (λ b a. push_truth (int_lt a b))
@@ -243,29 +243,29 @@ module _ (the : Divisions) (job : Job) where
   row built_in.ChrToInt = takes (AString ∷ []) zero_default code_of
   row built_in.Cite = takes [] None (in_entry (λ entry. push_text entry.key))
   row built_in.Duplicate = takes (AnyLiteral ∷ []) None (λ x s. push x (record s { literals = x ∷ s.literals }))
-  row built_in.Empty = takes (AField ∷ []) zero_default (λ field. push_truth (is_empty_field field))
+  row built_in.Empty = takes (AStringOrMissing ∷ []) zero_default (λ field. push_truth (is_empty_field field))
   row built_in.FormatName = takes (AString ∷ AnInteger ∷ AString ∷ []) empty_default formats_name
   row built_in.If = takes (AFunction ∷ AFunction ∷ AnInteger ∷ []) None (λ otherwise positive n. Runs (if is_positive n then positive else otherwise))
   row built_in.IntToChr = takes (AnInteger ∷ []) empty_default character_of
   row built_in.IntToStr = takes (AnInteger ∷ []) empty_default (λ n. push (Text (signed_decimal n)))
-  row built_in.Missing = takes (AField ∷ []) zero_default (λ field. push_truth (is_none field))
+  row built_in.Missing = takes (AStringOrMissing ∷ []) zero_default (λ field. push_truth (is_none field))
   row built_in.NewLine = takes [] None (λ s. Leaves (record s { lines = s.lines ++ s.pending ∷ []; pending = [] }))
-  row built_in.NumNames = takes (AString ∷ []) zero_default (λ text. push (Integer (pos (length (the.names text)))))
+  row built_in.NumNames = takes (AString ∷ []) zero_default (λ text. push (Integer (pos (length (divisions.names text)))))
   row built_in.Pop = takes (AnyLiteral ∷ []) None (λ x. Leaves)
   row built_in.Preamble = takes [] None (push (Text job.library.preamble))
-  row built_in.Purify = takes (AString ∷ []) empty_default (λ text. push_text (purified the text))
+  row built_in.Purify = takes (AString ∷ []) empty_default (λ text. push_text (purified divisions text))
   row built_in.Quote = takes [] None (push (Text (codes "\"")))
   row built_in.Skip = takes [] None Leaves
   row built_in.Stack = takes [] None (λ s. Leaves (record (shows s.literals s) { literals = [] }))
   row built_in.Substring = takes (AnInteger ∷ AnInteger ∷ AString ∷ []) empty_default (λ size start text. push_text (substring_of text start size))
   row built_in.Swap = takes (AnyLiteral ∷ AnyLiteral ∷ []) None (λ x y s. Leaves (record s { literals = y ∷ x ∷ s.literals }))
-  row built_in.TextLength = takes (AString ∷ []) zero_default (λ text. push (Integer (pos (text_length the job.mode text))))
-  row built_in.TextPrefix = takes (AnInteger ∷ AString ∷ []) empty_default (λ count text. push_text (text_prefix the job.mode text count))
+  row built_in.TextLength = takes (AString ∷ []) zero_default (λ text. push (Integer (pos (text_length divisions job.mode text))))
+  row built_in.TextPrefix = takes (AnInteger ∷ AString ∷ []) empty_default (λ count text. push_text (text_prefix divisions job.mode text count))
   row built_in.Top = takes (AnyLiteral ∷ []) None (λ x s. Leaves (shows (x ∷ []) s))
   row built_in.Type = takes [] None (in_entry (λ entry. push_text (option_map_or name_of entry.kind [])))
   row built_in.Warning = takes (AString ∷ []) None (λ text s. Leaves (logs line.Warning text s))
   row built_in.While = takes (AFunction ∷ AFunction ∷ []) None (λ body test. Loops test body)
-  row built_in.Width = takes (AString ∷ []) zero_default (λ text. push (Integer (pos (width the text))))
+  row built_in.Width = takes (AString ∷ []) zero_default (λ text. push (Integer (pos (width divisions text))))
   row built_in.Write = takes (AString ∷ []) None (λ text s. Leaves (record s { pending = s.pending ++ text }))
 
   -- `missing$` without an entry: its operand is taken, whatever it is, and nothing is pushed; where there is no operand, that is an error, and then comes the
@@ -293,18 +293,18 @@ module _ (the : Divisions) (job : Job) where
   function_effect (Defined name body) s = Opens body s
   function_effect (Declared kind name) s = value_of kind name s
 
-  -- what a word does
-  abbrev pub word_effect : Word → State → Effect
-  word_effect (Push (Text text)) s = push_text text s
-  word_effect (Push x) s = push x s
-  word_effect (Run f) s = function_effect f (record s { executed = name_of f })
+  -- what a token does
+  abbrev pub token_effect : StyleToken → State → Effect
+  token_effect (Push (Text text)) s = push_text text s
+  token_effect (Push x) s = push x s
+  token_effect (Run f) s = function_effect f (record s { executed = name_of f })
 
 -- after the test of a `while$`, given the stack: whether the body is run; the result of the test is taken off the stack, and has to be an integer
-abbrev pub tested : List Literal → State → Bool × State
-tested [] s = (false, error empty_stack s)
-tested (Integer n ∷ xs) s = (is_positive n, record s { literals = xs })
-tested (x ∷ xs) s = (false, error (wrong_operand_text AnInteger x) (record s { literals = xs }))
+abbrev pub test_on_literals : List Literal → State → Bool × State
+test_on_literals [] s = (false, error empty_stack s)
+test_on_literals (Integer n ∷ xs) s = (is_positive n, record s { literals = xs })
+test_on_literals (x ∷ xs) s = (false, error (wrong_operand_text AnInteger x) (record s { literals = xs }))
 
 -- after the test of a `while$`: whether the body is run, and the state then. A message about the test is one of `while$`
-abbrev pub test_of : State → Bool × State
-test_of s = tested s.literals (record s { executed = built_in_name built_in.While })
+abbrev pub test_result : State → Bool × State
+test_result s = test_on_literals s.literals (record s { executed = built_in_name built_in.While })

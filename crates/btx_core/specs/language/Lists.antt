@@ -21,16 +21,16 @@ listed_keys request stored = fold with_key [] (option_map_or
     (λ (place : ℕ). take place request.cited ++ map (λ (entry : Stored). entry.key) stored ++ drop place request.cited)
     request.all (request.cited ++ parents_named stored))
 
--- a place of the list: the key as it was cited, else as its entry has it, else as it was named; whether it stays, as a cited key does, and one that at
--- least `fewest` stored entries name; and its entry, if one is stored
-pub record Slot : Type 0 where
+-- a key of the list: as it was cited, else as its entry has it, else as it was named; whether it stays, as a cited key does, and one that at least `fewest`
+-- stored entries name; and its entry, if one is stored
+pub record ListedKey : Type 0 where
   pub key : List ℕ
   pub stays : Bool
   pub entry : Option Stored
 
--- the place of a key in the list
-abbrev pub slot_of : Request → List Stored → List ℕ → Slot
-slot_of request stored key =
+-- what the list has of a key
+abbrev pub listed_key : Request → List Stored → List ℕ → ListedKey
+listed_key request stored key =
     let listed = listed_as request.cited key in
     let entry = stored_with stored key in
     record {
@@ -39,9 +39,9 @@ slot_of request stored key =
       entry = entry;
     }
 
--- all places of the list, in order
-abbrev pub slots_of : Request → List Stored → List Slot
-slots_of request stored = map (slot_of request stored) (listed_keys request stored)
+-- the list, in order; a place in it is a number, from 0
+abbrev pub list_of : Request → List Stored → List ListedKey
+list_of request stored = map (listed_key request stored) (listed_keys request stored)
 
 -- ---- who the parent is, and what it gives
 
@@ -55,66 +55,66 @@ abbrev pub nested_reference : List ℕ → List ℕ → Line
 nested_reference child parent =
     message Warning (codes "you've nested cross references--entry \"" ++ child ++ codes "\" refers to entry \"" ++ parent ++ codes "\"")
 
-module _ (slots : List Slot) where
+module _ (list : List ListedKey) where
   -- the value that the entry at a place has of its own
-  abbrev pub own : ℕ → List ℕ → Option (List ℕ)
-  own i name = option_and_then (λ (slot : Slot). option_and_then (λ (entry : Stored). entry.value name) slot.entry) (slice_get slots i)
+  abbrev pub own_value : ℕ → List ℕ → Option (List ℕ)
+  own_value i name = option_and_then (λ (listed : ListedKey). option_and_then (λ (entry : Stored). entry.value name) listed.entry) (slice_get list i)
 
   -- the place of a key in the list, if it is listed
   abbrev pub place_of : List ℕ → Option ℕ
-  place_of key = position (λ (slot : Slot). is_same_key key slot.key) slots
+  place_of key = position (λ (listed : ListedKey). is_same_key key listed.key) list
 
   -- the place of the parent of the entry at a place, if its key is listed (with `*` the original may take another entry for a parent that is cited and has no entry)
-  abbrev pub parent : ℕ → Option ℕ
-  parent i = option_and_then place_of (own i (codes "crossref"))
+  abbrev pub parent_place : ℕ → Option ℕ
+  parent_place i = option_and_then place_of (own_value i (codes "crossref"))
 
   -- the key at a place, as the list spells it
   abbrev pub key_at : ℕ → List ℕ
-  key_at i = option_map_or (λ (slot : Slot). slot.key) (slice_get slots i) []
+  key_at i = option_map_or (λ (listed : ListedKey). listed.key) (slice_get list i) []
 
   -- the parent's key: as the list spells it, if it is listed
   abbrev pub parent_key : ℕ → Option (List ℕ)
-  parent_key i = option_map (λ key. option_map_or key_at (place_of key) key) (own i (codes "crossref"))
+  parent_key i = option_map (λ key. option_map_or key_at (place_of key) key) (own_value i (codes "crossref"))
 
   -- there is an entry at a place
   abbrev pub has_entry : ℕ → Bool
-  has_entry i = option_map_or (λ (slot : Slot). is_some slot.entry) (slice_get slots i) false
+  has_entry i = option_map_or (λ (listed : ListedKey). is_some listed.entry) (slice_get list i) false
 
   -- there is an entry at a place, and it stays in the list
-  abbrev pub stays_at : ℕ → Bool
-  stays_at i = has_entry i && option_map_or (λ (slot : Slot). slot.stays) (slice_get slots i) false
+  abbrev pub is_kept_at : ℕ → Bool
+  is_kept_at i = has_entry i && option_map_or (λ (listed : ListedKey). listed.stays) (slice_get list i) false
 
   -- What an entry has is its own value; else its parent's. Entries take what they lack in the order of the list: of a parent that stands before it an
   -- entry takes also what that has taken, of one that comes after it only what is that one's own. `value` gives what each has then
   abbrev pub IsInherited : (ℕ → List ℕ → Option (List ℕ)) → Type 0
   IsInherited value = (i : ℕ) (name : List ℕ) →
-      value i name ≡ option_or (own i name) (option_and_then (λ j. if nat_lt j i then value j name else own j name) (parent i))
+      value i name ≡ option_or (own_value i name) (option_and_then (λ j. if nat_lt j i then value j name else own_value j name) (parent_place i))
 
   -- the entry at a place keeps its `crossref`: its parent has an entry, and that stays
   abbrev pub keeps_parent : ℕ → Bool
-  keeps_parent i = option_map_or stays_at (parent i) false
+  keeps_parent i = option_map_or is_kept_at (parent_place i) false
 
   -- what is wrong with the parent of the entry at a place: it has no entry; or it has a parent itself. A parent that stands before the entry counts as having
-  -- one only if it keeps its `crossref`: if its own parent has an entry and stays (with `*` see `parent`)
+  -- one only if it keeps its `crossref`: if its own parent has an entry and stays (with `*` see `parent_place`)
   abbrev pub parent_messages : ℕ → List Line
   parent_messages i = option_map_or (λ key.
       option_map_or (λ j. if not (has_entry j) then bad_reference (key_at i) key ∷ []
       else only_if (is_some (parent_key j) && (nat_le i j || keeps_parent j)) (nested_reference (key_at i) key))
-      (parent i) (bad_reference (key_at i) key ∷ [])) (parent_key i) []
+      (parent_place i) (bad_reference (key_at i) key ∷ [])) (parent_key i) []
 
   -- the entry of the library at a place, if one is there and stays: its values with what it inherits, and its `crossref` as the list spells it, if it keeps it
-  abbrev pub entry_at : (List ℕ → Option Function) → (ℕ → List ℕ → Option (List ℕ)) → ℕ → Slot → List Entry
-  entry_at types value i slot = option_map_or (λ (entry : Stored).
+  abbrev pub entry_at : (List ℕ → Option Function) → (ℕ → List ℕ → Option (List ℕ)) → ℕ → ListedKey → List Entry
+  entry_at types value i listed = option_map_or (λ (entry : Stored).
       let kept : Entry = record {
-        key = slot.key;
+        key = listed.key;
         kind = types (folded entry.kind);
         value = set (codes "crossref") (if keeps_parent i then parent_key i else None) (value i);
       } in
-      only_if slot.stays kept) slot.entry []
+      only_if listed.stays kept) listed.entry []
 
   -- all places, in order
-  abbrev pub places : List ℕ
-  places = range_with_len 0 (length slots)
+  abbrev pub places_of_list : List ℕ
+  places_of_list = range_with_len 0 (length list)
 
 -- ---- the library
 
@@ -126,12 +126,12 @@ no_entry_line key = message Warning (codes "I didn't find a database entry for \
 abbrev pub IsLibraryAtEnd : Option Limit → Request → DatabaseState → Library → Type 0
 IsLibraryAtEnd (Some limit) request known library = library ≡ record { entries = []; preamble = []; log = known.log; limit = Some limit }
 IsLibraryAtEnd None request known library =
-    (slots : List Slot) × (slots ≡ slots_of request known.stored) × (value : ℕ → List ℕ → Option (List ℕ)) × IsInherited slots value
+    (list : List ListedKey) × (list ≡ list_of request known.stored) × (value : ℕ → List ℕ → Option (List ℕ)) × IsInherited list value
     × (library ≡ record {
-      entries = flat_map (λ i. option_map_or (entry_at slots request.types value i) (slice_get slots i) []) (places slots);
+      entries = flat_map (λ i. option_map_or (entry_at list request.types value i) (slice_get list i) []) (places_of_list list);
       preamble = known.preamble;
-      log = known.log ++ flat_map (parent_messages slots) (places slots)
-          ++ flat_map (λ (slot : Slot). only_if (is_none slot.entry) (no_entry_line slot.key)) slots;
+      log = known.log ++ flat_map (parent_messages list) (places_of_list list)
+          ++ flat_map (λ (listed : ListedKey). only_if (is_none listed.entry) (no_entry_line listed.key)) list;
       limit = None;
     })
 

@@ -62,15 +62,15 @@ abbrev pub IsCut : List ℕ → Option (List ℕ × List ℕ) → Type 0
 IsCut name (Some cut) = CutsAt name cut.0 cut.1
 IsCut name None = (front rest : List ℕ) → CutsAt name front rest → ⊥
 
-module _ (the : Divisions) where
+module _ (divisions : Divisions) where
   -- the sections of a name: it is cut at its first two commas that count
   abbrev pub sections : List ℕ → Sections
-  sections name = option_map_or (λ (cut : List ℕ × List ℕ). cut_again cut.0 cut.1 (the.cut cut.1)) (the.cut name) (One name)
+  sections name = option_map_or (λ (cut : List ℕ × List ℕ). cut_again cut.0 cut.1 (divisions.cut cut.1)) (divisions.cut name) (One name)
 
   -- a token is von: the first of its special characters and of its letters `A-Z` and `a-z` at depth 0 is in lower case. A byte from 128 up is passed over, so
   -- `Émile` is von
   abbrev pub is_von : NameToken → Bool
-  is_von token = first_is_lower (the.elements Bytes token.text)
+  is_von token = first_is_lower (divisions.elements Bytes token.text)
 
   -- no token of these is von, but perhaps the final one
   abbrev pub HaveNoVon : List NameToken → Type 0
@@ -102,12 +102,12 @@ module _ (the : Divisions) where
 
   -- the parts of a name by its sections: First von Last; von Last, First; von Last, Jr, First (of a name that begins with a comma the original writes pieces
   -- without tokens)
-  abbrev pub AreParts : Sections → NameParts → Type 0
-  AreParts (One name) parts = (HasVon (the.tokens name) parts ⊎ HasNoVon (the.tokens name) parts) × (parts.jr ≡ [])
-  AreParts (Two surname first) parts =
-      AreVonLast (the.tokens surname) parts.von parts.last × (parts.first ≡ the.tokens first) × (parts.jr ≡ [])
-  AreParts (Three surname jr first) parts =
-      AreVonLast (the.tokens surname) parts.von parts.last × (parts.first ≡ the.tokens first) × (parts.jr ≡ the.tokens jr)
+  abbrev pub AreNameParts : Sections → NameParts → Type 0
+  AreNameParts (One name) parts = (HasVon (divisions.tokens name) parts ⊎ HasNoVon (divisions.tokens name) parts) × (parts.jr ≡ [])
+  AreNameParts (Two surname first) parts =
+      AreVonLast (divisions.tokens surname) parts.von parts.last × (parts.first ≡ divisions.tokens first) × (parts.jr ≡ [])
+  AreNameParts (Three surname jr first) parts =
+      AreVonLast (divisions.tokens surname) parts.von parts.last × (parts.first ≡ divisions.tokens first) × (parts.jr ≡ divisions.tokens jr)
 
 -- ---- formats
 
@@ -118,16 +118,16 @@ IsFormat format None = (items : List FormatItem) → are_items items ≡ true �
 
 -- ---- `format.name$`
 
-module _ (the : Divisions) (mode : TextMode) where
+module _ (divisions : Divisions) (mode : TextMode) where
   -- the abbreviation of a token: its first letter, at any depth (a byte from 128 up is one); or its first group that begins with a backslash, at any depth too,
   -- if that comes before
   abbrev pub initial : List ℕ → List ℕ
   initial [] = []
-  initial (b ∷ bs) = if begins_initial (b ∷ bs) then first_text (the.elements mode (b ∷ bs)) else initial bs
+  initial (b ∷ bs) = if begins_initial (b ∷ bs) then first_text (divisions.elements mode (b ∷ bs)) else initial bs
 
   -- fewer than three characters
   abbrev pub is_short : List ℕ → Bool
-  is_short text = nat_lt (text_length the mode text) 3
+  is_short text = nat_lt (text_length divisions mode text) 3
 
   -- the byte between two tokens: the `~` or `-` of the name; else a `~` before the last token, and while the piece so far, with what stands before its letter
   -- and with this token and its period, has fewer than three characters; else a space (the original counts the characters in another way)
@@ -172,38 +172,38 @@ module _ (the : Divisions) (mode : TextMode) where
 
 -- the name of this number in a string of names, counted from 1
 abbrev pub numbered_name : Divisions → ℤ → List ℕ → Option (List ℕ)
-numbered_name the number names = option_and_then (slice_get (the.names names)) (names_before number)
+numbered_name divisions number names = option_and_then (slice_get (divisions.names names)) (names_before number)
 
 -- `format.name$`: the items of the format for the parts of the name, joined; nothing without such a name or with an illegal format (with an illegal
 -- format the original writes its other pieces)
 abbrev pub formatted_name : Divisions → TextMode → List ℕ → ℤ → List ℕ → List ℕ
-formatted_name the mode format number names =
-    option_map_or (λ name. option_map_or (flat_map (item the mode (the.parts name))) (the.items format) []) (numbered_name the number names) []
+formatted_name divisions mode format number names =
+    option_map_or (λ name. option_map_or (flat_map (item divisions mode (divisions.parts name))) (divisions.items format) []) (numbered_name divisions number names) []
 
 -- a name has a third comma that counts
 abbrev pub has_third : Divisions → Sections → Bool
-has_third the (Three surname jr first) = is_some (the.cut first)
-has_third the _ = false
+has_third divisions (Three surname jr first) = is_some (divisions.cut first)
+has_third divisions _ = false
 
 -- what is wrong, in this order: the name has a comma at its end; it has a third comma; the format is illegal. Or there is no such name (the original
 -- logs each comma too many, and each one at the end)
 abbrev pub name_errors : Divisions → List ℕ → ℤ → List ℕ → List (List ℕ)
-name_errors the format number names =
+name_errors divisions format number names =
     option_map_or (λ name.
     only_if (ends_in_comma name) (codes "Name " ++ signed_decimal number ++ codes " in \"" ++ names ++ codes "\" has a comma at the end")
-    ++ only_if (has_third the (sections the name)) (codes "Too many commas in name " ++ signed_decimal number ++ codes " of \"" ++ names ++ codes "\"")
-    ++ only_if (is_none (the.items format)) (codes "The format string \"" ++ format ++ codes "\" is illegal"))
-    (numbered_name the number names) ((codes "There is no name number " ++ signed_decimal number ++ codes " in \"" ++ names ++ codes "\"") ∷ [])
+    ++ only_if (has_third divisions (sections divisions name)) (codes "Too many commas in name " ++ signed_decimal number ++ codes " of \"" ++ names ++ codes "\"")
+    ++ only_if (is_none (divisions.items format)) (codes "The format string \"" ++ format ++ codes "\" is illegal"))
+    (numbered_name divisions number names) ((codes "There is no name number " ++ signed_decimal number ++ codes " in \"" ++ names ++ codes "\"") ∷ [])
 
 -- ---- what the divisions are
 
 -- each string is divided as the relations say: into elements by `IsDivision`, into glyphs by `AreGlyphs`, and the others as above
 
-pub record AreDivisions (the : Divisions) : Type 0 where
-  pub elements : (mode : TextMode) (string : List ℕ) → IsDivision mode string (the.elements mode string)
-  pub glyphs : (special : List ℕ) → AreGlyphs special (the.glyphs special)
-  pub names : (string : List ℕ) → AreNames string (the.names string)
-  pub tokens : (text : List ℕ) → AreTokens text (the.tokens text)
-  pub cut : (name : List ℕ) → IsCut name (the.cut name)
-  pub parts : (name : List ℕ) → AreParts the (sections the name) (the.parts name)
-  pub items : (format : List ℕ) → IsFormat format (the.items format)
+pub record AreDivisions (divisions : Divisions) : Type 0 where
+  pub elements : (mode : TextMode) (string : List ℕ) → IsDivision mode string (divisions.elements mode string)
+  pub glyphs : (special : List ℕ) → AreGlyphs special (divisions.glyphs special)
+  pub names : (string : List ℕ) → AreNames string (divisions.names string)
+  pub tokens : (text : List ℕ) → AreTokens text (divisions.tokens text)
+  pub cut : (name : List ℕ) → IsCut name (divisions.cut name)
+  pub parts : (name : List ℕ) → AreNameParts divisions (sections divisions name) (divisions.parts name)
+  pub items : (format : List ℕ) → IsFormat format (divisions.items format)

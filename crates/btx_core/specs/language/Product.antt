@@ -44,7 +44,7 @@ abbrev pub line_at_end : (List ℕ → List ℕ) → List ℕ → List ℕ
 line_at_end wrapped [] = []
 line_at_end wrapped (b ∷ bs) = wrapped (b ∷ bs)
 
--- what an outcome comes to, with a budget: a run that is stopped took all its steps; one that doesn't finish leaves what is sure of a pending line
+-- the product of an outcome, with a budget: a run that is stopped took all its steps; one that doesn't finish has written what is committed of its last line
 abbrev pub comes_to : (wrapped committed : List ℕ → List ℕ) → ℕ → Outcome → Product
 comes_to wrapped committed budget (Done s left) =
     ends_with ended.Finished (budget - left) s.deepest (flat_map wrapped s.lines ++ line_at_end wrapped s.pending) s.log
@@ -57,10 +57,10 @@ comes_to wrapped committed budget (Limited limit s left) =
 -- what is read, executed: strings are divided as they are, functions mean what the equations say, commands come to an outcome one after another, and its
 -- lines are broken; `log` is what was logged before
 pub record IsExecuted (job : Job) (log : List Line) (options : Options) (product : Product) : Type 0 where
-  pub the : Divisions
-  pub divided : AreDivisions the
+  pub divisions : Divisions
+  pub divided : AreDivisions divisions
   pub means : Meaning
-  pub meant : IsMeaning the job means
+  pub meant : IsMeaning divisions job means
   pub wrapped : List ℕ → List ℕ
   pub are_wrapped : IsWrapped options.line wrapped
   pub committed : List ℕ → List ℕ

@@ -32,20 +32,20 @@ pub record IsInOrder (key : Entry → List ℕ) (entries sorted : List Entry) : 
 -- ---- commands
 
 -- after the function of a command: if the stack isn't empty, that is an error, its literals are logged, and it is emptied
-abbrev pub cleared : List ℕ → State → State
-cleared command s =
+abbrev pub with_empty_stack : List ℕ → State → State
+with_empty_stack command s =
     if length s.literals == 0 then record s { executed = command }
     else record (shows s.literals (error (codes "The literal stack isn't empty") (record s { executed = command }))) { literals = [] }
 
 -- executes the function of a command, with this entry as the current one, or with none. That takes a step, as the function does where it stands in a body
-abbrev pub visits : Meaning → List ℕ → Function → Option Entry → ℕ → State → Outcome
-visits means command f entry left s =
-    then_do (means.word (Run f) 0 0 left (record s { entry = entry })) (λ left t. Done (cleared command t) left)
+abbrev pub execute_once : Meaning → List ℕ → Function → Option Entry → ℕ → State → Outcome
+execute_once means command f entry left s =
+    then_do (means.token (Run f) 0 0 left (record s { entry = entry })) (λ left t. Done (with_empty_stack command t) left)
 
 -- executes the function of a command for one entry after another
 abbrev pub execute_for_each : Meaning → List ℕ → Function → List Entry → ℕ → State → Outcome
 execute_for_each means command f [] left s = Done s left
-execute_for_each means command f (entry ∷ entries) left s = then_do (visits means command f (Some entry) left s) (execute_for_each means command f entries)
+execute_for_each means command f (entry ∷ entries) left s = then_do (execute_once means command f (Some entry) left s) (execute_for_each means command f entries)
 
 -- what a command does, where the list of entries is `list`: ITERATE goes along it from first to last, REVERSE from last to first. READ logs what the databases
 -- gave, and a limit that their reading met ends the run there. READ and SORT take no step
@@ -54,7 +54,7 @@ command_does means library list (Says line) left s = Done (record s { log = s.lo
 command_does means library list Read left s =
     let read = record s { log = s.log ++ library.log } in
     option_map_or (λ (limit : Limit). Limited limit read left) library.limit (Done read left)
-command_does means library list (Execute f) left s = visits means (codes "EXECUTE") f None left s
+command_does means library list (Execute f) left s = execute_once means (codes "EXECUTE") f None left s
 command_does means library list (Iterate f) left s = execute_for_each means (codes "ITERATE") f list left s
 command_does means library list (Reverse f) left s = execute_for_each means (codes "REVERSE") f (reverse list) left s
 command_does means library list Sort left s = Done s left

@@ -7,7 +7,7 @@ use Rattle.btx_bst.specs.language.BuiltIns.{built_in_of}
 use Rattle.btx_bst.specs.language.Complaints.{AfterRead, Another, BeforeEntry, BeforeRead, Complaint, NoClose, NoName, NoOpen, NotCommand, Unknown}
 use Rattle.btx_bst.specs.language.MessageTexts.{complaint_line}
 use Rattle.btx_bst.specs.language.Places.{Place}
-use Rattle.btx_bst.specs.language.Reads.{Slip, Took}
+use Rattle.btx_bst.specs.language.Reads.{Mistake, Took}
 use Rattle.btx_bst.specs.language.Words.{BodyWord}
 use Rattle.btx_bst.specs.laws.CommandSpelling.{IsWordOf, Skips}
 use Rattle.btx_bst.specs.laws.Places.{beginning}
@@ -47,8 +47,8 @@ abbrev pub meaning : SoFar → List ℕ → Option Function
 meaning style name = option_or (option_map Built (built_in_of (folded name))) (style.names (folded name))
 
 -- the style before anything of it is read: a field, an entry's string and two global integers have names
-abbrev pub unread : List ℕ → SoFar
-unread file = record {
+abbrev pub initial_style : List ℕ → SoFar
+initial_style file = record {
   file = file;
   names = set (codes "crossref") (Some (Declared kind.Field (codes "crossref"))) (
       set (codes "sort.key$") (Some (Declared kind.EntryString (codes "sort.key$"))) (
@@ -92,7 +92,7 @@ Rule = SoFar → Place → CommandEnd → Type 0
 abbrev pub Next : {A : Type 0} → StyleGrammar A → (A → Rule) → Rule
 Next {A} R rest style from o =
     ((a : A) × (to : Place) × BehindGap R from (Took a to) × rest a style to o)
-    ⊎ ((wrong : Complaint) × (to : Place) × BehindGap R from (Slip wrong to) × (o ≡ ended_at (Some wrong) style to))
+    ⊎ ((wrong : Complaint) × (to : Place) × BehindGap R from (Mistake wrong to) × (o ≡ ended_at (Some wrong) style to))
 
 -- a `{` stands here, and `rest` says how the command goes on
 abbrev pub Opened : Rule → Rule
@@ -103,12 +103,12 @@ abbrev pub Closed : Rule → Rule
 Closed rest = Next (StyleSignHere close_brace NoClose) (λ none. rest)
 
 -- something holds of the style so far; or it doesn't, and that is wrong
-abbrev pub Where : (SoFar → Bool) → Complaint → Rule → Rule
-Where test wrong rest style from o = ((test style ≡ true) × rest style from o) ⊎ ((test style ≡ false) × (o ≡ ended_at (Some wrong) style from))
+abbrev pub Requires : (SoFar → Bool) → Complaint → Rule → Rule
+Requires test wrong rest style from o = ((test style ≡ true) × rest style from o) ⊎ ((test style ≡ false) × (o ≡ ended_at (Some wrong) style from))
 
 -- the command takes effect
-abbrev pub Makes : (SoFar → SoFar) → Rule
-Makes change style from o = o ≡ ended_at None (change style) from
+abbrev pub HasEffect : (SoFar → SoFar) → Rule
+HasEffect change style from o = o ≡ ended_at None (change style) from
 
 -- ---- names and lists of names
 
@@ -193,32 +193,32 @@ is_read style = is_some style.types
 -- the name of a function, in braces: it is executed, which only goes after READ
 abbrev pub Executes : CommandName → (Function → Command) → Rule
 Executes command made =
-    Where is_read (BeforeRead command) (Opened (Next StyleNameHere (λ name style from o.
-    ((f : Function) × (meaning style name ≡ Some f) × (is_function f ≡ true) × Closed (Makes (and_command (made f))) style from o)
+    Requires is_read (BeforeRead command) (Opened (Next StyleNameHere (λ name style from o.
+    ((f : Function) × (meaning style name ≡ Some f) × (is_function f ≡ true) × Closed (HasEffect (and_command (made f))) style from o)
     ⊎ (((f : Function) → meaning style name ≡ Some f → is_function f ≡ true → ⊥) × (o ≡ ended_at (Some (Unknown name)) style from)))))
 
 -- what comes after the word of each command, and what the command makes of the style so far. A faulty ENTRY doesn't count as one (in the original it
 -- does), but the names that it declared stand
-abbrev pub Behind : CommandName → Rule
-Behind command.Entry = Where (λ style. not style.has_entry) (Another command.Entry) (Lists kind.Field (Lists kind.EntryInteger (Lists kind.EntryString
-    (Makes (λ style. record style { has_entry = true })))))
-Behind command.Function = Opened (Next StyleNameHere (λ name. Where (λ style. is_none (meaning style name)) (NameTaken name) (Closed (Opened (HasBody name)))))
-Behind command.Read = Where (λ style. not (is_read style)) (Another command.Read) (Where (λ style. style.has_entry) BeforeEntry
-    (Makes (λ style. and_command Read (record style { types = Some (λ name. option_and_then as_type (style.names name)) }))))
-Behind command.Execute = Executes command.Execute Execute
-Behind command.Iterate = Executes command.Iterate Iterate
-Behind command.Reverse = Executes command.Reverse Reverse
-Behind command.Sort = Where is_read (BeforeRead command.Sort) (Makes (and_command Sort))
-Behind command.Integers = Lists kind.GlobalInteger (Makes (λ style. style))
-Behind command.Strings = Lists kind.GlobalString (Makes (λ style. style))
-Behind command.Macro = Where (λ style. not (is_read style)) AfterRead (Opened (Next StyleNameHere (λ name.
-    Where (λ style. is_none (lookup (bytes_eq (folded name)) style.macros)) (NameTaken name) (Closed (Opened (Next TextHere (λ text.
-    Closed (Makes (λ style. record style { macros = style.macros ++ (folded name, text) ∷ [] })))))))))
+abbrev pub Arguments : CommandName → Rule
+Arguments command.Entry = Requires (λ style. not style.has_entry) (Another command.Entry) (Lists kind.Field (Lists kind.EntryInteger (Lists kind.EntryString
+    (HasEffect (λ style. record style { has_entry = true })))))
+Arguments command.Function = Opened (Next StyleNameHere (λ name. Requires (λ style. is_none (meaning style name)) (NameTaken name) (Closed (Opened (HasBody name)))))
+Arguments command.Read = Requires (λ style. not (is_read style)) (Another command.Read) (Requires (λ style. style.has_entry) BeforeEntry
+    (HasEffect (λ style. and_command Read (record style { types = Some (λ name. option_and_then as_type (style.names name)) }))))
+Arguments command.Execute = Executes command.Execute Execute
+Arguments command.Iterate = Executes command.Iterate Iterate
+Arguments command.Reverse = Executes command.Reverse Reverse
+Arguments command.Sort = Requires is_read (BeforeRead command.Sort) (HasEffect (and_command Sort))
+Arguments command.Integers = Lists kind.GlobalInteger (HasEffect (λ style. style))
+Arguments command.Strings = Lists kind.GlobalString (HasEffect (λ style. style))
+Arguments command.Macro = Requires (λ style. not (is_read style)) AfterRead (Opened (Next StyleNameHere (λ name.
+    Requires (λ style. is_none (lookup (bytes_eq (folded name)) style.macros)) (NameTaken name) (Closed (Opened (Next TextHere (λ text.
+    Closed (HasEffect (λ style. record style { macros = style.macros ++ (folded name, text) ∷ [] })))))))))
 
 -- the word of a command in any case, and what comes after it; or a word of none
-abbrev pub Named : List ℕ → Rule
-Named letters style from o =
-    ((command : CommandName) × IsWordOf command letters × Behind command style from o)
+abbrev pub CommandNamed : List ℕ → Rule
+CommandNamed letters style from o =
+    ((command : CommandName) × IsWordOf command letters × Arguments command style from o)
     ⊎ (((command : CommandName) → IsWordOf command letters → ⊥) × (o ≡ ended_at (Some (NotCommand letters)) style from))
 
 -- ---- styles
@@ -233,7 +233,7 @@ FollowsOn o (Some wrong) style place = Skips o.place place × (style ≡ and_say
 abbrev pub AreCommands : List CommandEnd → SoFar → Place → SoFar → Type 0
 AreCommands [] style from end = (to : Place) × Gap from to × (to.line ≡ []) × (end ≡ style)
 AreCommands (o ∷ more) style from end =
-    (here : Place) × Gap from here × (here.line ≡ [] → ⊥) × Next LettersHere Named style here o
+    (here : Place) × Gap from here × (here.line ≡ [] → ⊥) × Next LettersHere CommandNamed style here o
     × (next : SoFar) × (place : Place) × FollowsOn o o.wrong next place × AreCommands more next place end
 
 -- what a name names is a field
@@ -243,7 +243,7 @@ is_a_field _ = false
 
 -- the style whose file has this name and this text
 abbrev pub IsStyle : List ℕ → List ℕ → Style → Type 0
-IsStyle file text style = (commands : List CommandEnd) × (end : SoFar) × AreCommands commands (unread file) (beginning text) end × (style ≡ record {
+IsStyle file text style = (commands : List CommandEnd) × (end : SoFar) × AreCommands commands (initial_style file) (beginning text) end × (style ≡ record {
   commands = end.commands;
   is_field = λ name. is_a_field (end.names name);
   macros = end.macros;

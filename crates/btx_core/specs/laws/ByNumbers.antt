@@ -5,7 +5,7 @@ use Rattle.btx_aux.specs.language.Files.{Files}
 use Rattle.btx_aux.specs.language.Job.{AuxJob}
 use Rattle.btx_bib.specs.language.Databases.{library_by}
 use Rattle.btx_bib.specs.language.Grammar.Items.{Placed}
-use Rattle.btx_bib.specs.language.Known.{goes_on, keeping, with_current_stored}
+use Rattle.btx_bib.specs.language.Known.{goes_on, stored_keys, with_current_stored}
 use Rattle.btx_bib.specs.language.Library.{Library}
 use Rattle.btx_bib.specs.language.MessageTexts.{message_line}
 use Rattle.btx_bib.specs.language.Messages.{Database, Reading, read_next}
@@ -113,7 +113,7 @@ pub record IsStyleProduct (job : Job) (counts : LogCounts) (line_length budget :
 abbrev pub IsReadBy : Bool → Bool → Request → Reading → Database → Reading → Type 0
 IsReadBy false too_long wanted reading database next = next ≡ reading
 IsReadBy true true wanted reading database next = next ≡ record reading { known = record reading.known { ending = end.FileLimit } }
-IsReadBy true false wanted reading database next = (events : List Placed) × IsReading (keeping wanted) reading.known wants.Item database.text events
+IsReadBy true false wanted reading database next = (events : List Placed) × IsReading (stored_keys wanted) reading.known wants.Item database.text events
     × (next ≡ record (fold (read_next wanted database) reading events) { known = with_current_stored (fold (read_next wanted database) reading events).known })
 
 -- databases are read, one after another

@@ -31,4 +31,4 @@ OneDivision = (one other : Divisions) → AreDivisions one → AreDivisions othe
 
 -- and there is one
 abbrev pub SomeDivision : Type 0
-SomeDivision = (the : Divisions) × AreDivisions the
+SomeDivision = (divisions : Divisions) × AreDivisions divisions

@@ -14,7 +14,7 @@ use Rattle.btx_bst.specs.language.Style.{Style as NumberedStyle}
 use Rattle.btx_bst.specs.language.StyleText.{style_of}
 use Rattle.btx_core.specs.language.StyleTexts.{IsStyle}
 use Rattle.btx_core.specs.language.Styles.{Body, Built, Command, Declared, Defined, Empty, Execute, Function, Integer, Iterate, Push, Quoted, Read, Reverse}
-use Rattle.btx_core.specs.language.Styles.{Run, Says, Sort, Style, Text, Then, Word}
+use Rattle.btx_core.specs.language.Styles.{Run, Says, Sort, Style, Text, Then, StyleToken}
 use Rattle.std.specs.Prelude.{List, None, Option, Some, [], is_some, option_map, slice_get, suc, ℕ, ◌++◌, ◌∷◌, ◌≡◌}
 
 -- what the numbers of a style stand for: the names of its fields and variables, the strings of its bodies, and its functions, each with its body in full
@@ -38,7 +38,7 @@ stands_for numbers (callee.GlobalInteger number) = option_map (Declared kind.Glo
 stands_for numbers (callee.GlobalString number) = option_map (Declared kind.GlobalString) (slice_get numbers.names.global_strings number)
 
 -- the word that a token of a body stands for
-abbrev pub word_of : Numbers → Token → Option Word
+abbrev pub word_of : Numbers → Token → Option StyleToken
 word_of numbers (token.Text number) = option_map (λ (text : List ℕ). Push (Text text)) (slice_get numbers.texts number)
 word_of numbers (token.Integer n) = Some (Push (Integer n))
 word_of numbers (token.Quote quoted) = option_map (λ (f : Function). Push (Quoted f)) (stands_for numbers quoted)
@@ -48,7 +48,7 @@ word_of numbers (token.Run run) = option_map Run (stands_for numbers run)
 abbrev pub IsBodyOf : Numbers → List Token → Body → Type 0
 IsBodyOf numbers [] body = body ≡ Empty
 IsBodyOf numbers (token ∷ tokens) body =
-    (word : Word) × (more : Body) × (word_of numbers token ≡ Some word) × IsBodyOf numbers tokens more × (body ≡ Then word more)
+    (word : StyleToken) × (more : Body) × (word_of numbers token ≡ Some word) × IsBodyOf numbers tokens more × (body ≡ Then word more)
 
 -- the functions from a number on are those of these bodies: each has its name and its body
 abbrev pub AreFunctionsOf : Numbers → ℕ → List (List Token) → List Function → Type 0

@@ -12,9 +12,8 @@ use Rattle.std.specs.Str.{byte}
 -- a text begins with a byte of whitespace, `and` in any case, and a byte of whitespace: 5 bytes, as " and " has
 unfoldable pub is_separator : List ℕ → Bool
 is_separator text =
-    nat_le 5 (length text) && is_white (slice_index text 0)
-    && to_ascii_lowercase (slice_index text 1) == byte "a" && to_ascii_lowercase (slice_index text 2) == byte "n"
-    && to_ascii_lowercase (slice_index text 3) == byte "d" && is_white (slice_index text 4)
+    nat_le 5 (length text) && is_white (slice_index text 0) && to_ascii_lowercase (slice_index text 1) == byte "a"
+    && to_ascii_lowercase (slice_index text 2) == byte "n" && to_ascii_lowercase (slice_index text 3) == byte "d" && is_white (slice_index text 4)
 
 -- ---- names
 

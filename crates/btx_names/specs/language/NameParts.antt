@@ -45,10 +45,7 @@ sections_of name = cut_first name (split_at_comma name)
 -- the name's last byte that is neither whitespace nor `~` nor `-` is a comma, at depth 0
 unfoldable pub ends_in_comma : List ℕ → Bool
 ends_in_comma name =
-    let comma = byte "," in
-    option_map_or (λ b. b == comma)
-    (find (λ b. not (is_white b || is_sep b)) (reverse name)) false
-    && depth_of name == 0
+    option_map_or (λ b. b == byte ",") (find (λ b. not (is_white b || is_sep b)) (reverse name)) false && depth_of name == 0
 
 -- a name has a third comma that a token follows
 abbrev pub has_third_comma : Sections → Bool

@@ -3,6 +3,6 @@ use Rattle.std.specs.Prelude.{ℕ, List, [], ◌∷◌, if◌then◌else◌}
 use Rattle.btx_names.specs.language.FormattedNames.{begins_initial}
 
 -- a token's text from where its abbreviation begins; nothing where it has none
-unfoldable pub lettered_of : List ℕ → List ℕ
-lettered_of [] = []
-lettered_of (b ∷ bs) = if begins_initial (b ∷ bs) then b ∷ bs else lettered_of bs
+unfoldable pub from_abbreviation : List ℕ → List ℕ
+from_abbreviation [] = []
+from_abbreviation (b ∷ bs) = if begins_initial (b ∷ bs) then b ∷ bs else from_abbreviation bs

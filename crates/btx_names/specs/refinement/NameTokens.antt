@@ -1,6 +1,6 @@
 -- What the code keeps of the tokens of a name, and what clauses see of it.
 use Rattle.std.specs.Prelude.{◌≡◌, ◌≤◌, ℕ, ◌+◌, List, [], ◌∷◌, length, map, take}
-use Rattle.btx_names.specs.refinement.Lettered.{lettered_of}
+use Rattle.btx_names.specs.refinement.Lettered.{from_abbreviation}
 use Rattle.btx_names.specs.refinement.Places.{bytes_at}
 use Rattle.btx_names.specs.language.Tokens.{NameToken as Token}
 use Rattle.btx_names.specs.declared.name_token.NameToken.{NameToken}
@@ -17,7 +17,7 @@ abbrev pub Hold : List ℕ → NameToken → Type 0
 Hold bytes token =
     (token.text.from + token.text.len ≤ length bytes)
     × (token.lettered.from + token.lettered.len ≤ length bytes)
-    × (bytes_at bytes token.lettered ≡ lettered_of (bytes_at bytes token.text))
+    × (bytes_at bytes token.lettered ≡ from_abbreviation (bytes_at bytes token.text))
 
 -- how many bytes there are from where the abbreviations of some tokens begin: none exactly where none has one
 unfoldable pub lettered_in : List NameToken → ℕ

@@ -1,5 +1,5 @@
 //! Short databases, and their records, worked by hand.
-use btx_read::{Row, Rows, StringTable, read_rows};
+use btx_read::{Row, Rows, StringTable, add_string, read_rows};
 use btx_text::log_texts::push_number;
 use std::alloc::{AllocError, Global};
 
@@ -30,7 +30,7 @@ fn push_bytes(listed: &mut Vec<u8>, made: &Rows, at: usize, len: usize) -> Resul
 // The records of a database, listed one after another, where `jan` is known.
 fn listed(alloc: Global, text: &[u8]) -> Result<Vec<u8>, AllocError> {
     let mut strings = StringTable::new(alloc);
-    strings.add(alloc, b"jan", b"January")?;
+    add_string(alloc, &mut strings, b"jan", b"January")?;
     let made = read_rows(alloc, b"d.bib", strings, text)?;
     let mut listed = Vec::new(alloc);
     for row in made.rows.as_slice() {

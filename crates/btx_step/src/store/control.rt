@@ -11,7 +11,7 @@ use super::Store;
 use crate::literal::{Literal, OperandKind};
 use crate::next::Next;
 use crate::outcome::{Outcome, Stepped};
-use crate::said::{Note, Notes, Said};
+use crate::said::{Note, Notes, StepOutput};
 use std::alloc::AllocError;
 
 impl<'a> Store<'a> {
@@ -38,15 +38,15 @@ impl<'a> Store<'a> {
     }
 
     /// Pops what a loop's test left, and answers whether the body runs, if it is an integer above 0, and what is said.
-    pub fn test(&mut self) -> Result<(bool, Said<'a>), AllocError>
+    pub fn test(&mut self) -> Result<(bool, StepOutput<'a>), AllocError>
         ensures { IfOk result (λ turn. spec.tested_as turn.0 turn.1 self.new ≡ spec.tested self.old.literals self.old) }
     {
         let note = match self.literals.pop(self.alloc)? {
-            Some(Literal::Integer(n)) => return Ok((is_positive(n), Said::Nothing)),
+            Some(Literal::Integer(n)) => return Ok((is_positive(n), StepOutput::Nothing)),
             Some(other) => Note::WrongKind(other, OperandKind::Integer),
             None => Note::EmptyStack,
         };
-        Ok((false, Said::Noted(Notes::one(self.alloc, note)?)))
+        Ok((false, StepOutput::Noted(Notes::one(self.alloc, note)?)))
     }
 }
 

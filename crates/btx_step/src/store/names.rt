@@ -14,7 +14,7 @@ use crate::job::Job;
 use crate::literal::Literal;
 use crate::next::Next;
 use crate::outcome::{Outcome, Stepped};
-use crate::said::{Note, Notes, Said};
+use crate::said::{Note, Notes, StepOutput};
 use btx_strings::Complaints;
 use btx_text::{Fault, Limit, Text};
 use std::alloc::{AllocError, Global};
@@ -54,11 +54,11 @@ fn name_said<'a>(
     names: Text<'a>,
     number: i32,
     format: Text<'a>,
-) -> Result<Said<'a>, AllocError>
+) -> Result<StepOutput<'a>, AllocError>
     ensures { IfOk result (λ said. said ≡ kept_spec.name_said complaints names.entry number format.entry) }
 {
     if !(complaints.x10 || complaints.x11 || complaints.x12 || complaints.x13) {
-        return Ok(Said::Nothing);
+        return Ok(StepOutput::Nothing);
     }
     let names = names.share()?;
     let mut notes = Notes::new(alloc);
@@ -78,7 +78,7 @@ fn name_said<'a>(
         Note::TooManyCommas(number, names),
     )?;
     push_if(&mut notes, complaints.x13, Note::IllegalFormat(format))?;
-    Ok(Said::Noted(notes))
+    Ok(StepOutput::Noted(notes))
 }
 
 // A line where something was wrong.

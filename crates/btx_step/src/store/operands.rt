@@ -14,7 +14,7 @@ use crate::literal::{Literal, OperandKind};
 use crate::next::Next;
 use crate::operands::{Default, Operand, default_of, operands_of};
 use crate::outcome::Outcome;
-use crate::said::{Note, Notes, Said};
+use crate::said::{Note, Notes, StepOutput};
 use btx_bst::{BuiltIn, Callee};
 use btx_stack::Literals;
 use btx_text::Text;
@@ -23,7 +23,10 @@ use std::alloc::AllocError;
 impl<'a> Store<'a> {
     // Logs that operands of a function are missing or don't fit, and pushes its default; or answers none, and changes nothing, where all are there and fit.
     #[tactic(auto, using(crate::proofs::OperandLemmas::by_lack, crate::proofs::OperandLemmas::by_kind, crate::proofs::OperandLemmas::fitting))]
-    pub(super) fn misfit(&mut self, function: BuiltIn) -> Result<Option<Outcome<'a>>, AllocError>
+    pub(super) fn check_operands(
+        &mut self,
+        function: BuiltIn,
+    ) -> Result<Option<Outcome<'a>>, AllocError>
         ensures some { IfOk result (λ misfit. IfSome misfit (λ o. (does : Does (row function).operands) → gives o self.new ≡ runs function does self.old)) }
         ensures none { IfOk result (λ misfit. IfNone misfit (Fit function self.old)) }
         ensures same { IfOk result (λ misfit. IfNone misfit (self.new ≡ self.old)) }
@@ -87,7 +90,7 @@ impl<'a> Store<'a> {
                 drop_literals(&mut self.literals, left);
                 self.complain_all(notes, instead)
             }
-            Default::Back => Outcome::saying(Next::Nothing, Said::Noted(notes)),
+            Default::Back => Outcome::saying(Next::Nothing, StepOutput::Noted(notes)),
         }
     }
 

@@ -11,7 +11,7 @@ ghost use Rattle.btx_step.specs.refinement.Stacks as spec;
 use super::Store;
 use crate::next::Next;
 use crate::outcome::{Outcome, Stepped};
-use crate::said::{Note, Notes, Said};
+use crate::said::{Note, Notes, StepOutput};
 use crate::stand_in::StandIn;
 use btx_stack::Literals;
 use std::alloc::{AllocError, Global};
@@ -63,7 +63,7 @@ impl<'a> Store<'a> {
         ensures { IfOk result (λ o. gives o self.new ≡ spec.shows_stack self.old) }
     {
         let notes = take_shown(self.alloc, &mut self.literals)?;
-        Ok(Outcome::saying(Next::Nothing, Said::Noted(notes)))
+        Ok(Outcome::saying(Next::Nothing, StepOutput::Noted(notes)))
     }
 
     // `warning$`
@@ -81,7 +81,7 @@ impl<'a> Store<'a> {
         ensures { IfOk result (λ o. gives o self.new ≡ runs built_in.Write spec.writes self.old) }
     {
         let text = self.take_text()?;
-        Ok(Outcome::saying(Next::Nothing, Said::Wrote(text)))
+        Ok(Outcome::saying(Next::Nothing, StepOutput::Wrote(text)))
     }
 }
 

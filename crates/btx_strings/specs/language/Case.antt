@@ -34,14 +34,14 @@ case_of Upper b = to_ascii_uppercase b
 case_of _ b = to_ascii_lowercase b
 
 -- the control sequences `\i`, `\j` and `\ss`: in upper case they become letters without a backslash, `I`, `J` and `SS`
-abbrev pub bare : List (List ℕ)
-bare = codes "i" ∷ codes "j" ∷ codes "ss" ∷ []
+abbrev pub losing_backslash : List (List ℕ)
+losing_backslash = codes "i" ∷ codes "j" ∷ codes "ss" ∷ []
 
 -- a control sequence in another case. In upper case `\i`, `\j` and `\ss` become `I`, `J` and `SS`, and `\o \oe \ae \aa \l` are raised; in lower case
 -- and in a title `\O \OE \AE \AA \L` are lowered; all others stay
 unfoldable pub cased_control : Conversion → List ℕ → List ℕ
 cased_control Upper name =
-    if is_among bare name then map to_ascii_uppercase name
+    if is_among losing_backslash name then map to_ascii_uppercase name
     else if is_among (codes "o" ∷ codes "oe" ∷ codes "ae" ∷ codes "aa" ∷ codes "l" ∷ []) name then byte "\\" ∷ map to_ascii_uppercase name
     else byte "\\" ∷ name
 cased_control _ name =
@@ -55,7 +55,7 @@ cased_glyph conversion (Plain b) = case_of conversion b ∷ []
 
 -- whether a control sequence becomes letters without a backslash, so that the whitespace after it goes: `\i`, `\j` and `\ss` in upper case do
 abbrev pub becomes_letters : Conversion → List ℕ → Bool
-becomes_letters Upper name = is_among bare name
+becomes_letters Upper name = is_among losing_backslash name
 becomes_letters _ name = false
 
 -- ---- elements

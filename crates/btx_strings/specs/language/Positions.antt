@@ -14,8 +14,7 @@ is_ended (Some b) = b == byte "." || b == byte "?" || b == byte "!"
 abbrev pub add_period_of : List ℕ → List ℕ
 add_period_of [] = []
 add_period_of (b ∷ bs) =
-    let brace = byte "}" in
-    if is_ended (find (λ b. not (b == brace)) (reverse (b ∷ bs))) then b ∷ bs else (b ∷ bs) ++ byte "." ∷ []
+    if is_ended (find (λ b. not (b == byte "}")) (reverse (b ∷ bs))) then b ∷ bs else (b ∷ bs) ++ byte "." ∷ []
 
 -- ---- `substring$`
 

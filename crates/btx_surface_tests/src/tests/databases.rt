@@ -22,14 +22,17 @@ fn end_letter(end: End) -> u8 {
 
 // Whether a library has the one entry of the database, whose key is spelled as it is cited, and the message on its second title.
 fn is_library(library: &Library<'_>) -> bool {
-    library.len() == 1
-        && library.key(0) == b"k".as_slice()
-        && library.kind(0) == Some(0)
-        && library.value(0, 1) == Some(b"T".as_slice())
-        && library.value(0, 2).is_none()
-        && library.preamble().as_bytes() == b"P".as_slice()
-        && library.messages().len() == 1
-        && end_letter(library.end()) == b'w'
+    let facts = [
+        library.len() == 1,
+        library.key(0) == b"k".as_slice(),
+        library.kind(0) == Some(0),
+        library.value(0, 1) == Some(b"T".as_slice()),
+        library.value(0, 2).is_none(),
+        library.preamble().as_bytes() == b"P".as_slice(),
+        library.messages().len() == 1,
+        end_letter(library.end()) == b'w',
+    ];
+    facts == [true; 8]
 }
 
 // Whether the database gives that to a job and its style.

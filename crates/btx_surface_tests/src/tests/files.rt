@@ -95,12 +95,15 @@ fn is_only(names: &[Vec<u8>], name: &[u8]) -> bool {
 
 // Whether a job is that of the text, read from its one file.
 fn is_job(job: &AuxJob) -> bool {
-    is_only(job.keys(), b"k")
-        && job.all() == Some(1)
-        && is_only(job.databases(), b"d.bib")
-        && job.style() == Some(b"s.bst".as_slice())
-        && job.log().len() == 1
-        && end_letter(job.end()) == b'w'
+    let facts = [
+        is_only(job.keys(), b"k"),
+        job.all() == Some(1),
+        is_only(job.databases(), b"d.bib"),
+        job.style() == Some(b"s.bst".as_slice()),
+        job.log().len() == 1,
+        end_letter(job.end()) == b'w',
+    ];
+    facts == [true; 6]
 }
 
 // Whether a job is that of the text, and the letter of its end.

@@ -78,7 +78,16 @@ const FILES: [(&[u8], &[u8]); 3] = [
     ),
 ];
 
-// What a run of these files writes, and the numbers of its report.
+// Whether a run wrote its line, and the numbers of its report.
+fn outcome(answer: Result<Numbers, RunFault>, has_written: bool) -> Result<(bool, Numbers), Fault> {
+    match answer {
+        Ok(numbers) => Ok((has_written, numbers)),
+        Err(RunFault::Memory) => Err(Fault::Memory),
+        Err(RunFault::Device) => Err(Fault::Device),
+    }
+}
+
+// The outcome of a run of these files.
 fn ran(
     alloc: Global,
     files: &[(&[u8], &[u8])],
@@ -87,11 +96,8 @@ fn ran(
     let mut finder = MemoryFinder::new(alloc, files)?;
     let mut bbl = Over::new(Vec::new(alloc));
     let mut log = Over::new(Vec::new(alloc));
-    match try_run(alloc, &mut finder, options, &mut bbl, &mut log) {
-        Ok(numbers) => Ok((bbl.writer.as_slice() == b"a\n".as_slice(), numbers)),
-        Err(RunFault::Memory) => Err(Fault::Memory),
-        Err(RunFault::Device) => Err(Fault::Device),
-    }
+    let answer = try_run(alloc, &mut finder, options, &mut bbl, &mut log);
+    outcome(answer, bbl.writer.as_slice() == b"a\n".as_slice())
 }
 
 // Whether runs of these files finish, are stopped, and end without a top file.

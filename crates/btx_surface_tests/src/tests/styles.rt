@@ -58,11 +58,14 @@ fn is_style(style: &Style<'_>) -> bool {
         style.global_strings(),
         style.macros().len(),
     ];
-    counts == [1, 2, 0, 1, 3, 1, 1]
-        && style.items().len() == 8
-        && style.items().first().map(line_of) == Some(1)
-        && first_body(style) == *b"tiqr"
-        && is_direct(style)
+    let facts = [
+        counts == [1, 2, 0, 1, 3, 1, 1],
+        style.items().len() == 8,
+        style.items().first().map(line_of) == Some(1),
+        first_body(style) == *b"tiqr",
+        is_direct(style),
+    ];
+    facts == [true; 5]
 }
 
 // Whether the style of the text is that.

@@ -4,8 +4,8 @@ use Rattle.std.specs.Str.{bytes_eq, byte}
 use Rattle.std.specs.Option.{option_map, option_map_or}
 use Rattle.btx_text.specs.language.Keys.{folded}
 use Rattle.btx_bib.specs.declared.grammar.byte_sets.Delimiter.{Delimiter}
-use Rattle.btx_bib.specs.declared.grammar.commands.Command.{Command}
-use Rattle.btx_bib.specs.declared.grammar.commands.Command.TheVariants as command
+use Rattle.btx_bib.specs.declared.grammar.commands.DatabaseCommand.{DatabaseCommand}
+use Rattle.btx_bib.specs.declared.grammar.commands.DatabaseCommand.TheVariants as command
 use Rattle.btx_bib.specs.declared.grammar.commands.Expected.{Expected}
 use Rattle.btx_bib.specs.declared.grammar.commands.Expected.TheVariants.{Item, Closing, Fields}
 use Rattle.btx_bib.specs.declared.grammar.slip.SyntaxError.{SyntaxError}
@@ -24,18 +24,18 @@ pub data Event : Type 0 where
   Definition : (name : List ℕ) (value : List Part) → Event
   Entry : (kind key : List ℕ) → Event
   FieldOf : (field : Field) → Event
-  End : Event
+  ItemEnd : Event
   Wrong : (slip : SyntaxError) → Event
 
 -- the command of a name, whose case is ignored: any other name is an entry's type
-unfoldable pub command_of : List ℕ → Command
+unfoldable pub command_of : List ℕ → DatabaseCommand
 command_of name =
     if bytes_eq (folded name) (codes "comment") then command.Comment
     else if bytes_eq (folded name) (codes "preamble") then command.Preamble
     else if bytes_eq (folded name) (codes "string") then command.Definition else command.Entry
 
 -- reads the first part of an item, given its command: the event, and what is expected next
-unfoldable pub head_of : Command → List ℕ → List ℕ → Parsed (Event × Expected)
+unfoldable pub head_of : DatabaseCommand → List ℕ → List ℕ → Parsed (Event × Expected)
 head_of command.Comment name text = Ok ((Comment, Item), text)
 head_of command.Preamble name text =
     followed_by (open_at text) (λ delimiter behind_open.
@@ -55,7 +55,7 @@ head_at text = followed_by (name_at text) (λ name rest. head_of (command_of nam
 
 -- a field as an event, after which the entry goes on; or the end of the entry, after which an item is expected
 abbrev pub field_event : Delimiter → Parsed (Option Field) → Parsed (Event × Expected)
-field_event delimiter (Ok (None, rest)) = Ok ((End, Item), rest)
+field_event delimiter (Ok (None, rest)) = Ok ((ItemEnd, Item), rest)
 field_event delimiter (Ok (Some field, rest)) = Ok ((FieldOf field, Fields delimiter), rest)
 field_event delimiter (Err wrong) = Err wrong
 
@@ -80,7 +80,7 @@ behind_at (b ∷ bs) = if b == byte "@" then Some bs else behind_at bs
 unfoldable pub expected_step : Expected → List ℕ → Option Step
 expected_step Item text = option_map (λ rest. step_by (head_at rest)) (behind_at text)
 expected_step (Closing delimiter) text =
-    Some (step_by (followed_by (sign_at (closing_delimiter delimiter) (NoClosing delimiter) text) (λ _ rest. Ok ((End, Item), rest))))
+    Some (step_by (followed_by (sign_at (closing_delimiter delimiter) (NoClosing delimiter) text) (λ _ rest. Ok ((ItemEnd, Item), rest))))
 expected_step (Fields delimiter) text = Some (step_by (field_event delimiter (more_in delimiter (past Gap text))))
 
 -- an event, with its place: `rest` is the text from its end on
@@ -110,7 +110,7 @@ next_step is_stored wanted text =
 
 -- how what is known of the items before is kept, where S is the type of all that is known: which keys are stored, and what is known after a
 -- further event
-pub record Keeping (S : Type 0) : Type 0 where
+pub record StoredKeys (S : Type 0) : Type 0 where
   pub is_stored : S → List ℕ → Bool
   pub after : S → Event → S
 
@@ -118,16 +118,16 @@ pub record Keeping (S : Type 0) : Type 0 where
 
 -- at most `turns` events of a text: the event of the next step, if there is one, and then those of the rest. The bound is that of `events_from`, and
 -- is never reached
-unfoldable pub events_within : {S : Type 0} → Keeping S → ℕ → S → Expected → List ℕ → List Placed
-events_within keeping zero state wanted text = []
-events_within keeping (suc turns) state wanted text =
+unfoldable pub events_within : {S : Type 0} → StoredKeys S → ℕ → S → Expected → List ℕ → List Placed
+events_within stored_keys zero state wanted text = []
+events_within stored_keys (suc turns) state wanted text =
     option_map_or
     (λ (step : Step).
     record { event = step.event; rest = step.rest }
-    ∷ events_within keeping turns (keeping.after state step.event) step.wanted step.rest)
-    (next_step (keeping.is_stored state) wanted text) []
+    ∷ events_within stored_keys turns (stored_keys.after state step.event) step.wanted step.rest)
+    (next_step (stored_keys.is_stored state) wanted text) []
 
 -- the events of a text, given what is known before it and what is expected first. The bound on their number is never reached, since each takes a
 -- byte or ends an item
-unfoldable pub events_from : {S : Type 0} → Keeping S → S → Expected → List ℕ → List Placed
-events_from keeping state wanted text = events_within keeping (suc (2 * length text + 1)) state wanted text
+unfoldable pub events_from : {S : Type 0} → StoredKeys S → S → Expected → List ℕ → List Placed
+events_from stored_keys state wanted text = events_within stored_keys (suc (2 * length text + 1)) state wanted text

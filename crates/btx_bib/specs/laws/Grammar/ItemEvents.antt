@@ -3,15 +3,15 @@ use Rattle.std.specs.Prelude.{◌≡◌, ℕ, Bool, false, List, [], ◌∷◌, 
 use Rattle.btx_bib.specs.declared.grammar.commands.Expected.{Expected}
 use Rattle.btx_bib.specs.declared.grammar.commands.Expected.TheVariants as wanted
 use Rattle.btx_bib.specs.language.Grammar.Tokens.{Parsed}
-use Rattle.btx_bib.specs.language.Grammar.Items.{Event, Comment, Preamble, Definition, Entry, FieldOf, End, Wrong, Placed, Keeping, events_from}
+use Rattle.btx_bib.specs.language.Grammar.Items.{Event, Comment, Preamble, Definition, Entry, FieldOf, ItemEnd, Wrong, Placed, StoredKeys, events_from}
 use Rattle.btx_bib.specs.laws.Grammar.WholeItems.{WholeItem, CommentItem, PreambleItem, StringItem, EntryItem}
 
 -- the events of an item: a field is one, and so is the end
 abbrev pub item_events : WholeItem → List Event
 item_events CommentItem = Comment ∷ []
-item_events (PreambleItem value) = Preamble value ∷ End ∷ []
-item_events (StringItem name value) = Definition name value ∷ End ∷ []
-item_events (EntryItem kind key fields) = Entry kind key ∷ (map FieldOf fields ++ End ∷ [])
+item_events (PreambleItem value) = Preamble value ∷ ItemEnd ∷ []
+item_events (StringItem name value) = Definition name value ∷ ItemEnd ∷ []
+item_events (EntryItem kind key fields) = Entry kind key ∷ (map FieldOf fields ++ ItemEnd ∷ [])
 
 -- what reading an item gave, with the events that the item comes to
 abbrev pub read_events : Parsed WholeItem → Parsed (List Event)
@@ -24,12 +24,12 @@ bare_events events = map (λ placed. placed.event) events
 
 -- the events of a text are the events that were read and then those of the rest; or, if an error was met, the events of what was right before it,
 -- the error, and the events from its place on
-abbrev pub GivesEvents : {S : Type 0} → Keeping S → S → Expected → List ℕ → Parsed (List Event) → Type 0
-GivesEvents keeping state next text (Ok got) =
-    bare_events (events_from keeping state next text) ≡ got.0 ++ bare_events (events_from keeping (fold keeping.after state got.0) wanted.Item got.1)
-GivesEvents keeping state next text (Err wrong) = (begun : List Event) ×
-    (bare_events (events_from keeping state next text) ≡
-    begun ++ Wrong wrong.0 ∷ bare_events (events_from keeping (fold keeping.after state (begun ++ Wrong wrong.0 ∷ [])) wanted.Item wrong.1))
+abbrev pub GivesEvents : {S : Type 0} → StoredKeys S → S → Expected → List ℕ → Parsed (List Event) → Type 0
+GivesEvents stored_keys state next text (Ok got) =
+    bare_events (events_from stored_keys state next text) ≡ got.0 ++ bare_events (events_from stored_keys (fold stored_keys.after state got.0) wanted.Item got.1)
+GivesEvents stored_keys state next text (Err wrong) = (begun : List Event) ×
+    (bare_events (events_from stored_keys state next text) ≡
+    begun ++ Wrong wrong.0 ∷ bare_events (events_from stored_keys (fold stored_keys.after state (begun ++ Wrong wrong.0 ∷ [])) wanted.Item wrong.1))
 
 -- if an entry was read, its key isn't stored yet
 abbrev pub IsNew : (List ℕ → Bool) → Parsed (Event × Expected) → Type 0

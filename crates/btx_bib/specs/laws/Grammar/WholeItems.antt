@@ -2,8 +2,8 @@
 -- original's, and where a fault is met is this project's own.
 use Rattle.std.specs.Prelude.{ℕ, zero, suc, List, [], ◌∷◌, length, Option, None, Some, Ok, Err}
 use Rattle.btx_bib.specs.declared.grammar.byte_sets.Delimiter.{Delimiter}
-use Rattle.btx_bib.specs.declared.grammar.commands.Command.{Command}
-use Rattle.btx_bib.specs.declared.grammar.commands.Command.TheVariants as command
+use Rattle.btx_bib.specs.declared.grammar.commands.DatabaseCommand.{DatabaseCommand}
+use Rattle.btx_bib.specs.declared.grammar.commands.DatabaseCommand.TheVariants as command
 use Rattle.btx_bib.specs.declared.grammar.slip.SyntaxError.TheVariants.{NoEquals, NoClosing, EndOfFile}
 use Rattle.btx_bib.specs.language.Grammar.Tokens.{Parsed, followed_by, name_at, open_at, sign_at, key_at, closing_delimiter}
 use Rattle.btx_bib.specs.language.Grammar.Values.{Part, value_at}
@@ -42,7 +42,7 @@ abbrev pub FieldsHere : Delimiter → Grammar (List Field)
 FieldsHere delimiter o front rest = (n : ℕ) × FieldsOf n delimiter o front rest
 
 -- what comes after the name `name` of an item, whose command is given
-abbrev pub ItemOf : Command → List ℕ → Grammar WholeItem
+abbrev pub ItemOf : DatabaseCommand → List ℕ → Grammar WholeItem
 ItemOf command.Comment name = Gives CommentItem
 ItemOf command.Preamble name =
     Then (Spaced OpenHere) (λ delimiter. Then ValueSpelling (λ value. Then (ClosingHere delimiter) (λ sign. Gives (PreambleItem value))))
@@ -74,7 +74,7 @@ unfoldable pub fields_at : Delimiter → List ℕ → Parsed (List Field)
 fields_at delimiter text = fields_within (suc (length text)) delimiter text
 
 -- the item whose command and name are given, read from after that name on
-unfoldable pub whole_item : Command → List ℕ → List ℕ → Parsed WholeItem
+unfoldable pub whole_item : DatabaseCommand → List ℕ → List ℕ → Parsed WholeItem
 whole_item command.Comment name text = Ok (CommentItem, text)
 whole_item command.Preamble name text =
     followed_by (open_at text) (λ delimiter behind_open.

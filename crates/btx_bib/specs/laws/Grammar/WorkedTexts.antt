@@ -8,7 +8,7 @@ use Rattle.btx_bib.specs.declared.grammar.slip.SyntaxError.TheVariants.{NoName, 
 use Rattle.btx_bib.specs.declared.grammar.value_ends.Ends.{Ends}
 use Rattle.btx_bib.specs.declared.grammar.value_ends.Ends.TheVariants.{Kept, Trimmed}
 use Rattle.btx_bib.specs.language.Grammar.Values.{Part, Braced, Quoted, Digits, Named}
-use Rattle.btx_bib.specs.language.Grammar.Items.{Event, Comment, Preamble, Definition, Entry, FieldOf, End, Wrong, events_from}
+use Rattle.btx_bib.specs.language.Grammar.Items.{Event, Comment, Preamble, Definition, Entry, FieldOf, ItemEnd, Wrong, events_from}
 use Rattle.btx_bib.specs.laws.Grammar.Items.{by_history}
 use Rattle.btx_bib.specs.laws.Grammar.ItemEvents.{bare_events}
 use Rattle.btx_bib.specs.language.Grammar.ValueTexts.{value_text}
@@ -50,18 +50,18 @@ texts =
     -- fields have values of one part or of several; a comma may come after the last one
     ∷ text_row (codes "@misc{k, title={A{b}},\n TITLE = 1 # b,}")
     (Entry (codes "misc") (codes "k") ∷ worked_field (codes "title") (Braced (codes "A{b}") ∷ [])
-    ∷ worked_field (codes "TITLE") (Digits (codes "1") ∷ name (codes "b") (codes ",}") ∷ []) ∷ End ∷ [])
+    ∷ worked_field (codes "TITLE") (Digits (codes "1") ∷ name (codes "b") (codes ",}") ∷ []) ∷ ItemEnd ∷ [])
     -- in parentheses a key may have a brace
-    ∷ text_row (codes "@a(b}, c = \"d\")") (Entry (codes "a") (codes "b}") ∷ worked_field (codes "c") (Quoted (codes "d") ∷ []) ∷ End ∷ [])
+    ∷ text_row (codes "@a(b}, c = \"d\")") (Entry (codes "a") (codes "b}") ∷ worked_field (codes "c") (Quoted (codes "d") ∷ []) ∷ ItemEnd ∷ [])
     -- the case of a command is ignored
-    ∷ text_row (codes "@PreAmble({a})@STRING{b = 1}@coMMent") (Preamble (Braced (codes "a") ∷ []) ∷ End ∷ Definition (codes "b") (Digits (codes "1") ∷ []) ∷ End
+    ∷ text_row (codes "@PreAmble({a})@STRING{b = 1}@coMMent") (Preamble (Braced (codes "a") ∷ []) ∷ ItemEnd ∷ Definition (codes "b") (Digits (codes "1") ∷ []) ∷ ItemEnd
     ∷ Comment ∷ [])
     -- a comment ends with its own name
-    ∷ text_row (codes "@comment{@misc{k}}") (Comment ∷ Entry (codes "misc") (codes "k") ∷ End ∷ [])
+    ∷ text_row (codes "@comment{@misc{k}}") (Comment ∷ Entry (codes "misc") (codes "k") ∷ ItemEnd ∷ [])
     -- an `@` is a byte of names
-    ∷ text_row (codes "@@misc{k} @comment@misc{l}") (Entry (codes "@misc") (codes "k") ∷ End ∷ Entry (codes "comment@misc") (codes "l") ∷ End ∷ [])
+    ∷ text_row (codes "@@misc{k} @comment@misc{l}") (Entry (codes "@misc") (codes "k") ∷ ItemEnd ∷ Entry (codes "comment@misc") (codes "l") ∷ ItemEnd ∷ [])
     -- a `"` inside braces ends nothing
-    ∷ text_row (codes "@preamble{\"{\"}\"}") (Preamble (Quoted (codes "{\"}") ∷ []) ∷ End ∷ [])
+    ∷ text_row (codes "@preamble{\"{\"}\"}") (Preamble (Quoted (codes "{\"}") ∷ []) ∷ ItemEnd ∷ [])
     -- digits end at a letter
     ∷ text_row (codes "@misc{k,t=12ab}") (Entry (codes "misc") (codes "k") ∷ worked_field (codes "t") (Digits (codes "12") ∷ []) ∷ Wrong (NoComma Braces) ∷ [])
     -- a name is missing; none begins with a digit
@@ -85,12 +85,12 @@ texts =
     -- the file ends before a key, inside an entry, after a value, which is read whole, after a `#`, and inside a group
     ∷ text_row (codes "@misc{") (Wrong EndOfFile ∷ [])
     ∷ text_row (codes "@String{s = \"x\" # s}\n@misc{k")
-    (Definition (codes "s") (Quoted (codes "x") ∷ name (codes "s") (codes "}\n@misc{k") ∷ []) ∷ End ∷ Entry (codes "misc") (codes "k") ∷ Wrong EndOfFile ∷ [])
+    (Definition (codes "s") (Quoted (codes "x") ∷ name (codes "s") (codes "}\n@misc{k") ∷ []) ∷ ItemEnd ∷ Entry (codes "misc") (codes "k") ∷ Wrong EndOfFile ∷ [])
     ∷ text_row (codes "@misc{k,t={A}") (Entry (codes "misc") (codes "k") ∷ worked_field (codes "t") (Braced (codes "A") ∷ []) ∷ Wrong EndOfFile ∷ [])
     ∷ text_row (codes "@misc{k,t={A} #") (Entry (codes "misc") (codes "k") ∷ Wrong EndOfFile ∷ [])
     ∷ text_row (codes "@misc{k,t={A{b}") (Entry (codes "misc") (codes "k") ∷ Wrong EndOfFile ∷ [])
     -- a second entry of a key, whose case is ignored, is a fault after its key; nothing of it is read
-    ∷ text_row (codes "@misc{k,t={A}}\n@misc{K,t={B}}") (Entry (codes "misc") (codes "k") ∷ worked_field (codes "t") (Braced (codes "A") ∷ []) ∷ End
+    ∷ text_row (codes "@misc{k,t={A}}\n@misc{K,t={B}}") (Entry (codes "misc") (codes "k") ∷ worked_field (codes "t") (Braced (codes "A") ∷ []) ∷ ItemEnd
     ∷ Wrong Repeated ∷ [])
     ∷ []
 

@@ -5,7 +5,7 @@ use Rattle.btx_bib.specs.language.Grammar.Items as spec
 use Rattle.btx_bib.specs.refinement.Grammar.FieldViews.{field_view}
 use Rattle.btx_bib.specs.declared.grammar.commands.Expected.{Expected}
 use Rattle.btx_bib.specs.declared.grammar.events.Event.{Event}
-use Rattle.btx_bib.specs.declared.grammar.events.Event.TheVariants.{Comment, Preamble, Definition, Entry, Field, End, Wrong}
+use Rattle.btx_bib.specs.declared.grammar.events.Event.TheVariants.{Comment, Preamble, Definition, Entry, Field, ItemEnd, Wrong}
 use Rattle.btx_bib.specs.declared.grammar.events.Placed.{Placed}
 
 -- an event, without where its texts lie in memory
@@ -15,7 +15,7 @@ event_view (Preamble value) = spec.Preamble value
 event_view (Definition name value) = spec.Definition name.now value
 event_view (Entry kind key) = spec.Entry kind.now key.now
 event_view (Field field) = spec.FieldOf (field_view field)
-event_view End = spec.End
+event_view ItemEnd = spec.ItemEnd
 event_view (Wrong slip) = spec.Wrong slip
 
 abbrev pub head_view : Event × Expected → spec.Event × Expected

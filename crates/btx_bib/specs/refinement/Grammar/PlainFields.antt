@@ -14,7 +14,7 @@ use Rattle.btx_bib.specs.declared.grammar.commands.Expected.TheVariants.{Item, F
 use Rattle.btx_bib.specs.declared.grammar.value_ends.Ends.TheVariants.{Trimmed}
 use Rattle.btx_bib.specs.declared.grammar.commands.Expected.{Expected}
 use Rattle.btx_bib.specs.language.Grammar.Fields.{Field}
-use Rattle.btx_bib.specs.language.Grammar.Items.{Entry, End, FieldOf, Step, expected_step}
+use Rattle.btx_bib.specs.language.Grammar.Items.{Entry, ItemEnd, FieldOf, Step, expected_step}
 use Rattle.btx_bib.specs.refinement.Grammar.Squeezing.{stands}
 use Rattle.btx_bib.specs.language.Grammar.Values.{Part, Braced, Quoted, Digits, Named}
 use Rattle.btx_bib.specs.laws.Grammar.Fields.{more_at}
@@ -72,7 +72,7 @@ entry_step head = record { event = Entry head.kind.now head.key.now; wanted = Fi
 
 -- the end of an entry stands next, after which this text is left; or it doesn't, and the reader stays where it is
 abbrev pub IsLeft : Bool → Expected × List ℕ → Expected × List ℕ → Type 0
-IsLeft true old new = (expected_step old.0 old.1 ≡ Some (record { event = End; wanted = Item; rest = new.1 })) × (new.0 ≡ Item)
+IsLeft true old new = (expected_step old.0 old.1 ≡ Some (record { event = ItemEnd; wanted = Item; rest = new.1 })) × (new.0 ≡ Item)
 IsLeft false old new = new ≡ old
 
 -- a part that is a name has a value

@@ -1,6 +1,6 @@
 use Rattle.std.proofs.Common.{◌≡◌, ℕ, List, drop}
 use Rattle.std.specs.Option.{option_or}
-use Rattle.btx_c.specs.Handed.{known}
+use Rattle.btx_c.specs.CallerFiles.{known}
 use Rattle.btx_c.specs.Known.{said_in}
 use Rattle.btx_c.proofs.index.Index.new.Given as goal
 

@@ -1,4 +1,0 @@
-use Rattle.btx_command.proofs.handed.Handed.of.Given as goal
-
-abbrev pub ghost-and : goal.ghost-and
-ghost-and a = a.seen.now.now

@@ -1,0 +1,282 @@
+-- What the checker's calls cite.
+use Rattle.std.proofs.Common.{◌≡◌, ℕ, zero, suc, ◌+◌, ◌≤◌, ◌<◌, ◌⊎◌, inl, inr, Bool, true, false, ◌||◌, nat_eq, List, [], ◌∷◌, ◌++◌, length, Option, None, Some}
+use Rattle.std.proofs.Common.{take, drop, drop-cons, add-one, get_or, refl, arith, sym, ap, subst, ◌∙◌, true≢false}
+use Rattle.std.specs.Prelude.{slice_index_or, IfSome}
+use Rattle.std.proofs.lemmas.Bool.{eqb-true}
+use Rattle.std.proofs.lemmas.List.{take_all, take_more, get_or_past}
+use Rattle.btx_bst.specs.declared.built_in.BuiltIn.TheVariants as built_in
+use Rattle.btx_bst.specs.declared.callee.Callee.{Callee}
+use Rattle.btx_bst.specs.declared.callee.Callee.TheVariants as callee
+use Rattle.btx_bst.specs.declared.token.Token.{Token}
+use Rattle.btx_bst.specs.declared.item.Item.{Item as Written}
+use Rattle.btx_bst.specs.language.Items.{Item}
+use Rattle.btx_bst.specs.language.Style.{Style}
+use Rattle.btx_bst.specs.refinement.Views.{item_view, items_view}
+use Rattle.btx_ends.specs.Ends.{is_among}
+use Rattle.btx_ends.specs.declared.known.Known.{Known}
+use Rattle.btx_ends.specs.declared.known.Known.TheVariants as known
+use Rattle.btx_ends.specs.Certificates.{Claims, ItemWithin, ItemsWithin, CalleeWithin, DearerWithin, StepWithin, TokensWithin, BodyWithin, BodiesWithin, OwnWithin}
+use Rattle.btx_ends.specs.Certificates.{TestHolds, TestsHold, CountHolds, CountsHold, top_after, below_after}
+use Rattle.btx_ends.specs.Keeping.{TokensKeep, StepKeeps, BodiesKeep, said_by, quoted_after, quoted_below}
+
+-- what takes so many steps at most takes at most more
+pub callee_more : (claims : Claims) (less more : ℕ) (f : Callee) → CalleeWithin claims less f → less ≤ more → CalleeWithin claims more f
+callee_more claims less more (callee.BuiltIn built_in.If) h l = absurd h
+callee_more claims less more (callee.BuiltIn built_in.While) h l = absurd h
+callee_more claims less more (callee.BuiltIn built_in.Assign) h l = (h.0, (let e = h.1 in omega (arith, e, l)))
+callee_more claims less more (callee.BuiltIn built_in.CallType) h l = omega (arith, h, l)
+callee_more claims less more (callee.BuiltIn f) h l = omega (arith, h, l)
+callee_more claims less more (callee.User number) h l = (h.0, (let e = h.1 in omega (arith, e, l)))
+callee_more claims less more f h l = omega (arith, h, l)
+
+-- the dearer of two, and a step
+pub dearer : (claims : Claims) (first second most : ℕ) (f g : Callee) → CalleeWithin claims first f → CalleeWithin claims second g → first ≤ most
+    → second ≤ most → DearerWithin claims (most + 1) f g
+dearer claims first second most f g h k l m =
+    (most, (omega arith, (callee_more claims first most f h l, callee_more claims second most g k m)))
+
+-- after the first tokens of a body: whatever the rest of it takes, the whole takes `cost` more
+pub record Reached (claims : Claims) (body rest : List Token) (cost : ℕ) (top below : Known) : Type 0 where
+  pub reached : (others : ℕ) → TokensWithin claims top below rest others → TokensWithin claims known.Anything known.Anything body (cost + others)
+
+pub reached_init : (claims : Claims) (body : List Token) → Reached claims body body 0 known.Anything known.Anything
+reached_init claims body = record {
+  reached = λ others w. let e : others ≡ 0 + others = omega arith in subst (λ n. TokensWithin claims known.Anything known.Anything body n) e w;
+}
+
+pub reached_step : (claims : Claims) (body : List Token) (k : ℕ) (d : Token) (top below top' below' : Known) (cost step cost' : ℕ)
+    → k < length body → Reached claims body (drop k body) cost top below → StepWithin claims top below (get_or body k d) step
+    → top' ≡ top_after claims top below (get_or body k d) → below' ≡ below_after top (get_or body k d) → cost' ≡ cost + step
+    → Reached claims body (drop (k + 1) body) cost' top' below'
+reached_step claims body k d top below top' below' cost step cost' l h g et eb ec =
+    let e2 : drop k body ≡ get_or body k d ∷ drop (k + 1) body = rw add-one (drop-cons body k d l) in
+    let h2 = subst (λ (ts : List Token). Reached claims body ts cost top below) e2 h in
+    let at : Reached claims body (drop (k + 1) body) cost' (top_after claims top below (get_or body k d)) (below_after top (get_or body k d)) = record {
+      reached = λ others w.
+          let e : cost + (step + others) ≡ cost' + others = omega (arith, ec) in
+          subst (λ n. TokensWithin claims known.Anything known.Anything body n) e (h2.reached (step + others) (step, (others, (g, (omega arith, w)))));
+    } in
+    subst (λ (o : Known). Reached claims body (drop (k + 1) body) cost' o below') (sym et)
+    (subst (λ (o : Known). Reached claims body (drop (k + 1) body) cost' (top_after claims top below (get_or body k d)) o) (sym eb) at)
+
+pub reached_end : (claims : Claims) (body rest : List Token) (cost : ℕ) (top below : Known) → rest ≡ []
+    → Reached claims body rest cost top below → TokensWithin claims known.Anything known.Anything body cost
+reached_end claims body rest cost top below e h =
+    let h2 = subst (λ (ts : List Token). Reached claims body ts cost top below) e h in
+    let z : cost + 0 ≡ cost = omega arith in
+    subst (λ n. TokensWithin claims known.Anything known.Anything body n) z (h2.reached 0 tt)
+
+-- after the first tokens of a body that keeps a variable: if the rest of it keeps it, so does the whole
+pub record KeptSoFar (keeps : ℕ → Bool) (v : ℕ) (body rest : List Token) (top below : Option Callee) : Type 0 where
+  pub so_far : TokensKeep keeps v top below rest → TokensKeep keeps v None None body
+
+pub kept_init : (keeps : ℕ → Bool) (v : ℕ) (body : List Token) → KeptSoFar keeps v body body None None
+kept_init keeps v body = record { so_far = λ w. w }
+
+pub kept_step : (keeps : ℕ → Bool) (v : ℕ) (body : List Token) (k : ℕ) (d : Token) (top below top' below' : Option Callee) → k < length body
+    → KeptSoFar keeps v body (drop k body) top below → StepKeeps keeps v top below (get_or body k d) → top' ≡ quoted_after (get_or body k d)
+    → below' ≡ quoted_below top (get_or body k d) → KeptSoFar keeps v body (drop (k + 1) body) top' below'
+kept_step keeps v body k d top below top' below' l h g et eb =
+    let e2 : drop k body ≡ get_or body k d ∷ drop (k + 1) body = rw add-one (drop-cons body k d l) in
+    let h2 = subst (λ (ts : List Token). KeptSoFar keeps v body ts top below) e2 h in
+    let at : KeptSoFar keeps v body (drop (k + 1) body) (quoted_after (get_or body k d)) (quoted_below top (get_or body k d)) =
+    record { so_far = λ w. h2.so_far (g, w) } in
+    subst (λ (o : Option Callee). KeptSoFar keeps v body (drop (k + 1) body) o below') (sym et)
+    (subst (λ (o : Option Callee). KeptSoFar keeps v body (drop (k + 1) body) (quoted_after (get_or body k d)) o) (sym eb) at)
+
+pub kept_end : (keeps : ℕ → Bool) (v : ℕ) (body rest : List Token) (top below : Option Callee) → rest ≡ [] → KeptSoFar keeps v body rest top below
+    → TokensKeep keeps v None None body
+kept_end keeps v body rest top below e h = (subst (λ (ts : List Token). KeptSoFar keeps v body ts top below) e h).so_far tt
+
+-- ---- items
+
+-- after the first items of a style: whatever the rest of them takes, all of them take `once` and `each` more
+pub record ItemsReached (claims : Claims) (items rest : List Item) (once each : ℕ) : Type 0 where
+  pub reached : (o e : ℕ) → ItemsWithin claims rest o e → ItemsWithin claims items (once + o) (each + e)
+
+pub items_init : (claims : Claims) (items : List Item) → ItemsReached claims items items 0 0
+items_init claims items = record {
+  reached = λ o e w.
+      let p : o ≡ 0 + o = omega arith in
+      let q : e ≡ 0 + e = omega arith in
+      subst (λ n. ItemsWithin claims items n (0 + e)) p (subst (λ n. ItemsWithin claims items o n) q w);
+}
+
+pub items_step : (claims : Claims) (items : List Written) (k : ℕ) (d : Written) (once each o e once' each' : ℕ) → k < length items
+    → ItemsReached claims (items_view items) (items_view (drop k items)) once each → ItemWithin claims (item_view (get_or items k d)) o e
+    → once' ≡ once + o → each' ≡ each + e → ItemsReached claims (items_view items) (items_view (drop (k + 1) items)) once' each'
+items_step claims items k d once each o e once' each' l h w eo ee =
+    let split : drop k items ≡ get_or items k d ∷ drop (k + 1) items = rw add-one (drop-cons items k d l) in
+    let h2 = subst (λ (ys : List Item). ItemsReached claims (items_view items) ys once each) (ap items_view split) h in
+    record {
+      reached = λ m n v.
+          let p : once + (o + m) ≡ once' + m = omega (arith, eo) in
+          let q : each + (e + n) ≡ each' + n = omega (arith, ee) in
+          subst (λ a. ItemsWithin claims (items_view items) a (each' + n)) p
+          (subst (λ a. ItemsWithin claims (items_view items) (once + (o + m)) a) q
+          (h2.reached (o + m) (e + n) (o, (e, (m, (n, (w, (omega arith, (omega arith, v)))))))));
+    }
+
+pub items_end : (claims : Claims) (items rest : List Item) (once each : ℕ) → rest ≡ [] → ItemsReached claims items rest once each
+    → ItemsWithin claims items once each
+items_end claims items rest once each e h =
+    let h2 = subst (λ (ys : List Item). ItemsReached claims items ys once each) e h in
+    let p : once + 0 ≡ once = omega arith in
+    let q : each + 0 ≡ each = omega arith in
+    subst (λ n. ItemsWithin claims items n each) p (subst (λ n. ItemsWithin claims items (once + 0) n) q (h2.reached 0 0 tt))
+
+-- ---- claims
+
+tokens_more : (claims : Claims) (top below : Known) (xs : List Token) (less more : ℕ) → TokensWithin claims top below xs less → less ≤ more
+    → TokensWithin claims top below xs more
+tokens_more claims top below [] less more w l = tt
+tokens_more claims top below (x ∷ xs) less more w l = (w.0, (w.1.0, (w.1.1.0, (let e = w.1.1.1.0 in omega (arith, e, l), w.1.1.1.1))))
+
+pub claim_holds : (claims : Claims) (body : List Token) (cost claim : ℕ) → TokensWithin claims known.Anything known.Anything body cost → cost < claim
+    → BodyWithin claims body claim
+claim_holds claims body cost zero w l = tt
+claim_holds claims body cost (suc claim) w l = tokens_more claims known.Anything known.Anything body cost claim w (omega (arith, l))
+
+before_or_at : (k n : ℕ) → k < n + 1 → (k < n) ⊎ (k ≡ n)
+before_or_at zero zero l = inr refl
+before_or_at zero (suc n) l = inl (omega arith)
+before_or_at (suc k) zero l = absurd (omega (arith, l))
+before_or_at (suc k) (suc n) l =
+    elim (before_or_at k n (omega (arith, l))) [ inl m ↦ inl (omega (arith, m)) | inr e ↦ inr (ap suc e) ]
+
+before_or_past : (k n : ℕ) → (k < n) ⊎ (n ≤ k)
+before_or_past k zero = inr (omega arith)
+before_or_past zero (suc n) = inl (omega arith)
+before_or_past (suc k) (suc n) = elim (before_or_past k n) [ inl m ↦ inl (omega (arith, m)) | inr m ↦ inr (omega (arith, m)) ]
+
+-- something holds of the first functions
+abbrev pub FirstHold : (ℕ → Type 0) → ℕ → Type 0
+FirstHold P n = (k : ℕ) → k < n → P k
+
+first_more : (P : ℕ → Type 0) (n : ℕ) → FirstHold P n → P n → FirstHold P (n + 1)
+first_more P n h w k l = by (before_or_at k n l)
+  where
+    by : (k < n) ⊎ (k ≡ n) → P k
+    by (inl m) = h k m
+    by (inr e) = subst P (sym e) w
+
+all_hold : (P : ℕ → Type 0) (n : ℕ) → FirstHold P n → ((k : ℕ) → n ≤ k → P k) → (k : ℕ) → P k
+all_hold P n h past k = by (before_or_past k n)
+  where
+    by : (k < n) ⊎ (n ≤ k) → P k
+    by (inl m) = h k m
+    by (inr m) = past k m
+
+-- .. the claims on costs
+abbrev pub CostHolds : Claims → Style → ℕ → Type 0
+CostHolds claims style k = BodyWithin claims (slice_index_or style.bodies k []) (slice_index_or claims.costs k 0)
+
+pub costs_more : (claims : Claims) (style : Style) (n : ℕ) (body : List Token) (claim : ℕ) → FirstHold (CostHolds claims style) n
+    → body ≡ slice_index_or style.bodies n [] → claim ≡ slice_index_or claims.costs n 0 → BodyWithin claims body claim
+    → FirstHold (CostHolds claims style) (n + 1)
+costs_more claims style n body claim h eb ec w =
+    first_more (CostHolds claims style) n h (subst (λ (xs : List Token). BodyWithin claims xs (slice_index_or claims.costs n 0)) eb (subst (BodyWithin claims body) ec w))
+
+pub costs_all : (claims : Claims) (style : Style) (n : ℕ) → length claims.costs ≤ n → FirstHold (CostHolds claims style) n → BodiesWithin claims style
+costs_all claims style n l h =
+    all_hold (CostHolds claims style) n h
+    (λ k m. subst (BodyWithin claims (slice_index_or style.bodies k [])) (sym (get_or_past claims.costs k 0 (omega (arith, l, m)))) tt)
+
+-- .. the claims on tests
+abbrev pub TestAt : List ℕ → Style → ℕ → Type 0
+TestAt tests style k = TestHolds (slice_index_or tests k 0) (slice_index_or style.bodies k [])
+
+pub tests_more : (tests : List ℕ) (style : Style) (n : ℕ) (body : List Token) (claim : ℕ) → FirstHold (TestAt tests style) n
+    → body ≡ slice_index_or style.bodies n [] → claim ≡ slice_index_or tests n 0 → TestHolds claim body → FirstHold (TestAt tests style) (n + 1)
+tests_more tests style n body claim h eb ec w =
+    first_more (TestAt tests style) n h (subst (λ (xs : List Token). TestHolds (slice_index_or tests n 0) xs) eb (subst (λ c. TestHolds c body) ec w))
+
+pub tests_all : (tests : List ℕ) (style : Style) (n : ℕ) → length tests ≤ n → FirstHold (TestAt tests style) n → TestsHold tests style
+tests_all tests style n l h =
+    all_hold (TestAt tests style) n h
+    (λ k m. subst (λ c. TestHolds c (slice_index_or style.bodies k [])) (sym (get_or_past tests k 0 (omega (arith, l, m)))) tt)
+
+-- .. the claims on counting down
+abbrev pub CountAt : List ℕ → Style → ℕ → Type 0
+CountAt counts style k = CountHolds style (slice_index_or counts k 0) (slice_index_or style.bodies k [])
+
+pub counts_more : (counts : List ℕ) (style : Style) (n : ℕ) (body : List Token) (claim : ℕ) → FirstHold (CountAt counts style) n
+    → body ≡ slice_index_or style.bodies n [] → claim ≡ slice_index_or counts n 0 → CountHolds style claim body → FirstHold (CountAt counts style) (n + 1)
+counts_more counts style n body claim h eb ec w =
+    first_more (CountAt counts style) n h
+    (subst (λ (xs : List Token). CountHolds style (slice_index_or counts n 0) xs) eb (subst (λ c. CountHolds style c body) ec w))
+
+pub counts_all : (counts : List ℕ) (style : Style) (n : ℕ) → length counts ≤ n → FirstHold (CountAt counts style) n → CountsHold counts style
+counts_all counts style n l h =
+    all_hold (CountAt counts style) n h
+    (λ k m. subst (λ c. CountHolds style c (slice_index_or style.bodies k [])) (sym (get_or_past counts k 0 (omega (arith, l, m)))) tt)
+
+-- .. what is said of functions that keep a variable
+abbrev pub KeepsAt : List Bool → ℕ → Style → ℕ → Type 0
+KeepsAt keeps v style k = slice_index_or keeps k false ≡ true → TokensKeep (said_by keeps) v None None (slice_index_or style.bodies k [])
+
+pub keeps_more : (keeps : List Bool) (v : ℕ) (style : Style) (n : ℕ) → FirstHold (KeepsAt keeps v style) n → KeepsAt keeps v style n
+    → FirstHold (KeepsAt keeps v style) (n + 1)
+keeps_more keeps v style n h w = first_more (KeepsAt keeps v style) n h w
+
+pub keeps_all : (keeps : List Bool) (v : ℕ) (style : Style) (n : ℕ) → length keeps ≤ n → FirstHold (KeepsAt keeps v style) n → BodiesKeep (said_by keeps) v style
+keeps_all keeps v style n l h =
+    all_hold (KeepsAt keeps v style) n h
+    (λ k m e. absurd (let q : slice_index_or keeps k false ≡ false = get_or_past keeps k false (omega (arith, l, m)) in true≢false (sym e ∙ q)))
+
+-- ---- lists of known length
+
+pub three : (xs : List Token) (d a b c : Token) → length xs ≡ 3 → get_or xs 0 d ≡ a → get_or xs 1 d ≡ b → get_or xs 2 d ≡ c → xs ≡ a ∷ b ∷ c ∷ []
+three (x ∷ y ∷ z ∷ []) d a b c l ea eb ec =
+    ap (λ (t : Token). t ∷ y ∷ z ∷ []) ea ∙ ap (λ (t : Token). a ∷ t ∷ z ∷ []) eb ∙ ap (λ (t : Token). a ∷ b ∷ t ∷ []) ec
+three [] d a b c l ea eb ec = absurd (omega (arith, l))
+three (x ∷ []) d a b c l ea eb ec = absurd (omega (arith, l))
+three (x ∷ y ∷ []) d a b c l ea eb ec = absurd (omega (arith, l))
+three (x ∷ y ∷ z ∷ t ∷ xs) d a b c l ea eb ec = absurd (omega (arith, l))
+
+pub five : (xs : List Token) (d a b c e f : Token) → length xs ≡ 5 → get_or xs 0 d ≡ a → get_or xs 1 d ≡ b → get_or xs 2 d ≡ c → get_or xs 3 d ≡ e
+    → get_or xs 4 d ≡ f → xs ≡ a ∷ b ∷ c ∷ e ∷ f ∷ []
+five (x ∷ y ∷ xs) d a b c e f l ea eb ec ee ef =
+    ap (λ (t : Token). t ∷ y ∷ xs) ea ∙ ap (λ (t : Token). a ∷ t ∷ xs) eb
+    ∙ ap (λ (ts : List Token). a ∷ b ∷ ts) (three xs d c e f (omega (arith, l)) ec ee ef)
+five [] d a b c e f l ea eb ec ee ef = absurd (omega (arith, l))
+five (x ∷ []) d a b c e f l ea eb ec ee ef = absurd (omega (arith, l))
+
+-- ---- types
+
+among_cases : (b c : Bool) → (b || c) ≡ true → (b ≡ true) ⊎ (c ≡ true)
+among_cases true c e = inl refl
+among_cases false c e = inr e
+
+among_pick : (b c d : Bool) (P : Type 0) → (b || c) ≡ true → (c ≡ true → (d ≡ true) ⊎ P) → ((b || d) ≡ true) ⊎ P
+among_pick true c d P e h = inl refl
+among_pick false c d P e h = h e
+
+among_last : (xs : List ℕ) (x n : ℕ) → is_among (xs ++ x ∷ []) n ≡ true → (is_among xs n ≡ true) ⊎ (x ≡ n)
+among_last [] x n e = elim (among_cases (nat_eq x n) false e) [ inl h ↦ inr (eqb-true x n h) | inr h ↦ absurd (cc) ]
+among_last (y ∷ xs) x n e = among_pick (nat_eq y n) (is_among (xs ++ x ∷ []) n) (is_among xs n) (x ≡ n) e (λ h. among_last xs x n h)
+
+pub own_none : (claims : Claims) → OwnWithin claims []
+own_none claims number e = absurd (cc)
+
+own_last : (claims : Claims) (xs : List ℕ) (x : ℕ) → OwnWithin claims xs → CalleeWithin claims claims.types (callee.User x)
+    → OwnWithin claims (xs ++ x ∷ [])
+own_last claims xs x h w number e =
+    elim (among_last xs x number e) [ inl q ↦ h number q | inr q ↦ subst (λ n. CalleeWithin claims claims.types (callee.User n)) q w ]
+
+pub own_more : (claims : Claims) (xs : List ℕ) (k d : ℕ) → k < length xs → OwnWithin claims (take k xs)
+    → CalleeWithin claims claims.types (callee.User (get_or xs k d)) → OwnWithin claims (take (k + 1) xs)
+own_more claims xs k d l h w =
+    subst (λ (ns : List ℕ). OwnWithin claims ns) (sym (take_more xs k d l)) (own_last claims (take k xs) (get_or xs k d) h w)
+
+pub own_end : (claims : Claims) (xs : List ℕ) (k : ℕ) → length xs ≤ k → OwnWithin claims (take k xs) → OwnWithin claims xs
+own_end claims xs k l h = subst (λ (ns : List ℕ). OwnWithin claims ns) (take_all k xs l) h
+
+-- a claim that isn't 0
+pub some_claim : (claim : ℕ) → (claim ≡ 0 → ⊥) → 0 < claim
+some_claim zero h = absurd (h refl)
+some_claim (suc n) h = omega arith
+
+pub some_map : {X : Type 0} (o : Option X) (P Q : X → Type 0) → ((x : X) → P x → Q x) → IfSome o P → IfSome o Q
+some_map (Some x) P Q f h = f x h
+some_map None P Q f h = h

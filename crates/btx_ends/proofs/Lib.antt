@@ -1,0 +1,10 @@
+pub mod EndLemmas
+pub mod QuietLemmas
+pub mod TopLemmas
+pub mod CounterLemmas
+pub mod KeepLemmas
+pub mod LowerLemmas
+pub mod FineLemmas
+pub mod RunLemmas
+pub mod StyleLemmas
+pub mod CodeLemmas

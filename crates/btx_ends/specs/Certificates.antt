@@ -1,0 +1,207 @@
+-- What the checker sees to. A certificate claims for each function of a style how many steps a call of it takes at most; 0 claims nothing. Each claim is checked
+-- by the function's own body and the claims of what it calls. A call takes a step itself, so a function that calls itself, or one that calls it, bears no claim out.
+-- For loops it claims how great a global integer variable can be, which functions are the test of a loop that counts it down, and which are its body.
+use Rattle.std.specs.Prelude.{◌≡◌, ℕ, zero, suc, ◌+◌, ◌-◌, ◌*◌, ◌≤◌, ◌<◌, pos, negsuc, List, [], ◌∷◌, length, Bool, Some, true, codes, slice_index_or}
+use Rattle.btx_bst.specs.declared.built_in.BuiltIn.{BuiltIn}
+use Rattle.btx_bst.specs.declared.built_in.BuiltIn.TheVariants as built_in
+use Rattle.btx_bst.specs.declared.callee.Callee.{Callee}
+use Rattle.btx_bst.specs.declared.callee.Callee.TheVariants as callee
+use Rattle.btx_bst.specs.declared.token.Token.{Token}
+use Rattle.btx_bst.specs.declared.token.Token.TheVariants as token
+use Rattle.btx_bst.specs.declared.token.Token.TheVariants.{Quote, Run}
+use Rattle.btx_bst.specs.language.Items.{Item}
+use Rattle.btx_bst.specs.language.Items as item
+use Rattle.btx_bst.specs.language.Style.{Style, type_of}
+use Rattle.btx_ends.specs.declared.known.Known.{Known}
+use Rattle.btx_ends.specs.declared.known.Known.TheVariants as known
+use Rattle.btx_ends.specs.Counters.{above_zero_test}
+use Rattle.btx_ends.specs.Ends.{is_among, StyleEnds}
+use Rattle.btx_ends.specs.Keeping.{BodiesKeep, BodyCounts}
+
+-- what a certificate claims of a style
+pub record Claims : Type 0 where
+  -- of each function, by its number, the most steps that a call of it takes; 0 claims nothing
+  pub costs : List ℕ
+  -- the most steps that the function takes which `call.type$` calls
+  pub types : ℕ
+  -- of each global integer variable, by its number, one more than its greatest value; 0 claims nothing
+  pub bounds : List ℕ
+  -- of each function, by its number, one more than the number of the global integer variable v of which it is the test `{v #0 >}`; 0 claims nothing
+  pub tests : List ℕ
+  -- of each function, by its number, one more than the number of the global integer variable that it counts down; 0 claims nothing
+  pub counts : List ℕ
+  -- how many bytes a global string variable keeps at most
+  pub kept : ℕ
+
+-- ---- what is known of the literals on top of the stack
+
+-- .. of the value of a global integer variable, by the claim on it
+abbrev pub known_value : ℕ → Known
+known_value zero = known.Anything
+known_value (suc most) = known.AtMost most
+
+-- .. of a difference: an integer that isn't below 0 is taken from one that is at most so great
+abbrev pub known_difference : Known → Known → Known
+known_difference (known.Integer (pos n)) (known.AtMost most) = known.AtMost most
+known_difference _ _ = known.Anything
+
+-- .. of the number of names of a string that a variable keeps
+abbrev pub known_names : ℕ → Known → Known
+known_names kept known.Kept = known.AtMost (suc kept)
+known_names kept _ = known.Anything
+
+-- .. of what a built-in function pushes
+abbrev pub known_result : Claims → Known → Known → BuiltIn → Known
+known_result claims top below built_in.Minus = known_difference top below
+known_result claims top below built_in.NumNames = known_names claims.kept top
+known_result claims top below _ = known.Anything
+
+-- .. of what stands on top after a token, from what is known of the two literals before it
+abbrev pub top_after : Claims → Known → Known → Token → Known
+top_after claims top below (Quote f) = known.Function f
+top_after claims top below (token.Integer n) = known.Integer n
+top_after claims top below (Run (callee.GlobalInteger v)) = known_value (slice_index_or claims.bounds v 0)
+top_after claims top below (Run (callee.GlobalString i)) = known.Kept
+top_after claims top below (Run (callee.BuiltIn f)) = known_result claims top below f
+top_after claims top below _ = known.Anything
+
+-- .. and of what stands below that: after a literal or a variable is pushed, what stood on top
+abbrev pub below_after : Known → Token → Known
+below_after top (Quote f) = top
+below_after top (token.Integer n) = top
+below_after top (Run (callee.GlobalInteger v)) = top
+below_after top (Run (callee.GlobalString i)) = top
+below_after top _ = known.Anything
+
+-- ---- steps
+
+-- what is executed under a name takes at most `most` steps, by the claims on the style's functions, and where `call.type$` calls none that takes more than is
+-- claimed. A function of the style takes what is claimed of it; an `if$` or a `while$` isn't judged by its name alone, and an `:=` only where nothing is claimed of
+-- variables; all else takes a step
+abbrev pub CalleeWithin : Claims → ℕ → Callee → Type 0
+CalleeWithin claims most (callee.BuiltIn built_in.If) = ⊥
+CalleeWithin claims most (callee.BuiltIn built_in.While) = ⊥
+CalleeWithin claims most (callee.BuiltIn built_in.Assign) = (length claims.bounds ≡ 0) × (1 ≤ most)
+CalleeWithin claims most (callee.BuiltIn built_in.CallType) = claims.types < most
+CalleeWithin claims most (callee.User number) = (0 < slice_index_or claims.costs number 0) × (slice_index_or claims.costs number 0 ≤ most)
+CalleeWithin claims most _ = 1 ≤ most
+
+-- an `if$` over two functions takes at most `most` steps: its own step, and what the dearer one takes
+abbrev pub DearerWithin : Claims → ℕ → Callee → Callee → Type 0
+DearerWithin claims most top below = (cost : ℕ) × ((cost < most) × (CalleeWithin claims cost top × CalleeWithin claims cost below))
+
+-- .. where the two are known to stand on top of the stack
+abbrev pub ChoiceWithin : Claims → ℕ → Known → Known → Type 0
+ChoiceWithin claims most (known.Function top) (known.Function below) = DearerWithin claims most top below
+ChoiceWithin claims most _ _ = ⊥
+
+-- a loop that counts a variable down takes at most `most` steps: its own step, and for each turn, of which there is one more than the variable's greatest value, 4
+-- steps of the test and those of the body
+abbrev pub CountedWithin : Claims → ℕ → ℕ → ℕ → Type 0
+CountedWithin claims most body test =
+    let counted = slice_index_or claims.tests test 0 in
+    let turns = slice_index_or claims.bounds (counted - 1) 0 in
+    let cost = slice_index_or claims.costs body 0 in
+    (0 < counted) × ((slice_index_or claims.counts body 0 ≡ counted) × ((0 < turns) × ((0 < cost) × (turns * (4 + cost) < most))))
+
+-- .. where its body and its test are known to stand on top of the stack
+abbrev pub LoopWithin : Claims → ℕ → Known → Known → Type 0
+LoopWithin claims most (known.Function (callee.User body)) (known.Function (callee.User test)) = CountedWithin claims most body test
+LoopWithin claims most _ _ = ⊥
+
+-- a value that is assigned is no greater than is claimed of the variable
+abbrev pub ValueWithin : ℕ → Known → Type 0
+ValueWithin zero value = Unit {0}
+ValueWithin (suc most) (known.AtMost n) = n ≤ most
+ValueWithin (suc most) (known.Integer (pos n)) = n ≤ most
+ValueWithin (suc most) (known.Integer (negsuc n)) = Unit {0}
+ValueWithin (suc most) _ = ⊥
+
+-- what `:=` assigns keeps the claims on variables: the variable is known, and so is its value if something is claimed of it; or nothing is claimed of any
+abbrev pub AssignsWithin : Claims → Known → Known → Type 0
+AssignsWithin claims (known.Function (callee.GlobalInteger v)) value = ValueWithin (slice_index_or claims.bounds v 0) value
+AssignsWithin claims (known.Function f) value = Unit {0}
+AssignsWithin claims _ value = length claims.bounds ≡ 0
+
+-- a token takes at most `most` steps, where this is known of the literal on top of the stack and of the one below it
+abbrev pub StepWithin : Claims → Known → Known → Token → ℕ → Type 0
+StepWithin claims top below (Run (callee.BuiltIn built_in.If)) most = ChoiceWithin claims most top below
+StepWithin claims top below (Run (callee.BuiltIn built_in.While)) most = LoopWithin claims most top below
+StepWithin claims top below (Run (callee.BuiltIn built_in.Assign)) most = AssignsWithin claims top below × (1 ≤ most)
+StepWithin claims top below (Run f) most = CalleeWithin claims most f
+StepWithin claims top below _ most = 1 ≤ most
+
+-- tokens one after another take at most `most` steps
+abbrev pub TokensWithin : Claims → Known → Known → List Token → ℕ → Type 0
+TokensWithin claims top below [] most = Unit {0}
+TokensWithin claims top below (x ∷ rest) most =
+    (first : ℕ) × ((others : ℕ) × (StepWithin claims top below x first
+    × ((first + others ≤ most) × TokensWithin claims (top_after claims top below x) (below_after top x) rest others)))
+
+-- a claim on a function holds of its body: a call takes a step, and then the body's
+abbrev pub BodyWithin : Claims → List Token → ℕ → Type 0
+BodyWithin claims body zero = Unit {0}
+BodyWithin claims body (suc most) = TokensWithin claims known.Anything known.Anything body most
+
+-- an item of a style takes at most `once` steps, and `each` more for each entry: only EXECUTE, ITERATE and REVERSE take steps
+abbrev pub ItemWithin : Claims → Item → ℕ → ℕ → Type 0
+ItemWithin claims (item.Execute f) once each = CalleeWithin claims once f
+ItemWithin claims (item.Iterate f) once each = CalleeWithin claims each f
+ItemWithin claims (item.Reverse f) once each = CalleeWithin claims each f
+ItemWithin claims _ once each = Unit {0}
+
+-- items one after another take at most `once` steps, and `each` more for each entry: what the first takes, and what the others take
+abbrev pub ItemsWithin : Claims → List Item → ℕ → ℕ → Type 0
+ItemsWithin claims [] once each = Unit {0}
+ItemsWithin claims (x ∷ rest) once each =
+    (first_once : ℕ) × ((first_each : ℕ) × ((others_once : ℕ) × ((others_each : ℕ) × (ItemWithin claims x first_once first_each
+    × ((first_once + others_once ≤ once) × ((first_each + others_each ≤ each) × ItemsWithin claims rest others_once others_each))))))
+
+-- ---- the claims on a style
+
+-- all claims on costs hold of the style's bodies
+abbrev pub BodiesWithin : Claims → Style → Type 0
+BodiesWithin claims style = (number : ℕ) → BodyWithin claims (slice_index_or style.bodies number []) (slice_index_or claims.costs number 0)
+
+-- no function of an allowed type takes more than is claimed of all of these
+abbrev pub OwnWithin : Claims → List ℕ → Type 0
+OwnWithin claims allowed = (number : ℕ) → is_among allowed number ≡ true → CalleeWithin claims claims.types (callee.User number)
+
+-- nor does `default.type`
+abbrev pub DefaultWithin : Claims → Style → Type 0
+DefaultWithin claims style = (number : ℕ) → type_of style (codes "default.type") ≡ Some number → CalleeWithin claims claims.types (callee.User number)
+
+-- a function is the test that it is claimed to be
+abbrev pub TestHolds : ℕ → List Token → Type 0
+TestHolds zero body = Unit {0}
+TestHolds (suc v) body = body ≡ above_zero_test v
+
+-- all claims on tests hold of the style's bodies
+abbrev pub TestsHold : List ℕ → Style → Type 0
+TestsHold tests style = (number : ℕ) → TestHolds (slice_index_or tests number 0) (slice_index_or style.bodies number [])
+
+-- a function counts the variable down that it is claimed to count down: it ends in `v #1 - 'v :=`, after tokens that keep v
+abbrev pub CountHolds : Style → ℕ → List Token → Type 0
+CountHolds style zero body = Unit {0}
+CountHolds style (suc v) body = (keeps : ℕ → Bool) × (BodyCounts keeps v body × BodiesKeep keeps v style)
+
+-- all claims on counting down hold of the style's bodies
+abbrev pub CountsHold : List ℕ → Style → Type 0
+CountsHold counts style = (number : ℕ) → CountHolds style (slice_index_or counts number 0) (slice_index_or style.bodies number [])
+
+-- nothing is claimed of `entry.max$` and `global.max$`, which don't begin with 0
+abbrev pub FirstUnclaimed : List ℕ → Type 0
+FirstUnclaimed bounds = (slice_index_or bounds 0 0 ≡ 0) × (slice_index_or bounds 1 0 ≡ 0)
+
+-- all claims on the costs of functions hold
+abbrev pub FunctionsWithin : Claims → List ℕ → Style → Type 0
+FunctionsWithin claims allowed style = BodiesWithin claims style × (OwnWithin claims allowed × DefaultWithin claims style)
+
+-- all claims on loops and variables hold
+abbrev pub LoopsHold : Claims → Style → Type 0
+LoopsHold claims style = TestsHold claims.tests style × (CountsHold claims.counts style × FirstUnclaimed claims.bounds)
+
+-- THE LAW: a style of which a certificate's claims hold ends
+abbrev pub ClaimsEnd : Type 0
+ClaimsEnd = (style : Style) (allowed : List ℕ) (claims : Claims) (once each : ℕ) → FunctionsWithin claims allowed style → LoopsHold claims style
+    → ItemsWithin claims style.items once each → StyleEnds style allowed claims.kept once each

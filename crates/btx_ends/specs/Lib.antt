@@ -1,0 +1,6 @@
+pub mod Ends
+pub mod Costs
+pub mod Counters
+pub mod Keeping
+pub mod Certificates
+pub mod Views

@@ -1,0 +1,13 @@
+-- The claims that the checker's calls take, as lists.
+use Rattle.btx_ends.specs.declared.claims.Claims.{Claims as Given}
+use Rattle.btx_ends.specs.Certificates.{Claims}
+
+abbrev pub claims_of : Given → Claims
+claims_of given = record {
+  costs = given.costs.now;
+  types = given.types;
+  bounds = given.bounds.now;
+  tests = given.tests.now;
+  counts = given.counts.now;
+  kept = given.kept;
+}

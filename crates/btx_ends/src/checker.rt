@@ -1,0 +1,239 @@
+//! The checker of certificates.
+ghost use Rattle.std.specs.Prelude.{◌≡◌, IsTrue, true, IfSome, IfOk};
+ghost use Rattle.btx_bst.specs.declared.callee.Callee.TheVariants as callee;
+ghost use Rattle.btx_ends.specs.Certificates as within;
+ghost use Rattle.btx_ends.specs.Ends.{StyleEnds};
+ghost use Rattle.btx_ends.specs.Views.{claims_of};
+
+use crate::claims::{Claims, claim_of};
+use crate::costs::{Bound, body_cost, items_cost};
+use crate::keeping::{functions_keep, is_counting, is_test};
+use crate::search::proposed;
+use btx_bst::{Style, Token};
+use std::alloc::{AllocError, Global};
+
+/// What is claimed of a style, and what bears the claims on loops out.
+#[derive(Drop)]
+pub struct Certificate {
+    /// Of each function, by its number, the most steps that a call of it takes; 0 claims nothing.
+    pub costs: Vec<u64>,
+    /// The most steps that the function takes which `call.type$` calls.
+    pub types: u64,
+    /// Of each global integer variable, by its number, one more than its greatest value; 0 claims nothing.
+    pub bounds: Vec<u64>,
+    /// Of each function, by its number, one more than the number of the variable v of which it is the test `{v #0 >}`; 0 claims nothing.
+    pub tests: Vec<u32>,
+    /// Of each function, by its number, one more than the number of the variable that it counts down; 0 claims nothing.
+    pub counts: Vec<u32>,
+    /// Of each global integer variable, by its number, which functions keep it, by their numbers. It may be empty where no function is said to count it down.
+    pub keeps: Vec<Vec<bool>>,
+    /// How many bytes a global string variable keeps at most.
+    pub kept: u32,
+}
+
+impl Certificate {
+    /// The claims, with these on costs in place of its own.
+    pub(crate) fn claims<'c>(&'c self, costs: &'c [u64]) -> Claims<'c>
+        ensures { (claims_of result).kept ≡ self.now.kept }
+    {
+        Claims {
+            costs,
+            types: self.types,
+            bounds: self.bounds.as_slice(),
+            tests: self.tests.as_slice(),
+            counts: self.counts.as_slice(),
+            kept: self.kept,
+        }
+    }
+}
+
+// Answers whether a claim holds of a function's body: a call takes a step, and then those of the body.
+fn holds(claims: Claims<'_>, body: &[Token], claim: u64) -> bool
+    ensures { IsTrue result → within.BodyWithin (claims_of claims.entry) body.now claim }
+{
+    if claim == 0 {
+        return true;
+    }
+    match body_cost(claims, body) {
+        None => false,
+        Some(cost) => cost < claim,
+    }
+}
+
+// Answers whether all claims on costs hold of the style's bodies.
+fn bodies_hold(style: &Style, claims: Claims<'_>) -> bool
+    ensures { IsTrue result → within.BodiesWithin (claims_of claims.entry) style.now }
+{
+    if claims.costs.len() > style.functions() {
+        return false;
+    }
+    for number in 0..claims.costs.len() {
+        if !holds(claims, style.body(number), claims.costs[number]) {
+            return false;
+        }
+    }
+    true
+}
+
+// Answers whether a function that `call.type$` may call takes no more than is claimed of all of these.
+fn type_holds(claims: Claims<'_>, number: u32) -> bool
+    ensures { IsTrue result → within.CalleeWithin (claims_of claims.entry) claims.entry.types (callee.User number) }
+{
+    let claim = claim_of(claims.costs, number as usize);
+    claim != 0 && claim <= claims.types
+}
+
+// Answers whether that is so of the allowed types.
+fn allowed_hold(claims: Claims<'_>, allowed: &[u32]) -> bool
+    ensures { IsTrue result → within.OwnWithin (claims_of claims.entry) allowed.now }
+{
+    for number in allowed {
+        if !type_holds(claims, *number) {
+            return false;
+        }
+    }
+    true
+}
+
+// Answers whether that is so of `default.type`, if the style has it.
+fn default_holds(style: &Style, claims: Claims<'_>) -> bool
+    ensures { IsTrue result → within.DefaultWithin (claims_of claims.entry) style.now }
+{
+    match style.type_function(b"default.type") {
+        None => true,
+        Some(number) => type_holds(claims, number),
+    }
+}
+
+// Answers whether a body is the test that it is claimed to be.
+fn test_holds(claim: u32, body: &[Token]) -> bool
+    ensures { IsTrue result → within.TestHolds claim body.now }
+{
+    if claim == 0 {
+        return true;
+    }
+    is_test(claim - 1, body)
+}
+
+// Answers whether that is so of all functions.
+fn tests_hold(style: &Style, tests: &[u32]) -> bool
+    ensures { IsTrue result → within.TestsHold tests.now style.now }
+{
+    if tests.len() > style.functions() {
+        return false;
+    }
+    for number in 0..tests.len() {
+        if !test_holds(tests[number], style.body(number)) {
+            return false;
+        }
+    }
+    true
+}
+
+// Answers whether a body counts the variable down that it is claimed to count down, by what is said of the functions that keep each variable.
+fn count_holds(style: &Style, claim: u32, keeps: &[Vec<bool>], body: &[Token]) -> bool
+    ensures { IsTrue result → within.CountHolds style.now claim body.now }
+{
+    if claim == 0 {
+        return true;
+    }
+    let v = claim - 1;
+    if v as usize >= keeps.len() {
+        return false;
+    }
+    let keeps = keeps[v as usize].as_slice();
+    is_counting(keeps, v, body) && functions_keep(style, keeps, v)
+}
+
+// Answers whether that is so of all functions.
+fn counts_hold(style: &Style, counts: &[u32], keeps: &[Vec<bool>]) -> bool
+    ensures { IsTrue result → within.CountsHold counts.now style.now }
+{
+    if counts.len() > style.functions() {
+        return false;
+    }
+    for number in 0..counts.len() {
+        if !count_holds(style, counts[number], keeps, style.body(number)) {
+            return false;
+        }
+    }
+    true
+}
+
+// Answers whether nothing is claimed of `entry.max$` and `global.max$`.
+fn first_unclaimed(bounds: &[u64]) -> bool
+    ensures { IsTrue result → within.FirstUnclaimed bounds.now }
+{
+    claim_of(bounds, 0) == 0 && claim_of(bounds, 1) == 0
+}
+
+// Answers whether all claims hold of the style's functions.
+fn functions_hold(style: &Style, allowed: &[u32], claims: Claims<'_>) -> bool
+    ensures { IsTrue result → within.FunctionsWithin (claims_of claims.entry) allowed.now style.now }
+{
+    bodies_hold(style, claims) && allowed_hold(claims, allowed) && default_holds(style, claims)
+}
+
+// Answers whether all claims on loops and variables hold.
+fn loops_hold(style: &Style, claims: Claims<'_>, keeps: &[Vec<bool>]) -> bool
+    ensures { IsTrue result → within.LoopsHold (claims_of claims.entry) style.now }
+{
+    tests_hold(style, claims.tests)
+        && counts_hold(style, claims.counts, keeps)
+        && first_unclaimed(claims.bounds)
+}
+
+/// Judges a certificate: answers the bound of a style's runs, for entries of the types that are allowed or that the style doesn't know, where global string
+/// variables keep no more bytes than it says. None if a claim doesn't hold, or the claims aren't enough.
+pub fn ends(style: &Style, allowed: &[u32], certificate: &Certificate) -> Option<Bound>
+    ensures { IfSome result (λ bound. StyleEnds style.now allowed.now certificate.now.kept bound.once bound.each) }
+{
+    let claims = certificate.claims(certificate.costs.as_slice());
+    if !functions_hold(style, allowed, claims) {
+        return None;
+    }
+    if !loops_hold(style, claims, certificate.keeps.as_slice()) {
+        return None;
+    }
+    items_cost(claims, style.items())
+}
+
+// .. for this number of bytes
+fn judged(style: &Style, allowed: &[u32], kept: u32, certificate: &Certificate) -> Option<Bound>
+    ensures { IfSome result (λ bound. StyleEnds style.now allowed.now kept bound.once bound.each) }
+{
+    if certificate.kept != kept {
+        return None;
+    }
+    ends(style, allowed, certificate)
+}
+
+// Answers the bound, by a certificate that claims nothing of variables: then `:=` may have any operands.
+fn check_without_loops(
+    alloc: Global,
+    style: &Style,
+    allowed: &[u32],
+    kept: u32,
+) -> Result<Option<Bound>, AllocError>
+    ensures { IfOk result (λ found. IfSome found (λ bound. StyleEnds style.now allowed.now kept bound.once bound.each)) }
+{
+    let certificate = proposed(alloc, style, allowed, kept, false)?;
+    Ok(judged(style, allowed, kept, &certificate))
+}
+
+/// Answers the bound of a style's runs, if the style is known to end, for entries of the types that are allowed or that the style doesn't know, where global
+/// string variables keep at most `kept` bytes. `allowed` are the numbers of functions of the style.
+pub fn check(
+    alloc: Global,
+    style: &Style,
+    allowed: &[u32],
+    kept: u32,
+) -> Result<Option<Bound>, AllocError>
+    ensures { IfOk result (λ found. IfSome found (λ bound. StyleEnds style.now allowed.now kept bound.once bound.each)) }
+{
+    let certificate = proposed(alloc, style, allowed, kept, true)?;
+    match judged(style, allowed, kept, &certificate) {
+        Some(bound) => Ok(Some(bound)),
+        None => check_without_loops(alloc, style, allowed, kept),
+    }
+}

@@ -1,0 +1,15 @@
+//! Does every run of a style end? A proved checker of certificates, which claim for each function of a style how many steps a call of it takes at most.
+#![tactic(auto)]
+
+pub mod checker;
+pub mod claims;
+pub mod costs;
+pub mod keeping;
+pub mod known;
+pub mod laws;
+pub mod literals;
+pub mod search;
+
+pub use checker::{Certificate, check, ends};
+pub use costs::Bound;
+pub use search::proposed;
