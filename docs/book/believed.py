@@ -12,9 +12,6 @@ import reach
 # means, its commands; entries, the list and cross-references; the lines of the list. Neither counts comments, blank lines, `use` lines and types of the program.
 MOST_LINES = 2_000
 MOST_OF_THE_HEART = 700
-# How many pages of A4 the core takes, which is its heart with the notation and what it names, and all chapters that have to be believed. browser.py sees that it is so.
-PAGES_OF_THE_CORE = 11
-PAGES = 32
 HEART = {"btx_core.Product", "btx_core.Styles", "btx_core.Functions", "btx_core.Meanings", "btx_core.Runs", "btx_core.Databases", "btx_core.Lists", "btx_core.Lines",
          "btx_machine.Product", "btx_machine.Reports", "btx_machine.Saying", "btx_out.Breaking", "btx_out.Places", "btx_step.Arithmetic", "btx_step.Orders"}
 

@@ -13,7 +13,7 @@ import rules
 
 
 class Sections(NamedTuple):
-    """How a form of the book writes each part of a section, and of the lists behind the core's sections."""
+    """How a form of the book writes each part of a section, and of the lists after the core's sections."""
     opening: Callable
     example: Callable
     functions: Callable
@@ -22,15 +22,17 @@ class Sections(NamedTuple):
     named: Callable
     listed: Callable
     evidence: Callable
+    said: Callable
     text: Callable = str
 
     def woven(self, section, book, known):
-        """A section's heading, rules and examples; then its definitions, those of each module behind what its files say at their front. The words of examples
+        """A section's heading, rules, opening and examples; then its definitions, those of each module after what its files say at their front. The words of examples
         become known."""
         anchors = rules.headings()
         of_manuals = f" The manuals: {manuals.sentence(section)}." if manuals.followed_by(section) else ""
         out = self.opening(section, [(rule, anchors[rule]) for rule in section.rules if rule in anchors], of_manuals)
         out += [self.evidence(evidence.sentence(section))] * bool(evidence.sentence(section))
+        out += [self.said(section.opening, book.by_id)] * bool(section.opening)
         for name in section.examples:
             if name in book.examples:
                 example = book.examples[name]
@@ -41,7 +43,7 @@ class Sections(NamedTuple):
         return "\n".join(out)
 
     def core_lists(self, chapter):
-        """What the core names of the chapters behind it and of the library, each with its sentence, so that it can be read alone; none for another chapter."""
+        """What the core names of the chapters after it and of the library, each with its sentence, so that it can be read alone; none for another chapter."""
         if not layout.is_core(chapter):
             return []
         names = [self.named(it) + ": " + self.text(layout.sentence_of(it)) for it in layout.names_elsewhere(chapter)]

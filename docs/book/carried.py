@@ -19,9 +19,10 @@ FLOW = (("btx_aux.Files.Files", None, "the files of a job, by their names"),
         ("btx_core.Styles.Library", "btx_core.Lists.IsLibrary", "the entries of the list, with their fields"),
         ("btx_core.Meanings.Outcome", "btx_core.Runs.CommandsCome", "the state at the end of the style"),
         ("btx_machine.Product.Product", "btx_core.Product.comes_to", "the list, the log and the report"))
-# Definitions whose names values are made of, beside the cases of types.
-NAMED = ("btx_core.Styles.Function", "btx_core.Styles.Literal", "btx_core.Styles.Word", "btx_core.Styles.Body", "btx_core.Styles.Command", "btx_core.Meanings.Outcome")
-CASES = {"Built": 0, "Defined": 0, "Declared": 0, "Text": 1, "Quoted": 1, "Missing": 1, "Push": 2, "Run": 2, "Empty": 3, "Then": 3, "Read": 4, "Iterate": 4, "Done": 5}
+# Definitions whose names values are made of, beside the cases of types. The last one is a function.
+NAMED = ("btx_core.Styles.Function", "btx_core.Styles.Literal", "btx_core.Styles.StyleToken", "btx_core.Styles.Body", "btx_core.Styles.Command", "btx_core.Meanings.Outcome",
+         "btx_machine.Product.log_of")
+CASES = {"Built": 0, "Defined": 0, "Declared": 0, "Text": 1, "Quoted": 1, "Missing": 1, "Push": 2, "Run": 2, "Empty": 3, "Then": 3, "Read": 4, "Iterate": 4, "Done": 5, "log_of": 6}
 
 
 def text(value):
@@ -46,7 +47,7 @@ def truth(value):
 
 @functools.lru_cache(maxsize=None)
 def row():
-    """What the worked row says: the keys, the database, the style behind READ, the list and the steps."""
+    """What the worked row says: the keys, the database, the style after READ, the list and the steps."""
     module, _, name = ROW.rpartition(".")
     found = next(home.names[name] for home in chapters.definitions.modules_shown(module) if name in home.names)
     head, *words = rows.read(re.sub(rf"^{name} =", "", "\n".join(found.lines[1:])))
@@ -198,8 +199,8 @@ def product_lines(by_id):
     made = trace().product
     report = made.report
     shown = record(by_id["btx_machine.report.Report"], [str(report.status), "ended." + report.end.capitalize(), str(report.steps), str(report.deepest), str(report.warnings), str(report.errors)])
-    log = made.log.splitlines(keepends=True)
-    return ["product = record {"] + record(by_id[FLOW[5][0]], [text(made.list), " ++ ".join(map(text, log)), "record {" + "; ".join(line.strip() for line in shown) + "}"]) + ["}"]
+    *log, last = made.log.splitlines(keepends=True)
+    return ["product = record {"] + record(by_id[FLOW[5][0]], [text(made.list), " ++ ".join(map(text, log)), "record {" + "; ".join(line.strip() for line in shown) + "}"]) + ["}", f"log_of product = product.log_so_far ++ {text(last)}"]
 
 
 COMPUTED = {"@aux": aux_lines, "@style": style_lines, "@library": library_lines, "@outcome": outcome_lines, "@product": product_lines}

@@ -25,7 +25,7 @@ class Cases(NamedTuple):
 
 
 def closed(text, at):
-    """The place behind the parenthesis that closes the one at a place; None where none does."""
+    """The place after the parenthesis that closes the one at a place; None where none does."""
     depth, is_text = 0, False
     for place in range(at, len(text)):
         sign = text[place]
@@ -37,7 +37,7 @@ def closed(text, at):
 
 
 def atom(text, at):
-    """The place behind the argument at a place; None where there is none."""
+    """The place after the argument at a place; None where there is none."""
     if text[at:at + 1] == "(":
         return closed(text, at)
     found = ATOM.match(text, at)

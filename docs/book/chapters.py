@@ -25,7 +25,7 @@ class Section:
     def __init__(self, title):
         self.title, self.modules, self.rules, self.examples, self.reason, self.parts = title, [], [], [], None, []
         self.believed, self.table, self.first, self.manuals = set(), None, None, []
-        self.captions, self.number, self.is_believed = {}, None, False
+        self.captions, self.number, self.is_believed, self.opening = {}, None, False, ""
 
     @property
     def definitions(self):
@@ -34,7 +34,7 @@ class Section:
 
 class Chapter:
     def __init__(self, title):
-        self.title, self.opening, self.sections, self.number, self.is_from_the_top, self.part = title, [], [], None, False, None
+        self.title, self.opening, self.sections, self.number, self.is_from_the_top, self.part = title, "", [], None, False, None
         self.is_believed = False
 
     @property
@@ -84,7 +84,9 @@ def read_line(chapter, line):
     elif section is None and word == "part":
         chapter.part = rest.strip()
     elif section is None:
-        chapter.opening.append(line.strip())
+        chapter.opening = f"{chapter.opening} {line.strip()}".strip()
+    elif word == "opening":
+        section.opening = f"{section.opening} {rest}".strip()
     elif word == "modules":
         section.modules += rest.split(", ")
     elif word == "believed":
@@ -175,7 +177,7 @@ def headed(groups):
 
 
 def with_types(own, placed):
-    """Definitions, each behind the types of the program that it is the first to use."""
+    """Definitions, each after the types of the program that it is the first to use."""
     found = []
 
     def add(it):
@@ -260,7 +262,7 @@ def row_example(home, row, piece):
 
 
 def rows_of(row):
-    """The rows of a table, which are joined by `∷`: each with the comment before it. A comment holds for the rows behind it, too, up to one of another function."""
+    """The rows of a table, which are joined by `∷`: each with the comment before it. A comment holds for the rows after it, too, up to one of another function."""
     rows, comment, is_fresh = [], "", True
     for line in row.lines[2:]:
         text = line.strip()
@@ -291,7 +293,7 @@ def is_open(rows):
 
 
 def is_unmatched(lines):
-    """Whether a table's last row has the table's end behind it."""
+    """Whether a table's last row has the table's end after it."""
     return len(lines) == 1 and lines[0].endswith(" ∷ []") and balance(lines) == 0
 
 
@@ -314,13 +316,13 @@ def jobs():
 
 
 def job_example(name):
-    """A job of the reference's table, with which the program is compared: the style behind its READ and what it comes to."""
+    """A job of the reference's table, with which the program is compared: the style after its READ and what it comes to."""
     job = jobs().get(name)
     if job is None:
         raise LookupError(f"there is no job `{name}`")
     made = Definition("tests", "job", name, JOBS / "worked_jobs.py", 1)
     options = " ".join(f"--{option.replace('_', '-')} {value}" for option, value in job.options.items())
-    shown = [("the style behind READ", job.text), ("the options", options or None), ("the list", job.bbl),
+    shown = [("the style after READ", job.text), ("the options", options or None), ("the list", job.bbl),
              ("messages", [it.decode("latin-1") for it in job.messages or []] or None), ("the end", job.end), ("steps", job.steps), ("bodies open at most", job.deepest)]
     made.lines = [f"{what}: {short(value)}" for what, value in shown if value is not None]
     return Example("tests/reference/worked_jobs.py, " + name, made, name)

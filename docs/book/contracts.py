@@ -9,7 +9,7 @@ from definitions import CRATES, Definition, Module
 FUNCTION = re.compile(r"^(\s*)((?:pub(?:\([\w ]+\))? )?)(?:const |unsafe )*fn (\w+)")
 HEADLINE = ("btx_run", "run")
 # A crate beside the program, with laws of its own.
-BESIDE = ("btx_check::", "btx_read::")
+BESIDE = ("btx_check::", "btx_read::", "btx_ends::")
 # The traits of the headline's finder and sinks.
 TRAITS = (("btx_aux", "Finder"), ("btx_out", "Sink"))
 
@@ -65,7 +65,7 @@ def is_trait(lines, number):
 
 
 def end_of(lines, number, indent):
-    """The line behind a function's contract: where its body begins, or where a declaration ends."""
+    """The line after a function's contract: where its body begins, or where a declaration ends."""
     for at in range(number, len(lines)):
         if lines[at].startswith(indent + "{") or (lines[at].endswith(" {") and "ensures" not in lines[at] and "requires" not in lines[at]):
             return at + 1

@@ -347,7 +347,7 @@ def bound_in(clause, definition, constructors, home):
 
 
 def is_field(clause, found):
-    """Whether the name that was found in a clause is a field that a record is given: it stands behind a brace or a semicolon, before an `=`."""
+    """Whether the name that was found in a clause is a field that a record is given: it stands after a brace or a semicolon, before an `=`."""
     before, after = clause[:found.start()].rstrip(), clause[found.end():]
     return after.startswith((" = ", " =\n")) and before.endswith(("{", ";", ","))
 

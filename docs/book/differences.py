@@ -1,4 +1,4 @@
-"""What differs from the original: docs/DIFFERENCES.md as a chapter behind the rules, and the signs at the rules and the definitions that a row is about (differs.txt)."""
+"""What differs from the original: docs/DIFFERENCES.md as a chapter after the rules, and the signs at the rules and the definitions that a row is about (differs.txt)."""
 
 import functools
 import pathlib

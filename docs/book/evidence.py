@@ -9,6 +9,7 @@ of docs/DIFFERENCES.md; a list that isn't is printed, and the exit status is the
 
 import argparse
 import functools
+import hashlib
 import itertools
 import os
 import pathlib
@@ -22,6 +23,8 @@ REFERENCE = HERE.parents[1] / "tests/reference"
 NONE = "none: "
 # What all functions of a file are called that no class has.
 ALL_OF_FILE = ".*"
+# The line of the comment that has the mark of the numbers.
+MARK = "// The mark of the numbers, by which make.py sees that the script wrote them: "
 
 
 class Row(NamedTuple):
@@ -66,6 +69,12 @@ def rows():
     return {row.title: row for row in comment_and_rows()[1]}
 
 
+def mark_of(rows_):
+    """A mark of the numbers of some rows: another one where a number is another."""
+    numbers = "\n".join(f"{row.jobs} {row.lists} {row.papers} {row.lists_of_papers}" for row in rows_ if not row.reason)
+    return hashlib.sha256(numbers.encode()).hexdigest()[:16]
+
+
 def sentence(section):
     """What is said of a section: nothing of one that has no line."""
     return rows()[section.title].sentence if section.title in rows() and section.is_believed else ""
@@ -76,6 +85,7 @@ def wrong_in(sections, names_in):
     titles = [section.title for section in sections]
     yield from (f"evidence.txt: no section is called `{title}`" for title in rows() if title not in titles)
     yield from (f"evidence.txt: the section `{title}` has no line" for title in titles if title not in rows())
+    yield from ["evidence.txt: its numbers aren't those that the script wrote (python3 docs/book/evidence.py)"] * (MARK + mark_of(rows().values()) not in comment_and_rows()[0])
     for row in rows().values():
         yield from [f"evidence.txt: `{row.title}` was never compared (python3 docs/book/evidence.py)"] * (not row.reason and not row.jobs)
         yield from (f"evidence.txt: tests/reference has no `{name}`" for name in row.functions if not name.endswith(ALL_OF_FILE)
@@ -126,12 +136,14 @@ def papers(given, folder):
 
 
 def compared(files, given, steps):
-    """The reference's list of a job, the functions that it called, its list by the original's rules, and the original's; None where there is none of a finished run."""
+    """The reference's list of a job, the functions that it called, its list by the original's rules, and the original's; None where there is none of a finished run, or where it is what
+    the memory held."""
     import compare_rules_with_original as rules
-    from product import run
+    from product import Run, run
     options = rules.options_for(given, steps)
     here, called = called_by(lambda: run(files, b"job", options))
-    by_rules = run(files, b"job", options, rules.original.RULES)
+    own = Run(files, b"job", options, rules.original.RULES)
+    by_rules = own.whole()
     if here.report.end != "finished" or by_rules.report.end != "finished":
         return None
     with tempfile.TemporaryDirectory() as folder:
@@ -139,6 +151,8 @@ def compared(files, given, steps):
             if not name.startswith(b"/"):
                 (pathlib.Path(folder) / os.fsdecode(name)).write_bytes(text)
         there = rules.by_original(folder, "job", options)
+        if rules.is_what_memory_held(own, by_rules.list, there, folder, options):
+            return None
     return None if there is None else (here.list, called, by_rules.list, there)
 
 
@@ -195,7 +209,8 @@ def main():
     if not rules.is_there():
         raise SystemExit("there is no bibtex of TeX Live, so nothing is compared and evidence.txt stays")
     comment, (measured, unexplained) = comment_and_rows()[0], measure(given)
-    FILE.write_text("\n".join([*comment, *map(line_of, measured)]) + "\n", encoding="utf-8")
+    comment = [line for line in comment if not line.startswith(MARK)]
+    FILE.write_text("\n".join([*comment, MARK + mark_of(measured), *map(line_of, measured)]) + "\n", encoding="utf-8")
     return unexplained > 0
 
 

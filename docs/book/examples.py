@@ -122,7 +122,7 @@ class Reader:
         return self.joined(0, names)
 
     def function(self, names):
-        """What stands behind a `λ`, as a function; its body ends before a `)` or `,` that it doesn't open."""
+        """What stands after a `λ`, as a function; its body ends before a `)` or `,` that it doesn't open."""
         given = [self.next()]
         while not self.next("."):
             given.append(self.next())

@@ -12,6 +12,8 @@ from bibtex_names import cells
 NAMES, TABLE = "btx_bst.BuiltIns.built_in_name", "btx_core.Functions.row"
 # Definitions that have an equation for a function that does more than its row of the table.
 BESIDE = ("btx_core.Functions.built_in_effect",)
+# What that equation does after an error, of each function that has one.
+BEYOND_THE_ROW = {"missing$": "no entry: nothing is pushed, not even 0", "swap$": "one error for each literal that is missing, and one that is there stays"}
 # The sections of the manual of styles that describe functions: all of them, and those that have one of their own.
 MANUAL, OWN_SECTION = "btxhak, section 5.3", {"format.name$": "btxhak, sections 5.3 and 5.4"}
 OPERANDS = "Operands are named from the top: I an integer, S a string, F a function, M a string or a missing field, L any literal."
@@ -37,6 +39,7 @@ class Function:
     def sentences(self):
         """What there is to say of it, as pairs of a head and a text."""
         failing = "nothing is pushed" if self.default == "none" else f"{self.default} is pushed"
+        failing += f"; {BEYOND_THE_ROW[self.plain]}" if self.plain in BEYOND_THE_ROW else ""
         found = [("Operands", self.operands), ("Errors of its own", self.errors), ("After an error", failing * bool(self.errors or self.operands != "none")), ("Example", self.example)]
         return [(head, said) for head, said in found if said]
 
@@ -94,5 +97,6 @@ def lacking(by_id):
     """What is wrong with the table, as messages."""
     found, wanted = table(by_id), len(variants(by_id))
     named = [it.plain for it in found]
+    beyond = sorted({it.plain for it in found if len(it.equations) > 1} ^ set(BEYOND_THE_ROW))
     unknown = [place for place in differences.signs() if place.startswith(differences.FUNCTION) and place.removeprefix(differences.FUNCTION) not in named]
-    return [f"differs.txt: there is no `{place}`" for place in unknown] + [f"the table of functions has {len(found)} rows, and {wanted} are expected"] * (len(found) != wanted) + [f"the core has no row for {it.name}" for it in found if not any(definition.id == TABLE for definition, _ in it.equations)]
+    return [f"functions.py: `{name}` has an equation beside its row and no sentence about it, or the other way round" for name in beyond] + [f"differs.txt: there is no `{place}`" for place in unknown] + [f"the table of functions has {len(found)} rows, and {wanted} are expected"] * (len(found) != wanted) + [f"the core has no row for {it.name}" for it in found if not any(definition.id == TABLE for definition, _ in it.equations)]

@@ -51,7 +51,7 @@ def words_of(found):
 
 
 def headed(word, meaning):
-    """What a word means, behind the word, if the meaning doesn't begin with it."""
+    """What a word means, after the word, if the meaning doesn't begin with it."""
     first = re.match(r"`([^`]+)`", meaning)
     return meaning if first and word in first[1].split() else f"`{word}`: {meaning}"
 

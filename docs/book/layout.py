@@ -86,7 +86,7 @@ def has_all_words(printed, source):
 
 
 def rejoined(lines):
-    """Lines of which each that ends within parentheses or behind a sign that joins has its rest again, so that it is broken at its own joints."""
+    """Lines of which each that ends within parentheses or after a sign that joins has its rest again, so that it is broken at its own joints."""
     found = []
     for line in lines:
         is_code = found and not found[-1].lstrip().startswith("--") and "record {" not in found[-1]
@@ -112,7 +112,7 @@ def rust_lines(lines):
 
 
 def beside(lines):
-    """The lines of a type of the program, with a short comment behind its field and no longer above it."""
+    """The lines of a type of the program, with a short comment after its field and no longer above it."""
     found = []
     for line in lines:
         above = found[-1].strip() if found else ""
@@ -158,7 +158,7 @@ def group(text, pad):
 
 
 def fields_of(text):
-    """The fields of a record, with what ends it behind the last one; a record inside a field stays whole."""
+    """The fields of a record, with what ends it after the last one; a record inside a field stays whole."""
     fields = [""]
     for part in re.split(r"(?<=;) ", text):
         if fields[-1] and is_outside(fields[-1]):

@@ -3,11 +3,12 @@
     python3 docs/book/make.py             writes book.html, worked.html and book.md into docs/book/out, and where the module of `make web` is there, book-runs.js
     python3 docs/book/make.py --pdf       prints book.pdf, too, where there is chromium
     python3 docs/book/make.py --check     only checks
+    python3 docs/book/make.py --figures   writes what it counts of definitions and lines into the documents that say it, before it checks (figures.py has all other figures)
 
 The book has every definition that the contract of `run` reaches (the language) and every one that only laws reach, in the order of chapters.txt. A line is
 printed for: a definition in the book without a comment, a name that means nothing, a definition that stands in no chapter, a module in chapters.txt
 that has none, a word of the library that words.txt doesn't explain or whose example isn't so, a link of the front matter to what isn't there, a number of definitions in README that isn't right, a definition that uses one of a later chapter, a section without a rule or without
-an example, a rule or an example that isn't there. chapters.txt says how many of some of these are allowed. The last line is 'N passed, M failed', of
+an example, a rule or an example that isn't there, a link of the woven pages that leads nowhere. chapters.txt says how many of some of these are allowed. The last line is 'N passed, M failed', of
 definitions, names, sections, rules and examples, and the exit status is 0 only where M is 0.
 
 A PDF with links: pandoc book.md -o book.pdf --pdf-engine=lualatex (with the fonts DejaVu), or --pdf, which has the book's own pages.
@@ -15,6 +16,7 @@ A PDF with links: pandoc book.md -o book.pdf --pdf-engine=lualatex (with the fon
 Which definitions have to be believed is counted by what their texts name; the checker isn't asked."""
 
 import functools
+import html
 import pathlib
 import re
 import shutil
@@ -27,11 +29,13 @@ import bibtex_names
 import carried
 import cases
 import chapters
+import counts
 import definitions
 import differences
 import edition
 import evidence
 import examples
+import figures
 import functions
 import glossary
 import layout
@@ -47,9 +51,34 @@ import weave_markdown
 
 HERE = pathlib.Path(__file__).parent
 OUT = HERE / "out"
-# Where the repository says how many definitions of how many lines have to be believed.
-SIZES = {"README.md": r"some ([\d,]+) definitions of ([\d,]+) lines", "docs/PROOFS.md": r"some ([\d,]+) definitions of ([\d,]+) lines",
-         "docs/book/README.md": r"(?m)^\| believed \|.*\| ([\d,]+) \| ([\d,]+) \|$"}
+# Where documents say how many definitions of how many lines there are: the document, an expression whose groups are the numbers, and which of `figures` they are. Each place is to have the
+# numbers that the script counts.
+NUMBER = r"(\d[\d,]*\d|\d)"
+ROW = rf".*\| {NUMBER} \| {NUMBER} \|$"
+FIGURES = [
+    ("README.md", rf"some {NUMBER} definitions of {NUMBER} lines", "believed"),
+    ("docs/PROOFS.md", rf"some {NUMBER} definitions of {NUMBER} lines", "believed"),
+    ("docs/ASSUMPTIONS.md", rf"some {NUMBER} definitions of {NUMBER} lines", "believed"),
+    ("docs/DECISIONS.md", rf"\*\*{NUMBER} definitions of {NUMBER} lines have to be believed", "believed"),
+    ("CHANGELOG.md", rf"It is {NUMBER} definitions of {NUMBER} lines, where 708 of 2,960 were", "believed"),
+    ("docs/book/README.md", rf"(?m)^\| believed \|{ROW}", "believed"),
+    *(("docs/book/README.md", rf"(?m)^\| {name} \|{ROW}", name) for name in ("language", "laws", "refinement")),
+    ("docs/book/README.md", rf"`IsProduct` reaches {NUMBER} definitions of {NUMBER} lines", "relation"),
+    ("docs/book/README.md", rf"is {NUMBER} definitions of {NUMBER} lines", "heart"),
+    ("docs/book/README.md", rf"\({NUMBER} with their comments\), and {NUMBER} types of the program of {NUMBER} lines", "types"),
+    ("docs/book/README.md", rf"The other {NUMBER} lines are the two clauses", "others"),
+    ("docs/PROOFS.md", rf"The {NUMBER} definitions are those that `written` and `broken_off` reach", "count"),
+    ("docs/PROOFS.md", rf"the relation has {NUMBER}, of them {NUMBER} its heart", "lines"),
+    ("docs/PROOFS.md", rf"is made of has {NUMBER} lines, of them {NUMBER} its heart", "lines"),
+    ("docs/DECISIONS.md", rf"has {NUMBER} lines, of them {NUMBER} its heart", "lines"),
+    ("docs/ASSUMPTIONS.md", rf"clean styles {NUMBER} definitions of {NUMBER} lines", "clause-check"),
+    *(("README.md", rf"{promise} {NUMBER} of {NUMBER}", clause)
+      for promise, clause in (("devices' faults", "clause-counts"), ("larger budgets", "clause-budget"), ("clean styles", "clause-check"))),
+]
+# An anchor of a woven page, and a link; most have no quotes. And how many bytes a page may have.
+ANCHOR = re.compile(r"""<[^<>]* id=("[^"]*"|[^\s>]+)""")
+LINK = re.compile(r"""<a [^<>]*href=("[^"]*"|[^\s>]+)""")
+MOST_BYTES = 3_000_000
 # The browser that prints the book, and how many seconds it may take.
 BROWSERS, PATIENCE = ("chromium", "chromium-browser", "google-chrome"), 1800
 
@@ -59,7 +88,7 @@ class Front:
 
     def __init__(self, file, title, anchor):
         self.file, self.title, self.anchor = file, title, anchor
-        self.blocks = [edition.filled(block) for block in re.split(r"\n\n+", (HERE / file).read_text(encoding="utf-8").strip())]
+        self.blocks = [block if file != "title.md" else edition.filled(block) for block in re.split(r"\n\n+", (HERE / file).read_text(encoding="utf-8").strip())]
 
 
 class Book:
@@ -73,6 +102,8 @@ class Book:
         self.sections = [section for chapter in self.chapters for section in chapter.sections]
         self.passed, self.wrong, self.examples, self.rules = 0, [], {}, rules.headings()
         self.by_id = {name: it for it in self.found for name in (it.id, it.id.removesuffix("-type"))}
+        for it in (*self.chapters, *self.sections):
+            it.opening = counts.filled(it.opening, self)
         self.title = Front("title.md", edition.TITLE, "title")
         self.first = Front("notation.md", "How to read this book", "notation")
         self.carried = Front("carried.md", "One job, carried through the relation", "carried")
@@ -87,10 +118,10 @@ class Book:
     def summary(self):
         """What there is to read, in numbers. tests/documents/browser.py counts the pages on paper."""
         all_of_it, others = self.reach.believed, [it for it in self.found if not it.is_believed]
-        heart = believed.heart_of(believed.definitions_of(self.reach.relation))
+        heart, pages = believed.heart_of(believed.definitions_of(self.reach.relation)), next(it.numbers for it in figures.read()[0] if it.name == "pages")
         return (f"This book says which bytes this program writes for a job: those of BibTeX 0.99d but for [{len(differences.leads())} differences](#differences), each of which has a sign where "
-                f"a rule or a definition meets it. Its [core](#ch1) is {counted(heart, ' of ')}, some {believed.PAGES_OF_THE_CORE} pages on paper, "
-                f"and needs no other page to be understood. All that has to be believed is {counted(all_of_it, ' of ')}, some {believed.PAGES} pages on paper. "
+                f"a rule or a definition meets it. Its [core](#ch1) is {counted(heart, ' of ')}, some {pages['core']} pages on paper, "
+                f"and needs no other page to be understood. All that has to be believed is {counted(all_of_it, ' of ')}, some {pages['believed']} pages on paper. {counts.core(self)} {counts.all_believed(self)} "
                 "Most questions about the program are answered before these pages, by [the rules in words](#rules). "
                 f"{len(others):,} more definitions, of {reach.lines_in(others):,} lines, say the same as a program would, and are laws and worked examples: nobody has to read them for what a run writes.")
 
@@ -219,46 +250,53 @@ class Book:
     def check_links(self):
         """The definitions that the front matter and the openings of chapters name, and the words that the front matter explains."""
         texts = {front.file: "\n".join(front.blocks) for front in (self.title, self.first, self.carried, self.signs, self.last)}
-        texts |= {f"chapters.txt, `{chapter.title}`": " ".join(chapter.opening) for chapter in self.chapters}
+        texts |= {f"chapters.txt, `{it.title}`": it.opening for it in (*self.chapters, *self.sections)}
         found = [(place, name) for place, text in texts.items() for name in links.named_in(text)]
         found += [(file, name) for file in ("terms.txt", "questions.txt") for row in links.rows(file) for name in row.names]
         for place, name in found:
             it = self.by_id.get(links.key(name))
             self.check(it, f"{place}: the book has no definition `{name}`")
             self.check(place != "questions.txt" or not it or is_believed(it), f"{place}: nobody has to believe `{name}`, so no question leads there")
+        for it in (*self.chapters, *self.sections):
+            self.check(not counts.UNFILLED.search(it.opening), f"chapters.txt, `{it.title}`: nothing is counted for {counts.UNFILLED.findall(it.opening)} (counts.py)")
         comments = " ".join(" ".join(it.comment) for it in self.found).lower()
         for row in links.rows("terms.txt"):
             self.check(row.word.split()[0].lower() in comments, f"terms.txt: no comment uses the word `{row.word}`")
 
+    def figures(self):
+        """What the script counts: for each name how many definitions of how many lines, and of the relation and its heart how many lines. `types` are the relation's lines with their comments,
+        and its types of the program; `others` the lines that are neither."""
+        relation = believed.definitions_of(self.reach.relation)
+        heart = believed.heart_of(relation)
+        found = {"believed": self.reach.believed, "relation": relation, "heart": heart, "language": self.reach.language, "laws": self.reach.laws, "refinement": self.reach.refinement}
+        sizes = {name: (len(those), reach.lines_in(those)) for name, those in (found | self.reach.further).items()}
+        types = [it for it in self.reach.relation if it not in relation]
+        sizes["types"] = with_comments(relation), len(types), reach.lines_in(types)
+        sizes["others"] = (sizes["believed"][1] - sizes["relation"][1] - sizes["types"][2],)
+        return sizes | {"count": sizes["believed"][:1], "lines": (sizes["relation"][1], sizes["heart"][1])}
+
+    def places_of_figures(self):
+        """Where documents say how much has to be believed, beside FIGURES the promises that docs/PROOFS.md lists. A line may end at each space."""
+        places = FIGURES + [("docs/PROOFS.md", rf"\(#{place}\) \| {NUMBER} \| {NUMBER} \|", place) for place, found in self.reach.further.items() if found]
+        return [(name, said.replace(" ", r"\s+"), what) for name, said, what in places]
+
     def check_sizes(self):
-        """What README, docs/PROOFS.md and the book's own page say of how much has to be believed, right within a twentieth."""
-        for name, said in SIZES.items():
-            self.check_size(name, said, "the definitions that have to be believed", self.reach.believed)
-        for name in ("language", "laws", "refinement"):
-            self.check_size("docs/book/README.md", rf"(?m)^\| {name} \|.*\| ([\d,]+) \| ([\d,]+) \|$", f"the definitions of {name}", getattr(self.reach, name))
-        self.check_further()
-        said = re.search(r"core takes some (\d+) pages on paper, all that has to be believed (\d+)", (chapters.ROOT / "README.md").read_text(encoding="utf-8"))
-        pages = (str(believed.PAGES_OF_THE_CORE), str(believed.PAGES))
-        self.check(said and said.groups() == pages, f"README.md: it doesn't say that the core takes some {pages[0]} pages on paper, all that has to be believed {pages[1]}")
+        """What documents say of how much has to be believed: the numbers that are counted, in each place."""
+        sizes = self.figures()
+        for name, said, what in self.places_of_figures():
+            found = [it.groups() for it in re.finditer(said, (chapters.ROOT / name).read_text(encoding="utf-8"))]
+            right = tuple(f"{number:,}" for number in sizes[what])
+            self.check(found and all(it == right for it in found), f"{name}: it says {found} of {what}, and there are {right} (make.py --figures writes them)")
+        for message, is_right in figures.verdicts():
+            self.check(is_right, message)
 
-    def check_size(self, name, said, what, definitions_):
-        """What a file says of how many definitions of how many lines there are, right within a twentieth."""
-        sizes = (len(definitions_), reach.lines_in(definitions_))
-        found = re.search(said, (chapters.ROOT / name).read_text(encoding="utf-8"))
-        numbers = [int(number.replace(",", "")) for number in found.groups()] if found else []
-        is_right = len(numbers) == 2 and all(abs(number - size) * 20 <= size for number, size in zip(numbers, sizes))
-        self.check(is_right, f"{name}: it says {numbers} for {what} and their lines, and there are {sizes}")
-
-    def check_further(self):
-        """What docs/PROOFS.md says of each promise that takes further definitions, and README after it, right within a twentieth."""
-        text, short = ((chapters.ROOT / name).read_text(encoding="utf-8") for name in ("docs/PROOFS.md", "README.md"))
-        for place, found in self.reach.further.items():
-            row = re.search(rf"\(#{place}\) \| ([\d,]+) \| ([\d,]+) \|", text)
-            said = [int(number.replace(",", "")) for number in row.groups()] if row else [0, 0]
-            sizes = (len(found), reach.lines_in(found))
-            is_right = all(abs(number - size) * 20 <= size for number, size in zip(said, sizes))
-            self.check(is_right, f"docs/PROOFS.md: it says {said} for the further definitions of {place} and their lines, and there are {sizes}")
-            self.check(not row or re.search(rf"\b{row[1]} (?:definitions )?of {row[2]}\b", short), f"README.md: it doesn't say what docs/PROOFS.md says of {place}")
+    def write_figures(self):
+        """Puts the numbers that are counted where documents say them."""
+        sizes = self.figures()
+        for name, said, what in self.places_of_figures():
+            path = chapters.ROOT / name
+            text = path.read_text(encoding="utf-8")
+            path.write_text(re.sub(said, functools.partial(with_numbers, sizes[what]), text), encoding="utf-8")
 
     # ---- what is printed ----
 
@@ -283,9 +321,20 @@ class Book:
         blocks = re.findall(r"(?ms)^```.*?^```$|(?<=\n\n)(?:    [^\n]*\n)+(?=\n)", text)
         self.check(not any(r"\$" in block for block in blocks), "book.md: a `$` of its code has a backslash before it")
 
+    def check_pages(self, pages):
+        """The woven pages: none is larger than it may be, and each link within them leads somewhere."""
+        anchors = {name: set(values_of(ANCHOR, text)) for name, text in pages.items()}
+        for name, text in pages.items():
+            size = len(text.encode())
+            self.check(size <= MOST_BYTES, f"{name} has {size:,} bytes, and at most {MOST_BYTES:,} are wanted")
+            within = [(link, *link.partition("#")[::2]) for link in values_of(LINK, text) if "#" in link and ":" not in link]
+            dead = sorted({link for link, page, place in within if place not in anchors.get(page or name, ())})
+            self.check(not dead, f"{name}: {len(dead)} links lead nowhere: {', '.join(dead[:5])}")
+
     def write(self):
         OUT.mkdir(exist_ok=True)
         pages = weave_html.book_html(self)
+        self.check_pages(pages)
         for name, made in (pages | {"book.md": self.markdown}).items():
             (OUT / name).write_text(made, encoding="utf-8")
             print(f"{(OUT / name).relative_to(chapters.ROOT)}: {len(made) / 1e6:.1f} MB")
@@ -321,6 +370,16 @@ def is_believed(it):
     return it.is_believed or it.kind == "contract"
 
 
+def with_numbers(numbers, match):
+    """A text that was matched, with these numbers in the place of its groups."""
+    return figures.with_texts(match, [f"{number:,}" for number in numbers])
+
+
+def values_of(attribute, text):
+    """The values of an attribute in a page, without their quotes."""
+    return [html.unescape(value.strip('"')) for value in attribute.findall(text)]
+
+
 def counted(found, between=", "):
     """The number of some definitions and of their lines, in words."""
     return f"{len(found):,} definitions{between}{reach.lines_in(found):,} lines"
@@ -338,13 +397,15 @@ def where(it):
 def main():
     sys.setrecursionlimit(10_000)
     book = Book()
+    if "--figures" in sys.argv[1:]:
+        book.write_figures()
     book.check_all()
     book.check_markdown(book.markdown)
+    if "--check" not in sys.argv[1:]:
+        book.write()
     for message in book.wrong:
         print(message)
     book.print_reach()
-    if "--check" not in sys.argv[1:]:
-        book.write()
     if "--pdf" in sys.argv[1:]:
         book.print_pages()
     print(f"{book.passed} passed, {len(book.wrong)} failed")

@@ -101,7 +101,7 @@ def wrong_in(by_id):
 
 
 def box_html(definition):
-    """The original's rule behind a definition, if there is one."""
+    """The original's rule for a definition, if there is one."""
     rule = by_definition().get(definition)
     if rule is None:
         return ""

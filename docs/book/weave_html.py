@@ -74,7 +74,7 @@ def linked(word, definition, is_head):
 
 
 def on_paper(definition, target):
-    """The number of a definition of another chapter, which stands behind its name on paper, where the text has to be believed and has no links."""
+    """The number of a definition of another chapter, which stands after its name on paper, where the text has to be believed and has no links."""
     return f' data-n="{target.number}"' if definition.is_believed and definition.place and definition.place[0] != target.place[0] else ""
 
 
@@ -163,6 +163,11 @@ def evidence_html(sentence):
     return '<p class="rule">' + text(sentence).replace("the differences", '<a href="#differences">the differences</a>') + "</p>"
 
 
+def said_html(opening, by_id):
+    """What a section says before its examples and definitions."""
+    return f"<p>{text(links.linked(opening, by_id))}</p>"
+
+
 def intros_html(files):
     """What files say at their front."""
     intros = "".join(f'<p>{text(layout.prose(intro))} <span class="file">{file}</span></p>' for file, intro in files)
@@ -177,12 +182,12 @@ def listed_html(anchor, title, items):
     return f'<h3 id="{anchor}">{title}</h3><ul class="names">' + "".join(f"<li>{item}</li>" for item in items) + "</ul>"
 
 
-SECTIONS = Sections(opening_html, example_html, functions_html, intros_html, definition_html, named_html, listed_html, evidence_html, text)
+SECTIONS = Sections(opening_html, example_html, functions_html, intros_html, definition_html, named_html, listed_html, evidence_html, said_html, text)
 
 
 def chapter_html(chapter, book):
     """A chapter; one that has to be believed is dense on paper, and the core has with it all that its reader needs."""
-    opening, known = text(links.linked(" ".join(chapter.opening), book.by_id)), set()
+    opening, known = text(links.linked(chapter.opening, book.by_id)), set()
     part = f'<p class="part">{text(chapter.part)}</p>' if chapter.part else ""
     sections = "\n".join(SECTIONS.woven(section, book, known) for section in chapter.sections)
     signs_, names = notation_html(book.signs, book, 3) if layout.is_core(chapter) else "", "".join(SECTIONS.core_lists(chapter))

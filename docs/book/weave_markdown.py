@@ -101,6 +101,11 @@ def evidence_markdown(sentence):
     return sentence.replace("the differences", "[the differences](#differences)") + "\n"
 
 
+def said_markdown(opening, by_id):
+    """What a section says before its examples and definitions."""
+    return links.linked(opening, by_id, True) + "\n"
+
+
 def intros_markdown(files):
     """What files say at their front."""
     return " ".join(f"{layout.prose(intro)} (`{file}`)" for file, intro in files) + "\n"
@@ -114,7 +119,7 @@ def listed_markdown(anchor, title, items):
     return f"## {title} {{#{anchor} .unnumbered}}\n\n" + "\n".join(f"- {item}" for item in items) + "\n"
 
 
-SECTIONS = Sections(opening_markdown, example_markdown, functions_markdown, intros_markdown, definition_markdown, named_markdown, listed_markdown, evidence_markdown)
+SECTIONS = Sections(opening_markdown, example_markdown, functions_markdown, intros_markdown, definition_markdown, named_markdown, listed_markdown, evidence_markdown, said_markdown)
 
 
 def chapter_markdown(chapter, book):
@@ -122,7 +127,7 @@ def chapter_markdown(chapter, book):
     sections = "\n".join(SECTIONS.woven(section, book, known) for section in chapter.sections)
     part = f"# {chapter.part} {{.unnumbered}}\n\n" if chapter.part else ""
     signs, names = notation_markdown(book.signs, book, 2) if layout.is_core(chapter) else "", "\n".join(SECTIONS.core_lists(chapter))
-    opening = links.linked(" ".join(chapter.opening), book.by_id, True)
+    opening = links.linked(chapter.opening, book.by_id, True)
     return f"{part}# {chapter.number}. {chapter.title} {{#ch{chapter.number} .unnumbered}}\n\n{opening}\n\n{signs}\n{sections}\n{names}"
 
 

@@ -140,8 +140,9 @@ def check_papers(papers, given, outcome):
     for name, row in rows.items():
         outcome.count(results[name]["reason"] in SAID[row], f"{name}: {results[name]['reason']}, and it is {row}")
     print(f"{sum(made)} papers, {made[0]} of them shipped documents; {len(results) - len(different)} equal; different:")
-    for (row, reason), count in sorted(Counter((row, results[name]["reason"]) for name, row in rows.items()).items()):
-        print(f"{count:>6}  {row} ({reason})")
+    for row, count in sorted(Counter(rows.values()).items()):
+        reasons = Counter(results[name]["reason"] for name in rows if rows[name] == row)
+        print(f"{count:>6}  {row} ({', '.join(f'{number} {reason}' for reason, number in sorted(reasons.items()))})")
 
 
 def check_rows(outcome):

@@ -8,6 +8,7 @@ the book within PATIENCE_OF_PRINTING, is one failure. The last line is 'N passed
 
 import html
 import json
+import math
 import os
 import pathlib
 import re
@@ -27,6 +28,8 @@ PATIENCE = 600
 PATIENCE_OF_PRINTING = 1800
 # How many milliseconds a page of a few words takes at most until it is seen, on a machine that isn't busy.
 IDLE_PAINT = 150
+# And how many the book may take.
+MOST_PAINT = 500
 # How many pages of A4 the core may take at most.
 MOST_PAGES_OF_THE_CORE = 12
 # An anchor, and a link: most have no quotes.
@@ -193,27 +196,27 @@ def brightness(colour):
 
 
 def check_paint(checks, program, room):
-    """How soon the book is seen first, by the browser's own clock; the best of three times. Where a page of a few words takes long, too, the machine is busy with other
-    things, and nothing is said of the book. Answers whether it is busy."""
-    empty, times = painted(program, room, "<!doctype html><body>A few words.</body>"), painted(program, room, (OUT / PAGES[0]).read_text(encoding="utf-8"))
-    print(f"first paint: {', '.join(f'{time:.0f} ms' for time in times)}; of a few words: {', '.join(f'{time:.0f} ms' for time in empty)}")
-    if not empty or min(empty) > IDLE_PAINT:
+    """How soon the book is seen first, by the browser's own clock; the best of three times, before and after each of which a page of a few words is shown. Other things that the machine does
+    can only make it later. So where it is too late and that page takes long, too, nothing is said of the book. Answers whether the machine is busy."""
+    few, book = "<!doctype html><body>A few words.</body>", (OUT / PAGES[0]).read_text(encoding="utf-8")
+    seen = [painted(program, room, page) for page in (few, book) * 3 + (few,)]
+    of_few, of_book = seen[::2], seen[1::2]
+    print(f"first paint: {', '.join(f'{time:.0f} ms' for time in of_book)}; of a few words: {', '.join(f'{time:.0f} ms' for time in of_few)}")
+    is_busy = max(of_few) > IDLE_PAINT
+    if is_busy and min(of_book) > MOST_PAINT:
         print("left out: how soon the book is seen (the machine is busy)")
-        return True
-    checks.check(times and min(times) <= 1000, "the book isn't seen within a second")
-    return False
+    else:
+        checks.check(min(of_book) <= MOST_PAINT, f"the book is seen after {min(of_book):.0f} ms, and {MOST_PAINT} are wanted")
+    return is_busy
 
 
 def painted(program, room, text):
-    """The times of a page's first paint, of three runs of the browser."""
+    """When a page is first painted, in milliseconds; never where the browser doesn't say."""
     observed = """<script>new PerformanceObserver((list) => list.getEntries().forEach((it) => console.log(`${it.name}: ${it.startTime}`)))
         .observe({ type: "paint", buffered: true });</script></body>"""
     (room / "paint.html").write_text(text.replace("</body>", observed), encoding="utf-8")
-    times = []
-    for _ in range(3):
-        ran = run(program, room, "--enable-logging=stderr", "--window-size=1280,900", f"--screenshot={room}/seen.png", (room / "paint.html").as_uri())
-        times += [float(time) for time in re.findall(r"first-contentful-paint: ([\d.]+)", ran.stderr)]
-    return times
+    ran = run(program, room, "--enable-logging=stderr", "--window-size=1280,900", f"--screenshot={room}/seen.png", (room / "paint.html").as_uri())
+    return min(map(float, re.findall(r"first-contentful-paint: ([\d.]+)", ran.stderr)), default=math.inf)
 
 
 def check_print(checks, program, room, is_busy):
@@ -249,8 +252,8 @@ def check_core(checks, pages):
     print(f"on paper: {len(pages)} pages, of which the core takes {core}, and all that has to be believed {believed}")
     checks.check(core <= MOST_PAGES_OF_THE_CORE, f"the core takes {core} pages on paper, and at most {MOST_PAGES_OF_THE_CORE} are wanted")
     is_so = lambda number, pages: abs(pages - number) <= 1 + number // 10
-    checks.check(is_so(said[0], core), f"the book's first page says that the core takes {said[0]} pages on paper, and it takes {core} (docs/book/believed.py)")
-    checks.check(is_so(said[1], believed), f"the book's first page says that what has to be believed takes {said[1]} pages on paper, and it takes {believed} (docs/book/believed.py)")
+    checks.check(is_so(said[0], core), f"the book's first page says that the core takes {said[0]} pages on paper, and it takes {core} (docs/book/figures.py --measure pages)")
+    checks.check(is_so(said[1], believed), f"the book's first page says that what has to be believed takes {said[1]} pages on paper, and it takes {believed} (docs/book/figures.py --measure pages)")
 
 
 def main():

@@ -2,33 +2,37 @@
 
     python3 check.py
 
-It reads README.md and the .md files of docs/, .ci/, crates/, tests/, examples/, contrib/, library/, python/, lua/ and web/. A table says what its columns hold by their heads. Each
+It reads README.md and the .md files of docs/, .ci/, crates/, tests/, examples/, contrib/, front/, library/, python/, lua/ and web/. A table says what its columns hold by their heads. Each
 failure is a line; the last line is 'N passed, M failed', of citations, and the exit status is 0 only where M is 0. The user's reference also has the
-words that people search for, README is short and has the right sizes; no document has more long sentences than it may (sentences.py); and where there is `rt`, README names the kit that `rt version` prints among those that the program is
-proved with.
+words that people search for, README is short, no document has more long sentences than it may (sentences.py), and the figures of README and of what it leads to are those of their
+commands (docs/book/figures.py). Where there is `rt`, README names the kit that `rt version` prints among those that the program is proved with.
 
 Each crate has a README with the parts that one looks for. It names each wrong body of its crate, and its examples of Rattle are lines of the file that it
 says, in the file's order (a line `..` stands for what is left out). docs/PROOFS.md has an index of the promises of each crate with wrong bodies.
-Each recipe of docs/CONTRIBUTING.md that has
+A definition's old name (docs/book/renamed.txt) is cited nowhere, unless something still has it, and a chapter of the book that is named is one of it. A link leads to a file, and to a heading or a mark, that is there. Each recipe of docs/CONTRIBUTING.md that has
 an example names the files of code and definitions that have it, up to three, and no others. Names are as that document says.
 
 The table of crates in .ci/README.md has each crate's number of functions, right within a tenth or two, and of wrong bodies. Its table of parts names
 those of .ci/parts and no others, and the folders and scripts of each of these are there.
 
-Not checked: the counts in prose and the times of .ci/README.md, which are as they were measured."""
+Not checked: the figures of other documents, and the times of .ci/README.md, which are as they were measured."""
 
 import functools
 import pathlib
 import re
 import shutil
 import subprocess
+import sys
 
 import places
 import sentences
 
 ROOT = pathlib.Path(__file__).resolve().parents[2]
+sys.path.insert(0, str(ROOT / "docs/book"))
+import figures  # noqa: E402
+
 DOCUMENTS = sorted(path for pattern in ("README.md", "docs/*.md", "docs/book/README.md", ".ci/*.md", "crates/*/README.md", "crates/*/docs/*.md", "tests/**/*.md",
-                                        "examples/**/*.md", "contrib/*.md", "library/*.md", "python/*.md", "lua/*.md", "web/*.md") for path in ROOT.glob(pattern))
+                                        "examples/**/*.md", "contrib/*.md", "front/*.md", "library/*.md", "python/*.md", "lua/*.md", "web/*.md") for path in ROOT.glob(pattern))
 # What a build makes, and no clone has.
 BUILT = re.compile(r"(?:crates/\w+|library)/out\b")
 PATH = re.compile(r"(?<![\w./-])(?:crates|docs|tests|examples|contrib|library|\.ci|specs|proofs|src)/[\w.*/-]*\w\*?/?")
@@ -53,10 +57,15 @@ TESTS_IN_PLACE = re.compile(r"(?m)^#\[cfg\(test\)\]\nmod \w+ \{")
 FENCED = re.compile(r"```.*?```", re.S)
 # The recipes of docs/CONTRIBUTING.md that have an example, with its kind in places.py.
 RECIPES = {"A message": "a message", "A message of databases": "a message of databases", "A message of steps": "a message of steps", "An option": "an option",
-           "A built-in function": "a function of the language"}
+           "An option of the front end": "an option of the front end", "A built-in function": "a function of the language"}
 # The name of a lemma or of a definition, where it is declared; and how many lemmas may have names that break the rule: those that are older.
 DECLARED = re.compile(r"(?m)^(?:(?:abbrev|pub|unfoldable|abstract|data|record) )*([A-Za-z][\w'-]*) :")
 OLDER_NAMES = 60
+# What the code declares: functions, types, constants, modules, and the names of clauses.
+IN_CODE = re.compile(r"(?m)\b(?:fn|struct|enum|trait|type|const|mod) (\w+)|^\s*(?:ensures |requires )?(\w+) \{")
+# A chapter of the book, named by its title.
+LINK = re.compile(r"\[([^\]]*)\]\(([^)\s]+)\)")
+NAMED_CHAPTER = re.compile(r"[Cc]hapter \"([^\"]+)\"")
 # What each crate's README has, by the name of the crate.
 PARTS = ["# `{}`: ", "**Contract in a sentence.** ", "**Read first.** ", "## A call"]
 
@@ -248,6 +257,49 @@ def names():
     yield f"{len(odd)} lemmas aren't named as docs/CONTRIBUTING.md says, and {OLDER_NAMES} are allowed: {' '.join(odd)}", len(odd) <= OLDER_NAMES
 
 
+@functools.cache
+def headings(path):
+    """The places of a document that a link can lead to: its headings, by their words, and what it marks by itself."""
+    text = FENCED.sub("", path.read_text(encoding="utf-8"))
+    words = [re.sub(r"[^\w -]", "", LINK.sub(r"\1", title).strip().lower()).replace(" ", "-") for title in re.findall(r"(?m)^#+ (.*)$", text)]
+    again = [f"{word}-{words[:place].count(word)}" for place, word in enumerate(words) if word in words[:place]]
+    return {*words, *again, *re.findall(r'<a id="([^"]+)"', text)}
+
+
+def dead_links():
+    """The links within the documents: each leads to a file and, in a document, to a heading or a mark that is there."""
+    for path in DOCUMENTS:
+        text = re.sub(r"`[^`\n]*`", "", FENCED.sub("", path.read_text(encoding="utf-8")))
+        for _, target in LINK.findall(text):
+            file, _, place = target.partition("#")
+            goal = path.parent / file if file else path
+            if not re.match(r"[a-z]+:", target):
+                is_there = goal.exists() and (not place or goal.suffix != ".md" or place in headings(goal.resolve()))
+                yield f"{path.relative_to(ROOT)}: the link to {target} leads nowhere", is_there
+
+
+def old_names():
+    """The definitions' names that changed: whether a document still cites an old one that nothing has."""
+    there = set()
+    for crate in crates():
+        there |= declared_in(crate, "specs")
+        for path in (ROOT / "crates" / crate / "src").rglob("*.rt"):
+            there.update(name for found in IN_CODE.findall(path.read_text(encoding="utf-8")) for name in found)
+    lines = [line.split() for line in (ROOT / "docs/book/renamed.txt").read_text(encoding="utf-8").split("\n") if line and not line.startswith("//")]
+    renamed = {old.split(".")[-1]: new.split(".")[-1] for old, new in lines}
+    for path in DOCUMENTS:
+        stale = sorted({name for name in CODE.findall(FENCED.sub("", path.read_text(encoding="utf-8"))) if name in renamed and name not in there})
+        yield f"{path.relative_to(ROOT)}: `{'`, `'.join(stale)}`: `{'`, `'.join(renamed[name] for name in stale)}` now (docs/book/renamed.txt)", not stale
+
+
+def named_chapters():
+    """The chapters of the book that documents name by their titles."""
+    titles = set(re.findall(r"(?m)^##? (.*)$", (ROOT / "docs/book/chapters.txt").read_text(encoding="utf-8")))
+    for path in DOCUMENTS:
+        for title in NAMED_CHAPTER.findall(" ".join(path.read_text(encoding="utf-8").split())):
+            yield f"{path.relative_to(ROOT)}: the book has no chapter \"{title}\"", title in titles
+
+
 def functions_of(crate):
     """How many functions stand in a crate's code: without those of its tests, unless the whole crate is tests."""
     texts = {path: path.read_text(encoding="utf-8") for path in (ROOT / "crates" / crate / "src").rglob("*.rt")}
@@ -292,27 +344,10 @@ def missing_words():
     return [word for word in SEARCHED if word.lower() not in text]
 
 
-def lines_of(folder, ending):
-    """How many lines the files of this folder have, in the crates that the program stands on or that are libraries of their own."""
-    others = re.compile(r"_tests$|^btx_example$")
-    files = [path for crate in crates() if not others.search(crate) for path in (ROOT / "crates" / crate / folder).rglob("*" + ending)]
-    return sum(path.read_bytes().count(b"\n") for path in files)
-
-
 def is_short():
     """Whether README isn't longer than it may be."""
     words = len((ROOT / "README.md").read_text(encoding="utf-8").split())
     yield f"README.md: it has {words} words, and at most {MOST_WORDS_OF_README} are wanted", words <= MOST_WORDS_OF_README
-
-
-def wrong_sizes():
-    """Of the lines of code, definitions and proofs that README says: what is wrong with each, or None where it is right within a twentieth."""
-    said = re.search(r"([\d,]+) lines of code, ([\d,]+) of definitions \([^)]*\) and ([\d,]+) of proofs", (ROOT / "README.md").read_text(encoding="utf-8"))
-    if not said:
-        return ["README.md: the lines of code, definitions and proofs aren't there"]
-    sizes = [lines_of("src", ".rt"), lines_of("specs", ".antt"), lines_of("proofs", ".antt")]
-    return [None if abs(int(text.replace(",", "")) - size) * 20 <= size else f"README.md: {text} lines of {what}, and there are {size}"
-            for what, text, size in zip(("code", "definitions", "proofs"), said.groups(), sizes)]
 
 
 def wrong_kit():
@@ -335,11 +370,11 @@ def main():
             passed, failed = passed + (wrong is None), failed + (wrong is not None)
             if wrong:
                 print(f"{path.relative_to(ROOT)}, line {number}: `{cited}`: {wrong}")
-    for message, is_right in (*unnamed_bodies(), *missing_parts(), *examples(), *recipes(), *names(), *gate_numbers(), *gate_parts(), *is_short(), *sentences.verdicts()):
+    for message, is_right in (*unnamed_bodies(), *missing_parts(), *examples(), *recipes(), *names(), *dead_links(), *old_names(), *named_chapters(), *gate_numbers(), *gate_parts(), *is_short(), *sentences.verdicts(), *figures.verdicts()):
         passed, failed = passed + is_right, failed + (not is_right)
         if not is_right:
             print(message)
-    for wrong in wrong_sizes() + wrong_kit():
+    for wrong in wrong_kit():
         passed, failed = passed + (wrong is None), failed + (wrong is not None)
         if wrong:
             print(wrong)

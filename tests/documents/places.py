@@ -16,6 +16,7 @@ ROOT = pathlib.Path(__file__).resolve().parents[2]
 # Of each kind of change: the example's name in the table, what a file has that names it, and where else the same text means something else.
 KINDS = {
     "an option": ("--min-crossrefs", r"min(_|\\?-)crossrefs", ()),
+    "an option of the front end": ("-strict", r"Choice::Strict|is_strict|(?<![\w-])-strict\b", ("web/", "python/")),
     "a default": ("the budget, 1,000,000,000", r"\b1_000_000_000\b|\b1000000000\b|1,000,000,000",
                   ("crates/btx_machine/", "tests/speed/")),
     "an exit status": ("4, the budget was spent", r"\bstatus_(of|at)\b|STATUSES|^Exit status|exit status|\bfn status\b|\| 4 \||[Ss]tatus 4|status = \(4|def status",

@@ -28,8 +28,8 @@ SENTENCES = (
     ("`The {TeX}book: A {\\AE}ON` becomes `The {TeX}book: A {\\ae}on`", '"The {TeX}book: A {\\AE}ON" "t" change.case$', ['"The {TeX}book: A {\\ae}on"']),
     ("Under `u`, `{\\ss}a` becomes `{SS}A`", '"{\\ss}a" "u" change.case$', ['"{SS}A"']),
     ("`AB` has 1458, `{B}` 1708, `{\\'e}` 444 and `{\\oe}` 778", '"AB" width$ "{B}" width$ "{\\\'e}" width$ "{\\oe}" width$', ["1458", "1708", "444", "778"]),
-    ("`A and {B and C} AND D` holds three names, `a and and b` three as well", '"A and {B and C} AND D" num.names$ "a and and b" num.names$', ["3", "3"]),
-    ("`and b` one, and ` and ` two blank ones", '"and b" num.names$ " and " num.names$', ["1", "2"]),
+    ("`A and {B and C} AND D` holds three names. `a and and b` holds three as well", '"A and {B and C} AND D" num.names$ "a and and b" num.names$', ["3", "3"]),
+    ("`and b` holds one, and ` and ` two blank ones", '"and b" num.names$ " and " num.names$', ["1", "2"]),
     ("So `{\\'e}mile` and `{\\ae}gir` are von, `{\\AE}gir`, `{de la}` and `12` are not",
      " ".join(f'"A {it} Z" #1 "{{vv}}" format.name$' for it in ("{\\'e}mile", "{\\ae}gir", "{\\AE}gir", "{de la}", "12")), ['"{\\\'e}mile"', '"{\\ae}gir"', '""', '""', '""']),
     ("`de La Fontaine, Jean` has the von `de` and the Last `La Fontaine`; `De La Fontaine, Jean` has no von",
@@ -37,9 +37,10 @@ SENTENCES = (
     ("In `Ford, Jr., Henry` the Jr is `Jr.`", '"Ford, Jr., Henry" #1 "{jj}" format.name$', ['"Jr."']),
     ("So `Vall{\\'e}e` gives `V`, `{\\'E}mile` gives `{\\'E}` and `{Ren}` gives `R`",
      " ".join(f'"{it}" #1 "{{l{{}}}}" format.name$' for it in ("Vall{\\'e}e", "{\\'E}mile", "{Ren}")), ['"V"', '"{\\\'E}"', '"R"']),
-    ("with `{f.}` the first names `Charles Louis Xavier Joseph` give `C.~L. X.~J.`, with `{, f.}` they give `, C. L. X.~J.`",
+    ("by `{ f.}` the first names `A B C` give ` A. B.~C.`", '"A B C Z" #1 "{ f.}" format.name$', ['" A. B.~C."']),
+    ("With `{f.}` the first names `Charles Louis Xavier Joseph` give `C.~L. X.~J.`, and with `{, f.}` they give `, C. L. X.~J.`",
      '"Charles Louis Xavier Joseph Z" #1 "{f.}" format.name$ "Charles Louis Xavier Joseph Z" #1 "{, f.}" format.name$', ['"C.~L. X.~J."', '", C. L. X.~J."']),
-    ("by `{ff~}{ll}`, `Bob Smith` gives `Bob Smith` and `Li Wu` gives `Li~Wu`", '"Bob Smith" #1 "{ff~}{ll}" format.name$ "Li Wu" #1 "{ff~}{ll}" format.name$', ['"Bob Smith"', '"Li~Wu"']),
+    ("By `{ff~}{ll}`, `Bob Smith` gives `Bob Smith` and `Li Wu` gives `Li~Wu`", '"Bob Smith" #1 "{ff~}{ll}" format.name$ "Li Wu" #1 "{ff~}{ll}" format.name$', ['"Bob Smith"', '"Li~Wu"']),
 )
 # Values of databases: the words of the rules, an item before the entry, the value, and the field's text.
 VALUES = (

@@ -12,8 +12,8 @@ import sys
 
 ROOT = pathlib.Path(__file__).resolve().parents[2]
 LONGEST = 25
-# How many sentences of a document may be longer.
-ALLOWED = {"docs/DIFFERENCES.md": 0, "docs/PROOFS.md": 0, "docs/DECISIONS.md": 106, "docs/RULES.md": 79, "docs/STYLES.md": 33, "docs/ASSUMPTIONS.md": 25}
+# How many sentences of a document may be longer. The two of RULES are rows of widths, numbers alone.
+ALLOWED = {"docs/DIFFERENCES.md": 0, "docs/PROOFS.md": 0, "docs/DECISIONS.md": 0, "docs/RULES.md": 2, "docs/STYLES.md": 0, "docs/ASSUMPTIONS.md": 0}
 # Where a sentence ends: after its stop, where the next one begins. Semicolons and colons end none.
 END = re.compile(r"(?<=[.!?])[*)\"]*\s+(?=[*(\"]*[A-Z`_\[0-9])")
 

@@ -37,6 +37,9 @@ SECTIONS = {
     "What can be wrong": "Error--%s--line 1 of file d.bib\n",
     "Parents": "Warning--%s\n",
 }
+# A job with a database, beside which a missing entry is explained: of one without any, the advice is to name one.
+FOUND = "The top-level auxiliary file: job.aux\nThe style file: s.bst\nDatabase file #1: d.bib\n"
+FILES = (("job.aux", "\\citation{k}\n\\bibdata{d}\n\\bibstyle{s}\n"), ("d.bib", "@misc{another}\n"))
 # Messages of `Parents` that have a line.
 WITH_LINE = re.compile(r"I'm ignoring|entry type|string name")
 
@@ -97,7 +100,8 @@ def rules(reader):
     for section, messages, advice in advised_rows():
         sections.add(section)
         for message in messages:
-            said = re.findall(r"^    what to do: (.*)$", explained_log(reader, log_of(section, message)), re.MULTILINE)
+            found, files = (FOUND, FILES) if message.startswith("I didn't find a database entry") else ("", ())
+            said = re.findall(r"^    what to do: (.*)$", explained_log(reader, found + log_of(section, message), files), re.MULTILINE)
             yield None if said == [advice] else f"{section}: of '{message}' RULES says '{advice}', and the front end {said}"
     yield None if sections == set(SECTIONS) else f"tables of RULES weren't found: {set(SECTIONS) - sections}"
 

@@ -2,7 +2,7 @@
 
     python3 links.py FOLDER      all .md files below it
 
-What is named below tests/, crates/, .ci/, docs/book/, library/, python/, lua/ or web/ is a file of the sources, and no link. What isn't there is printed; the exit status is 0 only where all is."""
+What is named below tests/, crates/, .ci/, docs/book/, front/, library/, python/, lua/ or web/ is a file of the sources, and no link. What isn't there is printed; the exit status is 0 only where all is."""
 
 import pathlib
 import re
@@ -10,7 +10,7 @@ import sys
 
 LINK = re.compile(r"\[[^\]]*\]\(([^)\s]+)\)")
 NAMED = re.compile(r"`([\w./-]+\.md)`")
-OF_SOURCES = ("tests/", "crates/", ".ci/", "docs/book/", "library/", "python/", "lua/", "web/")
+OF_SOURCES = ("tests/", "crates/", ".ci/", "docs/book/", "front/", "library/", "python/", "lua/", "web/")
 
 
 def anchors(path):

@@ -72,6 +72,8 @@ TWO_STEPS = b"FUNCTION {f} {#1 pop$} EXECUTE {f}"
 ENDLESS = b"FUNCTION {f} {{#1} {skip$} while$} EXECUTE {f}"
 NESTED_LOOPS = (b'INTEGERS {i j} FUNCTION {f} {#2 \'i := {i #0 >} {#2 \'j := {j #0 >} {"x" write$ j #1 - \'j :=} '
                 b'while$ i #1 - \'i :=} while$ newline$} EXECUTE {f}')
+SHARED = b'ENTRY {title}{count}{label} FUNCTION {misc} {"x" write$} READ '
+IN_ORDER = b'FUNCTION {g} {"y" write$ newline$} EXECUTE {g} EXECUTE {misc} EXECUTE {g}'
 CROSSING = (b"ENTRY {title booktitle}{}{} FUNCTION {misc}{} FUNCTION {book}{} READ ")
 SHOWING = (b'FUNCTION {f} {cite$ write$ ":" write$ crossref missing$ int.to.str$ write$ ":" write$ booktitle empty$ '
            b'{"-"} {booktitle} if$ write$ newline$} ITERATE {f}')
@@ -159,6 +161,12 @@ JOBS = [
         b"INTEGERS {i} FUNCTION {f} {{i #1 + 'i := {#0} 'skip$ i #3 <} 'while$ while$ pop$ pop$ \"x\" write$ newline$} "
         b"EXECUTE {f}", bbl=b"x\n", steps=48, deepest=2),
     *(stopped_at_once(budget) for budget in range(64)),
+    Job("functions one after another share the line and the budget", IN_ORDER, declared=SHARED, options={"budget": 11}, bbl=b"y\nxy\n", steps=11,
+        deepest=1),
+    Job("the same, one step less", IN_ORDER, declared=SHARED, options={"budget": 10}, bbl=b"y\n", end="stopped", steps=10, status=4),
+    Job("an empty body takes its step", b"FUNCTION {f} {} EXECUTE {f}", options={"budget": 1}, bbl=b"", steps=1, deepest=1),
+    Job("a line that ended is written before the budget stops the next", b'FUNCTION {f} {newline$ newline$ "a" write$} EXECUTE {f}',
+        options={"budget": 4}, bbl=b"\n\n", end="stopped", steps=4, status=4),
     Job("the type's function by command", b"ITERATE {call.type$}", steps=2, deepest=1),
 
     # ---- lines ----
@@ -241,6 +249,13 @@ JOBS = [
     Job("an argument without its end", aux=b"\\citation{k\n\\bibdata{d}\n\\bibstyle{s}\n", status=2,
         log=[FOUND[0], error(b'No "}"', 1), b"Error--I found no \\citation commands", *FOUND[1:],
              b"Ended: finished, warnings 0, errors 2, steps 0"]),
+    Job("no style: the databases aren't looked for", aux=b"\\citation{k}\n\\bibdata{e}\n", status=2,
+        log=[FOUND[0], b"Error--I found no \\bibstyle command", b"Ended: finished, warnings 0, errors 1, steps 0"]),
+    Job("messages of each phase", aux=b"\\citation{nope}\n\\bibdata{d,gone}\n\\bibstyle{s}\n", status=2,
+        database=b"@misc{k, title = {T}, title = {U}}", declared=DECLARED.replace(b"READ", b"nonsense\n\nREAD"),
+        messages=[b"Error--I couldn't open database file gone.bib", error(b"nonsense isn't a command", 1, b"s.bst"),
+                  b'Warning--I didn\'t find a database entry for "nope"'],
+        last=b"Ended: finished, warnings 1, errors 2, steps 0"),
     Job("an include, and the top file again", aux=b"\\@input{a.aux}\n" + AUX,
         others={b"a.aux": b"\\citation{k}\n\\@input{job.aux}\n"}, status=2,
         begins=[FOUND[0], b"A level-1 auxiliary file: a.aux",
@@ -248,6 +263,10 @@ JOBS = [
     Job("twenty files open", aux=b"\\@input{f1.aux}\n" + AUX, status=2, begins=[FOUND[0]],
         others={b"f%d.aux" % n: b"\\@input{f%d.aux}\n" % (n + 1) for n in range(1, 20)},
         has=[b"A level-19 auxiliary file: f19.aux", error(b"I couldn't open auxiliary file f20.aux", 1, b"f19.aux")]),
+    Job("the keys of twenty files that end with their inner files", b"FUNCTION {f} {cite$ write$ newline$} ITERATE {f}", status=2,
+        aux=b"\\@input{f1.aux}\n\\citation{k0}\n\\bibdata{d}\n\\bibstyle{s}\n", database=b"".join(b"@misc{k%d}" % n for n in range(20)),
+        others={b"f%d.aux" % n: b"\\@input{f%d.aux}\n\\citation{k%d}" % (n + 1, n) for n in range(1, 20)}, begins=[FOUND[0]],
+        bbl=b"".join(b"k%d\n" % n for n in range(19, -1, -1))),
     Job("a file too many open", aux=b"\\@input{f1.aux}\n" + AUX, end="limit files", status=3, begins=[FOUND[0]],
         others={b"f%d.aux" % n: b"\\@input{f%d.aux}\n" % (n + 1) for n in range(1, 21)},
         has=[b"A level-19 auxiliary file: f19.aux"], last=b"Ended: limit files, warnings 0, errors 0, steps 0"),

@@ -55,6 +55,13 @@ for name in search confined lint proved; do
     fi
 done
 
+# The languages that completion offers are those that the program names where it knows none of that name.
+begin languages_that_are_completed
+run_search -letters=nosuch job
+named=$(sed -n "s/.*-letters is \(.*\), not 'nosuch'.*/\1/p" "$folder/stderr" | tr -d ',' | tr ' ' '\n' | grep -vxE 'or|one|of|and' | LC_ALL=C sort | tr '\n' ' ')
+wants_completed "${named% }" bibtex-search -letters =
+end
+
 begin completion_of_values_and_jobs
 mkdir sub
 cp job.aux other.aux

@@ -83,7 +83,7 @@ end
 for words in '--line=30 job' --text=utf8; do
     begin "confined_option_first_$((passed + failed))"
     run_confined $words
-    wants_error_with 'the job is the first word, and options stand behind it'
+    wants_error_with 'the job is the first word, and options come after it'
     wants_clean
     end
 done

@@ -10,7 +10,7 @@ wants_explained() {
 Error--I couldn't open database file e.bib
     job.aux:3: \\bibdata{d,e}
                       ^
-    what to do: put the database beside the \`.aux\` file, or where \`bibtex-search\` looks for it: along BIBINPUTS and in TeX's folders. Is the name in \`\\bibliography\` right, and may you read the file?
+    what to do: correct the name in \`\\bibliography\`, or put the database beside the \`.aux\` file. It is looked for there, along BIBINPUTS and in TeX's folders; may you read the file?
 Error--nosuch is an unknown function--line 4 of file s.bst
     $2s.bst:4:   nosuch }
     ${3-}           ^
@@ -25,7 +25,7 @@ Error--I was expecting an =--line 3 of file d.bib
     $2d.bib:3:  nöte 1}
     ${3-}               ^
     in @misc{j}, which begins at $2d.bib:2
-    what to do: write \`name = value\`; is there a comma too many, or a brace too few above?
+    what to do: put an \`=\` after \`nöte\`
 Error--Repeated entry--line 4 of file d.bib
     $2d.bib:4: @misc{K, title = {C}}
     ${3-}                ^
@@ -34,15 +34,12 @@ Error--Repeated entry--line 4 of file d.bib
     what to do: remove one of the two
 Error--A bad cross reference--entry \"two\" refers to entry \"p\", which doesn't exist
     for @misc{two}, which begins at $2d.bib:5
-    what to do: add \`p\`, or move it behind \`two\`, or cite it
+    what to do: add \`p\`, or move it after \`two\`, or cite it
 Warning--I didn't find a database entry for \"nosuch\"
     job.aux:2: \\citation{two,nosuch,bare}
                              ^
     it may stand in e.bib, which wasn't found
     what to do: look for e.bib first
-Warning--I didn't find a database entry for \"p\"
-    $2d.bib:5: @misc{two, title = {D}, crossref = {p}}
-    it may stand in e.bib, which wasn't found
 Error--\"A\" is not an integer while executing + for entry k
     in {..} of FUNCTION {misc}, $2s.bst:3; called from misc, $2s.bst:3; ITERATE {call.type\$}, $2s.bst:7
     on the stack: 1, \"A\"
@@ -51,6 +48,7 @@ Error--\"A\" is not an integer while executing + for entry k
     what to do: push the operands in the order in which the function takes them; a field that may be missing goes through \`empty\$\` or \`missing\$\` first
 Warning--empty title in bare
     for @misc{bare}, which begins at $2d.bib:6
+(1 more key has no entry: it may stand in e.bib, which wasn't found)
 (1 more error is like \`Error--\"A\" is not an integer while executing + for entry k\` in line 3 of the style; for two)
 Ended: finished, warnings 4, errors 8, steps 36
 (There were 8 error messages)
@@ -407,7 +405,7 @@ done
 library=$(realpath -m "${BTX_LIBRARY:-$sources/crates/btx_c/out}")
 if there_is cargo 'the words of RULES' && [ -f "$library/libbtx_c.a" ]; then
     begin advice_is_that_of_rules
-    (cd "$sources/front" && BTX_LIBRARY=$library cargo build --quiet --release --offline --locked --example read_log --target-dir target) >built 2>&1 || complaints+=("$(cat built)")
+    BTX_LIBRARY=$library CARGO_TARGET_DIR=$sources/front/target "$sources/front/cargo" build --quiet --release --example read_log >built 2>&1 || complaints+=("$(cat built)")
     reader=$sources/front/target/release/examples/read_log
     python3 "$here/explanations.py" rules "$reader" >found || complaints+=("$(cat found)")
     python3 "$here/explanations.py" places "$reader" 300 >found || complaints+=("$(tail -n 20 found)")

@@ -115,14 +115,36 @@ done
 letters_job $'\xE9' author
 run_search -no-explain -letters=fr job
 wants_text job.bbl $'plain\n\xE9\n'
-says_of_letters "The list is made without -letters: a database isn't UTF-8."
+says_of_letters "The list is made without -letters: an entry or a string isn't UTF-8."
 letters_job $'é\x01' author
 run_search -no-explain -letters=fr job
-says_of_letters 'The list is made without -letters: the style or a database has control characters.'
+says_of_letters 'The list is made without -letters: the style, an entry or a string has control characters.'
 letters_job 'é' 'author write$ {#1} {} while$'
 run_search -no-explain -letters=fr -budget=1000 job
 wants_status 4
 says_of_letters "The list is made without -letters: the run didn't finish."
+end
+
+begin letters_of_other_entries_change_nothing
+letters_job 'Österreicher, Max' author
+printf '@misc{other, author = {\xE9\x01}}\n' >>d.bib
+run_search -no-explain -letters=de job
+wants_text job.bbl $'plain\nÖsterreicher, Max\n'
+says_of_letters
+letters_job 'Max' 'author purify$'
+printf '@misc{other, author = {Österreicher}}\n' >>d.bib
+run_search -no-explain -letters=de job
+wants_text job.bbl $'plain\nMax\n'
+says_of_letters
+end
+
+begin parents_named_by_strings_are_found
+printf '%s\n' '\citation{k}' '\bibdata{d}' '\bibstyle{s}' >job.aux
+printf '%s\n' '@string{q = "ö"} @string{p = {Mü} # q} @string{r = {Äpfel}}' '@misc{k, crossref = P, title = r}' '@misc{Müö, author = {Émile Zola}}' >d.bib
+printf '%s\n' 'ENTRY {author title}{}{}' 'FUNCTION {misc} {title missing$ {"-"} {title "u" change.case$} if$ write$ newline$ author #1 "{f.}" format.name$ write$ newline$}' READ 'ITERATE {call.type$}' >s.bst
+run_search -no-explain -letters=de job
+wants_text job.bbl $'ÄPFEL\nÉ.\n'
+says_of_letters
 end
 
 begin a_database_of_ascii_is_as_it_was

@@ -13,6 +13,12 @@ wants_line_of_output() {
     grep -qxF -- "$1" "$folder/stdout" || complaints+=("there is no line '$1' in $(printf '%q' "$(cat "$folder/stdout")")")
 }
 
+# The library that Python's package loads.
+library_for_python=
+for candidate in "$programs/libbtx.so.1" "$sources/library/out/libbtx.so.1"; do
+    [ -n "$library_for_python" ] || [ ! -e "$candidate" ] || library_for_python=$candidate
+done
+
 # write_clean: a style without a fault.
 write_clean() {
     cat >clean.bst <<'END'
@@ -97,14 +103,14 @@ write_clean
 sed -i 's/title empty.*/#1 write$ write$ newline$ }/' clean.bst
 run_lint clean.bst
 wants_status 2
-wants_line_of_output 'clean.bst: warnings: 1 place; 1 more behind it'
+wants_line_of_output 'clean.bst: warnings: 1 place; 1 more after it'
 run_lint --json clean.bst
 grep -qF '], "behind": 1, "hints"' "$folder/stdout" || complaints+=("printed is $(cat "$folder/stdout")")
 end
 
 # After a fault the stack is as the language leaves it: without an entry `cite$` pushes nothing, and `swap$` of one literal puts it back.
 begin lint_of_what_stands_behind_a_fault
-for row in 'cite$|1 place' 'cite$ pop$|1 place; 1 more behind it' '"a" swap$ pop$|1 place'; do
+for row in 'cite$|1 place' 'cite$ pop$|1 place; 1 more after it' '"a" swap$ pop$|1 place'; do
     printf 'ENTRY {title} {} {}\nREAD\nFUNCTION {f} {%s}\nEXECUTE {f}\n' "${row%|*}" >fault.bst
     run_lint fault.bst
     wants_status 2
@@ -726,3 +732,59 @@ begin lint_of_many_fields
 (ulimit -v 400000; LD_LIBRARY_PATH=$libraries exec timeout -k 5 "$seconds" "$room/bibtex-lint" --line --entry fields.bst) </dev/null >"$folder/stdout" 2>"$folder/stderr"
 grep -q '^fields.bst: clean' "$folder/stdout" || complaints+=("printed is $(cat "$folder/stdout" "$folder/stderr")")
 end
+
+# Databases: with Python's package, without it, and what isn't imported.
+write_base() {
+    printf '%s\n' '@misc{a, title = {A}, pages = {1-2}}' '@misc{a, title = {B}}' '@misc{b, note 1}' >refs.bib
+}
+
+# without_python WORD..: runs bibtex-lint where there is no Python.
+without_python() {
+    status=0
+    PATH=$folder/empty LD_LIBRARY_PATH=$libraries "$room/bibtex-lint" "$@" </dev/null >"$folder/stdout" 2>"$folder/stderr" || status=$?
+}
+
+begin lint_of_a_database_without_the_package
+write_base
+without_python refs.bib
+wants_status 2
+wants_output 'refs.bib:3: error: I was expecting an = [mistake]
+'
+wants_error_like "^bibtex-lint: only what a run would log is shown: Python's package btx, which examines more, isn't there$"
+without_python --json refs.bib
+wants_status 1
+without_python nosuch.bib
+wants_status 1
+wants_error_like '^bibtex-lint: nosuch.bib: there is no such file'
+for words in '--line refs.bib' '--steps=9 refs.bib' 'refs.bib clean'; do
+    run_lint $words
+    wants_status 1
+done
+end
+
+begin lint_of_a_database_imports_nothing_from_its_folder
+write_base
+mkdir btx
+echo 'open("taken", "w")' | tee btx/__init__.py >runpy.py
+PYTHONPATH= run_lint refs.bib
+wants_status 2
+[ ! -e taken ] || complaints+=('what is in the folder was imported')
+end
+
+if [ -n "$library_for_python" ]; then
+    begin lint_of_a_database_with_the_package
+    write_base
+    PYTHONPATH=$sources/python BTX_LIBRARY=$library_for_python PYTHONDONTWRITEBYTECODE=1 run_lint refs.bib
+    wants_status 2
+    wants_error ''
+    for line in 'refs.bib:1:31: info: a range of pages with one hyphen: write `--` (a) [one-hyphen]' 'refs.bib:2:7: error: Repeated entry (a) [repeated-key]' \
+        'refs.bib:3:15: error: I was expecting an = (b) [mistake]'; do
+        wants_line_of_output "$line"
+    done
+    PYTHONPATH=$sources/python BTX_LIBRARY=$library_for_python PYTHONDONTWRITEBYTECODE=1 run_lint --json refs.bib
+    wants_status 2
+    wants_words "$folder/stdout" '"name": "one-hyphen"'
+    end
+else
+    echo "left out: databases by Python's package (without libbtx.so.1 beside the programs or in library/out)"
+fi

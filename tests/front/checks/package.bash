@@ -10,6 +10,19 @@ wants_text other $'other\n'
 grep -q '^\.TH BIBTEX' there/share/man/man1/bibtex-proved.1 || complaints+=('the page is not there')
 end
 
+# What contrib/setup installs of crates are those of front/Cargo.toml, at the versions of the lock file; and it installs nothing where it is only asked.
+begin crates_that_are_set_up
+while read -r crate; do
+    echo "$crate-$(grep -A 1 "^name = \"$crate\"" "$sources/front/Cargo.lock" | sed -n 's/^version = "\(.*\)"/\1/p')"
+done < <(sed -n '/^\[dependencies\]/,/^\[lints/s/^\([a-z_-]*\) = .*/\1/p' "$sources/front/Cargo.toml"; echo serde_derive) | LC_ALL=C sort >wanted
+sed -n 's,^\([^ ]*\)/ .*,\1,p' "$sources/contrib/setup" | LC_ALL=C sort >found
+cmp -s wanted found || complaints+=("installed are $(diff wanted found)")
+status=0
+BTX_CRATES=/nonexistent "$sources/contrib/setup" --dry-run build >"$folder/stdout" 2>"$folder/stderr" || status=$?
+wants_status 1
+grep -qE 'would be: .*apt-get install .* librust-libc-dev .*librust-unicode-width-dev$' "$folder/stdout" || complaints+=("it says $(cat "$folder/stdout")")
+end
+
 begin links_of_the_sources
 mkdir sources
 (cd "$sources" && cp --parents README.md CHANGELOG.md docs/*.md contrib/*.md examples/*.md examples/*/*.md "$folder/work/sources" && cp -r examples "$folder/work/sources")

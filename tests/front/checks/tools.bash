@@ -105,6 +105,31 @@ if has pdflatex && has bibtex; then
         fi
     done
 
+    if there_is emacs AUCTeX && emacs --batch --eval '(require (quote tex-site))' >/dev/null 2>&1; then
+        # The lines of contrib/README.md, with the command that AUCTeX 12 has, and with that of AUCTeX 13, whose file is in another folder.
+        for command in 'bibtex %s' 'bibtex %(O?aux)'; do
+            begin "auctex_by_the_lines_for_${command//[^a-z0-9]/_}"
+            write_paper
+            mkdir -p document/build bin
+            ln -sf "$search" bin/bibtex-search
+            awk "/^    \\(with-eval-after-load 'tex/ { on = 1 } on && !NF { exit } on" "$sources/contrib/README.md" >lines.el
+            (cd document && pdflatex -interaction=batchmode paper </dev/null >/dev/null 2>&1) || true
+            case $command in *aux*) (cd document && mv paper.aux build/) ;; esac
+            (cd document && PATH=$PWD/../bin:$PATH emacs --batch --eval "(progn
+                (require (quote tex-site)) (require (quote tex))
+                (setcar (cdr (assoc \"BibTeX\" TeX-command-list)) \"$command\")
+                (add-to-list (quote TeX-expand-list) (list \"%(O?aux)\" (lambda () \"build/paper.aux\")))
+                (load (expand-file-name \"../lines.el\"))
+                (require (quote latex)) (find-file \"paper.tex\") (latex-mode) (setq TeX-show-compilation nil TeX-process-asynchronous nil)
+                (TeX-command \"BibTeX\" (quote TeX-master-file))
+                (princ (nth 1 (assoc \"BibTeX\" TeX-command-list))))" >../said 2>&1 </dev/null) || true
+            grep -qF "bibtex-search${command#bibtex}" said || complaints+=("the command is $(tail -n 3 said)")
+            case $command in *aux*) file=document/build/paper ;; *) file=document/paper ;; esac
+            grep -q '(proved)' "$file.blg" 2>/dev/null && [ -s "$file.bbl" ] || complaints+=("there is no list: $(tail -n 3 said)")
+            end
+        done
+    fi
+
     if there_is lyx LyX; then
         begin lyx
         write_paper
