@@ -1,6 +1,7 @@
-// Runs the jobs and reads the databases of standard input, each a line of JSON, and writes what comes of each: for compare.py.
+// Runs the jobs and reads the databases of standard input, each a line of JSON, and writes what comes of each: for compare.py and letters_check.py.
 import { createInterface } from 'node:readline';
 import { library } from './npm/index.js';
+import { runWithLetters } from './npm/letters.js';
 
 const coded = (bytes) => Buffer.from(bytes).toString('base64');
 const decoded = (text) => Buffer.from(text, 'base64');
@@ -12,6 +13,14 @@ function ran({ files, options }) {
   return { list: coded(list), log: coded(log), ...report, events: events.map(({ at, length, entry, kind, met }) => [at, length, entry, kind, met]) };
 }
 
+// A job with the letters of a language.
+function ranWithLetters({ files, letters, text, budget }) {
+  const known = new Map(files.map(([name, content]) => [name, decoded(content)]));
+  const { list, log, events, report, notes } = runWithLetters(library(), 'job', known, { letters, budget, text: text ?? 'auto' });
+  if (events.some(({ at, length }, number) => at + length + 1 !== (events[number + 1]?.at ?? log.length))) throw new Error("the events aren't the lines of the log");
+  return { list: coded(list), log: coded(log), status: report.status, notes };
+}
+
 function read({ database, strings }) {
   const records = library().records(decoded(database), { file: 'd.bib', strings });
   return { records: records.map(({ kind, isWhole, start, end, line, name, text }) => [kind, isWhole, start, end, line, coded(name), coded(text)]) };
@@ -19,5 +28,6 @@ function read({ database, strings }) {
 
 for await (const line of createInterface({ input: process.stdin })) {
   const asked = JSON.parse(line);
-  console.log(JSON.stringify(asked.files ? ran(asked) : read(asked)));
+  const answer = asked.letters ? ranWithLetters : asked.files ? ran : read;
+  console.log(JSON.stringify(answer(asked)));
 }

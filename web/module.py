@@ -6,7 +6,7 @@
 The kit hands the module to the clang of its toolchain. So this build is given a toolchain folder with a clang that keeps the module and goes no further. The module is
 taken only if the build said `logic=proved` before. It begins with what `make library` kept, and takes a minute then.
 
-The kit is asked for its verdict for 64-bit WebAssembly too. It proves the library for that machine, says so, and refuses to compile it."""
+The kit is asked for its verdict for 64-bit WebAssembly too: it proves the library for that machine and says so. It isn't asked to compile it."""
 
 import importlib.machinery
 import importlib.util
@@ -57,7 +57,7 @@ def verdict_in(printed, target=None):
 
 
 class Build:
-    """The kit's build of the library: its words, and where its proofs are kept."""
+    """The kit's build of the library: its words, and where what it proves is kept."""
 
     def __init__(self, room, folder=ROOT / "crates/btx_c", root=ROOT):
         self.kit, self.room, self.folder = load_kit(), room, folder
@@ -65,22 +65,29 @@ class Build:
         self.words = self.kit.Crate(str(folder), str(root), {}).words(["--jobs", "2"])
         self.module = os.path.join(room, "module.bc")
 
-    def printed(self, *words):
-        words = [*self.words, "--incremental", "out/incremental", *words]
-        words += ["--toolchain", toolchain(self.kit, tempfile.mkdtemp(dir=self.room), self.module), "--backend", "llvm", "-o", os.path.join(self.room, "library.a")]
-        return subprocess.run([self.kit.rtlib.RATTLE, "build", *words], cwd=self.folder, stdin=subprocess.DEVNULL, stdout=subprocess.PIPE,
-                              stderr=subprocess.STDOUT, text=True, errors="replace").stdout
+    def printed(self, command, *words):
+        """What the kit prints that proves the library by this command."""
+        words = [command, *self.words, "--incremental", "out/incremental", *words]
+        return subprocess.run([self.kit.rtlib.RATTLE, *words], cwd=self.folder, stdin=subprocess.DEVNULL, stdout=subprocess.PIPE, stderr=subprocess.STDOUT, text=True, errors="replace").stdout
+
+    def make_module(self):
+        """Has the library proved and its module made."""
+        return self.printed("build", "--toolchain", toolchain(self.kit, self.room, self.module), "--backend", "llvm", "-o", os.path.join(self.room, "library.a"))
+
+    def check_for(self, target):
+        """Has the library proved for another machine."""
+        return self.printed("check", "--target", target)
 
 
 def proved(room, into):
     """Takes the module of the proved library; answers the kit's verdicts on it, for this machine and for WebAssembly."""
     build = Build(room)
-    printed = build.printed()
+    printed = build.make_module()
     verdict = verdict_in(printed)
     if not verdict or not os.path.exists(build.module):
         sys.exit(f"{printed[-3000:]}web: the library isn't proved, so there is no module of it")
     shutil.copyfile(build.module, into)
-    printed = build.printed("--target", WASM)
+    printed = build.check_for(WASM)
     for_wasm = verdict_in(printed, WASM)
     if not for_wasm:
         print(f"{printed[-1000:]}left out: the verdict for {WASM} (this kit gives none)", file=sys.stderr)

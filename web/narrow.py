@@ -96,10 +96,15 @@ def is_access(line, what):
     return what in ("load", "store") and (not re.search(r"\bptr\b", accessed) or (what == "load" and accessed == "ptr"))
 
 
+def hides_size(line):
+    """Whether a line may hide a pointer's size. Each form that may has one of these signs; most lines have none, and are passed over so in less time."""
+    return ("(" in line or "<" in line or '"' in line or line.startswith("%")) and HIDDEN.search(TEXT.sub("", line)) is not None
+
+
 def narrowed(lines):
     """The lines of the module with addresses of 32 bits."""
     for number, line in enumerate(lines):
-        if HIDDEN.search(TEXT.sub("", line)) or line.startswith("\t"):
+        if hides_size(line) or line.startswith("\t"):
             raise Unknown(line)
         if line.startswith("target datalayout"):
             yield f'target datalayout = "{LAYOUT}"\n'
@@ -109,7 +114,7 @@ def narrowed(lines):
             yield globally(line)
         elif line.startswith("attributes"):
             yield OF_PROCESSOR.sub("", line)
-        elif line.startswith("  ") and re.search(r"\bptr\b|ptrtoint|inttoptr", line):
+        elif line.startswith("  ") and "ptr" in line and re.search(r"\bptr\b|ptrtoint|inttoptr", line):
             yield instruction(line, number)
         else:
             yield line

@@ -99,26 +99,6 @@ answer rattle_realloc(void *at, u64 old, u64 bytes, u64 align) {
     return answer_of(more);
 }
 
-void *memcpy(void *to, const void *from, size count) {
-    return __builtin_memcpy(to, from, count);
-}
-
-void *memmove(void *to, const void *from, size count) {
-    return __builtin_memmove(to, from, count);
-}
-
-void *memset(void *to, int byte, size count) {
-    return __builtin_memset(to, byte, count);
-}
-
-int memcmp(const void *one, const void *other, size count) {
-    const unsigned char *a = one, *b = other;
-    for (; count; a++, b++, count--)
-        if (*a != *b)
-            return *a - *b;
-    return 0;
-}
-
 typedef unsigned __int128 wide;
 
 /* The product of two integers of 128 bits, by their halves. */

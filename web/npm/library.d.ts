@@ -131,6 +131,8 @@ export interface Reading {
 export interface Place {
   /** The line of the style, from 1; null where it isn't known. */
   line: number | null;
+  /** The number of the token in its braces, from 0, where a function in braces counts once. */
+  token: number;
   function: string;
   isInBraces: boolean;
 }
@@ -181,6 +183,8 @@ export class Library {
   /** Bounds the memory of a call, in bytes, from 0 to 2^53 - 1. */
   limitMemory(bytes: number): void;
   run(job: Content, find: Files, options?: Options): Result;
+  /** The files that a job asks for, in order: each one's name, its name's bytes, and what `find` gives for it; null where that is nothing. */
+  filesOf(job: Content, find: Files): { name: string; bytes: Uint8Array; content: Content | null }[];
   /** A database as data, whatever a document cites. Throws a RangeError for one of more than 2,147,483,647 bytes. */
   read(text: Content, given?: Reading): Database;
   records(text: Content, given?: Reading): DatabaseRecord[];
@@ -192,7 +196,7 @@ export const DEFAULTS: Readonly<Required<Omit<Options, 'mostList' | 'mostLog'>>>
 export const TEX_LIVE: Readonly<Required<Omit<Options, 'mostList' | 'mostLog'>>>;
 export function bytesOf(text: Content, what?: string): Uint8Array;
 /** The options with those that aren't given. */
-export function optionsOf(given?: Options): Required<Options>;
+export function optionsOf(given?: Options): Required<Options> & { letters: 'no' };
 export function textOf(bytes: Uint8Array): string;
 export function messagesOf(log: Uint8Array, events: Event[]): Message[];
 /** What the prover said of the library of which a compiled module was made. */

@@ -107,7 +107,7 @@ function refuseOutsideSteps(name, value) {
 /** The options of a call: those that it names, and the others as `TEX_LIVE` has them; undefined is not given. Throws an OptionRefused for a value out of its range. */
 export function optionsOf(given = {}) {
   if (typeof given !== 'object' || given === null) throw new TypeError(`the options have to be an object, not ${shown(given)}`);
-  const all = { ...TEX_LIVE, mostList: MOST_OUTPUT, mostLog: MOST_OUTPUT };
+  const all = { ...TEX_LIVE, letters: 'no', mostList: MOST_OUTPUT, mostLog: MOST_OUTPUT };
   const options = { ...all };
   for (const [name, value] of Object.entries(given)) {
     if (!Object.hasOwn(all, name)) throw new OptionRefused(name, value, `there is no such option; there are ${Object.keys(all).join(', ')}`);
@@ -116,6 +116,7 @@ export function optionsOf(given = {}) {
   for (const [name, range] of Object.entries(RANGES)) refuseOutside(name, options[name], range);
   refuseOutsideSteps('budget', options.budget);
   if (options.text !== 'bytes' && options.text !== 'utf8') throw new OptionRefused('text', options.text, "'bytes' or 'utf8'");
+  if (options.letters !== 'no') throw new OptionRefused('letters', options.letters, "'no' in a call of the library itself: `run` of the package has the others");
   return options;
 }
 
@@ -209,10 +210,10 @@ function recordsOf(notes, head) {
   return records;
 }
 
-// A place in a style: its line, whether it stands in braces inside of the function that is named, and the function's name.
+// A place in a style: its line, the token's number in its braces, whether these stand inside of the function that is named, and the function's name.
 function placeOf(text) {
-  const [how, line, , , ...name] = text.split(' ');
-  return { line: Number(line) || null, function: name.join(' '), isInBraces: how === 'of' };
+  const [how, line, , token, ...name] = text.split(' ');
+  return { line: Number(line) || null, token: Number(token), function: name.join(' '), isInBraces: how === 'of' };
 }
 
 function warningOf(record) {
@@ -347,6 +348,18 @@ export class Library {
         from = to + 1;
       }
     }
+  }
+
+  /** The files that a job asks for, in order: each one's name, its name's bytes, and what `find` gives for it; null where that is nothing. */
+  filesOf(job, find) {
+    const [name, look, found] = [nameOf(job), finderOf(find), []];
+    const noted = (text, bytes) => {
+      const content = look(text, bytes) ?? null;
+      found.push({ name: text, bytes, content });
+      return content;
+    };
+    this.#alone(() => this.#gather(this.#put(name), noted));
+    return found;
   }
 
   #options(options) {

@@ -25,6 +25,8 @@ export class Browser {
   #waiting = new Map();
   #number = 0;
   #kept = '';
+  // What is told of each event that comes by itself.
+  #listeners = [];
   #room = mkdtempSync(path.join(tmpdir(), 'btx-browser-'));
 
   constructor() {
@@ -37,7 +39,8 @@ export class Browser {
     const parts = (this.#kept + text).split('\0');
     this.#kept = parts.pop();
     for (const part of parts) {
-      const { id, result, error } = JSON.parse(part);
+      const { id, result, error, method, params, sessionId } = JSON.parse(part);
+      if (method) this.#listeners.forEach((listener) => listener(method, params, sessionId));
       if (!this.#waiting.has(id)) continue;
       const { resolve, reject } = this.#waiting.get(id);
       this.#waiting.delete(id);
@@ -52,11 +55,23 @@ export class Browser {
     return new Promise((resolve, reject) => { this.#waiting.set(id, { resolve, reject }); });
   }
 
+  /** The workers of a page that live, from now on: a set of their sessions. */
+  async workersOf(page) {
+    const workers = new Set();
+    this.#listeners.push((method, { sessionId, targetInfo } = {}, of = undefined) => {
+      if (of !== page.session) return;
+      if (method === 'Target.attachedToTarget' && targetInfo.type === 'worker') workers.add(sessionId);
+      if (method === 'Target.detachedFromTarget') workers.delete(sessionId);
+    });
+    await page.send('Target.setAutoAttach', { autoAttach: true, waitForDebuggerOnStart: false, flatten: true });
+    return workers;
+  }
+
   /** A new page at an address. */
   async open(url) {
     const { targetId } = await this.send('Target.createTarget', { url: 'about:blank' });
     const { sessionId } = await this.send('Target.attachToTarget', { targetId, flatten: true });
-    const page = new Page((method, params) => this.send(method, params, sessionId), () => this.send('Target.closeTarget', { targetId }));
+    const page = new Page((method, params) => this.send(method, params, sessionId), () => this.send('Target.closeTarget', { targetId }), sessionId);
     await page.send('Page.enable');
     await page.send('Page.navigate', { url });
     return page;
@@ -84,9 +99,8 @@ export class Browser {
 }
 
 export class Page {
-  constructor(send, close) {
-    this.send = send;
-    this.close = close;
+  constructor(send, close, session) {
+    Object.assign(this, { send, close, session });
   }
 
   /** What an expression gives in the page. */
@@ -107,7 +121,7 @@ export class Page {
   }
 
   async press(key, modifiers = 0) {
-    const windowsVirtualKeyCode = { Tab: 9, Enter: 13, Escape: 27, ArrowRight: 39, ArrowLeft: 37, End: 35, Home: 36 }[key];
+    const windowsVirtualKeyCode = { Tab: 9, Enter: 13, Escape: 27, ArrowRight: 39, ArrowLeft: 37, End: 35, Home: 36, z: 90 }[key];
     // (a button is pressed by the text of the key)
     const text = key === 'Enter' ? '\r' : undefined;
     for (const type of ['keyDown', 'keyUp']) await this.send('Input.dispatchKeyEvent', { type, key, code: key, windowsVirtualKeyCode, modifiers, text });

@@ -107,7 +107,7 @@ def script_of(module):
         f"const FIRST_JOB = {in_script(first_job())};",
         f"const ADVICE = [{rows}];",
         *streamed(module),
-        (HERE / "latex.js").read_text(encoding="utf8").replace("/** ", "// ").replace(" */", ""),
+        *((HERE / name).read_text(encoding="utf8").replace("/** ", "// ").replace(" */", "") for name in ("latex.js", "tokens.js")),
         (HERE / "page.js").read_text(encoding="utf8").replace("\nbegin();\n", BEGIN),
     ])
 

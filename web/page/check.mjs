@@ -179,7 +179,7 @@ async function places(page) {
   check('and what to do', rows[0][3].length > 20);
   check('its line is marked', (await page.ask("[...document.querySelectorAll('[data-role=database] .gutter .error')].map((it) => it.textContent).join()")) === '3');
   await page.ask("document.querySelector('#messages .place').click()");
-  check('a click on the place goes there', (await page.ask("(({ value, selectionStart, selectionEnd }) => value.slice(selectionStart, selectionEnd))(document.getElementById('database'))")) === '  note = {x}}');
+  check('a click on the place goes there', (await page.ask("(({ value, selectionStart }) => value.slice(0, selectionStart))(document.getElementById('database'))")) === '@misc{a,\n  title = {A}\n  ');
   check('and the text has the keyboard', await page.ask("document.activeElement.id === 'database'"));
   await put(page, { style: SHOW.replace('title write$', 'title nosuch'), database: '@misc{a}' });
   check('a mistake of a style has its place', has(await messages(page), 'error', 'nosuch is an unknown function', 's.bst:2'));
@@ -187,6 +187,121 @@ async function places(page) {
   check('a mistake of an .aux file has its place', has(await messages(page), 'error', 'White space in argument', 'a.aux:4'));
   await put(page, { style: SHOW.replace('title write$', 'title #1 + pop$'), database: '@misc{a}' });
   check('an error of the execution names function and entry', has(await messages(page), 'error', 'is not an integer'));
+}
+
+// The marks in a pane's text: each one's kind and words.
+const marksIn = (page, role) => page.ask(`[...document.querySelectorAll('[data-role=${role}] .marks mark')].map((it) => it.className + ' ' + it.textContent).join(', ')`);
+const selected = (page, role) => page.ask(`(({ value, selectionStart, selectionEnd }) => value.slice(selectionStart, selectionEnd))(document.getElementById('${role}'))`);
+// Where a mark of a pane, the first one or another, is from where its line and column are, in pixels; the line from 1 and the column from 0, of letters that are as wide as an x.
+const offsetOf = (page, role, line, column, number = 0) => page.ask(`(() => {
+  const text = document.getElementById('${role}');
+  const style = getComputedStyle(text);
+  const pen = document.createElement('canvas').getContext('2d');
+  pen.font = style.font;
+  const [box, own] = [text.getBoundingClientRect(), document.querySelectorAll('[data-role=${role}] .marks mark')[${number}].getBoundingClientRect()];
+  const left = box.left + parseFloat(style.paddingLeft) + ${column} * pen.measureText('x').width - text.scrollLeft;
+  const top = box.top + parseFloat(style.paddingTop) + ${line - 1} * parseFloat(style.lineHeight) - text.scrollTop;
+  return [own.left - left, own.top + own.height / 2 - (top + parseFloat(style.lineHeight) / 2)];
+})()`);
+const isNear = (offsets) => offsets.every((it) => Math.abs(it) < 2);
+
+// A message is marked in the text where it was met.
+async function marks(page) {
+  await put(page, { database: '@misc{a,\n  title = {A}\n  note = {x}}\n' });
+  check('a mistake of a database is marked where it was met', (await marksIn(page, 'database')) === 'error note');
+  check('and the mark is behind its words', isNear(await offsetOf(page, 'database', 3, 2)));
+  await page.ask("document.querySelector('#messages .place').click()");
+  check('which a click selects', (await selected(page, 'database')) === 'note');
+  await put(page, { database: '% ä𝒜é\n@misc{a, title = {Ä𝒜} # addison # {ß} # smith}\n' });
+  check('so are strings, after letters of several bytes', (await marksIn(page, 'database')) === 'warning addison, warning smith');
+  await put(page, { database: '% ä𝒜é\n@misc{a,\n  title = {Ä𝒜}\n  note = {x}}\n' });
+  check('and what was met after such letters', (await marksIn(page, 'database')) === 'error note');
+  await put(page, { document: '\\cite{a}% \\cite{x}\n\\citep[p.~3]{gone,\n  far}\n\\bibliography{d}\n\\bibliographystyle{s}\n', name: 'paper.tex', database: '@misc{a, title = {T}}' });
+  check('and citations', (await marksIn(page, 'document')) === 'warning gone, warning far' && isNear(await offsetOf(page, 'document', 2, 13)));
+  await put(page, { document: `${AUX}\\citation{x y}\n`, database: '@misc{a}' });
+  check('and what is in the braces of a line of an .aux file', (await marksIn(page, 'document')) === 'error x y');
+  await put(page, { style: SHOW.replace('title write$', 'title nosuch write$'), database: '@misc{a}' });
+  check('and a name of a style', (await marksIn(page, 'style')).split(', ').includes('error nosuch'));
+  await put(page, { style: SHOW.replace('FUNCTION {misc} {', "FUNCTION {misc} {title empty$ {skip$} {title write$} if$ title #1 = {title write$} 'skip$ if$ "), database: '@misc{a, title={T}}' });
+  check('and tokens at which the style may go wrong', (await marksIn(page, 'style')).startsWith('warning =, warning write$'));
+  const line = await page.ask("document.getElementById('style').value.split('\\n')[1]");
+  check('the one that is meant, where its line has several', isNear(await offsetOf(page, 'style', 2, line.indexOf(' = ') + 1)) && isNear(await offsetOf(page, 'style', 2, line.lastIndexOf('write$'), 1)));
+  await page.ask("document.querySelector('#panel-verdict .place').click()");
+  check('which a click selects, too', (await selected(page, 'style')) === '=');
+  await put(page, { style: `${SHOW}EXECUTE {= \n`, database: '@misc{a, title={T}}' });
+  await page.ask("document.querySelector('#messages .place').click()");
+  check('where only a line is known, that is selected', /^EXECUTE|^$/.test(await selected(page, 'style')) && (await page.ask("document.querySelector('[data-role=style] .gutter .error') !== null")));
+  const long = `@misc{a, title = {T}}\n${'% x\n'.repeat(500)}@misc{a, title = {T}}\n`;
+  await put(page, { database: long });
+  await page.ask("document.querySelector('#messages .place').click()");
+  check('a place far below is gone to', await page.until("document.getElementById('database').scrollTop > 1000 && document.querySelector('[data-role=database] .marks mark') !== null"));
+  check('and its mark is there', await page.ask("new Promise((done) => requestAnimationFrame(() => done(document.querySelector('[data-role=database] .gutter .error')?.textContent)))") === '502' && isNear(await offsetOf(page, 'database', 502, 6)));
+  check('of the lines those are drawn that are seen', (await page.ask("document.querySelector('[data-role=database] .gutter').textContent.split('\\n').length")) < 200);
+  await page.ask("(() => { const text = document.getElementById('database'); text.value = 'x' + text.value; text.dispatchEvent(new Event('input')); })()");
+  check('an edit takes the marks away until the next run', (await marksIn(page, 'database')) === '' && (await page.ask("document.querySelector('[data-role=database] .gutter .error')?.textContent")) === '502');
+  await page.until(ENDED);
+}
+
+// Whether text is read by letters.
+async function letters(page) {
+  await put(page, { style: SHOW.replace('title write$', 'title text.length$ int.to.str$ write$'), database: '@misc{a, title = {é}}' });
+  const length = async () => (await list(page)).trim().split('\n').pop();
+  check('text is read by bytes', (await length()) === '2');
+  const toggle = async () => {
+    await page.ask("document.getElementById('status').textContent = ''; document.getElementById('utf8').click()");
+    await page.until(ENDED);
+  };
+  await toggle();
+  check('and by letters where that is asked for', (await length()) === '1');
+  await toggle();
+  check('and by bytes again', (await length()) === '2');
+}
+
+// Messages of a database that isn't shown, and strings that look like entries.
+async function databases(page) {
+  await put(page, { document: '\\citation{*}\n\\bibdata{d,e}\n\\bibstyle{s}\n', database: '@misc{a, title = {A}}' });
+  await page.ask("addFile('e.bib', '% another\\n@misc{b,\\n  title = {B}\\n  note = {x}}\\n'); document.getElementById('run').click()");
+  await page.until(ENDED);
+  await page.ask("(() => { const which = document.getElementById('database-which'); which.value = 0; which.dispatchEvent(new Event('change')); })()");
+  await page.until(ENDED);
+  await page.ask("document.getElementById('database').value += '% an edit'; document.getElementById('run').click()");
+  await page.until(ENDED);
+  check('a message of a database that is not shown has its place', has(await messages(page), 'error', 'e.bib:4'));
+  await page.ask("document.getElementById('database').value += ', and one'; [...document.querySelectorAll('#messages .place')].find((it) => it.textContent === 'e.bib:4').click()");
+  check('a click on it shows that database, and the place', (await page.ask("document.getElementById('database-name').value")) === 'e.bib' && (await selected(page, 'database')) === 'note');
+  check('with its own marks', (await marksIn(page, 'database')) === 'error note' && (await page.ask("document.getElementById('database-which').value")) === '1');
+  await page.ask("(() => { const which = document.getElementById('database-which'); which.value = 0; which.dispatchEvent(new Event('change')); })()");
+  check('and the other one keeps its text', (await page.ask("document.getElementById('database').value")) === '@misc{a, title = {A}}% an edit, and one' && (await marksIn(page, 'database')) === '');
+  await page.until(ENDED);
+  await page.ask("(() => { const which = document.getElementById('database-which'); which.value = 1; which.dispatchEvent(new Event('change')); document.querySelector('[data-role=database] .remove').click(); })()");
+  await page.until(ENDED);
+  const strings = ['@String{gone = {x}}', '@STRING(gone = {x})', '@Preamble{gone}', '@Comment{gone, x}'];
+  for (const item of strings) {
+    await put(page, { document: AUX.replace('*', 'gone'), database: `${item}\n@misc{a, title = {A}}\n` });
+    check(`${item.slice(0, 8)} is no entry`, has(await messages(page), 'warning', 'entry for "gone"', 'a.aux:1') && !has(await messages(page), 'entry for "gone"', 'd.bib'));
+  }
+}
+
+// Whether a run that is stopped is no longer there.
+async function stops(browser) {
+  const page = await browser.open(pathToFileURL(PAGE).href);
+  await page.until(ENDED);
+  const workers = await browser.workersOf(page);
+  const endless = 'ENTRY {}{}{}\nFUNCTION {f} {{#1} {skip$} while$}\nREAD\nEXECUTE {f}\n';
+  await page.ask(`document.getElementById('budget').value = '9999999999999'; document.getElementById('document').value = ${JSON.stringify(AUX)}; document.getElementById('document-name').value = 'a.aux';
+    document.getElementById('database-name').value = 'd.bib'; document.getElementById('style').value = ${JSON.stringify(endless)}; document.getElementById('style-name').value = 's.bst'`);
+  const soon = async (is) => {
+    for (const end = Date.now() + 10_000; !is() && Date.now() < end;) await new Promise((done) => { setTimeout(done, 20); });
+    return is();
+  };
+  for (const [what, stop] of [['Stop', "document.getElementById('stop').click()"], ['a new run', "document.getElementById('style').value = 'READ'; document.getElementById('run').click()"]]) {
+    await page.ask("document.getElementById('run').click()");
+    check(`an endless style has its worker, before ${what}`, await soon(() => workers.size === 1));
+    const [before] = workers;
+    await page.ask(stop);
+    check(`${what} ends the worker of an endless style`, await soon(() => !workers.has(before)));
+  }
+  await page.close();
 }
 
 async function verdicts(page) {
@@ -260,23 +375,59 @@ async function hostile(page) {
   check('and requests', await page.ask("fetch('https://example.invalid/').then(() => false, () => true)"));
 }
 
-async function sizes(page) {
-  const entries = Array.from({ length: 9000 }, (_, number) => `@misc{k${number},\n  title = {A title of some length, number ${number}, for a database of one megabyte and more}}\n`);
-  await page.ask(`window.big = ${JSON.stringify(entries.join(''))}`);
-  const timeOf = (text) => page.ask(`(async () => {
+// How many times slower the page is than it would be alone on the machine: a long loop beside the quickest of many short ones, which nothing else comes into.
+const SLOWNESS = `(() => {
+  const loop = (count) => {
     const began = performance.now();
-    document.getElementById('database').value = ${text};
-    document.getElementById('database').dispatchEvent(new Event('input'));
-    document.getElementById('run').click();
-    while (!/^Ended/.test(document.getElementById('status').textContent)) await new Promise((done) => setTimeout(done, 20));
+    for (let sum = 0, turn = 0; turn < count; turn++) sum = (sum * 31 + turn) % 1000003;
     return performance.now() - began;
+  };
+  loop(1e6);
+  const short = Math.min(...Array.from({ length: 60 }, () => loop(2e5)));
+  return Math.max(1, loop(2e7) / (100 * short));
+})()`;
+// Milliseconds from a paste to its result, of a megabyte, on a machine that does nothing else.
+const MOST_PASTE = 1000;
+
+async function sizes(page) {
+  const entries = Array.from({ length: 9800 }, (_, number) => `@misc{k${number},\n  title = {A title of some length, number ${number}, for a database of one megabyte and more}}\n`);
+  await page.ask(`window.big = ${JSON.stringify(entries.join(''))}`);
+  const paste = () => page.ask(`(async () => {
+    const pasted = new DataTransfer();
+    pasted.setData('text/plain', window.big);
+    const [text, slow] = [document.getElementById('database'), ${SLOWNESS}];
+    text.select();
+    document.getElementById('status').textContent = '';
+    const began = performance.now();
+    text.dispatchEvent(new ClipboardEvent('paste', { clipboardData: pasted, bubbles: true, cancelable: true }));
+    while (!/^Ended/.test(document.getElementById('status').textContent)) await new Promise((done) => setTimeout(done, 5));
+    await new Promise((done) => requestAnimationFrame(() => setTimeout(done)));
+    return [performance.now() - began, Math.max(slow, ${SLOWNESS})];
   })()`);
-  // (a job of one entry says how busy the machine is)
-  const small = await timeOf("'@misc{k}'");
-  const took = await timeOf('window.big');
-  const most = Math.max(5000, 40 * small);
-  check(`a database of ${Math.round(entries.join('').length / 1e5) / 10} MB runs within ${Math.round(most)} ms (${Math.round(took)} ms; one of an entry ${Math.round(small)} ms)`, took < most);
-  check('all its entries are there', (await page.ask(text('status'))).includes('Errors: 0'));
+  let best = [Infinity, 1];
+  for (let turn = 0; turn < 5 && best[0] > MOST_PASTE * best[1]; turn++) {
+    await put(page, { database: '@misc{k}' });
+    const made = await paste();
+    if (made[0] / made[1] < best[0] / best[1]) best = made;
+    await page.until(ENDED);
+  }
+  const [took, slow] = best;
+  check(`a database of ${Math.round(entries.join('').length / 1e4) / 100} MB is pasted and run within ${MOST_PASTE} ms (${Math.round(took)} ms, on a machine that is ${slow.toFixed(1)} times as slow as alone)`, took <= MOST_PASTE * slow);
+  check('all its entries are there', (await page.ask(text('status'))).includes('Errors: 0') && (await list(page)).includes('\\bibitem{k0}'));
+  check('the field has all of it', await page.until("document.getElementById('database').value === window.big && !document.getElementById('database').readOnly"));
+  check('the list has its other items after the first ones', await page.until("document.querySelectorAll('#panel-read li').length > 2000"));
+  await page.ask("document.getElementById('database').focus()");
+  await page.press('z', 2);
+  check('the keys that undo take it out again', await page.until("document.getElementById('database').value === '@misc{k}'"));
+  await page.until(ENDED);
+  await page.ask(`(() => {
+    const pasted = new DataTransfer();
+    pasted.setData('text/plain', ('y'.repeat(70) + '\\r\\n').repeat(1000));
+    document.getElementById('database').setSelectionRange(1, 5);
+    document.getElementById('database').dispatchEvent(new ClipboardEvent('paste', { clipboardData: pasted, bubbles: true, cancelable: true }));
+  })()`);
+  check('a long text takes the place of what is selected', await page.until("document.getElementById('database').value === '@' + ('y'.repeat(70) + '\\n').repeat(1000) + '{k}'"));
+  await page.until(ENDED);
 }
 
 async function drops(page) {
@@ -413,7 +564,8 @@ async function main() {
     const page = await browser.open(pathToFileURL(PAGE).href);
     await page.width(1280);
     await firstSight(page);
-    for (const part of [documents, remarks, causes, places, stranger, verdicts, budgets, hostile, drops, opened, keyboard, looks, sizes]) await part(page);
+    for (const part of [documents, remarks, causes, places, marks, letters, databases, stranger, verdicts, budgets, hostile, drops, opened, keyboard, looks, sizes]) await part(page);
+    await stops(browser);
     await links(browser, page);
   } finally {
     await browser.close();

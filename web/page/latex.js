@@ -44,54 +44,59 @@ function* remarksOn(body, data, styles, databases, style) {
   for (const { 0: whole, 1: list, index } of body.matchAll(OPEN_CITATION)) {
     // (a definition of such a command has another one first)
     if (/^\s*\\/.test(list)) continue;
-    yield { at: index, text: `${/^\\[A-Za-z]+/.exec(whole)[0]} isn't closed, so that its keys are left out: put a } after its last key.` };
+    const [command] = /^\\[A-Za-z]+/.exec(whole);
+    yield { at: index, words: command, text: `${command} isn't closed, so that its keys are left out: put a } after its last key.` };
   }
-  const instead = (command, taken) => ({ at: -1, text: `The document has no \\${command}. The page takes ${taken}; BibTeX would log an error.` });
+  const instead = (command, taken) => ({ at: -1, words: '', text: `The document has no \\${command}. The page takes ${taken}; BibTeX would log an error.` });
   if (data.length === 0) yield instead('bibliography', `the databases that are here (${databases.join(', ')})`);
   if (styles.length === 0) yield instead('bibliographystyle', `the style that is shown here (${style})`);
 }
 
-// `remarks` of what is made are what is amiss in the document itself, each with a text and a line.
-/** The `.aux` file that LaTeX would write for this document, as far as BibTeX reads it, and the document's line for each of its lines (0 where it has none). */
+// `remarks` of what is made are what is amiss in the document itself, each with a text and a place.
+/** The `.aux` file that LaTeX would write for this document, as far as BibTeX reads it, and for each of its lines where it is in the document, with the words there (line 0 where it isn't). */
 function auxOf(text, databases, style) {
   const body = uncommented(text);
-  const rows = [...keysIn(body)].map(([key, at]) => [`\\citation{${key}}`, at]);
-  const data = [...body.matchAll(DATABASES)].map(({ 1: list, index }) => [`\\bibdata{${names(list).join(',')}}`, index]);
-  const styles = [...body.matchAll(STYLE)].map(({ 1: name, index }) => [`\\bibstyle{${name.trim()}}`, index]);
+  const rows = [...keysIn(body)].map(([key, at]) => [`\\citation{${key}}`, at, key.length]);
+  const data = [...body.matchAll(DATABASES)].map(({ 0: whole, 1: list, index }) => [`\\bibdata{${names(list).join(',')}}`, index, whole.length]);
+  const styles = [...body.matchAll(STYLE)].map(({ 0: whole, 1: name, index }) => [`\\bibstyle{${name.trim()}}`, index, whole.length]);
   rows.push(...(data.length > 0 ? data : [[`\\bibdata{${databases.join(',')}}`, -1]]));
   rows.push(...(styles.length > 0 ? styles : [[`\\bibstyle{${style}}`, -1]]));
-  const lineAt = lineCounter(body);
-  const remarks = [...remarksOn(body, data, styles, databases, style)].map(({ at, text: words }) => ({ text: words, line: lineAt(at) }));
-  return { text: rows.map(([row]) => `${row}\n`).join(''), lines: rows.map(([, at]) => lineAt(at)), remarks };
+  const placeAt = placer(body);
+  const places = rows.map(([, at, length]) => ({ ...placeAt(at), words: body.slice(at, at + length).split('\n')[0] }));
+  const remarks = [...remarksOn(body, data, styles, databases, style)].map(({ at, words, text: said }) => ({ text: said, ...placeAt(at), words }));
+  return { text: rows.map(([row]) => `${row}\n`).join(''), places, remarks };
 }
 
-// From a place in a text to its line, from 1; 0 for a place before it. The text is counted once.
-function lineCounter(text) {
-  const ends = [];
+// From a place in a text to its line, from 1, and its column, from 0; line 0 for a place before it. The text is counted once.
+function placer(text) {
+  const ends = [-1];
   for (let at = text.indexOf('\n'); at >= 0; at = text.indexOf('\n', at + 1)) ends.push(at);
   return (place) => {
-    if (place < 0) return 0;
-    let [least, most] = [0, ends.length];
+    if (place < 0) return { line: 0, column: 0 };
+    let [least, most] = [1, ends.length];
     while (least < most) {
       const middle = (least + most) >> 1;
       if (ends[middle] < place) least = middle + 1;
       else most = middle;
     }
-    return least + 1;
+    return { line: least, column: place - ends[least - 1] - 1 };
   };
 }
 
-/** The entries of a database as a reader finds them, each with its type, key and line; text in `@comment`s may be among them. */
+const ENTRY = /@\s*([A-Za-z]+)\s*[{(]\s*([^\s,{}()"]+)/g;
+const PARENT = /\bcrossref\s*=\s*["{]\s*([^\s,{}"]+)/gi;
+
+/** The entries of a database as a reader finds them, each with its type and key, its line, and the place of its key; text in `@comment`s may be among them. */
 function entriesIn(text) {
-  const lineAt = lineCounter(text);
-  const found = text.matchAll(/@\s*([A-Za-z]+)\s*[{(]\s*([^\s,{}()"]+)/g);
-  return [...found].filter(([, type]) => !/^(?:string|preamble|comment)$/i.test(type)).map(({ 1: type, 2: key, index }) => ({ type, key, line: lineAt(index) }));
+  const placeAt = placer(text);
+  const found = [...text.matchAll(ENTRY)].filter(([, type]) => !/^(?:string|preamble|comment)$/i.test(type));
+  return found.map(({ 0: whole, 1: type, 2: key, index }) => ({ type, key, line: placeAt(index).line, at: { ...placeAt(index + whole.length - key.length), words: key } }));
 }
 
-/** The lines of a database in which an entry names its parent, by the parent's key in small letters. */
+/** Where a database names the parent of an entry, by the parent's key in small letters. */
 function parentsIn(text) {
-  const lineAt = lineCounter(text);
-  return new Map([...text.matchAll(/\bcrossref\s*=\s*["{]\s*([^\s,{}"]+)/gi)].map(({ 1: key, index }) => [key.toLowerCase(), lineAt(index)]));
+  const placeAt = placer(text);
+  return new Map([...text.matchAll(PARENT)].map(({ 0: whole, 1: key, index }) => [key.toLowerCase(), { ...placeAt(index + whole.length - key.length), words: key }]));
 }
 
 const ACCENTS = { "'": '\u0301', '`': '\u0300', '^': '\u0302', '"': '\u0308', '~': '\u0303', '=': '\u0304', '.': '\u0307', c: '\u0327', v: '\u030c', u: '\u0306',
@@ -198,27 +203,46 @@ function command(element, reading, depth) {
 // Whether a list has no items: nothing at all, or what goes round the items alone.
 const isEmptyList = (text) => text.trim() === '' || /\\begin\{thebibliography\}\s*(?:\{[^{}]*\}\s*)?(?:\\end\{thebibliography\}|$)/.test(text);
 
-/** A list of references as it would read: a list, or what it has where it isn't one. */
+// How many items of a list are made at once, and how many milliseconds the others may take before the page goes on.
+const FIRST_ITEMS = 60;
+const SLICE = 12;
+
+// An item of a list, by its text after `\bibitem`.
+function itemOf(part) {
+  const item = document.createElement('li');
+  const found = /^\s*(?:\[((?:[^[\]{}]|\{(?:[^{}]|\{[^{}]*\})*\})*)\])?\s*(?:%\n\s*)?\{[^{}]*\}([^]*)$/.exec(part);
+  if (found?.[1]) {
+    inside(item, 'b', `[${found[1]}]`, 0);
+    item.append(' ');
+  }
+  show(item, (found ? found[2] : part).replace(/\\end\{thebibliography\}[^]*$/, '').trim());
+  return item;
+}
+
+// Appends the other items of a list little by little, as long as it is in the page.
+function appendSlowly(list, parts) {
+  setTimeout(() => {
+    if (!list.isConnected) return;
+    const [made, began] = [[], performance.now()];
+    while (made.length < parts.length && performance.now() - began < SLICE) made.push(itemOf(parts[made.length]));
+    list.append(...made);
+    if (made.length < parts.length) appendSlowly(list, parts.slice(made.length));
+  });
+}
+
+/** A list of references as it would read: a list, or what it has where it isn't one. Of a long list the first items are there at once. */
 function readable(text) {
-  const parts = text.split(/\\bibitem(?![A-Za-z])/);
+  const [, ...parts] = text.split(/\\bibitem(?![A-Za-z])/);
   const shown = document.createElement('div');
-  if (parts.length === 1) {
+  if (parts.length === 0) {
     if (isEmptyList(text)) shown.append('The list is empty.');
     else show(shown, text);
     return shown;
   }
   const list = document.createElement('ol');
   list.className = 'entries';
-  for (const part of parts.slice(1)) {
-    const item = document.createElement('li');
-    const found = /^\s*(?:\[((?:[^[\]{}]|\{(?:[^{}]|\{[^{}]*\})*\})*)\])?\s*(?:%\n\s*)?\{[^{}]*\}([^]*)$/.exec(part);
-    if (found?.[1]) {
-      inside(item, 'b', `[${found[1]}]`, 0);
-      item.append(' ');
-    }
-    show(item, (found ? found[2] : part).replace(/\\end\{thebibliography\}[^]*$/, '').trim());
-    list.append(item);
-  }
+  list.append(...parts.slice(0, FIRST_ITEMS).map(itemOf));
+  if (parts.length > FIRST_ITEMS) appendSlowly(list, parts.slice(FIRST_ITEMS));
   shown.append(list);
   return shown;
 }

@@ -1,5 +1,5 @@
 // The page: three texts go in, the list, the log and the messages come out. The work is done by a worker (worker.js); whatever comes from a text is shown as text.
-/* global WORKER, MODULE, STYLES, FIRST_JOB, ADVICE, auxOf, entriesIn, parentsIn, readable */
+/* global WORKER, MODULE, STYLES, FIRST_JOB, ADVICE, auxOf, entriesIn, parentsIn, placer, readable, tokenFinder */
 
 const ROLES = ['document', 'database', 'style'];
 const ENDINGS = { tex: 'document', aux: 'document', ltx: 'document', bib: 'database', bst: 'style' };
@@ -34,6 +34,8 @@ const WANTS_COMMA = /^I was expecting a , or a [)}]$/;
 const UNKNOWN_TYPE = /^entry type for "(.*)" isn't style-file defined$/s;
 const MISSING_FILE = /^I couldn't open (style|database) file /;
 const MISSING_KEY = /^I didn't find a database entry for "(.*)"$/s;
+const UNKNOWN_STRING = /^string name "(.*)" is undefined$/s;
+const REPEATED = /^Repeated entry$/;
 const UNKNOWN_FUNCTION = /^(\S+) is an unknown function$/;
 const FUNCTION_NAME = /\bFUNCTION\s*\{\s*([^\s{}]+)\s*\}/gi;
 
@@ -44,7 +46,7 @@ const visible = (text) => text.replace(/[\u0000-\u0008\u000b-\u001f\u007f-\u009f
 const find = (id) => document.getElementById(id);
 const panes = Object.fromEntries(ROLES.map((role) => {
   const pane = document.querySelector(`[data-role=${role}]`);
-  return [role, { pane, text: find(role), name: find(`${role}-name`), which: find(`${role}-which`), gutter: pane.querySelector('.gutter') }];
+  return [role, { pane, text: find(role), name: find(`${role}-name`), which: find(`${role}-which`), gutter: pane.querySelector('.gutter'), marks: pane.querySelector('.marks') }];
 }));
 // The files of each pane, of which one is shown.
 const files = { document: [], database: [], style: [] };
@@ -57,7 +59,29 @@ const current = (role) => files[role][shown[role]];
 // A file as the list of files names it, with what it is for.
 const optionOf = ({ name, about }) => (about ? `${name} (${about})` : name);
 
+// A long text that was pasted, while its field has the beginning of it alone: the browser takes most of a second to lay out a megabyte, and the result comes before that.
+let filling = null;
+
+const valueOf = (role) => (filling?.role === role ? filling.value : panes[role].text.value);
+
+function stopFilling() {
+  if (filling) panes[filling.role].text.readOnly = false;
+  filling = null;
+}
+
+// Puts all of a long text into its field.
+function fill() {
+  if (!filling) return;
+  const { role, value, caret } = filling;
+  const { text } = panes[role];
+  stopFilling();
+  text.value = value;
+  text.setSelectionRange(caret, caret);
+  drawGutter(role);
+}
+
 function showFile(role, number) {
+  if (filling?.role === role) stopFilling();
   shown[role] = number;
   const { text, name, which } = panes[role];
   const file = current(role);
@@ -70,9 +94,9 @@ function showFile(role, number) {
 }
 
 function keepFile(role) {
-  const { text, name, which } = panes[role];
-  const file = current(role);
-  if (file.text !== text.value || file.name !== name.value) Object.assign(file, { text: text.value, name: name.value, about: '' });
+  const { name, which } = panes[role];
+  const [file, text] = [current(role), valueOf(role)];
+  if (file.text !== text || file.name !== name.value) Object.assign(file, { text, name: name.value, about: '' });
   if (which) which.options[shown[role]].text = optionOf(file);
 }
 
@@ -116,50 +140,113 @@ async function takeFiles(list, asking) {
   if (count > 0) changed();
 }
 
-// ---- the gutter, with the lines and what was said of them
+// ---- the gutter, with the lines and what was said of them, and the marks in the texts
 
-// The places of the messages of the last run, each with its role, the number of its file, its line and its kind.
+// The places of the messages of the last run, and those of the warnings on the style: each with its role, the number of its file, its line and its kind; where it is known,
+// its column and length, and the words that stand there.
 let places = [];
-// What each gutter shows.
+let warned = [];
+// What each gutter and each layer of marks shows: how many lines there are, the kinds of those that are marked, and the marks of each line.
 const drawn = new Map();
+// The height of a line, as page.css has it, and how many lines are drawn above and below those that are seen.
+const LINE = 18;
+const MORE_LINES = 60;
+const MOST_MARKED = 2000;
 
 function drawGutter(role) {
-  const { text, gutter } = panes[role];
-  const count = text.value.split('\n').length;
-  const marks = new Map();
-  const here = places.filter((place) => place.role === role && place.number === shown[role]);
-  for (const { line, kind } of here) if (marks.get(line) !== 'error') marks.set(line, kind);
-  // (to draw 40,000 lines takes a third of a second, and most runs leave them as they are)
-  const state = `${count} ${[...marks].join(' ')}`;
-  gutter.scrollTop = text.scrollTop;
-  if (drawn.get(role) === state) return;
-  drawn.set(role, state);
-  const parts = [];
-  let from = 1;
-  const upTo = (to) => {
-    if (to >= from) parts.push(`${Array.from({ length: to - from + 1 }, (_, place) => from + place).join('\n')}\n`);
-  };
-  for (const line of [...marks.keys()].filter((at) => at >= 1 && at <= count).sort((a, b) => a - b)) {
-    upTo(line - 1);
-    const mark = document.createElement('span');
-    mark.className = marks.get(line);
-    mark.textContent = line;
-    parts.push(mark, '\n');
-    from = line + 1;
+  const { gutter } = panes[role];
+  const lines = valueOf(role).split('\n');
+  const state = { count: lines.length, kinds: new Map(), marks: new Map() };
+  for (const place of [...places, ...warned]) {
+    if (place.role !== role || place.number !== shown[role]) continue;
+    if (state.kinds.get(place.line) !== 'error') state.kinds.set(place.line, place.kind);
+    if (!isThere(place, lines[place.line - 1])) continue;
+    if (!state.marks.has(place.line)) state.marks.set(place.line, []);
+    state.marks.get(place.line).push({ ...place, before: lines[place.line - 1].slice(0, place.column) });
   }
-  upTo(count);
-  gutter.replaceChildren(...parts);
-  gutter.scrollTop = text.scrollTop;
+  drawn.set(role, state);
+  gutter.style.minWidth = `${String(lines.length).length + 2}ch`;
+  paint(role);
 }
 
-function goTo(role, number, line) {
-  if (shown[role] !== number) showFile(role, number);
+// Whether a place has its words in the line still.
+function isThere({ column, words }, line) {
+  return words !== undefined && line !== undefined && column <= MOST_MARKED && line.startsWith(words, column);
+}
+
+// What is seen of each text, in pixels. To ask the text for it would have the browser lay it out at once, which takes most of a second for a long one.
+const seen = Object.fromEntries(ROLES.map((role) => [role, { top: 0, left: 0, height: 300 }]));
+
+function see(role) {
+  const { text } = panes[role];
+  seen[role] = { top: text.scrollTop, left: text.scrollLeft, height: text.clientHeight };
+  paint(role);
+}
+
+// Draws what is seen of a gutter and of the marks, and a little more: all 40,000 lines of a long text would take a third of a second.
+function paint(role) {
+  const { gutter, marks } = panes[role];
+  const { top, left, height } = seen[role];
+  const { count, kinds, marks: marksOf } = drawn.get(role);
+  const first = Math.max(1, Math.floor(top / LINE) - MORE_LINES);
+  const last = Math.min(count, Math.ceil((top + height) / LINE) + MORE_LINES);
+  const [numbers, layer] = [[], []];
+  for (let line = first; line <= last; line++) {
+    numbers.push(kinds.has(line) ? marked('span', kinds.get(line), line) : `${line}`, '\n');
+    for (const mark of marksOf.get(line) ?? []) layer.push(markOf(mark));
+  }
+  gutter.firstChild.replaceChildren(...numbers);
+  gutter.firstChild.style.transform = `translateY(${(first - 1) * LINE - top}px)`;
+  marks.firstChild.replaceChildren(...layer);
+  marks.firstChild.style.transform = `translate(${-left}px, ${-top}px)`;
+}
+
+function marked(name, kind, words) {
+  const mark = document.createElement(name);
+  mark.className = kind;
+  mark.textContent = words;
+  return mark;
+}
+
+// A mark behind some words of a text: the line up to them stands before it, unseen, so that it is where they are.
+function markOf({ line, kind, before, words }) {
+  const row = document.createElement('p');
+  row.style.top = `${(line - 1) * LINE}px`;
+  row.append(before, marked('mark', kind, words || ' '));
+  return row;
+}
+
+// A change of a text moves what is marked in it; its lines stay marked until the next run.
+function forgetMarks(role) {
+  const isElsewhere = (place) => place.role !== role || place.number !== shown[role];
+  const unmarked = (place) => (isElsewhere(place) ? place : { ...place, words: undefined });
+  [places, warned] = [places, warned].map((all) => all.map(unmarked));
+  drawGutter(role);
+}
+
+// The place of some characters of a text, with the words that stand there, up to the end of the line. Where nothing stands there, that is the word that begins there, or the character.
+function placeIn(text, placeAt, from, to) {
+  const at = Math.min(from, text.length);
+  const [words] = to > at ? [text.slice(at, Math.min(to, at + MOST_MARKED))] : /^[^\s{}(),="#%]+|^/.exec(text.slice(at, at + MOST_MARKED));
+  return { ...placeAt(at), words: (words || text.slice(at, at + 1)).split('\n')[0] };
+}
+
+function goTo(place) {
+  const { role, number, line } = place;
+  fill();
+  if (shown[role] !== number) {
+    keepFile(role);
+    showFile(role, number);
+  }
   const { text } = panes[role];
   const lines = text.value.split('\n');
   const from = lines.slice(0, line - 1).reduce((sum, each) => sum + each.length + 1, 0);
+  const there = lines[line - 1] ?? '';
+  const [start, length] = place.words && isThere(place, there) ? [place.column, place.words.length] : [0, there.length];
   text.focus();
-  text.setSelectionRange(from, from + (lines[line - 1] ?? '').length);
-  text.scrollTop = Math.max(0, (line - 4) * parseFloat(getComputedStyle(text).lineHeight));
+  text.setSelectionRange(from + start, from + start + length);
+  text.scrollTop = Math.max(0, (line - 4) * LINE);
+  text.scrollLeft = 0;
 }
 
 // ---- a run
@@ -180,26 +267,35 @@ function stop(words) {
 
 // Takes back what an earlier run gave, so that nobody takes it for this one's.
 function showNothing(words) {
+  fill();
   find('status').textContent = words;
   for (const id of ['panel-list', 'panel-log']) find(id).firstChild.textContent = '';
   for (const id of ['panel-read', 'panel-verdict', 'messages']) find(id).replaceChildren();
-  places = [];
+  [places, warned] = [[], []];
   ROLES.forEach(drawGutter);
 }
 
-// The document's lines from which the lines of its .aux file were made, that file's name, what the page has to say of the document, and the lines of its commands.
-let made = { name: '', lines: [], rows: [], remarks: [], commands: {} };
+// The places of the document from which the lines of its .aux file were made, that file's name, its keys, what the page has to say of the document, and the places of its commands.
+let made = { name: '', places: [], rows: [], remarks: [], commands: {} };
+
+// The places of the lines of an .aux file: of a command what is in its braces.
+function placesOfLines(text) {
+  return text.split('\n').map((row, number) => {
+    const argument = /^\\[A-Za-z@]+\{([^{}]*)\}/.exec(row);
+    return { line: number + 1, column: argument ? argument[0].length - 1 - argument[1].length : 0, words: argument?.[1] };
+  });
+}
 
 // The files of the job as the library is handed them, and the job's name.
 function jobOf() {
   const { name, text } = current('document');
   const job = name.replace(/\.[^.]*$/, '') || 'paper';
   const bare = (file) => file.name.replace(/\.[^.]*$/, '');
-  const aux = /\.aux$/i.test(name) ? { text, lines: [], remarks: [] } : auxOf(text, files.database.map(bare), bare(current('style')));
+  const aux = /\.aux$/i.test(name) ? { text, places: placesOfLines(text), remarks: [] } : auxOf(text, files.database.map(bare), bare(current('style')));
   const rows = aux.text.split('\n').map((row) => /^\\citation\{(.*)\}$/.exec(row)?.[1]);
-  const lines = aux.lines.length > 0 ? aux.lines : rows.map((row, place) => place + 1);
-  const lineOf = (command) => lines[aux.text.split('\n').findIndex((row) => row.startsWith(command))];
-  made = { name: `${job}.aux`, lines, rows, remarks: aux.remarks, commands: { database: lineOf('\\bibdata{'), style: lineOf('\\bibstyle{') } };
+  const placed = aux.places.map((place) => ({ role: 'document', number: 0, ...place }));
+  const placeOf = (command) => placed[aux.text.split('\n').findIndex((row) => row.startsWith(command))];
+  made = { name: `${job}.aux`, places: placed, rows, remarks: aux.remarks, commands: { database: placeOf('\\bibdata{'), style: placeOf('\\bibstyle{') } };
   const all = [[`${job}.aux`, aux.text], ...files.database.map((file) => [file.name, file.text]), ...files.style.map((file) => [file.name, file.text])];
   return { job, all };
 }
@@ -251,29 +347,73 @@ function adviceOf(text) {
   return '';
 }
 
-// Where keys stand: entries by their keys, in order, and where they are cited or named as parents. Case doesn't count.
-function indexOfKeys({ files: asked, parts }) {
+// From the number of a line of a text to the line.
+function lineFinder(text) {
+  const lines = text.split('\n');
+  return (line) => lines[line - 1] ?? '';
+}
+
+// What is made of a text when it is first asked for.
+function once(make) {
+  const made = new Map();
+  return (text) => {
+    if (!made.has(text)) made.set(text, make(text));
+    return made.get(text);
+  };
+}
+
+// Where keys stand: entries by their keys, in order, and where they are cited or named as parents. Case doesn't count. `wrong` has where messages of databases were met.
+function indexOfKeys({ files: asked, parts, wrong }) {
   const entries = files.database.map(({ text }) => entriesIn(text));
-  const index = { entries, defined: new Map(), named: new Map(), asked, parts };
+  const index = { entries, defined: new Map(), named: new Map(), asked, parts, wrong: new Map(), placerOf: once(placer), finderOf: once(tokenFinder), lineOf: once(lineFinder) };
   files.database.forEach(({ text }, number) => {
-    for (const [key, line] of parentsIn(text)) index.named.set(key, { role: 'database', number, line });
-    for (const { key, line, type } of entries[number]) {
+    for (const [key, at] of parentsIn(text)) index.named.set(key, { role: 'database', number, ...at });
+    for (const { key, line, type, at } of entries[number]) {
       const name = key.toLowerCase();
-      if (!index.defined.has(name)) index.defined.set(name, { role: 'database', number, line, key, type });
+      if (!index.defined.has(name)) index.defined.set(name, { role: 'database', number, ...(at.line === line ? at : {}), line, key, type });
     }
   });
-  made.rows.forEach((key, row) => key && index.named.set(key.toLowerCase(), { role: 'document', number: 0, line: made.lines[row] }));
+  made.rows.forEach((key, row) => key && index.named.set(key.toLowerCase(), made.places[row]));
+  for (const { file, said, ...place } of wrong) {
+    const name = `${file}\n${said}`;
+    if (!index.wrong.has(name)) index.wrong.set(name, []);
+    index.wrong.get(name).push(place);
+  }
   return index;
 }
 
 // The place of a message that names a file and a line. A line of the .aux file that the page made is one of the document.
 function statedPlace({ file, line }) {
-  if (file === made.name && made.lines[line - 1] > 0) return { role: 'document', number: 0, line: made.lines[line - 1] };
+  if (file === made.name && made.places[line - 1]?.line > 0) return made.places[line - 1];
   for (const role of ROLES) {
     const number = files[role].findIndex((each) => each.name === file);
     if (number >= 0) return { role, number, line };
   }
   return null;
+}
+
+// The one place of a line in which a name stands as a value of a database.
+function valueNamed(name, line, whole, index) {
+  const row = index.lineOf(whole)(line);
+  const found = [...row.matchAll(/[=#]\s*([^\s,#{}()"=]+)/g)].filter(([, word]) => word.toLowerCase() === name.toLowerCase());
+  return found.length === 1 ? { line, column: found[0].index + found[0][0].length - found[0][1].length, words: found[0][1] } : {};
+}
+
+// Where in its line a message was met, as far as that is known: of a database by its reader's word, or by the string or key that it names; of a style by the name that it has in the line.
+function exactPlace({ kind, met, text, file, line }, { role, number }, index) {
+  const whole = files[role][number].text;
+  if (met === 'databases') {
+    const said = `${kind === 'error' ? 'Error' : 'Warning'}--${text}--line ${line} of file ${file}`;
+    const found = index.wrong.get(`${file}\n${said}`)?.shift();
+    const place = found && placeIn(whole, index.placerOf(whole), found.from, found.to);
+    if (place) return place.line === line ? place : {};
+    const [, name] = UNKNOWN_STRING.exec(text) ?? [];
+    if (name) return valueNamed(name, line, whole, index);
+    const keys = REPEATED.test(text) && role === 'database' ? index.entries[number].filter((entry) => entry.at.line === line) : [];
+    return keys.length === 1 ? keys[0].at : {};
+  }
+  const [, name] = role === 'style' ? UNKNOWN_FUNCTION.exec(text) ?? [] : [];
+  return (name && index.finderOf(whole)(line, name)) || {};
 }
 
 // The last entry that begins above a place of a database, which may have a brace open: its first line with more `{` than `}`, or else its beginning.
@@ -381,7 +521,7 @@ function causeOf(message, index) {
 // The place of the command that names a file which isn't there.
 function commandPlaces({ text, met }) {
   const [, role] = met === 'execution' ? [] : MISSING_FILE.exec(text) ?? [];
-  return made.commands[role] > 0 ? [{ role: 'document', number: 0, line: made.commands[role] }] : [];
+  return made.commands[role]?.line > 0 ? [made.commands[role]] : [];
 }
 
 // The words of a message that may be keys: the entry of an execution, what stands in quotes, or else the first word and the last, as styles have it.
@@ -394,7 +534,8 @@ function keysOf({ text, entry }) {
 // The places of a message: what it states, or where the keys that it names stand.
 function placesOf(message, index) {
   if (message.line) {
-    return [statedPlace(message)].filter(Boolean);
+    const place = statedPlace(message);
+    return place ? [{ ...place, ...exactPlace(message, place, index) }] : [];
   }
   const commands = commandPlaces(message);
   if (commands.length > 0) return commands;
@@ -404,14 +545,15 @@ function placesOf(message, index) {
   return [...found].slice(0, MOST_PLACES);
 }
 
-function placeButton({ role, number, line, key }) {
+function placeButton(place) {
+  const { role, number, line, key, column, words } = place;
   const button = document.createElement('button');
   button.type = 'button';
   button.className = 'place';
   const name = visible(files[role][number].name);
   button.textContent = `${name}:${line}${key ? `, ${visible(key)}` : ''}`;
-  button.title = `Go to line ${line} of ${name}`;
-  button.onclick = () => goTo(role, number, line);
+  button.title = `Go to line ${line}${words === undefined ? '' : `, character ${column + 1}`}, of ${name}`;
+  button.onclick = () => goTo(place);
   return button;
 }
 
@@ -460,7 +602,7 @@ function showMessages({ messages, ...result }) {
   const told = messages.filter(({ kind }) => kind === 'error' || kind === 'warning' || kind === 'ended');
   const index = indexOfKeys(result);
   const first = told.slice(0, MOST_MESSAGES).filter(({ kind, text }) => kind !== 'ended' || adviceOf(text));
-  const own = made.remarks.map(({ text, line }) => ({ message: { kind: 'own', text }, found: line > 0 ? [{ role: 'document', number: 0, line }] : [] }));
+  const own = made.remarks.map(({ text, ...place }) => ({ message: { kind: 'own', text }, found: place.line > 0 ? [{ role: 'document', number: 0, ...place }] : [] }));
   const placed = [...own, ...first.map((message, number) => placedMessage(message, index, number < MOST_CAUSES))];
   const items = placed.map(({ message, found, cause }) => messageItem(message, found, cause));
   if (told.length > MOST_MESSAGES) {
@@ -496,8 +638,23 @@ function showVerdict(verdict) {
     panel.append(types);
   }
   const list = document.createElement('ol');
-  list.append(...verdict.warnings.slice(0, MOST_MESSAGES).map(warningItem));
+  const placed = verdict.warnings.slice(0, MOST_MESSAGES).map(warningPlacer());
+  list.append(...placed.map(warningItem));
   panel.append(list);
+  warned = placed.map(({ place }) => place).filter(Boolean);
+  drawGutter('style');
+}
+
+// From a warning on the style that was checked to it and its place: the token, or else the line.
+function warningPlacer() {
+  const { text } = current('style');
+  const number = text === checked.style ? shown.style : files.style.findIndex((file) => file.text === checked.style);
+  const find = tokenFinder(checked.style);
+  return (warning) => {
+    const { at, next } = warning;
+    const place = at?.line && number >= 0 ? { role: 'style', number, line: at.line, kind: 'warning', ...(next && find(at.line, next, at.token)) } : undefined;
+    return { warning, place };
+  };
 }
 
 const FAULTS = {
@@ -505,7 +662,7 @@ const FAULTS = {
   entry: 'there may be no entry', left: 'literals may be left on the stack',
 };
 
-function warningItem(warning) {
+function warningItem({ warning, place }) {
   const item = document.createElement('li');
   const wants = warning.wants ? `, where ${warning.next ?? 'it'} wants: ${warning.wants}` : '';
   const types = warning.types.filter(Boolean);
@@ -513,12 +670,12 @@ function warningItem(warning) {
   words.push(warning.at ? `, in ${warning.at.function}` : `, after ${warning.command ?? ''}`);
   if (types.length > 0) words.push(`; met for ${types.slice(0, 5).join(', ')}${types.length > 5 ? ' ..' : ''}`);
   item.append(wordsOf('bdi', words.join('')));
-  if (warning.at?.line) {
+  if (place) {
     const at = document.createElement('button');
     at.type = 'button';
     at.className = 'place';
     at.textContent = `line ${warning.at.line}`;
-    at.onclick = () => goTo('style', shown.style, warning.at.line);
+    at.onclick = () => goTo(place);
     item.append(at);
   }
   return item;
@@ -538,6 +695,9 @@ function showUnused(asked) {
     find(`${role}-note`).textContent = isUnused ? `Not used: the document names ${visible(named.join(', '))}.` : '';
   }
 }
+
+// Milliseconds after which the browser has shown what was put into the page.
+const FRAMES = 100;
 
 // The style of the job that runs; and the one that was checked last, with what was said of it: most changes are of other files.
 let running = '';
@@ -562,7 +722,7 @@ function showChecked({ verdict, unchecked }) {
   showVerdict(verdict);
 }
 
-function showResult({ result, took, failed, parts }) {
+function showResult({ result, took, failed, parts, wrong }) {
   find('stop').disabled = true;
   if (failed) {
     endWorker();
@@ -575,12 +735,14 @@ function showResult({ result, took, failed, parts }) {
   find('panel-list').firstChild.textContent = cut(list);
   find('panel-log').firstChild.textContent = cut(decoder.decode(result.log));
   find('panel-read').replaceChildren(readable(cut(list)));
-  showMessages({ ...result, parts });
+  if (checked.style !== running) warned = [];
+  showMessages({ ...result, parts, wrong });
   lastAsked = result.files.map(({ name }) => name);
   showUnused(result.files);
   if (checked.style === running) showChecked(checked);
   else find('panel-verdict').textContent = 'Checking ..';
   const stopped = report.end === 'stopped' ? ' It was stopped at its budget: this is the beginning of its list.' : '';
+  if (filling) setTimeout(fill, FRAMES);
   find('status').textContent = `Ended: ${report.end}. Errors: ${report.errors}, warnings: ${report.warnings}, steps: ${report.steps}, ${took.toFixed(0)} ms.${stopped}`;
 }
 
@@ -679,11 +841,54 @@ function listenToTabs() {
 // The pane whose button asked for files.
 let asking = 'document';
 
+// A text from this length on is put into a field by the page: the browser takes some seconds for it.
+const LONG_PASTE = 50_000;
+// How much of it stands in the field until the result is there, and how many milliseconds at most.
+const FIRST_CHARACTERS = 20_000;
+const LONGEST_FILLING = 2000;
+
+// Takes a long text that is pasted: it is run at once, and the keys that undo take it out again.
+function listenToPaste(role) {
+  const { text } = panes[role];
+  let last = null;
+  const put = (value, caret) => {
+    fill();
+    filling = { role, value, caret };
+    const isLong = value.length > FIRST_CHARACTERS;
+    if (isLong) text.value = value.slice(0, value.lastIndexOf('\n', FIRST_CHARACTERS) + 1);
+    else fill();
+    text.readOnly = isLong;
+    forgetMarks(role);
+    run();
+    setTimeout(fill, LONGEST_FILLING);
+  };
+  text.addEventListener('paste', (event) => {
+    const pasted = event.clipboardData.getData('text/plain').replace(/\r\n?/g, '\n');
+    if (pasted.length < LONG_PASTE) return;
+    event.preventDefault();
+    fill();
+    const { value: before, selectionStart: from, selectionEnd: to } = text;
+    last = { before, from, after: before.slice(0, from) + pasted + before.slice(to) };
+    put(last.after, from + pasted.length);
+  });
+  text.addEventListener('keydown', (event) => {
+    if (event.key !== 'z' || !(event.ctrlKey || event.metaKey) || event.shiftKey || valueOf(role) !== last?.after) return;
+    event.preventDefault();
+    put(last.before, last.from);
+    last = null;
+  });
+}
+
 function listenToPane(role) {
-  const { pane, text, name, which, gutter } = panes[role];
-  text.oninput = changed;
+  const { pane, text, name, which } = panes[role];
+  text.oninput = () => {
+    forgetMarks(role);
+    changed();
+  };
   name.oninput = changed;
-  text.onscroll = () => { gutter.scrollTop = text.scrollTop; };
+  text.onscroll = () => see(role);
+  new ResizeObserver(() => see(role)).observe(text);
+  listenToPaste(role);
   if (which) {
     which.onchange = () => {
       const chosen = Number(which.value);

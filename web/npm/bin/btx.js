@@ -2,7 +2,8 @@
 // Makes the list of references of a job in the present folder: reads JOB.aux, its style and its databases, and writes JOB.bbl and JOB.blg.
 import { writeFileSync } from 'node:fs';
 import { parseArgs } from 'node:util';
-import { MemoryRefused, OptionRefused, OutputTooLong, proof, run, textOf } from '../index.js';
+import { LETTERS, MemoryRefused, OptionRefused, OutputTooLong, library, proof, textOf } from '../index.js';
+import { runWithLetters } from '../letters.js';
 import { dataOf, isStrictlyWrong, lineOf } from '../messages.js';
 import { finderIn } from '../search.js';
 
@@ -15,7 +16,8 @@ folder, along BSTINPUTS and BIBINPUTS, and by kpsewhich where TeX Live is instal
   --json              print each warning and error as a line of JSON, and the report, and not the log
   --strict            end with status 2 where a cited entry is missing, too; a missing file and a repeated entry are errors in any case
   --min-crossrefs N   list a parent that isn't cited if N entries refer to it (2)
-  --text MODE         read text as bytes or as utf8 (bytes)
+  --text MODE         read text as bytes, as utf8, or as auto: as utf8 where bytes would leave half a letter in the list (auto)
+  --letters LANG      sort letters outside ASCII as a language does, and change their case: ${LETTERS.slice(0, 4).join(', ')}, .. (no)
   --line N            the greatest length of a line of the list, 20 to 1000 (79)
   --entry-max N       how many bytes of a string a variable of an entry keeps (500)
   --global-max N      how many bytes of a string a global variable keeps (200000)
@@ -36,7 +38,7 @@ function words() {
   const text = { type: 'string' };
   const flag = { type: 'boolean', default: false };
   const options = {
-    terse: flag, json: flag, strict: flag, help: flag, version: flag, 'min-crossrefs': text, text, line: text, 'entry-max': text, 'global-max': text, budget: text,
+    terse: flag, json: flag, strict: flag, help: flag, version: flag, 'min-crossrefs': text, text, letters: text, line: text, 'entry-max': text, 'global-max': text, budget: text,
   };
   try {
     const given = process.argv.slice(2);
@@ -59,7 +61,7 @@ function numberOf(word, digits) {
 // The options of the library that the words name.
 function optionsOf(values) {
   const given = Object.entries(NUMBERS).filter(([word]) => values[word] !== undefined);
-  return { ...Object.fromEntries(given.map(([word, name]) => [name, numberOf(word, values[word])])), text: values.text };
+  return { ...Object.fromEntries(given.map(([word, name]) => [name, numberOf(word, values[word])])), text: values.text ?? 'auto', letters: values.letters };
 }
 
 // The words for an option that the library refuses, by the option's name here.
@@ -76,16 +78,19 @@ function write(file, bytes) {
   }
 }
 
-// Prints what a run said: its log, or its messages and report as JSON.
-function print({ log, report }, data, { json, terse }) {
-  if (json) process.stdout.write([...data, { kind: 'report', ...report }].map(lineOf).join(''));
+// Prints what a run said: its log, or its notes, messages and report as JSON.
+function print({ log, report, notes }, data, { json, terse }) {
+  const noted = notes.map((text) => ({ severity: 'note', kind: 'letters', text }));
+  if (json) process.stdout.write([...noted, ...data, { kind: 'report', ...report }].map(lineOf).join(''));
   else if (!terse) process.stdout.write(textOf(log).replace(/[\x00-\x09\x0b-\x1f\x7f-\x9f]/g, '?'));
 }
 
 // The result of the job; ends the command where there is none.
 function resultOf(job, values) {
   try {
-    return run(job, finderIn('.'), optionsOf(values));
+    const made = runWithLetters(library(), job, finderIn('.'), optionsOf(values));
+    // (what is to be said of the letters stands before the log)
+    return { ...made, log: Buffer.concat([Buffer.from(made.notes.map((note) => `${note}\n`).join('')), made.log]) };
   } catch (error) {
     if (error instanceof OptionRefused) fail(refusalOf(error), STATUS.refused);
     if (error instanceof MemoryRefused || error instanceof OutputTooLong) fail(error.message, STATUS.memory);

@@ -69,10 +69,24 @@ test('a string that is cut names its function and its entry', () => {
   assert.deepEqual(messages.filter(({ kind }) => kind === 'warning'), [{ kind: 'warning', met: 'execution', text: 'string of 6 bytes cut to 2', function: ':=', entry: 'k' }]);
 });
 
+// A style that does this so often, counted by `i`.
+const often = (count, body) => `ENTRY {}{}{}\nINTEGERS {i}\nFUNCTION {f} {#0 'i := {i #${count} <} {${body} i #1 + 'i :=} while$}\nREAD\nEXECUTE {f}\n`;
+const LONG = 'x'.repeat(70);
+
+for (const [what, body] of [['list', `"${LONG}" write$ newline$`], ['log', `"${LONG}" warning$`]]) {
+  test(`a ${what} that is longer than its first room is whole, and one past its most is an error that names it`, () => {
+    const files = { ...SMALL, 's.bst': often(40_000, body) };
+    const made = run('a', files);
+    assert.equal(made.report.end, 'finished');
+    assert.ok(made[what].length > 2_000_000);
+    assert.equal(textOf(made[what]).split(LONG).length, 40_001);
+    assert.throws(() => run('a', files, { mostList: 1_500_000, mostLog: 1_500_000 }), (error) => error instanceof OutputTooLong && error.output === what && error.most === 1_500_000);
+  });
+}
+
 test('a job with more lines than the first room has them all', () => {
   const count = 20_000;
-  const style = `ENTRY {}{}{}\nINTEGERS {i}\nFUNCTION {f} {#0 'i := {i #${count} <} {"x" warning$ i #1 + 'i :=} while$}\nREAD\nEXECUTE {f}\n`;
-  const { events, messages, report } = run('a', { ...SMALL, 's.bst': style });
+  const { events, messages, report } = run('a', { ...SMALL, 's.bst': often(count, '"x" warning$') });
   assert.equal(messages.filter(({ kind, text }) => kind === 'warning' && text === 'x').length, count);
   assert.equal(events.filter(({ kind }) => kind === 'warning').length, report.warnings);
 });
@@ -180,7 +194,7 @@ test('a style is checked', () => {
   assert.ok(clean.types.includes('article'));
   const faulty = check('ENTRY {title}{}{} FUNCTION {misc} {title #1 + pop$} READ ITERATE {call.type$}');
   assert.equal(faulty.verdict, 'warnings');
-  assert.deepEqual(faulty.warnings[0].at, { line: 1, function: 'misc', isInBraces: false });
+  assert.deepEqual(faulty.warnings[0].at, { line: 1, token: 2, function: 'misc', isInBraces: false });
 });
 
 test('the command writes list and log, and ends with the status of the run', () => inRoom({}, (room) => {
@@ -200,7 +214,7 @@ test('the command says which words are wrong, and which file is missing', () => 
   for (const [name, text] of Object.entries(SMALL)) writeFileSync(path.join(room, name), text);
   const said = (...words) => spawnSync(process.execPath, [COMMAND, ...words], { cwd: room, encoding: 'utf8' });
   const refused = [[['--line', 'x', 'a'], "--line needs a whole number, not 'x'"], [['--min-crossrefs', '9999999999', 'a'], "--min-crossrefs can't be 9999999999"],
-    [['--text', 'UTF8', 'a'], "--text can't be 'UTF8': 'bytes' or 'utf8'"], [['a\nb'], "a job's name can't"], [[''], "a job's name can't"]];
+    [['--text', 'UTF8', 'a'], "--text can't be 'UTF8': one of bytes, utf8, auto"], [['a\nb'], "a job's name can't"], [[''], "a job's name can't"]];
   for (const [words, error] of refused) {
     const { status, stderr } = said(...words);
     assert.deepEqual([status, stderr.includes(error)], [1, true], stderr);
@@ -212,8 +226,8 @@ test('the command says which words are wrong, and which file is missing', () => 
 test('the package says what was proved of its module', () => assert.match(proof(), /^(?:logic=proved .*functions=[1-9]|unproved)/));
 
 test('the types name what the modules export', async () => {
-  for (const name of ['index', 'library', 'messages']) {
-    const types = ['library', name].map((file) => readFileSync(path.resolve(HERE, `../${file}.d.ts`), 'utf8')).join('\n');
+  for (const name of ['index', 'letters', 'library', 'messages']) {
+    const types = ['library', 'letters', name].map((file) => readFileSync(path.resolve(HERE, `../${file}.d.ts`), 'utf8')).join('\n');
     for (const word of Object.keys(await import(`../${name}.js`))) assert.match(types, new RegExp(`export (const|function|class) ${word}\\b`));
   }
 });
