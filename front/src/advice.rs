@@ -114,6 +114,107 @@ fn matched<'a>(pattern: &str, text: &'a [u8]) -> Option<Vec<&'a [u8]>> {
     rest.is_empty().then_some(names)
 }
 
+/// A mistake that the text of a file shows where a message was met. Its names and places are `$1`, `$2` and so on in what is said of it.
+#[derive(Debug, Clone, Copy, PartialEq, Eq)]
+pub enum Seen {
+    NoKey,
+    KeyOfWords,
+    NoCommaAfterKey,
+    NoComma,
+    NoEquals,
+    OtherForEquals,
+    NameOfWords,
+    NoValue,
+    BareValue,
+    BarePreamble,
+    NoQuote,
+    BraceTooMany,
+    NoHash,
+    QuoteTooEarly,
+    QuoteInText,
+    RunsOn,
+    NotClosed,
+    NotClosedAtEnd,
+    OtherBrace,
+    CommentSign,
+    CommaTwice,
+    NoType,
+    NotHidden,
+    DefinedBelow,
+    MonthsInOne,
+    FieldIsMissing,
+    CrossrefIsField,
+    OfBiblatex,
+    FileIsUtf16,
+    FileIsHtml,
+    FileIsRis,
+    FileHasMark,
+    FileIsOneLine,
+    EntryWithoutKey,
+    NoAtSign,
+    StringAsText,
+    EtAl,
+    OthersInside,
+    AndAtEnd,
+    NamesBySign,
+    CommasForAnd,
+}
+
+impl Seen {
+    /// What to do about it.
+    pub fn with(self, names: &[&str]) -> String {
+        let put_name = |text: String, (index, name): (usize, &&str)| text.replace(&format!("${}", index + 1), name);
+        names.iter().enumerate().fold(self.words().to_string(), put_name)
+    }
+
+    #[rustfmt::skip]
+    fn words(self) -> &'static str {
+        match self {
+            Seen::NoKey => "write the entry's key first: `@$1{KEY, $2 = ..`",
+            Seen::KeyOfWords => "write the key without whitespace: `$1`",
+            Seen::NoCommaAfterKey => "put a comma after the key `$1`",
+            Seen::NoComma => "put a comma after the value of `$1`, which ends at $2",
+            Seen::NoEquals => "put an `=` after `$1`",
+            Seen::OtherForEquals => "write `$1 = ..`, with an `=` in the place of the `$2`",
+            Seen::NameOfWords => "write the field's name without whitespace: `$1 = ..`",
+            Seen::NoValue => "write the value of `$1` after the `=`, or take the field out",
+            Seen::BareValue => "put the value of `$1` into braces: outside braces and quotes only a number or the name of a `@string` may stand",
+            Seen::BarePreamble => "put the text of the `@preamble` into braces or quotes: `@preamble{{..}}`",
+            Seen::NoQuote => "put the value into braces: `$1` isn't the quote `\"`",
+            Seen::BraceTooMany => "count the braces in the value of `$1`: a `}` too many ends it before this place",
+            Seen::NoHash => "join the parts of the value of `$1` by `#`; a quote within quotes stands in braces",
+            Seen::QuoteTooEarly => "close the value of `$1`, which begins at $2: the quote before this place ends it",
+            Seen::QuoteInText => "put the quote in the value of `$1` into braces, as in `{\\\"o}`: it ends the value",
+            Seen::RunsOn => "close the value of `$1`, which begins at $2: it has taken in what looks like the field `$3` ($4)",
+            Seen::NotClosed => "close $1: a `}` is missing above this line",
+            Seen::NotClosedAtEnd => "close $1: its last `$2` is missing",
+            Seen::OtherBrace => "close $1 by `$2`, since it is opened by `$3`",
+            Seen::CommentSign => "take this line out, or its `%`: a database has no comments inside an entry",
+            Seen::CommaTwice => "take out one of the two commas",
+            Seen::NoType => "write the type after the `@`, as in `@article{KEY, ..`",
+            Seen::NotHidden => "take out the `@` of $1: neither `%` nor `@comment` hides an entry",
+            Seen::DefinedBelow => "move the `@string` of `$1` ($2) above its first use",
+            Seen::MonthsInOne => "join two names by `#`: `$1 # \"--\" # $2`",
+            Seen::FieldIsMissing => "give the entry a field `$1`: this style takes it without asking whether it is there",
+            Seen::CrossrefIsField => "take `crossref` out of ENTRY: each entry has that field",
+            Seen::FileIsUtf16 => "save $1 as UTF-8: it is in UTF-16",
+            Seen::FileIsHtml => "download $1 once more: what stands in it is a page of the web (HTML)",
+            Seen::FileIsRis => "export $1 as BibTeX: what stands in it is RIS",
+            Seen::FileHasMark => "save $1 without a byte order mark: it stands before the first word",
+            Seen::FileIsOneLine => "save $1 with the line ends of Unix or Windows: it has none of them, so all of it is line 1",
+            Seen::EntryWithoutKey => "write the key into $1",
+            Seen::NoAtSign => "write `@` and the entry's type before it, outside of a comment",
+            Seen::StringAsText => "write `$1 = $2`, without braces or quotes: then it is the string of this name",
+            Seen::EtAl => "write `and others`, of which the style makes et al.",
+            Seen::OthersInside => "put `and others` after the last name",
+            Seen::AndAtEnd => "take out this `and`: it stands between two names",
+            Seen::NamesBySign => "write ` and ` between two names",
+            Seen::CommasForAnd => "write ` and ` between two names: with two commas this is one, `von Last, Jr, First`",
+            Seen::OfBiblatex => "run `biber $1` in the place of BibTeX, or give `biblatex` the option `backend=bibtex` and run LaTeX",
+        }
+    }
+}
+
 /// What a built-in function takes, in the order in which it is pushed; None for one that takes nothing, or that isn't there.
 pub fn operands(function: &[u8]) -> Option<&'static str> {
     OPERANDS.iter().find(|(name, _)| name.as_bytes() == function).map(|(_, operands)| *operands)
@@ -202,16 +303,16 @@ const ROWS: &[Row] = &[
     (Section::Aux, "Already encountered file ~", "include each file once"),
     (Section::Aux, "I couldn't open auxiliary file ~", "run LaTeX on the whole document, without `\\includeonly`, or remove an old `.aux` file"),
     (Section::Aux, "This database file appears more than once: ~", "name each database once in `\\bibliography`"),
-    (Section::Aux, "I found no \\citation commands", "write a `\\cite` or `\\nocite`, a `\\bibliography`, a `\\bibliographystyle`, and run LaTeX; with `biblatex`, give it the option `backend=bibtex`"),
-    (Section::Aux, "I found no \\bibdata command", "write a `\\cite` or `\\nocite`, a `\\bibliography`, a `\\bibliographystyle`, and run LaTeX; with `biblatex`, give it the option `backend=bibtex`"),
-    (Section::Aux, "I found no \\bibstyle command", "write a `\\cite` or `\\nocite`, a `\\bibliography`, a `\\bibliographystyle`, and run LaTeX; with `biblatex`, give it the option `backend=bibtex`"),
-    (Section::Run, "I couldn't open style file ~", "put the style beside the `.aux` file (`cp \"$(kpsewhich plain.bst)\" .` with one of TeX Live's), or where `bibtex-search` looks for it: along BSTINPUTS and in TeX's folders. Is the name in `\\bibliographystyle` right, and may you read the file?"),
-    (Section::Run, "I couldn't open database file ~", "put the database beside the `.aux` file, or where `bibtex-search` looks for it: along BIBINPUTS and in TeX's folders. Is the name in `\\bibliography` right, and may you read the file?"),
+    (Section::Aux, "I found no \\citation commands", "write a `\\cite`, or `\\nocite{*}` for all entries, and run LaTeX; with `biblatex`, give it the option `backend=bibtex`"),
+    (Section::Aux, "I found no \\bibdata command", "write `\\bibliography{refs}` with the name of your database, and run LaTeX; with `biblatex`, give it the option `backend=bibtex`"),
+    (Section::Aux, "I found no \\bibstyle command", "write `\\bibliographystyle{plain}`, or another style, and run LaTeX; with `biblatex`, give it the option `backend=bibtex`"),
+    (Section::Run, "I couldn't open style file ~", "correct the name in `\\bibliographystyle`, or put the style beside the `.aux` file. It is looked for there, along BSTINPUTS and in TeX's folders; may you read the file?"),
+    (Section::Run, "I couldn't open database file ~", "correct the name in `\\bibliography`, or put the database beside the `.aux` file. It is looked for there, along BIBINPUTS and in TeX's folders; may you read the file?"),
     (Section::Run, "Ended: stopped", "the style took as many steps as it may: raise `--budget`. If it is stopped again with ten times as many, it loops: `docs/STYLES.md` says how to find where"),
     (Section::Run, "Ended: limit literals", "a loop or a recursion of the style pushes more than it takes: let each round leave the stack as it was"),
     (Section::Run, "Ended: limit calls", "a function of the style calls itself, through a function that stands on the stack, without end: count the calls, or loop by `while$`"),
     (Section::Run, "Ended: limit loops", "the body of a loop of the style begins that loop again: end the inner one first"),
-    (Section::Run, "Ended: limit string", "a loop of the style joins strings without end; if none does, look for a value, a `@string` or a preamble of more than 1,000,000 bytes (a `{` or `\"` that isn't closed?)"),
+    (Section::Run, "Ended: limit string", "a loop of the style joins strings without end. If none does, look for a value, a `@string` or a preamble of more than 1,000,000 bytes (a `{` or `\"` that isn't closed?)"),
     (Section::Run, "Ended: limit file", "the file that the log names last has more than 2,147,483,647 bytes: divide it"),
     (Section::Run, "Ended: limit files", "20 `.aux` files are open, each named in the one before: include chapters from the main file"),
     (Section::Run, "Ended: no top file", "run LaTeX first, and name the job as its `.aux` file is named, in its folder: `paper` for `paper.aux`"),
@@ -222,8 +323,8 @@ const ROWS: &[Row] = &[
     (Section::Style, "I was expecting a name", "write a name: letters, digits and signs other than `\" # % ( ) , = { }` and `'`, not beginning with a digit. Names in a list are parted by whitespace, not by commas"),
     (Section::Style, "~ is already defined", "give it another name, or remove one of the two"),
     (Section::Style, "~ is an unknown function", "define it above its use; look for its spelling. A function's own name isn't known in its body"),
-    (Section::Style, "Illegal integer", "write digits behind `#`, with `-` before them if need be"),
-    (Section::Style, "Illegal text after a literal", "put whitespace behind the string or integer"),
+    (Section::Style, "Illegal integer", "write digits after `#`, with `-` before them if need be"),
+    (Section::Style, "Illegal text after a literal", "put whitespace after the string or integer"),
     (Section::Style, "No \" to end string literal", "close the string on its line; two strings join by `*`"),
     (Section::Style, "Illegal, another ENTRY command", "remove the second one"),
     (Section::Style, "Illegal, another READ command", "remove the second one"),
@@ -243,20 +344,20 @@ const ROWS: &[Row] = &[
     (Section::Execution, "= needs two integers or two strings", "compare two numbers or two strings; a number becomes a string by `int.to.str$`"),
     (Section::Execution, "Integer overflow", "the result is 0 here: keep numbers within 32 bits, or work with strings"),
     (Section::Execution, "You can't assign to ~", "only variables are assigned to: `value 'variable :=`"),
-    (Section::Execution, "You can't mess with entries here", "fields, entry variables, `cite$`, `type$` and `call.type$` belong to an entry: take the command out that runs the function by EXECUTE, or run it by ITERATE or REVERSE"),
+    (Section::Execution, "You can't mess with entries here", "fields, entry variables, `cite$`, `type$` and `call.type$` belong to an entry. Take the command out that runs the function by EXECUTE, or run it by ITERATE or REVERSE"),
     (Section::Execution, "~ isn't an ASCII code", "`int.to.chr$` takes 0 to 127"),
     (Section::Execution, "\"~\" isn't a single character", "`chr.to.int$` takes a string of one byte"),
     (Section::Execution, "\"~\" is an illegal case-conversion string", "the conversion is `\"t\"`, `\"l\"` or `\"u\"`"),
     (Section::Execution, "There is no name number ~ in \"~\"", "ask `num.names$` first; names are parted by ` and `"),
     (Section::Execution, "Name ~ in \"~\" has a comma at the end", "remove the comma in the database"),
-    (Section::Execution, "Too many commas in name ~ of \"~\"", "a name has at most two commas: `von Last, Jr, First`; names are parted by ` and `, not by commas"),
+    (Section::Execution, "Too many commas in name ~ of \"~\"", "a name has at most two commas: `von Last, Jr, First`; names are parted by ` and `, not by commas or semicolons"),
     (Section::Execution, "The format string \"~\" is illegal", "count the braces of the format; a piece has one letter of `f v l j`, once or twice"),
     (Section::Execution, "The literal stack isn't empty", "a function before it left something: each command's function has to take off what it pushes"),
     (Section::Execution, "string of ~ bytes cut to ~", "the value is longer than a variable keeps: raise the limit by `--entry-max` or `--global-max`, or cut it in the style"),
     (Section::Database, "I was expecting a name", "write the name; a field's name begins with no digit"),
     (Section::Database, "I was expecting a { or a (", "open the item by a brace; an `@` in text between items begins one"),
-    (Section::Database, "I was expecting a , or a }", "put a comma behind the key and between fields, often at the end of the line above; write a key without whitespace"),
-    (Section::Database, "I was expecting a , or a )", "put a comma behind the key and between fields, often at the end of the line above; write a key without whitespace"),
+    (Section::Database, "I was expecting a , or a }", "put a comma after the key and between fields, often at the end of the line above; write a key without whitespace"),
+    (Section::Database, "I was expecting a , or a )", "put a comma after the key and between fields, often at the end of the line above; write a key without whitespace"),
     (Section::Database, "I was expecting an =", "write `name = value`; is there a comma too many, or a brace too few above?"),
     (Section::Database, "I was expecting a }", "close it; a `@string` defines one name"),
     (Section::Database, "I was expecting a )", "close it; a `@string` defines one name"),
@@ -264,7 +365,7 @@ const ROWS: &[Row] = &[
     (Section::Database, "Unbalanced braces", "count the braces of the value"),
     (Section::Database, "Illegal end of database file", "close the item; often a `{` or `\"` far above isn't closed"),
     (Section::Database, "Repeated entry", "remove one of the two"),
-    (Section::Entries, "A bad cross reference--entry \"*\" refers to entry \"*\", which doesn't exist", "add `$2`, or move it behind `$1`, or cite it"),
+    (Section::Entries, "A bad cross reference--entry \"*\" refers to entry \"*\", which doesn't exist", "add `$2`, or move it after `$1`, or cite it"),
     (Section::Entries, "you've nested cross references--entry \"*\" refers to entry \"*\"", "`$2` has a `crossref` of its own: give `$1` its fields, since they may not come down"),
     (Section::Entries, "I didn't find a database entry for \"~\"", "the key is cited, or is a parent, and no database has it: look for its spelling"),
     (Section::Entries, "I'm ignoring ~'s extra \"~\" field", "delete one of the two"),
@@ -286,7 +387,7 @@ mod tests {
         let crossed = b"A bad cross reference--entry \"two\" refers to entry \"p\", which doesn't exist";
         assert_eq!(
             text_of(&[Section::Entries], crossed).as_deref(),
-            Some("add `p`, or move it behind `two`, or cite it")
+            Some("add `p`, or move it after `two`, or cite it")
         );
         let wrong = text_of(&[Section::Aux], b"x.tex has a wrong extension");
         assert_eq!(wrong.as_deref(), Some("include files by `\\include`, which writes `x.tex.aux`"));

@@ -154,6 +154,17 @@ impl<'a> Names<'a> {
     }
 }
 
+/// The keys that the `.aux` files of a job cite.
+pub fn cited_keys(files: &Files) -> impl Iterator<Item = &[u8]> {
+    let lines =
+        files.with_ending(".aux").flat_map(|file| file.bytes.as_deref().unwrap_or(b"").split(|byte| *byte == b'\n'));
+    let commands = lines
+        .filter(|line| line.starts_with(b"\\"))
+        .filter_map(Command::new)
+        .filter(|command| command.word == b"\\citation");
+    commands.flat_map(|command| command.pieces(0)).map(|(key, _)| key)
+}
+
 #[cfg(test)]
 mod tests {
     use super::*;

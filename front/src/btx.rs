@@ -5,6 +5,7 @@ use crate::letter_run::Letters;
 use crate::letters::line_of_half_letter;
 use crate::log::{Log, looks_like_message};
 use crate::system::trying;
+use crate::text::find_last;
 use std::ffi::c_uchar;
 use std::ops::Range;
 
@@ -182,6 +183,8 @@ pub struct Record {
 // What a record may be that has a value.
 pub const STRING: u32 = 2;
 pub const FIELD: u32 = 4;
+// One that says what is wrong.
+const WRONG: u32 = 6;
 
 #[repr(C)]
 #[derive(Debug, Clone, Copy, Default)]
@@ -506,17 +509,32 @@ fn check_in(name: &[u8], style: &[u8], steps: u64, room: usize) -> Result<Option
 
 /// The records of a database, whatever a document cites, without their texts.
 pub fn read(text: &[u8]) -> Result<Vec<Record>, MemoryRefused> {
-    read_in(text, text.len() / BYTES_OF_RECORD + 16)
+    Ok(read_in(text, text.len() / BYTES_OF_RECORD + 16, 0)?.0)
+}
+
+/// The mistakes of a database: the line of each, and what a run logs of it.
+pub fn mistakes(text: &[u8]) -> Result<Vec<(usize, Vec<u8>)>, MemoryRefused> {
+    let (records, texts) = read_in(text, text.len() / BYTES_OF_RECORD + 16, text.len() + ROOM_FOR_MISTAKES)?;
+    let mistake = |record: &Record| {
+        let said = texts.get(record.text_at..record.text_at + record.text_len).unwrap_or_default();
+        let said = said.strip_prefix(b"Error--").unwrap_or(said);
+        (record.line, said[..find_last(said, b"--line ").unwrap_or(said.len())].to_vec())
+    };
+    Ok(records.iter().filter(|record| record.kind == WRONG).map(mistake).collect())
 }
 
 /// How many bytes of a database a record has at least in most of them. Room that isn't written costs nothing.
 const BYTES_OF_RECORD: usize = 12;
 
-fn read_in(text: &[u8], room: usize) -> Result<Vec<Record>, MemoryRefused> {
-    let (mut records, mut texts, mut sizes) = (Vec::<Record>::new(), [0; 1], CSizes::default());
+/// The room for the texts of mistakes that is tried first.
+const ROOM_FOR_MISTAKES: usize = 1 << 16;
+
+fn read_in(text: &[u8], room: usize, room_of_texts: usize) -> Result<(Vec<Record>, Vec<u8>), MemoryRefused> {
+    let (mut records, mut texts, mut sizes) = (Vec::<Record>::new(), Vec::<u8>::new(), CSizes::default());
     trying(|| records.try_reserve_exact(room)).map_err(|_| MemoryRefused)?;
+    trying(|| texts.try_reserve_exact(room_of_texts)).map_err(|_| MemoryRefused)?;
     let strings: &[CString] = &[];
-    // SAFETY: each pointer is that of a slice or a reference that outlives the call, with its length; the records have that much room of their own, which is only
+    // SAFETY: each pointer is that of a slice or a reference that outlives the call, with its length; the records and the texts have that much room of their own, which is only
     // written to; and at DONE and FULL as many of them as the sizes say, or as there is room for, have been written.
     let answer = unsafe {
         let answer = btx_read(
@@ -529,15 +547,19 @@ fn read_in(text: &[u8], room: usize) -> Result<Vec<Record>, MemoryRefused> {
             records.as_mut_ptr(),
             room,
             texts.as_mut_ptr(),
-            0,
+            room_of_texts,
             &mut sizes,
         );
-        records.set_len(if matches!(answer, DONE | FULL) { sizes.records.min(room) } else { 0 });
+        let is_written = matches!(answer, DONE | FULL);
+        records.set_len(if is_written { sizes.records.min(room) } else { 0 });
+        texts.set_len(if is_written { sizes.texts.min(room_of_texts) } else { 0 });
         answer
     };
     match answer {
-        DONE | FULL if sizes.records <= room => Ok(records),
-        FULL => read_in(text, sizes.records),
+        DONE | FULL if sizes.records <= room && (room_of_texts == 0 || sizes.texts <= room_of_texts) => {
+            Ok((records, texts))
+        }
+        FULL => read_in(text, sizes.records, if room_of_texts == 0 { 0 } else { sizes.texts }),
         _ => Err(MemoryRefused),
     }
 }
@@ -640,8 +662,10 @@ mod tests {
             (0, b"@comment", 0),
         ];
         assert_eq!(shown, wanted);
-        assert_eq!(read_in(text, 1).unwrap(), records);
+        assert_eq!(read_in(text, 1, 0).unwrap(), (records, Vec::new()));
         assert_eq!(read(b"").unwrap(), []);
+        let wrong = mistakes(b"@misc{k,\n note 1}\n@misc{j}\n@misc").unwrap();
+        assert_eq!(wrong, [(2, b"I was expecting an =".to_vec()), (4, b"Illegal end of database file".to_vec())]);
     }
 
     #[test]

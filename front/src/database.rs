@@ -1,9 +1,10 @@
 //! The items of a database, read as far as they go: where each begins, and where it can't go on. `docs/RULES.md` has their grammar, under
 //! Databases.
 
-use crate::text::Text;
+use crate::text::{Text, find_byte};
 use std::collections::HashSet;
 use std::hash::{Hash, Hasher};
+use std::ops::Range;
 
 /// A key or a name of which the case of `A-Z` doesn't matter.
 #[derive(Debug, Clone, Copy)]
@@ -107,7 +108,7 @@ impl<'a> Items<'a> {
 
     /// Goes on with the first item that begins at this place or after it.
     pub fn go_on_at(&mut self, place: usize) {
-        self.next = self.text[place..].iter().position(|byte| *byte == b'@').map(|at| place + at);
+        self.next = find_byte(self.text, place, b'@');
     }
 }
 
@@ -140,6 +141,8 @@ pub struct Inside<'a> {
     pub fields: Vec<&'a [u8]>,
     /// Where the last value begins that was begun.
     pub last_value: Option<usize>,
+    /// Where each whole value stands: of the fields one after the other, or of a string.
+    pub values: Vec<Range<usize>>,
 }
 
 impl<'a> Inside<'a> {
@@ -149,6 +152,91 @@ impl<'a> Inside<'a> {
         // (a fault ends what can be read)
         let _ = reader.read(&mut Item::new(item.start));
         reader.inside.unwrap_or_default()
+    }
+}
+
+/// The beginning of an item.
+#[derive(Debug, Clone, Copy, PartialEq, Eq)]
+pub struct Head<'a> {
+    /// Where its `@` stands.
+    pub start: usize,
+    /// Its type.
+    pub kind: &'a [u8],
+    /// Its key, or the name of a string; None where that may go on after what was read.
+    pub key: Option<&'a [u8]>,
+}
+
+/// How far a head is read.
+const LONGEST_HEAD: usize = 200;
+
+/// The beginnings of all items of a text but comments, and of what looks like one in the text of an item.
+pub fn heads(text: &[u8]) -> impl Iterator<Item = Head<'_>> {
+    let mut from = 0;
+    std::iter::from_fn(move || {
+        loop {
+            let start = find_byte(text, from, b'@')?;
+            from = start + 1;
+            if let Some(head) = head_at(text, start) {
+                return Some(head);
+            }
+        }
+    })
+}
+
+/// The head that begins at this `@`; None where no item can.
+fn head_at(text: &[u8], start: usize) -> Option<Head<'_>> {
+    let read = &text[..text.len().min(start + LONGEST_HEAD)];
+    if let Some(head) = plain_head_at(read, start) {
+        return Some(head);
+    }
+    let mut reader = Reader::new(read, start + 1);
+    let mut parts = || -> Read<(&[u8], &[u8])> {
+        let kind = reader.name()?;
+        let closing = if reader.expect(b"{(", NO_BRACE)? == b'{' { b'}' } else { b')' };
+        let is_text = !is_kind_of_entries(kind);
+        reader.next_byte()?;
+        Ok((
+            kind,
+            reader.take(|byte| {
+                byte != b',' && !is_white(byte) && (closing == b')' || byte != b'}') && !(is_text && byte == b'=')
+            }),
+        ))
+    };
+    let parts = parts();
+    // (what isn't whole in so many bytes may be whole in more)
+    let is_cut = reader.at == read.len() && read.len() < text.len();
+    match parts {
+        Ok((kind, _)) if kind.eq_ignore_ascii_case(b"comment") => None,
+        Ok((kind, key)) => Some(Head { start, kind, key: Some(key).filter(|_| !is_cut) }),
+        Err(_) if is_cut => Some(Head { start, kind: b"", key: None }),
+        Err(_) => None,
+    }
+}
+
+/// The head of an entry that is written as most are: `@type{key,`.
+fn plain_head_at(text: &[u8], start: usize) -> Option<Head<'_>> {
+    let rest = &text[start + 1..];
+    let kind = &rest[..rest.iter().position(|byte| !byte.is_ascii_alphabetic())?];
+    let after = rest[kind.len()..].strip_prefix(b"{")?;
+    let key = &after[..after.iter().position(|byte| *byte == b',' || *byte <= b' ' || *byte == b'}')?];
+    let is_plain = !kind.is_empty() && !key.is_empty() && after[key.len()] == b',';
+    (is_plain && is_kind_of_entries(kind)).then_some(Head { start, kind, key: Some(key) })
+}
+
+impl<'a> Item<'a> {
+    /// The item that begins at this place, where an `@` stands, and what stands in it.
+    pub fn read_at(text: &'a [u8], start: usize) -> (Item<'a>, Inside<'a>) {
+        let inside = Inside { fields: Vec::with_capacity(16), last_value: None, values: Vec::with_capacity(16) };
+        let mut reader = Reader { inside: Some(inside), ..Reader::new(text, start + 1) };
+        let mut item = Item::new(start);
+        item.fault = reader.read(&mut item).err();
+        item.end = reader.at;
+        (item, reader.inside.unwrap_or_default())
+    }
+
+    /// Whether it is the definition of a string.
+    pub fn is_string(&self) -> bool {
+        self.kind.eq_ignore_ascii_case(b"string")
     }
 }
 
@@ -171,8 +259,27 @@ fn is_white(byte: u8) -> bool {
     matches!(byte, b' ' | b'\t' | b'\r' | b'\n')
 }
 
+/// Whether each byte may stand in a name.
+const OF_NAME: [bool; 256] = {
+    let (mut table, mut byte) = ([false; 256], b' ' as usize + 1);
+    while byte < 256 {
+        table[byte] = !matches!(byte as u8, b'"' | b'#' | b'%' | b'\'' | b'(' | b')' | b',' | b'=' | b'{' | b'}');
+        byte += 1;
+    }
+    table
+};
+
 fn is_of_name(byte: u8) -> bool {
-    byte > b' ' && !b"\"#%'(),={}".contains(&byte)
+    OF_NAME[usize::from(byte)]
+}
+
+/// The longest name that is looked at where none is expected.
+const LONGEST_NAME: usize = 1_000;
+
+/// The name that begins at this place; empty where none does.
+pub fn name_at(text: &[u8], place: usize) -> &[u8] {
+    let rest = &text[place.min(text.len())..text.len().min(place + LONGEST_NAME)];
+    &rest[..rest.iter().position(|byte| !is_of_name(*byte)).unwrap_or(rest.len())]
 }
 
 impl<'a> Reader<'a> {
@@ -279,6 +386,9 @@ impl<'a> Reader<'a> {
             self.take(is_white);
             if self.text.get(self.at) != Some(&b'#') {
                 self.at = end;
+                if let Some(inside) = &mut self.inside {
+                    inside.values.push(start..end);
+                }
                 return Ok(&self.text[start..end]);
             }
             self.at += 1;
@@ -297,15 +407,18 @@ impl<'a> Reader<'a> {
 
     /// Takes a text in braces or quotes.
     fn group(&mut self, opening: u8) -> Read<()> {
-        let mut depth = 0;
-        for at in self.at + 1..self.text.len() {
-            let byte = self.text[at];
-            if depth == 0 && (byte == b'}' || byte == b'"' && opening == b'"') {
-                let is_unbalanced = opening == b'"' && byte == b'}';
-                self.at = if is_unbalanced { at } else { at + 1 };
-                return if is_unbalanced { Err("Unbalanced braces") } else { Ok(()) };
+        let (mut depth, start) = (0, self.at + 1);
+        for (at, byte) in self.text[start..].iter().enumerate() {
+            match *byte {
+                b'{' => depth += 1,
+                b'}' if depth > 0 => depth -= 1,
+                b'}' | b'"' if depth == 0 && (*byte == b'}' || opening == b'"') => {
+                    let is_unbalanced = opening == b'"' && *byte == b'}';
+                    self.at = start + at + usize::from(!is_unbalanced);
+                    return if is_unbalanced { Err("Unbalanced braces") } else { Ok(()) };
+                }
+                _ => {}
             }
-            depth += i64::from(byte == b'{') - i64::from(byte == b'}');
         }
         self.at = self.text.len();
         Err(END_OF_FILE)
@@ -447,7 +560,7 @@ mod tests {
     #[test]
     fn the_inside_of_an_item_is_read_again() {
         let inside = |text: &'static [u8]| Items::new(text).next().map(|item| Inside::of(text, &item));
-        let whole = Inside { fields: vec![b"a", b"B"], last_value: Some(19) };
+        let whole = Inside { fields: vec![b"a", b"B"], last_value: Some(19), values: vec![13..14, 19..22] };
         assert_eq!(inside(b"@misc{k, a = 1, B= {x}}"), Some(whole));
         let begun = inside(b"@misc{k, a = \"x} @misc{j}");
         assert_eq!(begun.map(|inside| inside.last_value), Some(Some(13)));

@@ -50,6 +50,17 @@ impl<'a> Database<'a> {
         inside.filter_map(|place| Some((Folded(key_at(bytes, place)?.name), place)))
     }
 
+    /// The keys of what looks like entries in the text between items, and where each begins.
+    fn unread(&self) -> impl Iterator<Item = (Folded<'a>, usize)> {
+        let bytes = self.text.bytes;
+        let ends = std::iter::once(0).chain(self.items.iter().map(|item| item.end));
+        let begins = self.items.iter().map(|item| item.start).chain([bytes.len()]);
+        let gaps = ends.zip(begins).filter(|(end, begin)| end < begin);
+        let braces =
+            gaps.flat_map(move |(end, begin)| (end..begin).filter(move |at| matches!(bytes[*at], b'{' | b'(')));
+        braces.filter_map(move |brace| Some((Folded(key_at_brace(bytes, brace)?), brace)))
+    }
+
     /// The items that have something in this line; of very many the first ones.
     fn in_line(&self, number: usize) -> impl Iterator<Item = &Item<'a>> {
         let (start, end) = self.text.span(number);
@@ -105,6 +116,17 @@ fn between<'a>(text: &'a [u8], before: &[u8], behind: &[u8]) -> Option<&'a [u8]>
     split_first(text.strip_prefix(before)?, behind).map(|(name, _)| name)
 }
 
+/// How long a key may be that is looked for between items.
+const LONGEST_UNREAD: usize = 200;
+
+/// What looks like an entry's beginning in a text at a brace, as `article{key,`: the key.
+fn key_at_brace(text: &[u8], brace: usize) -> Option<&[u8]> {
+    let rest = &text[brace + 1..text.len().min(brace + LONGEST_UNREAD)];
+    let key = &rest[..rest.iter().position(|byte| *byte == b',' || *byte <= b' ' || *byte == b'}')?];
+    let has_kind = brace.checked_sub(1).is_some_and(|before| text[before].is_ascii_alphabetic());
+    (has_kind && !key.is_empty() && rest[key.len()] == b',').then_some(key)
+}
+
 /// An entry that a run didn't read: its text stands in another item.
 #[derive(Debug, Clone, Copy)]
 pub struct Skipped<'b, 'a> {
@@ -124,6 +146,7 @@ pub struct Entries<'a> {
     by_key: OnceCell<HashMap<Folded<'a>, Found>>,
     by_parent: OnceCell<HashMap<Folded<'a>, Found>>,
     skipped: OnceCell<HashMap<Folded<'a>, Found>>,
+    unread: OnceCell<HashMap<Folded<'a>, Found>>,
     /// For how many more keys one that may be meant is looked for.
     left: Cell<usize>,
 }
@@ -140,6 +163,7 @@ impl<'a> Entries<'a> {
             by_key: OnceCell::new(),
             by_parent: OnceCell::new(),
             skipped: OnceCell::new(),
+            unread: OnceCell::new(),
             left: Cell::new(MOST_MEANT),
         }
     }
@@ -192,6 +216,33 @@ impl<'a> Entries<'a> {
         let database = &self.databases[index];
         let item = database.items[..database.items.partition_point(|item| item.start < start)].last()?;
         Some(Skipped { around: Stored { database, item }, start })
+    }
+
+    /// Where the text between items has what looks like the beginning of an entry of this key.
+    pub fn unread(&self, key: &[u8]) -> Option<(&Database<'a>, usize)> {
+        let unread = self.unread.get_or_init(|| {
+            let mut unread = HashMap::new();
+            for (index, database) in self.databases.iter().enumerate() {
+                database.unread().for_each(|(key, start)| {
+                    unread.entry(key).or_insert((index, start));
+                });
+            }
+            unread
+        });
+        unread.get(&Folded(key)).map(|(index, start)| (&self.databases[*index], *start))
+    }
+
+    /// Whether no database has an entry.
+    pub fn is_empty(&self) -> bool {
+        self.by_key().is_empty()
+    }
+
+    /// The definition of the string of this name; the last one.
+    pub fn string(&self, name: &[u8]) -> Option<Stored<'_, 'a>> {
+        let is_it = |item: &&Item<'_>| item.is_string() && item.key.is_some_and(|key| Folded(key.name) == Folded(name));
+        let found =
+            self.databases.iter().rev().find_map(|database| Some((database, database.items.iter().rev().find(is_it)?)));
+        found.map(|(database, item)| Stored { database, item })
     }
 
     /// The names of all strings that the databases define.
@@ -247,6 +298,16 @@ mod tests {
         assert_eq!([skipped(b"B"), skipped(b"d")], [Some((19, 0)), Some((55, 38))]);
         assert_eq!([skipped(b"a"), skipped(b"c"), skipped(b"e")], [None; 3]);
         assert_eq!(entries.strings().collect::<Vec<_>>(), [b"e"]);
+    }
+
+    #[test]
+    fn what_looks_like_an_entry_is_found_between_items() {
+        let files = files(b"misc{a, x = 1}\n@misc{b}\n@comment{C, y}\n@string{s = 1} @string{S = 2}");
+        let entries = Entries::new(&files);
+        let line = |key| entries.unread(key).map(|(database, start)| database.text.line_of(start));
+        assert_eq!([line(b"A"), line(b"b"), line(b"c"), line(b"s")], [Some(1), None, Some(3), None]);
+        assert_eq!(entries.string(b"s").map(|stored| stored.item.start), Some(54));
+        assert!(!entries.is_empty());
     }
 
     #[test]

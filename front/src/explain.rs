@@ -1,13 +1,15 @@
 //! A log for its reader: each message, the line and the entry that it is about, and what to do.
 
-use crate::advice::{self, Advice, Section};
+use crate::advice::{self, Advice, Section, Seen};
+use crate::beside;
 use crate::code_places::{Code, DEFAULT_TYPE};
 use crate::database::Item;
 use crate::entries::{Entries, Stored};
 use crate::hints::functions_above_read;
 use crate::job::{File, Files};
 use crate::log::{Content, Ended, Line, Log, Message, Place, Severity};
-use crate::missing_entry::{self, begun_value, lost_fields, meant_field, meant_string, what_is_missing};
+use crate::missing_entry::{self, lost_fields, meant_field, meant_string};
+use crate::mistakes::{begun_value, what_hides, what_to_do};
 use crate::nearest::nearest;
 use crate::operands::{TEST_LEAVES, advice_at, is_of_test_in};
 use crate::origins::{MissingField, missing_field_of};
@@ -21,6 +23,7 @@ use crate::style_text::{
 };
 use crate::terminal::{ERROR_COLOUR, PLACE_COLOUR, Terminal, WARNING_COLOUR, in_lines, plain};
 use crate::text::{Text, find, split_first};
+use crate::unsaid::Unsaid;
 use std::collections::HashSet;
 use std::io::{self, BufWriter, Write};
 
@@ -93,8 +96,10 @@ struct Explainer<'a, W: Write> {
     /// The kinds of messages of which it was said what to do, and the functions of which it was said what they take.
     advised: HashSet<usize>,
     taught: HashSet<&'a [u8]>,
-    /// What was said of entries that weren't found.
-    said_of_missing: HashSet<String>,
+    /// What was said of files, of entries that weren't found, and of parts of entries; each is said once.
+    said: HashSet<String>,
+    /// How many keys have no entry since a database isn't there or has none.
+    lost_keys: u64,
     causes: Vec<Cause<'a>>,
     repeats: Repeats<'a>,
     strings: Strings<'a>,
@@ -125,7 +130,8 @@ impl<'a, W: Write> Explainer<'a, W> {
             is_interrupted: log.is_interrupted,
             advised: HashSet::new(),
             taught: HashSet::new(),
-            said_of_missing: HashSet::new(),
+            said: HashSet::new(),
+            lost_keys: 0,
             causes: Vec::new(),
             repeats: Repeats::default(),
             strings: Strings::default(),
@@ -162,11 +168,24 @@ impl<'a, W: Write> Explainer<'a, W> {
         self.indented(&format!("what to do: {text}")).iter().try_for_each(|line| writeln!(self.out, "{line}"))
     }
 
+    /// Where something stands; once.
+    fn put_place_once(&mut self, text: &str) -> io::Result<()> {
+        if self.said.insert(text.to_string()) { self.put_place(text) } else { Ok(()) }
+    }
+
+    fn put_advice_once(&mut self, text: &str) -> io::Result<()> {
+        if self.said.insert(text.to_string()) { self.put_advice(text) } else { Ok(()) }
+    }
+
     /// A line of the log, with what follows it.
     fn line(&mut self, line: &Line<'a>) -> io::Result<()> {
         let was_repeated = std::mem::take(&mut self.is_repeated);
         match &line.content {
-            Content::Message(message) if self.follows(message) || self.strings.has(message) => Ok(()),
+            Content::Message(message)
+                if self.follows(message) || self.strings.has(message) || self.is_lost(message) =>
+            {
+                Ok(())
+            }
             Content::Message(message) if self.repeats.has(line.bytes, message, self.first_of_style.is_some()) => {
                 self.explained += 1;
                 self.is_repeated = true;
@@ -198,6 +217,27 @@ impl<'a, W: Write> Explainer<'a, W> {
         }
     }
 
+    /// What the run doesn't log of the entries that are cited.
+    fn unsaid(&mut self) -> io::Result<()> {
+        let style = self.sources.style().and_then(|file| file.bytes.as_deref()).unwrap_or(b"");
+        let (strings, files, terminal) = (self.known_strings(), self.files, self.terminal);
+        let unsaid = Unsaid::new(self.entries(), files, style, &strings);
+        let (more, unread) = (unsaid.more(), unsaid.unread());
+        let shown: Vec<(Vec<String>, String)> =
+            unsaid.shown().into_iter().map(|shown| (shown.lines(terminal), shown.advice)).collect();
+        if !shown.is_empty() {
+            writeln!(self.out, "No message is about these, and they may not be meant so:")?;
+        }
+        for (lines, advice) in shown {
+            lines.iter().try_for_each(|line| self.coloured(PLACE_COLOUR, &format!("{INDENT}{line}")))?;
+            self.put_advice_once(&advice)?;
+        }
+        if more > 0 {
+            self.put_place(&format!("({more} more {} like these)", if more == 1 { "is" } else { "are" }))?;
+        }
+        unread.map_or(Ok(()), |unread| writeln!(self.out, "{unread}"))
+    }
+
     /// What is to be said of lines that weren't printed, before the next one is.
     fn end_lines(&mut self) -> io::Result<()> {
         let others = std::mem::take(&mut self.others).saturating_sub(MOST_OTHERS);
@@ -212,9 +252,10 @@ impl<'a, W: Write> Explainer<'a, W> {
         let Some(line) = line else { return Ok(()) };
         self.end_lines()?;
         let Content::Ended(end) = &line.content else {
-            return writeln!(self.out, "(The messages behind these stand in the .blg.)");
+            return writeln!(self.out, "(The messages after these are in the .blg.)");
         };
-        match (end.errors + end.warnings).saturating_sub(self.explained + self.strings.count()) {
+        let counted = self.strings.count() + self.lost_keys.saturating_sub(1);
+        match (end.errors + end.warnings).saturating_sub(self.explained + counted) {
             0 => {}
             1 => writeln!(self.out, "(1 more message stands in the .blg.)")?,
             more => writeln!(self.out, "({more} more messages stand in the .blg.)")?,
@@ -226,6 +267,9 @@ impl<'a, W: Write> Explainer<'a, W> {
         self.end_lines()?;
         let has_errors = !self.repeats.is_empty();
         self.end_repeats()?;
+        if end.is_finished() && self.part == Part::Whole {
+            self.unsaid()?;
+        }
         self.put_line(if end.is_finished() { "" } else { ERROR_COLOUR }, line)?;
         if !end.is_finished() {
             if let Some(scene) = self.scene_of_end.take() {
@@ -247,8 +291,27 @@ impl<'a, W: Write> Explainer<'a, W> {
 
     /// Says of errors of the execution how often they repeat.
     fn end_repeats(&mut self) -> io::Result<()> {
-        let texts = [self.strings.texts(), self.repeats.texts()].concat();
+        let texts = [self.texts_of_lost(), self.strings.texts(), self.repeats.texts()].concat();
         texts.iter().try_for_each(|text| writeln!(self.out, "{text}"))
+    }
+
+    /// Whether a message is about a key without an entry of which no more can be said than of one before. Then it is counted.
+    fn is_lost(&mut self, message: &Message<'a>) -> bool {
+        let Some(key) = missing_key(message.text) else { return false };
+        let files = self.files;
+        let is_lost = missing_entry::is_lost(self.entries(), files, key);
+        self.lost_keys += u64::from(is_lost);
+        is_lost && self.lost_keys > 1
+    }
+
+    /// What is said of the keys that were counted; once.
+    fn texts_of_lost(&mut self) -> Vec<String> {
+        let (count, files) = (std::mem::take(&mut self.lost_keys), self.files);
+        let place = missing_entry::lost(self.entries(), files).and_then(|told| told.place).filter(|_| count > 1);
+        let keys =
+            if count == 2 { "1 more key has".into() } else { format!("{} more keys have", count.saturating_sub(1)) };
+        let place = place.map(|place| if count == 2 { place } else { place.replacen("it may", "they may", 1) });
+        place.iter().map(|place| format!("({keys} no entry: {place})")).collect()
     }
 
     // ---- messages ----
@@ -275,7 +338,10 @@ impl<'a, W: Write> Explainer<'a, W> {
                 Some(key) => self.missing_entry(key, message.text),
                 None => {
                     self.unplaced(message)?;
-                    self.advise(&[Section::Aux, Section::Run, Section::Entries], message.text)
+                    let is_of_biblatex = message.text.starts_with(b"I found no ") && self.is_of_biblatex();
+                    let sections: &[Section] =
+                        if is_of_biblatex { &[] } else { &[Section::Aux, Section::Run, Section::Entries] };
+                    self.advise(sections, message.text)
                 }
             },
         }
@@ -322,6 +388,9 @@ impl<'a, W: Write> Explainer<'a, W> {
         self.last_of_style = spot.number;
         self.first_of_style.get_or_insert_with(|| format!("{}:{}", plain(shown_path(spot.file)), spot.number));
         let (Some(text), commands) = (self.sources.text(style), self.sources.commands(style)) else { return Ok(()) };
+        if let Some(odd) = beside::what_is_odd(spot.file).filter(|odd| self.said.insert(odd.clone())) {
+            return self.put_advice(&odd);
+        }
         let (start, end) = text.span(spot.number);
         let place = spot.part.map_or(end, |(at, _)| start + at);
         if let Some(advice) = self.braces_of(message.text, &spot, &text, &commands, place) {
@@ -338,6 +407,9 @@ impl<'a, W: Write> Explainer<'a, W> {
             let to = end_of_skipped(&text, spot.number);
             let lost = Defined::new(text.bytes, from, to.max(from), &commands);
             self.causes.push(Cause { style, number: spot.number, has_commands: false, lost, unprinted: 0 });
+        }
+        if message.text == b"crossref is already defined" && around.is_some_and(|around| around.is("entry")) {
+            return self.put_advice(&Seen::CrossrefIsField.with(&[]));
         }
         let word = message.text.strip_suffix(b" isn't a command").and_then(nearest_word);
         if let Some(word) = word {
@@ -498,15 +570,63 @@ impl<'a, W: Write> Explainer<'a, W> {
         if let Some(key) = item.key.filter(|_| message.text == b"Repeated entry") {
             self.show_entry("the first is", key.name)?;
         }
-        let meant = self.meant_by(message.text, &item);
-        meant.map_or(Ok(()), |name| self.put_place(&format!("is it `{}`?", plain(&name))))?;
         if message.text == b"Unbalanced braces" || message.text == b"Illegal end of database file" {
             let begun = begun_value(spot.file, &text, &item);
             begun.map_or(Ok(()), |begun| self.put_place(&begun))?;
         }
-        let is_of_form = message.text.starts_with(b"I was expecting ");
-        let place = spot.part.filter(|_| is_of_form).map(|(at, _)| text.span(spot.number).0 + at);
-        Ok(place.and_then(|place| what_is_missing(spot.file, &text, &item, place)))
+        if let Some(seen) = self.seen_in(message, &spot, &text, &item) {
+            return Ok(Some(seen));
+        }
+        let meant = self.meant_by(message.text, &item);
+        meant.map_or(Ok(()), |name| self.put_place(&format!("is it `{}`?", plain(&name))))?;
+        Ok(None)
+    }
+
+    /// What to do about a message of a database, where its text shows what was meant.
+    fn seen_in(&mut self, message: &Message<'a>, spot: &Spot<'a>, text: &Text<'a>, item: &Item<'a>) -> Option<String> {
+        let odd = beside::what_is_odd(spot.file).filter(|odd| self.said.insert(odd.clone()));
+        if odd.is_some() {
+            return odd;
+        }
+        if let Some(name) = between(message.text, b"string name \"", b"\" is undefined") {
+            return self.seen_of_string(name, spot.file, item);
+        }
+        let first = item.key.filter(|_| message.text == b"Repeated entry");
+        let hidden = first.and_then(|key| {
+            let Stored { database, item } = self.entries().entry(key.name)?;
+            what_hides(database.file, &database.text, item)
+        });
+        let is_fault = item.fault.is_some_and(|fault| fault.as_bytes() == message.text);
+        let hidden = hidden.or_else(|| what_hides(spot.file, text, item).filter(|_| is_fault || first.is_some()));
+        let fault = Some(item.end).filter(|_| is_fault);
+        hidden.or_else(|| what_to_do(spot.file, text, item, fault?, message.text))
+    }
+
+    /// What to do about a string that isn't defined, where it is below, or where its name isn't one.
+    fn seen_of_string(&mut self, name: &[u8], file: &File, item: &Item<'a>) -> Option<String> {
+        const QUOTES: [&str; 8] = ["\u{201C}", "\u{201D}", "\u{201E}", "\u{2018}", "\u{2019}", "\u{AB}", "\u{BB}", "`"];
+        if let Some(quote) = QUOTES.iter().find(|quote| name.starts_with(quote.as_bytes())) {
+            return Some(Seen::NoQuote.with(&[quote]));
+        }
+        if let Some(at) = name.iter().position(|byte| matches!(byte, b'-' | b'/')) {
+            let known = self.known_strings();
+            let is_known = |name: &[u8]| known.iter().any(|known| known.eq_ignore_ascii_case(name));
+            let (left, right) = (&name[..at], &name[at + 1..]);
+            return (is_known(left) && is_known(right)).then(|| Seen::MonthsInOne.with(&[&plain(left), &plain(right)]));
+        }
+        let Stored { database, item: defined } = self.entries().string(name)?;
+        let is_below = database.file.name != file.name || defined.start > item.start;
+        let at = crate::mistakes::line_of(database.file, &database.text, defined.start);
+        is_below.then(|| Seen::DefinedBelow.with(&[&plain(name), &at]))
+    }
+
+    /// The names of all strings that the databases and the style define.
+    fn known_strings(&mut self) -> Vec<&'a [u8]> {
+        let mut known: Vec<&[u8]> = self.entries().strings().collect();
+        let style = self.sources.style().map_or(&b""[..], |file| &file.name);
+        let commands = self.sources.commands(style);
+        known.extend(commands.iter().filter(|command| command.is("macro")).filter_map(|command| command.name));
+        known
     }
 
     /// The name that may be meant by a type or a string that isn't known.
@@ -516,11 +636,7 @@ impl<'a, W: Write> Explainer<'a, W> {
             return nearest(item.kind, functions_above_read(style)).map(|name| [b"@", name].concat());
         }
         let name = between(text, b"string name \"", b"\" is undefined")?;
-        let mut known: Vec<&[u8]> = self.entries().strings().collect();
-        let style = self.sources.style().map_or(&b""[..], |file| &file.name);
-        let commands = self.sources.commands(style);
-        known.extend(commands.iter().filter(|command| command.is("macro")).filter_map(|command| command.name));
-        meant_string(name, &known).map(<[u8]>::to_vec)
+        meant_string(name, &self.known_strings()).map(<[u8]>::to_vec)
     }
 
     /// The item that a message is about, and the part of the text that the message names.
@@ -573,14 +689,28 @@ impl<'a, W: Write> Explainer<'a, W> {
         if let Some(key) = entry {
             self.show_entry("for", key)?;
         }
+        let lacked = entry.and_then(|key| self.lacked_field(message, function, key));
         if let Some(missing) = self.missing_field(message, function) {
             self.put_place(&missing)?;
         }
         self.teach(message, function)?;
         match self.advice_at(message, function) {
             Some(advice) => self.put_advice(&advice),
+            None if lacked.is_some() => {
+                self.put_advice_once(&Seen::FieldIsMissing.with(&[&lacked.unwrap_or_default()]))
+            }
             None => self.advise(&[Section::Execution], message.text),
         }
+    }
+
+    /// The field that an entry lacks, where a function takes one that is missing.
+    fn lacked_field(&mut self, message: &Message<'a>, function: &[u8], key: &[u8]) -> Option<String> {
+        let scene = message.scene?;
+        let MissingField::Is(field, _) = missing_field_of(self.code_of(scene)?, scene, message.text, function)? else {
+            return None;
+        };
+        let field = plain(field);
+        self.entries().entry(key).map(|_| field)
     }
 
     /// Says what a function takes, or what its test leaves, where an error is about that; once for each function.
@@ -689,7 +819,9 @@ impl<'a, W: Write> Explainer<'a, W> {
     fn unplaced(&mut self, message: &Message<'a>) -> io::Result<()> {
         let text = message.text;
         if let Some(spot) = self.sources.spot(message) {
-            return self.show_line(&spot);
+            self.show_line(&spot)?;
+            let meant = beside::meant(text, self.files);
+            return meant.map_or(Ok(()), |meant| self.put_place(&meant));
         }
         let child = between(text, b"A bad cross reference--entry \"", b"\" refers to entry \"");
         let child =
@@ -698,11 +830,24 @@ impl<'a, W: Write> Explainer<'a, W> {
             return self.show_entry("for", key).map(|_| ());
         }
         if text.starts_with(b"I found no ") {
-            let top = self.files.with_ending(".aux").next().map(|file| plain(shown_path(file)));
-            let read = |name| format!("{name}: the whole file was read, and those that it includes");
-            return top.map_or(Ok(()), |name| self.put_place(&read(name)));
+            return self.found_no_command();
         }
         self.of_style(text)
+    }
+
+    /// Which file was looked through for a command, and whether it is of another program.
+    fn found_no_command(&mut self) -> io::Result<()> {
+        let Some(top) = self.files.with_ending(".aux").next() else { return Ok(()) };
+        let name = plain(shown_path(top));
+        self.put_place_once(&format!("{name}: the whole file was read, and those that it includes"))?;
+        let stem = name.strip_suffix(".aux").unwrap_or(&name);
+        if self.is_of_biblatex() { self.put_advice_once(&Seen::OfBiblatex.with(&[stem])) } else { Ok(()) }
+    }
+
+    /// Whether the job is of a document with `biblatex` whose bibliography another program makes.
+    fn is_of_biblatex(&self) -> bool {
+        let top = self.files.with_ending(".aux").next().and_then(|file| file.bytes.as_deref());
+        top.is_some_and(|bytes| find(bytes, b"\\abx@aux@").is_some())
     }
 
     /// A style's own warning often ends with the entry's key, or begins with it.
@@ -724,7 +869,7 @@ impl<'a, W: Write> Explainer<'a, W> {
         let style = self.sources.style().and_then(|file| file.bytes.as_deref()).unwrap_or(b"");
         let Some(stored) = self.entries().entry(key) else { return Ok(()) };
         let said = [meant_field(style, stored, warning), lost_fields(stored)];
-        said.into_iter().flatten().try_for_each(|text| self.put_place(&text))
+        said.into_iter().flatten().try_for_each(|text| self.put_place_once(&text))
     }
 
     /// Says of an entry that wasn't found where its key is named, where the entry may be, and what to do.
@@ -734,8 +879,7 @@ impl<'a, W: Write> Explainer<'a, W> {
         let told = missing_entry::told(self.entries(), files, key);
         told.place.map_or(Ok(()), |place| self.put_place(&place))?;
         match told.advice {
-            Some(advice) if self.said_of_missing.insert(advice.clone()) => self.put_advice(&advice),
-            Some(_) => Ok(()),
+            Some(advice) => self.put_advice_once(&advice),
             None => self.advise(&[Section::Entries], text),
         }
     }
@@ -852,7 +996,7 @@ Error--I was expecting an =--line 2 of file d.bib
     d.bib:2:  note 1}
                    ^
     in @misc{k}, which begins at d.bib:1
-    what to do: write `name = value`; is there a comma too many, or a brace too few above?
+    what to do: put an `=` after `note`
 Error--Repeated entry--line 3 of file d.bib
     d.bib:3: @misc{K}
                     ^

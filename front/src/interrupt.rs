@@ -2,12 +2,12 @@
 //! budget that it ends within a second: what that writes begins what the long run would have written.
 
 use crate::btx::{self, Answer, Ran};
-use crate::system::{self, Held, Signal};
+use crate::system::{Held, Signal};
 use std::io;
 use std::sync::Arc;
-use std::sync::atomic::{AtomicBool, Ordering};
+use std::sync::atomic::{AtomicU8, Ordering};
 use std::sync::mpsc::{self, Receiver, Sender};
-use std::thread::{self, JoinHandle};
+use std::thread;
 use std::time::{Duration, Instant};
 
 /// After how much time a run is called long.
@@ -30,11 +30,15 @@ const LEAST_BUDGET: u64 = 1;
 /// The stack of the second thread. A run takes 64 KB at most.
 const STACK: usize = 1 << 20;
 
+/// What became of a wait for a signal, as far as it is known.
+const WAITS: u8 = 0;
+/// A signal was taken: the program ends by it.
+const TAKEN: u8 = 1;
+/// Nobody waits any more.
+const OVER: u8 = 2;
+
 /// A second thread that waits for a signal.
-pub struct Watch {
-    thread: JoinHandle<()>,
-    is_over: Arc<AtomicBool>,
-}
+pub struct Watch(Arc<AtomicU8>);
 
 impl Watch {
     /// Begins to wait. `on_long` is called where the program still runs after two seconds.
@@ -43,42 +47,42 @@ impl Watch {
         on_long: impl FnOnce() + Send + 'static,
         on_signal: impl FnOnce(Signal) + Send + 'static,
     ) -> io::Result<Watch> {
-        let is_over = Arc::new(AtomicBool::new(false));
-        let is_over_there = is_over.clone();
+        let state = Arc::new(AtomicU8::new(WAITS));
+        let there = state.clone();
         let wait = move || {
-            if let Some(signal) = first_signal(held, &is_over_there, on_long) {
-                on_signal(signal);
+            let signal = first_signal(held, &there, on_long);
+            if there.swap(TAKEN, Ordering::SeqCst) == OVER {
+                signal.end_program();
             }
+            on_signal(signal);
         };
-        let thread = thread::Builder::new().stack_size(STACK).spawn(wait)?;
-        Ok(Watch { thread, is_over })
+        thread::Builder::new().stack_size(STACK).spawn(wait)?;
+        Ok(Watch(state))
     }
 
-    /// Ends the wait. Where a signal was taken before, this returns only after all that is done about it.
+    /// Ends the wait. Where a signal was taken before, this doesn't return: the program ends by it.
     pub fn end(self) {
-        self.is_over.store(true, Ordering::SeqCst);
-        system::wake(&self.thread);
-        // (a thread that panicked has said so)
-        let _ = self.thread.join();
+        if self.0.swap(OVER, Ordering::SeqCst) == TAKEN {
+            loop {
+                thread::park();
+            }
+        }
     }
 }
 
-/// The first signal that comes; None where the wait is over before.
-fn first_signal(held: Held, is_over: &AtomicBool, on_long: impl FnOnce()) -> Option<Signal> {
-    let mut on_long = Some(on_long);
-    let mut time = LONG;
-    while !is_over.load(Ordering::SeqCst) {
-        if let Some(signal) = held.wait(time) {
-            return Some(signal);
-        }
-        if !is_over.load(Ordering::SeqCst)
-            && let Some(say) = on_long.take()
-        {
-            say();
-        }
-        time = DAY;
+/// The first signal that comes.
+fn first_signal(held: Held, state: &AtomicU8, on_long: impl FnOnce()) -> Signal {
+    if let Some(signal) = held.wait(LONG) {
+        return signal;
     }
-    None
+    if state.load(Ordering::SeqCst) == WAITS {
+        on_long();
+    }
+    loop {
+        if let Some(signal) = held.wait(DAY) {
+            return signal;
+        }
+    }
 }
 
 /// A beginning of a run, and whether no longer one is to be tried.

@@ -4,7 +4,7 @@ use crate::btx;
 use crate::exit::Failure;
 use crate::kpathsea::Format;
 use crate::search::{Search, path_of};
-use crate::system::{trying, zeros};
+use crate::system::trying;
 use crate::terminal::plain;
 use std::collections::HashSet;
 use std::fmt;
@@ -64,7 +64,8 @@ enum Place {
     Empty(&'static str),
 }
 
-const NO_SUCH_FILE: &str = "there is no such file";
+/// Why a file isn't there of which nothing else is known.
+pub const NO_SUCH_FILE: &str = "there is no such file";
 const FOLDER: &str = "it is a folder";
 const NO_ORDINARY_FILE: &str = "it is no ordinary file";
 const TOO_LONG_A_NAME: &str = "File name too long";
@@ -136,15 +137,22 @@ fn read_ordinary(path: &[u8]) -> io::Result<Place> {
     let file = fs::File::open(path_of(path))?;
     let number = (data.dev(), data.ino());
     if data.len() >= MOST_READ {
-        // That it is too long is all that the library says of it.
-        let bytes = zeros(MOST_READ as usize).ok_or(ErrorKind::OutOfMemory)?;
-        return Ok(Place::File(bytes, number));
+        // That it is too long is all that the library says of it. As long as zeros are only read, they take no memory.
+        return Ok(Place::File(vec![0; MOST_READ as usize], number));
     }
     let mut bytes = Vec::new();
     // One byte more than there are, so that the end is seen without more room.
     trying(|| bytes.try_reserve_exact(data.len() as usize + 1)).map_err(|_| ErrorKind::OutOfMemory)?;
     trying(|| file.take(MOST_READ).read_to_end(&mut bytes))?;
     Ok(Place::File(bytes, number))
+}
+
+/// A database that a user names by its path: what stands in it, or why there is none. A failure is the machine's.
+pub fn read_database(path: &[u8]) -> Result<Result<Vec<u8>, &'static str>, Failure> {
+    match read(path).map_err(|fault| Failure::unread(path, fault))? {
+        Place::File(bytes, _) => Ok(Ok(bytes)),
+        Place::Empty(reason) => Ok(Err(reason)),
+    }
 }
 
 /// A style that a user names, found and read; where there is none, what stands in its place, if anything does. A failure is the machine's.

@@ -19,9 +19,24 @@ pub const MARK: u8 = 0xFE;
 const MOST_LETTERS: usize = DIGITS.len() * DIGITS.len();
 
 /// Whether a byte is one of a code, so that a file which has it can't be coded.
-pub fn is_digit(byte: u8) -> bool {
+pub const fn is_digit(byte: u8) -> bool {
     matches!(byte, 0x01..=0x08 | 0x0E..=0x1F)
 }
+
+/// Whether a text has a byte of a code. (Piece by piece, since that takes an eighth of the time.)
+pub fn has_digits(text: &[u8]) -> bool {
+    text.chunks(4096).any(|piece| piece.iter().fold(false, |has, byte| has | is_digit(*byte)))
+}
+
+/// Whether each byte may begin a code, or may be left over of one.
+const IS_OF_CODE: [bool; 256] = {
+    let (mut table, mut byte) = ([false; 256], 0);
+    while byte < 256 {
+        table[byte] = byte as u8 == b'{' || is_digit(byte as u8) || byte as u8 >= MARK;
+        byte += 1;
+    }
+    table
+};
 
 fn value_of(digit: u8) -> Option<usize> {
     DIGITS.iter().position(|byte| *byte == digit)
@@ -76,16 +91,28 @@ pub struct Codes {
     letters: Vec<Letter>,
     /// Their numbers, by themselves; the `I` of a foreign text is another one.
     numbers: HashMap<(char, bool), usize>,
+    /// The code of each, by itself; the `I` of a foreign text is another one. Empty where a letter outside ASCII has none.
+    codes: HashMap<(char, bool), Vec<u8>>,
 }
 
 impl Codes {
     pub fn new(language: &Arc<Language>, in_braces: InBraces, are_marked: bool) -> Codes {
         let mark: &[u8] = if are_marked { &[MARK] } else { &[] };
-        Codes { language: language.clone(), in_braces, mark, letters: Vec::new(), numbers: HashMap::new() }
+        Codes {
+            language: language.clone(),
+            in_braces,
+            mark,
+            letters: Vec::new(),
+            numbers: HashMap::new(),
+            codes: HashMap::new(),
+        }
     }
 
     /// Writes a text of a value with its letters coded.
     pub fn code(&mut self, text: &str, out: &mut Vec<u8>) {
+        if !self.language.has_rules_for_ascii() && text.is_ascii() {
+            return out.extend_from_slice(text.as_bytes());
+        }
         let (mut depth, mut copied, is_foreign) = (0, 0, text.is_ascii());
         let has_rules_for_ascii = self.language.has_rules_for_ascii();
         for (at, itself) in text.char_indices().filter(|_| has_rules_for_ascii || !is_foreign) {
@@ -94,13 +121,37 @@ impl Codes {
             if !may_be_coded || depth > 0 && self.in_braces == InBraces::AsTheyAre {
                 continue;
             }
-            let Some(key) = self.key(itself, &text[at..], is_foreign).map(<[u8]>::to_vec) else { continue };
-            let Some(number) = self.number(itself, is_foreign) else { continue };
-            out.extend_from_slice(&text.as_bytes()[copied..at]);
-            self.put(&key, number, out);
-            copied = at + itself.len_utf8();
+            let (before, after) = (&text.as_bytes()[copied..at], at + itself.len_utf8());
+            if self.put(itself, &text[at..], is_foreign, before, out) {
+                copied = after;
+            }
         }
         out.extend_from_slice(&text.as_bytes()[copied..]);
+    }
+
+    /// Writes a letter with which `rest` begins, and what comes before it; false where it has no code, and nothing is written.
+    fn put(&mut self, itself: char, rest: &str, is_foreign: bool, before: &[u8], out: &mut Vec<u8>) -> bool {
+        // (what a letter of ASCII sorts as depends on those that follow)
+        let known = (itself, is_foreign && itself == 'I');
+        if !itself.is_ascii()
+            && let Some(code) = self.codes.get(&known)
+        {
+            if !code.is_empty() {
+                out.extend_from_slice(before);
+                out.extend_from_slice(code);
+            }
+            return !code.is_empty();
+        }
+        let code = self.key(itself, rest, is_foreign).map(<[u8]>::to_vec).and_then(|key| self.code_of(known, &key));
+        let has_code = code.is_some();
+        if let Some(code) = &code {
+            out.extend_from_slice(before);
+            out.extend_from_slice(code);
+        }
+        if !itself.is_ascii() {
+            self.codes.insert(known, code.unwrap_or_default());
+        }
+        has_code
     }
 
     /// What a letter sorts as with which `rest` begins; None where that is itself.
@@ -117,44 +168,46 @@ impl Codes {
     }
 
     /// The number of a letter; None where there are too many.
-    fn number(&mut self, itself: char, is_foreign: bool) -> Option<usize> {
-        let known = (itself, is_foreign && itself == 'I');
+    fn number(&mut self, known: (char, bool)) -> Option<usize> {
         if let Some(number) = self.numbers.get(&known) {
             return Some(*number);
         }
         let number = Some(self.letters.len()).filter(|number| *number < MOST_LETTERS)?;
-        self.letters.push(Letter::new(itself, &self.language, is_foreign));
+        self.letters.push(Letter::new(known.0, &self.language, known.1));
         self.numbers.insert(known, number);
         Some(number)
     }
 
-    fn put(&self, key: &[u8], number: usize, out: &mut Vec<u8>) {
-        let digits = [DIGITS[number / DIGITS.len()], DIGITS[number % DIGITS.len()]];
-        out.extend_from_slice(&[b'{', b'\\', digits[0], digits[1], b'{']);
-        let start = out.len();
-        out.extend_from_slice(key);
+    /// The code of a letter with this key.
+    fn code_of(&mut self, known: (char, bool), key: &[u8]) -> Option<Vec<u8>> {
+        let number = self.number(known)?;
+        let mut code = vec![b'{', b'\\', DIGITS[number / DIGITS.len()], DIGITS[number % DIGITS.len()], b'{'];
+        code.extend_from_slice(key);
         if self.letters[number].is_capital {
-            out[start..].make_ascii_uppercase();
+            code[5..].make_ascii_uppercase();
         }
-        out.extend_from_slice(self.mark);
-        out.extend_from_slice(b"}}");
+        code.extend_from_slice(self.mark);
+        code.extend_from_slice(b"}}");
+        Some(code)
     }
 
     /// What a run wrote, with each code turned back into its letter, in the case that the run gave it.
     pub fn turn_back(&self, text: &[u8]) -> Turned {
         let mut turned = Turned { text: Vec::with_capacity(text.len()), is_whole: true };
-        let mut at = 0;
-        while at < text.len() {
-            let code = if text[at] == b'{' { self.code_at(&text[at..]) } else { None };
-            if let Some(code) = code {
+        let (mut at, mut copied) = (0, 0);
+        while let Some(before) = text[at..].iter().position(|byte| IS_OF_CODE[usize::from(*byte)]) {
+            at += before;
+            if let Some(code) = self.code_at(&text[at..]) {
+                turned.text.extend_from_slice(&text[copied..at]);
                 turned.text.extend_from_slice(self.letter(&code).as_bytes());
                 at += code.len;
+                copied = at;
             } else {
-                turned.is_whole &= !is_digit(text[at]) && text[at] < MARK;
-                turned.text.push(text[at]);
+                turned.is_whole &= text[at] == b'{';
                 at += 1;
             }
         }
+        turned.text.extend_from_slice(&text[copied..]);
         turned
     }
 

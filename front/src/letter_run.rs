@@ -1,16 +1,15 @@
 //! The run of a job with the letters of a language: over databases whose letters are coded, and what it writes turned back.
 
-use crate::btx::{self, Answer, FIELD, Ran, Record, STRING};
+use crate::btx::{Answer, Ran};
 use crate::job::{File, Files};
 use crate::languages::{AFTER, Language};
-use crate::letter_codes::{Codes, InBraces, MARK, is_digit};
-use crate::letters::databases_are_whole;
+use crate::letter_codes::{Codes, InBraces, MARK, has_digits};
+use crate::letter_values::{self, FIXED, parts};
+use crate::style_keys;
+use crate::text::find;
 use std::ops::Range;
 use std::sync::Arc;
 use std::thread;
-
-/// Fields whose values stay as they are: the key of another entry, where something is found, and what styles print as they would sort it.
-const NO_TEXT: [&str; 7] = ["crossref", "doi", "file", "month", "url", "xref", "year"];
 
 /// How many times as long the strings are that variables of a run with codes keep: a code has some four times the bytes of its letter.
 const LONGER: u32 = 4;
@@ -34,19 +33,17 @@ pub enum LeftOut {
     PrintsKeys,
     CutsLetters,
     Unfinished,
-    Memory,
 }
 
 impl LeftOut {
     /// The reason, as the log has it.
     pub fn reason(self) -> &'static str {
         match self {
-            LeftOut::NotUtf8 => "a database isn't UTF-8",
-            LeftOut::ControlCharacters => "the style or a database has control characters",
+            LeftOut::NotUtf8 => "an entry or a string isn't UTF-8",
+            LeftOut::ControlCharacters => "the style, an entry or a string has control characters",
             LeftOut::PrintsKeys => "the style prints text that it made for sorting",
             LeftOut::CutsLetters => "the style cuts text by bytes",
             LeftOut::Unfinished => "the run didn't finish",
-            LeftOut::Memory => "there is too little memory",
         }
     }
 }
@@ -57,9 +54,6 @@ pub struct Coded {
     pub files: Files,
     pub codes: Codes,
 }
-
-/// The values of a file that may be coded.
-type Values = Vec<Range<usize>>;
 
 /// Whether a job has letters that a language may sort by rules of its own.
 pub fn has_letters(files: &Files) -> bool {
@@ -75,20 +69,26 @@ pub fn longer(most: u32) -> u32 {
     most.saturating_mul(LONGER).min(1_000_000)
 }
 
-/// Runs a job with the letters of a language; an error says why its list can't be made so. Whether a style prints keys is seen by a run of its own.
-pub fn run(files: &Files, language: &Arc<Language>, run: impl Fn(&Files) -> Ran + Sync) -> Result<Ran, LeftOut> {
-    if !databases_are_whole(files) {
-        return Err(LeftOut::NotUtf8);
+/// Runs a job with the letters of a language; an error says why its list can't be made so, and None that no entry of it has such letters. Where the style's text doesn't show that
+/// it prints no keys, that is seen by a run of its own.
+pub fn run(
+    files: &Files,
+    language: &Arc<Language>,
+    run: impl Fn(&Files) -> Ran + Sync,
+) -> Result<Option<Ran>, LeftOut> {
+    let chosen = letter_values::chosen(files, language)?;
+    if chosen.values.iter().all(Vec::is_empty) {
+        return Ok(None);
     }
-    let mut read = files.with_ending(".bst").chain(files.with_ending(".bib")).map(bytes_of);
-    if read.any(has_digits) {
+    let style = files.with_ending(".bst").next().map_or(&b""[..], bytes_of);
+    if has_digits(style) {
         return Err(LeftOut::ControlCharacters);
     }
-    let values = files.all.iter().map(|file| values_of(file, language)).collect::<Result<Vec<Values>, LeftOut>>()?;
-    let job = Job { files, values, language };
-    let sorts = files.with_ending(".bst").any(|file| has_word(bytes_of(file), b"purify$"));
-    thread::scope(|scope| {
-        let prints = sorts.then(|| scope.spawn(|| job.prints_keys(&run)));
+    let types: Vec<&[u8]> = chosen.types.iter().map(|kind| kind.0).collect();
+    let may_print_keys = style_keys::may_print_keys(style, &types, &FIXED);
+    let job = Job { files, values: chosen.values, language };
+    let ran = thread::scope(|scope| {
+        let prints = may_print_keys.then(|| scope.spawn(|| job.prints_keys(&run)));
         let ran = job.run_with(InBraces::Coded, &run).or_else(|why| match why {
             LeftOut::CutsLetters => job.run_with(InBraces::AsTheyAre, &run),
             _ => Err(why),
@@ -97,17 +97,8 @@ pub fn run(files: &Files, language: &Arc<Language>, run: impl Fn(&Files) -> Ran 
             Some(true) => Err(LeftOut::PrintsKeys),
             _ => ran,
         }
-    })
-}
-
-/// Whether a text has a byte of a code. (Piece by piece, since that takes an eighth of the time.)
-fn has_digits(text: &[u8]) -> bool {
-    text.chunks(4096).any(|piece| piece.iter().fold(false, |has, byte| has | is_digit(*byte)))
-}
-
-/// Whether a text has a word of small letters, in any case.
-fn has_word(text: &[u8], word: &[u8]) -> bool {
-    text.windows(word.len()).any(|piece| piece.eq_ignore_ascii_case(word))
+    });
+    ran.map(Some)
 }
 
 /// Where these parts of a log are once it is turned back. No code has an end of a line in it.
@@ -124,7 +115,7 @@ fn moved(codes: &Codes, log: &[u8], parts: &[Range<usize>]) -> Vec<Range<usize>>
 /// A job, the values of its files, and the language of their letters.
 struct Job<'a> {
     files: &'a Files,
-    values: Vec<Values>,
+    values: Vec<Vec<Range<usize>>>,
     language: &'a Arc<Language>,
 }
 
@@ -132,7 +123,7 @@ impl Job<'_> {
     /// The job with coded letters.
     fn coded(&self, in_braces: InBraces, are_marked: bool) -> Coded {
         let mut codes = Codes::new(self.language, in_braces, are_marked);
-        let mut code = |(file, values): (&File, &Values)| {
+        let mut code = |(file, values): (&File, &Vec<Range<usize>>)| {
             let bytes = file.bytes.as_deref().map(|bytes| coded_text(bytes, values, &mut codes));
             File { name: file.name.clone(), bytes, path: file.path.clone() }
         };
@@ -158,7 +149,8 @@ impl Job<'_> {
     /// Whether no brace of a list is left over from a code that was cut. A style may leave out braces of its own.
     fn has_all_braces(&self, list: &[u8], run: impl Fn(&Files) -> Ran) -> bool {
         const CUT: &[u8] = b"{\\}";
-        let is_cut = has_word(list, CUT) && !self.files.all.iter().any(|file| has_word(bytes_of(file), CUT));
+        let is_cut =
+            find(list, CUT).is_some() && !self.files.all.iter().any(|file| find(bytes_of(file), CUT).is_some());
         let depths = depths(list);
         !is_cut && (depths == (0, 0) || depths == self::depths(&run(self.files).list))
     }
@@ -171,36 +163,17 @@ impl Job<'_> {
     }
 }
 
-/// The values of a file whose letters may be coded.
-fn values_of(file: &File, language: &Language) -> Result<Values, LeftOut> {
-    let text = bytes_of(file);
-    if !file.name.ends_with(b".bib") || text.is_ascii() && !language.has_rules_for_ascii() {
-        return Ok(Values::new());
-    }
-    let has_letters = |value: &Range<usize>| language.has_rules_for_ascii() || !text[value.clone()].is_ascii();
-    let records = btx::read(text).map_err(|_| LeftOut::Memory)?;
-    Ok(records.iter().filter_map(|record| value_of(record, text)).filter(has_letters).collect())
-}
-
-/// Where the value of a string or a field stands; None where it has none, or none that is text.
-fn value_of(record: &Record, text: &[u8]) -> Option<Range<usize>> {
-    let name = &text[record.start..record.end.min(record.start + record.name_len)];
-    let has_text = match record.kind {
-        STRING => true,
-        FIELD => !NO_TEXT.iter().any(|field| name.eq_ignore_ascii_case(field.as_bytes())),
-        _ => false,
-    };
-    let sign = text[record.start..record.end].iter().position(|byte| *byte == b'=').filter(|_| has_text)?;
-    Some(record.start + sign + 1..record.end)
-}
-
 /// A database whose values are coded.
-fn coded_text(text: &[u8], values: &Values, codes: &mut Codes) -> Vec<u8> {
+fn coded_text(text: &[u8], values: &[Range<usize>], codes: &mut Codes) -> Vec<u8> {
     let mut out = Vec::with_capacity(text.len() + text.len() / 4);
     let mut at = 0;
     for value in values {
         for part in parts(&text[value.clone()]) {
             let (start, end) = (value.start + part.start, value.start + part.end);
+            // An entry that stands in another's value was coded with it.
+            if start < at {
+                continue;
+            }
             out.extend_from_slice(&text[at..start]);
             codes.code(std::str::from_utf8(&text[start..end]).unwrap_or_default(), &mut out);
             at = end;
@@ -208,29 +181,6 @@ fn coded_text(text: &[u8], values: &Values, codes: &mut Codes) -> Vec<u8> {
     }
     out.extend_from_slice(&text[at..]);
     out
-}
-
-/// The texts in a value, which stand in braces or quotes; round them stand numbers, names of strings and `#`.
-fn parts(value: &[u8]) -> Vec<Range<usize>> {
-    let (mut parts, mut at) = (Vec::new(), 0);
-    while let Some(before) = value[at..].iter().position(|byte| matches!(byte, b'{' | b'"')) {
-        let start = at + before + 1;
-        let end = start + length(&value[start..], value[start - 1] == b'"');
-        parts.push(start..end);
-        at = value.len().min(end + 1);
-    }
-    parts
-}
-
-/// How long a text is up to the brace or the quote that ends it.
-fn length(rest: &[u8], is_quoted: bool) -> usize {
-    let mut depth = 0;
-    let ends = |byte: &u8| {
-        let is_end = depth == 0 && (*byte == b'}' || is_quoted && *byte == b'"');
-        depth += i64::from(*byte == b'{') - i64::from(*byte == b'}');
-        is_end
-    };
-    rest.iter().position(ends).unwrap_or(rest.len())
 }
 
 /// How many braces are open at the end of a text, and at least anywhere in it.
@@ -244,7 +194,7 @@ fn depths(text: &[u8]) -> (i64, i64) {
 #[cfg(test)]
 mod tests {
     use super::*;
-    use crate::btx::{Options, Rooms};
+    use crate::btx::{self, Options, Rooms};
 
     fn file(name: &str, bytes: &str) -> File {
         File { name: name.into(), bytes: Some(bytes.into()), path: Vec::new() }
@@ -265,7 +215,7 @@ mod tests {
         let options = Options { utf8: true, ..Options::usual(10_000) };
         let language = Arc::new(Language::named(name.as_bytes()).unwrap());
         let ran = run(&job(body, fields), &language, |files| btx::run(&files.top, &files.all, &options, &rooms))?;
-        Ok(String::from_utf8(ran.list).unwrap())
+        Ok(String::from_utf8(ran.unwrap().list).unwrap())
     }
 
     #[test]
@@ -282,19 +232,26 @@ mod tests {
         let fields = "title = \"ö\" # {ö} # ö # 12, URL = {ö}, ö = 1";
         let files = job("title write$", fields);
         let german = Arc::new(Language::named(b"de").unwrap());
-        let values = files.all.iter().map(|file| values_of(file, &german).unwrap()).collect();
+        let values = letter_values::chosen(&files, &german).unwrap().values;
         let coded = Job { files: &files, values, language: &german }.coded(InBraces::Coded, false);
         let code = "{\\\u{1}\u{1}{o}}";
         let wanted = format!("@misc{{k, title = \"{code}\" # {{{code}}} # ö # 12, URL = {{ö}}, ö = 1}}\n");
         assert_eq!(String::from_utf8_lossy(bytes_of(&coded.files.all[2])), wanted);
         assert_eq!(coded.files.all[..2], files.all[..2]);
-        let strings = "@string{ö = {ö}}\n@string(p = \"ö\")";
-        let file = file("b.bib", strings);
-        let values = values_of(&file, &german).unwrap();
-        assert_eq!(
-            coded_text(strings.as_bytes(), &values, &mut Codes::new(&german, InBraces::Coded, false)),
-            format!("@string{{ö = {{{code}}}}}\n@string(p = \"{code}\")").into_bytes()
-        );
+    }
+
+    #[test]
+    fn an_entry_in_the_value_of_another_is_coded_once() {
+        let style = "ENTRY {title} {} {}\nFUNCTION {misc} { title write$ newline$ }\nREAD\nITERATE {call.type$}\n";
+        let database = "@misc{outer, title = {é @misc{inner, title = {ö}} ö}}\n@misc{k, title = {x}, crossref = {outer}}\n";
+        let top = file("a.aux", "\\citation{inner,k}\n\\bibdata{b}\n\\bibstyle{s}\n");
+        let files = Files { top: b"a.aux".to_vec(), all: vec![top, file("s.bst", style), file("b.bib", database)] };
+        let rooms = Rooms { list: 1 << 16, log: 1 << 16 };
+        let options = Options { utf8: true, ..Options::usual(10_000) };
+        let language = Arc::new(Language::named(b"de").unwrap());
+        let ran = run(&files, &language, |files| btx::run(&files.top, &files.all, &options, &rooms)).unwrap().unwrap();
+        let plain = btx::run(&files.top, &files.all, &options, &rooms);
+        assert_eq!(ran.list, plain.list);
     }
 
     #[test]
@@ -303,7 +260,7 @@ mod tests {
         let options = Options { utf8: true, ..Options::usual(10_000) };
         let language = Arc::new(Language::named(b"de").unwrap());
         let job = job("title #10 int.to.chr$ * \"Error--\" * title * warning$ title write$", "title = {Ö}");
-        let ran = run(&job, &language, |files| btx::run(&files.top, &files.all, &options, &rooms)).unwrap();
+        let ran = run(&job, &language, |files| btx::run(&files.top, &files.all, &options, &rooms)).unwrap().unwrap();
         let printed: Vec<&[u8]> = ran.printed.iter().map(|part| &ran.log[part.clone()]).collect();
         assert_eq!(printed, ["Error--Ö".as_bytes()]);
     }

@@ -22,8 +22,11 @@
 //! | [`sources`] | the files of a job as its messages speak of them |
 //! | [`shapes`] | a log in the original's shapes |
 //! | [`explain`], [`entries`], [`shown_line`], [`advice`] | what follows a message for its reader: where it stands, and what to do |
+//! | [`mistakes`] | what an author did where a database can't be read on |
+//! | [`beside`] | which file may be meant by one that isn't there, and what a file is that isn't what its name says |
+//! | [`unsaid`] | what no run logs of the cited entries |
 //! | [`missing_entry`], [`nearest`] | where an entry may be that wasn't found, and which name may be meant by one that isn't known |
-//! | [`letters`], [`languages`], [`letter_codes`], [`letter_run`] | letters outside ASCII: half letters in a list, and the order of a language |
+//! | [`letters`], [`languages`], [`letter_codes`], [`letter_values`], [`style_keys`], [`letter_run`] | letters outside ASCII: half letters in a list, and the order of a language |
 //! | [`run_log`] | the log of a run as it is written and printed |
 //! | [`terminal`] | what is safe to print on a terminal, and how wide it is |
 //! | [`exit`] | the exit statuses |
@@ -33,13 +36,14 @@
 //! | [`lint_types`] | for entries of which types that is said |
 //! | [`lint_warnings`], [`lint_entry`] | where a style may go wrong, and an entry that shows it |
 //! | [`lint_ties`] | from which unequal `if$` such a place may follow |
-//! | [`lint_text`], [`lint_forms`] | what is printed of a style, for people and for other programs |
+//! | [`lint_text`], [`lint_forms`], [`lint_json`] | what is printed of a style, for people and for other programs |
 //! | [`search_program`], [`lint_program`], [`confined_program`] | the programs; `bibtex-lint` is another name of `bibtex-search` |
 //!
 //! `unsafe` stands in [`btx`] and [`system`] alone.
 
 pub mod advice;
 pub mod aux_text;
+pub mod beside;
 #[allow(unsafe_code)]
 pub mod btx;
 pub mod code_places;
@@ -56,9 +60,12 @@ pub mod kpathsea;
 pub mod languages;
 pub mod letter_codes;
 pub mod letter_run;
+pub mod letter_values;
 pub mod letters;
+pub mod lint_databases;
 pub mod lint_entry;
 pub mod lint_forms;
+pub mod lint_json;
 pub mod lint_program;
 pub mod lint_text;
 pub mod lint_ties;
@@ -66,6 +73,7 @@ pub mod lint_types;
 pub mod lint_warnings;
 pub mod log;
 pub mod missing_entry;
+pub mod mistakes;
 pub mod nearest;
 pub mod notes;
 pub mod operands;
@@ -81,6 +89,7 @@ pub mod shapes;
 pub mod shown_line;
 pub mod sources;
 pub mod style_check;
+pub mod style_keys;
 pub mod style_text;
 #[allow(unsafe_code)]
 pub mod system;
@@ -88,4 +97,5 @@ pub mod task;
 pub mod terminal;
 pub mod texmf;
 pub mod text;
+pub mod unsaid;
 pub mod words;

@@ -1,15 +1,12 @@
-//! What is printed of a style: for people, as a line, as JSON.
+//! What is printed of a style: for people, and as a line.
 
 use crate::btx::Verdict;
 use crate::code_places::Code;
 use crate::explain;
-use crate::hints::Hint;
-use crate::lint_entry::Shown;
-use crate::lint_text::{Style, groups, said_of, verdict, write};
+use crate::lint_text::{Style, groups, verdict, write};
 use crate::lint_types::Types;
-use crate::lint_warnings::{Cause, Fault, Operand, Value, Warning};
+use crate::lint_warnings::Warning;
 use crate::log::Log;
-use crate::notes::Spot;
 use crate::shapes::Part;
 use crate::style_check::StyleCheck;
 use crate::terminal::{Terminal, plain};
@@ -23,12 +20,12 @@ pub struct Linted {
 }
 
 /// The path of the style, as it is to be shown.
-fn path_of(check: &StyleCheck) -> String {
+pub fn path_of(check: &StyleCheck) -> String {
     check.files.with_ending(".bst").next().map(|file| plain(explain::shown_path(file))).unwrap_or_default()
 }
 
 /// The code of the style.
-fn code_of(check: &StyleCheck) -> Code<'_> {
+pub fn code_of(check: &StyleCheck) -> Code<'_> {
     let bytes = check.files.with_ending(".bst").next().and_then(|file| file.bytes.as_deref());
     Code::new(bytes.unwrap_or_default())
 }
@@ -59,7 +56,7 @@ pub fn write_for_people(linted: &Linted, terminal: &Terminal, out: &mut impl Wri
 }
 
 /// For which types of entries the verdict is; None where it says nothing of the whole style.
-fn types_said(linted: &Linted) -> Option<&Types> {
+pub fn types_said(linted: &Linted) -> Option<&Types> {
     linted.types.as_ref().filter(|_| matches!(linted.check.word(), "clean" | "warnings"))
 }
 
@@ -152,118 +149,6 @@ pub fn line_of(check: &StyleCheck) -> String {
     format!("{path}: {said}, messages {}, hints {}", check.messages.count, check.hints.len())
 }
 
-// ---- as JSON ----
-
-/// A text of JSON.
-fn json(text: &str) -> String {
-    let mut quoted = String::from("\"");
-    for character in text.chars() {
-        match character {
-            '"' | '\\' => quoted.extend(['\\', character]),
-            character if (character as u32) < 32 => quoted += &format!("\\u{:04x}", character as u32),
-            character => quoted.push(character),
-        }
-    }
-    quoted + "\""
-}
-
-fn json_list(parts: impl IntoIterator<Item = String>) -> String {
-    format!("[{}]", parts.into_iter().collect::<Vec<_>>().join(", "))
-}
-
-fn json_names(names: &[Vec<u8>]) -> String {
-    json_list(names.iter().map(|name| json(&plain(name))))
-}
-
-fn json_object(parts: &[(&str, String)]) -> String {
-    let parts: Vec<String> = parts.iter().map(|(name, value)| format!("\"{name}\": {value}")).collect();
-    format!("{{{}}}", parts.join(", "))
-}
-
-/// What is found of a style, as an object of JSON.
-pub fn json_of(linted: &Linted) -> String {
-    let check = &linted.check;
-    let mut parts = vec![("style", json(&path_of(check))), ("verdict", json(check.word()))];
-    if let Some(Verdict::Clean { literals, bodies, .. }) = check.verdict.as_ref().filter(|_| check.is_clean()) {
-        parts.push(("literals", literals.to_string()));
-        parts.push(("bodies", bodies.to_string()));
-    }
-    if let Some(types) = types_said(linted) {
-        parts.push(("types", json_names(&types.taken)));
-        parts.push(("uncovered", json_names(&types.uncovered)));
-    }
-    let lines = check.messages.log.split(|byte| *byte == b'\n').filter(|line| !line.is_empty());
-    parts.push(("messages", json_list(lines.map(|line| json(&plain(line))))));
-    let (shown, code) = (check.found.shown(), code_of(check));
-    let entry = |number: usize| check.entries.as_ref().and_then(|entries| entries.get(number));
-    let warnings = shown.iter().enumerate().map(|(number, warning)| json_of_warning(warning, &code, entry(number)));
-    parts.push(("warnings", json_list(warnings)));
-    if check.found.hidden() > 0 {
-        parts.push(("behind", check.found.hidden().to_string()));
-    }
-    if !check.found.causes.is_empty() {
-        parts.push(("causes", json_list(check.found.causes.iter().map(json_of_cause))));
-    }
-    let hint = |hint: &Hint| json_object(&[("line", hint.line.to_string()), ("text", json(&hint.text))]);
-    parts.push(("hints", json_list(check.hints.iter().map(hint))));
-    json_object(&parts)
-}
-
-fn json_of_spot(spot: &Spot) -> String {
-    json_object(&[("function", json(&plain(&spot.call.function))), ("line", spot.call.line.to_string())])
-}
-
-fn json_of_cause(cause: &Cause) -> String {
-    let grows = cause.grows.map(|(least, most)| json_list([least.to_string(), most.to_string()]));
-    json_object(&[("place", json_of_spot(&cause.spot)), ("grows", json_list(grows))])
-}
-
-/// What an operand may be.
-fn json_of_operand(operand: &Operand) -> String {
-    let mut parts = vec![("position", operand.position.to_string())];
-    let bound = |bound: Option<i64>| bound.map_or("null".to_string(), |bound| bound.to_string());
-    match &operand.value {
-        Value::Any => {}
-        Value::Integer(low, high) => parts.push(("integer", json_list([bound(*low), bound(*high)]))),
-        Value::Text(classes) => parts.push(("text", json(&plain(classes)))),
-        Value::Function(name) => parts.push(("function", json(&plain(name)))),
-    }
-    if let Some((is_field, name)) = &operand.owner {
-        parts.push((if *is_field { "field" } else { "variable" }, json(&plain(name))));
-    }
-    json_object(&parts)
-}
-
-fn json_of_warning(warning: &Warning, code: &Code<'_>, entry: Option<&Shown>) -> String {
-    let (what, advice) = said_of(warning, code);
-    let mut parts = vec![("text", json(&what)), ("do", json(&advice))];
-    if let Some(fault) = warning.fault {
-        parts.push(("fault", json(Fault::word(fault))));
-    }
-    parts.push(("executed", json(&plain(&warning.next))));
-    parts.push(("places", json_list(warning.places.iter().map(json_of_spot))));
-    if let Some(item) = &warning.item {
-        parts.push(("command", json_of_spot(item)));
-    }
-    if let Some(operand) = &warning.operand {
-        parts.push(("operand", json_of_operand(operand)));
-    }
-    if let Some(field) = &warning.missing {
-        parts.push(("missing", json(&plain(field))));
-    }
-    let names = [("types", &warning.types), ("given", &warning.given), ("blank", &warning.blank)];
-    parts.extend(names.iter().filter(|(_, names)| !names.is_empty()).map(|(word, names)| (*word, json_names(names))));
-    match entry {
-        None => {}
-        Some(Shown::Nowhere) => parts.push(("entry", "null".to_string())),
-        Some(Shown::By { database, message, .. }) => {
-            parts.push(("entry", json(&String::from_utf8_lossy(database))));
-            parts.push(("logs", json(&plain(message))));
-        }
-    }
-    json_object(&parts)
-}
-
 #[cfg(test)]
 mod tests {
     use super::*;
@@ -287,10 +172,5 @@ mod tests {
         let loops = "{} {} while$ ".repeat(7);
         let found = unended(format!("FUNCTION {{f}} {{ {loops}}}\n").as_bytes());
         assert!(found.starts_with(&(with_loops + &", f (line 1)".repeat(4) + ", 2 more\n")), "{found}");
-    }
-
-    #[test]
-    fn texts_of_json() {
-        assert_eq!(json("a\"b\\\u{1}é"), "\"a\\\"b\\\\\\u0001é\"");
     }
 }

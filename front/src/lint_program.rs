@@ -2,7 +2,9 @@
 
 use crate::exit::{Failure, Name, Status};
 use crate::job::{File, find_style, is_of_missing};
-use crate::lint_forms::{Linted, json_of, line_of, write_for_people};
+use crate::lint_databases::{self, is_database};
+use crate::lint_forms::{Linted, line_of, write_for_people};
+use crate::lint_json::json_of;
 use crate::lint_types::types_of;
 use crate::search::Search;
 use crate::style_check::StyleCheck;
@@ -13,29 +15,24 @@ use std::io::{self, Write};
 use std::os::unix::ffi::OsStringExt;
 use std::process::ExitCode;
 
-const HELP: &str = "\
-  Says of styles of BibTeX, before any document uses them, what is wrong in
+const HELP: &str = concat!(
+    "Says of styles of BibTeX, before any document uses them, what is wrong in
   their text, and whether a run can go wrong by them: a style that is called
   clean never logs a fault of the stack or of kinds (an empty stack, a wrong
   operand, a literal left over), with a budget of up to 1,500,000,000 steps.
   It may log others, such as a format of names that is illegal. Styles are
   found along BSTINPUTS, and where TeX has its own.
+  Of databases (names that end in .bib) it says what python3 -m btx doctor
+  says, if Python's package btx is installed; else what a run would log.
 
---line           print a line for each style, for other programs
---json           print all that is found as JSON
---entry          search for each warning an entry of a database that shows it,
-                 for up to two seconds a style; each is tried by a run
---job JOB        explain instead where JOB's style stands at each error, as
-                 bibtex-explain does
---steps=N        how many steps a check may take (2000000, or fewer where a
-                 style declares more than 500 names)
--h, --help       print this and exit
---version        print the version and exit
-
-Exit status: 0 all are clean; 1 the words are refused, or a style isn't found;
-2 there are messages or warnings; 3 a check didn't come to its end; 5 memory
+",
+    include_str!("help/bibtex-lint.txt"),
+    "
+Exit status: 0 all are clean; 1 the words are refused, or a file isn't found;
+2 there are messages or warnings, in a database errors; 3 a check didn't come to its end; 5 memory
 was refused; 6 a style couldn't be read, or what is found not be printed.
-";
+"
+);
 
 /// How a style's check is printed.
 #[derive(Debug, Clone, Copy, PartialEq, Eq)]
@@ -62,6 +59,7 @@ const USUAL: How = How { form: Form::People, steps: None, has_entries: false };
 #[derive(Debug, PartialEq, Eq)]
 enum Asked {
     Check { how: How, styles: Vec<Vec<u8>> },
+    Databases { as_json: bool, databases: Vec<Vec<u8>> },
     Job(Vec<u8>),
     Help,
     Version,
@@ -102,7 +100,16 @@ fn read_words(words: impl Iterator<Item = Vec<u8>>) -> Asked {
     match job {
         Some(job) if styles.is_empty() && how == USUAL => Asked::Job(job),
         Some(_) => Asked::Refused("--job takes no other option and no style: it explains a job for people".into()),
-        None if styles.is_empty() => Asked::Refused("name a style".into()),
+        None if styles.is_empty() => Asked::Refused("name a style or a database".into()),
+        None if styles.iter().all(|name| is_database(name)) => match how {
+            How { form: Form::Line, .. } | How { steps: Some(_), .. } | How { has_entries: true, .. } => {
+                Asked::Refused("of the options databases take --json alone".into())
+            }
+            How { form, .. } => Asked::Databases { as_json: form == Form::Json, databases: styles },
+        },
+        None if styles.iter().any(|name| is_database(name)) => {
+            Asked::Refused("styles and databases are checked by calls of their own".into())
+        }
         None => Asked::Check { how, styles },
     }
 }
@@ -119,7 +126,10 @@ pub fn main(
     explain_job: impl FnOnce(Vec<u8>) -> Result<Status, Failure>,
 ) -> ExitCode {
     match read_words(words.map(OsString::into_vec)) {
-        Asked::Help => printed(name, &format!("Usage: {name} [OPTION]... STYLE...\n{HELP}")),
+        Asked::Help => printed(
+            name,
+            &format!("Usage: {name} [OPTION]... STYLE...\n   or: {name} [--json] DATABASE.bib...\n{HELP}"),
+        ),
         Asked::Version => printed(name, &format!("{name} {} (BibTeX, proved)\n", env!("CARGO_PKG_VERSION"))),
         Asked::Refused(why) => {
             name.say(why);
@@ -128,6 +138,7 @@ pub fn main(
         }
         Asked::Job(job) => explain_job(job.clone()).unwrap_or_else(|failure| unexplained(name, &job, &failure)),
         Asked::Check { how, styles } => check_all(name, how, &styles),
+        Asked::Databases { as_json, databases } => lint_databases::examine(name, &databases, as_json),
     }
     .into()
 }
@@ -263,6 +274,12 @@ mod tests {
         assert_eq!(asked(&["--line", "--", "--x"]), check(Form::Line, None, false, "--x"));
         assert_eq!(asked(&["--entry", "plain"]), check(Form::People, None, true, "plain"));
         assert_eq!(asked(&["--job", "paper"]), Asked::Job(b"paper".to_vec()));
+        let databases = |as_json, name: &str| Asked::Databases { as_json, databases: vec![name.into()] };
+        assert_eq!(asked(&["a.bib"]), databases(false, "a.bib"));
+        assert_eq!(asked(&["--json", "--", "-a.BIB"]), databases(true, "-a.BIB"));
+        for refused in [["a.bib", "plain"], ["--line", "a.bib"], ["--steps=1", "a.bib"], ["--entry", "a.bib"]] {
+            assert!(matches!(asked(&refused), Asked::Refused(_)), "{refused:?}");
+        }
         assert_eq!(asked(&["--help", "x"]), Asked::Help);
         assert_eq!(asked(&["-h"]), Asked::Help);
         for refused in

@@ -638,9 +638,9 @@ pub fn verdict(found: &Warnings) -> String {
     let those = if places == 1 { "it" } else { "these" };
     let more = match (found.hidden(), found.is_partial) {
         (0, false) => String::new(),
-        (0, true) => "; there may be more behind".to_string(),
-        (hidden, false) => format!("; {hidden} more behind {those}"),
-        (hidden, true) => format!("; {hidden} more behind {those}, and there may be others"),
+        (0, true) => "; there may be more after".to_string(),
+        (hidden, false) => format!("; {hidden} more after {those}"),
+        (hidden, true) => format!("; {hidden} more after {those}, and there may be others"),
     };
     format!("{counted}{more}")
 }
@@ -766,12 +766,12 @@ mod tests {
             do: mend that `if$` first; if the warning stays, push what it takes, in this order; \
             let both branches of each `if$` on the way leave the same number of literals\n";
         assert_eq!(String::from_utf8(out).unwrap(), wanted);
-        assert_eq!(verdict(&found), "2 places, 1 cause; 1 more behind these");
+        assert_eq!(verdict(&found), "2 places, 1 cause; 1 more after these");
         let verdict_of = |notes: &str| verdict(&read(notes.as_bytes(), b"s.bst"));
-        assert_eq!(verdict_of("warning stack first\npartial\n"), "1 place; there may be more behind");
+        assert_eq!(verdict_of("warning stack first\npartial\n"), "1 place; there may be more after");
         let hidden = "warning stack first\nwarning stack later\nwarning kind later\n";
-        assert_eq!(verdict_of(hidden), "1 place; 2 more behind it");
+        assert_eq!(verdict_of(hidden), "1 place; 2 more after it");
         let partial = [hidden, "partial\n"].concat();
-        assert_eq!(verdict_of(&partial), "1 place; 2 more behind it, and there may be others");
+        assert_eq!(verdict_of(&partial), "1 place; 2 more after it, and there may be others");
     }
 }

@@ -1,14 +1,16 @@
 //! Where an entry may be that a run didn't find: it stands there and wasn't read, it stands above its child, its database is missing, or its key
 //! is spelled another way. And which fields, types and strings may be meant by names that a style or a database doesn't know.
 
-use crate::database::{Inside, Item};
+use crate::advice::Seen;
+use crate::beside::what_is_odd;
+use crate::database::Inside;
 use crate::entries::{Entries, Skipped, Stored};
 use crate::explain::{begins_item, shown_path};
 use crate::hints::names_of_fields;
 use crate::job::{File, Files};
+use crate::mistakes::line_of;
 use crate::nearest::nearest;
 use crate::terminal::plain;
-use crate::text::Text;
 
 /// What is said of something that is missing: where it may be, and what to do. What isn't known is None.
 #[derive(Debug, Clone, Default, PartialEq, Eq)]
@@ -29,13 +31,49 @@ pub fn told(entries: &Entries<'_>, files: &Files, key: &[u8]) -> Told {
     if let Some(skipped) = entries.skipped(key) {
         return told_of_skipped(key, skipped);
     }
-    if let Some(lost) = lost_database(files) {
-        let place = format!("it may stand in {}, which wasn't found", plain(&lost.name));
-        return Told { place: Some(place), advice: Some(format!("look for {} first", plain(&lost.name))) };
+    if let Some((database, start)) = entries.unread(key) {
+        let at = line_of(database.file, &database.text, start);
+        let place = format!("`{}` stands at {at}, in text that isn't read", plain(key));
+        return Told { place: Some(place), advice: Some(Seen::NoAtSign.with(&[])) };
     }
-    let meant = entries.meant(key).and_then(|stored| Some((stored.item.key?, stored)));
-    let place = meant.map(|(key, stored)| format!("is it `{}`, {}?", plain(key.name), begins(stored)));
-    Told { place, advice: None }
+    lost(entries, files).unwrap_or_else(|| told_of_nearest(entries, key))
+}
+
+/// What is said of the entry whose key differs least, or of one that has no key.
+fn told_of_nearest(entries: &Entries<'_>, key: &[u8]) -> Told {
+    if let Some((key, stored)) = entries.meant(key).and_then(|stored| Some((stored.item.key?, stored))) {
+        return Told { place: Some(format!("is it `{}`, {}?", plain(key.name), begins(stored))), advice: None };
+    }
+    let keyless =
+        entries.entry(b"").map(|stored| begins_item(stored.database.file, &stored.database.text, stored.item));
+    let advice = keyless.as_ref().map(|item| Seen::EntryWithoutKey.with(&[item]));
+    Told { place: keyless.map(|item| format!("{item}, has no key: is it that one?")), advice }
+}
+
+/// What is said of every entry that no database has, where a database isn't there or none has an entry.
+pub fn lost(entries: &Entries<'_>, files: &Files) -> Option<Told> {
+    if let Some(lost) = lost_database(files) {
+        let name = plain(&lost.name);
+        let place = format!("it may stand in {name}, which wasn't found");
+        return Some(Told { place: Some(place), advice: Some(format!("look for {name} first")) });
+    }
+    if !entries.is_empty() {
+        return None;
+    }
+    let mut databases = files.with_ending(".bib");
+    let Some(first) = databases.next() else {
+        let advice = "name a database by `\\bibliography`, and run LaTeX".into();
+        return Some(Told { place: Some("no database is named".into()), advice: Some(advice) });
+    };
+    let place = format!("no entry stands in {}", plain(shown_path(first)));
+    let place = databases.next().map_or(place, |_| "no entry stands in any of the databases".into());
+    Some(Told { place: Some(place), advice: what_is_odd(first) })
+}
+
+/// Whether nothing more can be said of an entry that wasn't found than what [`lost`] says.
+pub fn is_lost(entries: &Entries<'_>, files: &Files, key: &[u8]) -> bool {
+    let is_nowhere = || entries.entry(key).is_none() && entries.skipped(key).is_none() && entries.unread(key).is_none();
+    !key.is_empty() && is_nowhere() && lost(entries, files).is_some()
 }
 
 /// A database that wasn't found, if there is one.
@@ -79,33 +117,24 @@ fn told_of_skipped(key: &[u8], skipped: Skipped<'_, '_>) -> Told {
     }
 }
 
-fn line_of(file: &File, text: &Text<'_>, place: usize) -> String {
-    format!("{}:{}", plain(shown_path(file)), text.line_of(place))
-}
+/// Names that `biblatex` has for fields, and those that styles read.
+const OF_BIBLATEX: [(&str, &str); 6] = [
+    ("journaltitle", "journal"),
+    ("date", "year"),
+    ("location", "address"),
+    ("institution", "school"),
+    ("maintitle", "booktitle"),
+    ("issue", "number"),
+];
 
-/// What to do about a mistake in an item that shows itself below the place where something is missing.
-pub fn what_is_missing(file: &File, text: &Text<'_>, item: &Item<'_>, place: usize) -> Option<String> {
-    let key = item.key.filter(|_| item.is_entry())?;
-    let between = text.bytes.get(key.end..place)?;
-    if text.bytes.get(place) == Some(&b'=') && between.iter().all(u8::is_ascii_whitespace) {
-        return Some(format!("write the entry's key first: `@{}{{KEY, {} = ..`", plain(item.kind), plain(key.name)));
-    }
-    let (start, _) = text.span(text.line_of(place));
-    let begins_another = text.bytes[start..place].trim_ascii_start().starts_with(b"@")
-        || text.bytes[start..].trim_ascii_start().starts_with(b"@");
-    let is_above = text.line_of(item.start) < text.line_of(place);
-    let item = begins_item(file, text, item);
-    (begins_another && is_above).then(|| format!("close {item}: a `}}` is missing above this line"))
-}
-
-/// Where the value begins that isn't closed.
-pub fn begun_value(file: &File, text: &Text<'_>, item: &Item<'_>) -> Option<String> {
-    let inside = Inside::of(text.bytes, item);
-    let at = line_of(file, text, inside.last_value?);
-    Some(match inside.fields.last().filter(|_| item.is_entry()) {
-        Some(field) => format!("in the value of `{}`, which begins at {at}", plain(field)),
-        None => format!("in the value that begins at {at}"),
-    })
+/// The name that `biblatex` has for a field.
+fn of_biblatex<'a>(word: &[u8], mut unread: impl Iterator<Item = &'a [u8]>) -> Option<&'a [u8]> {
+    let is_its = |field: &&[u8]| {
+        OF_BIBLATEX
+            .iter()
+            .any(|(its, ours)| field.eq_ignore_ascii_case(its.as_bytes()) && word.eq_ignore_ascii_case(ours.as_bytes()))
+    };
+    unread.find(is_its)
 }
 
 /// A field of an entry that may be meant by one that a style's warning names: the entry doesn't have that one, and the style doesn't know this one.
@@ -113,10 +142,13 @@ pub fn meant_field(style: &[u8], stored: Stored<'_, '_>, warning: &[u8]) -> Opti
     let declared = names_of_fields(style);
     let knows = |name: &[u8]| declared.iter().any(|known| known.eq_ignore_ascii_case(name));
     let fields = Inside::of(stored.database.text.bytes, stored.item).fields;
-    let words = warning.split(|byte| !byte.is_ascii_alphanumeric() && !b"-_.".contains(byte)).filter(|word| knows(word));
+    let words =
+        warning.split(|byte| !byte.is_ascii_alphanumeric() && !b"-_.".contains(byte)).filter(|word| knows(word));
     let missing = words.filter(|word| !fields.iter().any(|field| field.eq_ignore_ascii_case(word)));
     let unread: Vec<&[u8]> = fields.iter().copied().filter(|field| !knows(field)).collect();
-    let found = missing.filter_map(|word| Some((nearest(word, unread.iter().copied())?, word))).next();
+    let near =
+        |word: &[u8]| nearest(word, unread.iter().copied()).or_else(|| of_biblatex(word, unread.iter().copied()));
+    let found = missing.filter_map(|word| Some((near(word)?, word))).next();
     found.map(|(field, word)| format!("it has `{}`: is it `{}`?", plain(field), plain(word)))
 }
 
@@ -202,37 +234,38 @@ mod tests {
     }
 
     #[test]
-    fn what_is_missing_stands_above() {
-        let missing = |text: &str| {
-            let files = files(text);
-            let (text, item) = (Text::new(text.as_bytes()), crate::database::Items::new(text.as_bytes()).next()?);
-            what_is_missing(&files.all[0], &text, &item, item.end)
-        };
-        let unclosed = "close @misc{a}, which begins at d.bib:1: a `}` is missing above this line";
-        assert_eq!(missing("@misc{a, x = 1\n@misc{b}").as_deref(), Some(unclosed));
-        assert_eq!(missing("@misc{a, x = 1,\n@misc{b}").as_deref(), Some(unclosed));
-        let keyless = "write the entry's key first: `@misc{KEY, author = ..`";
-        assert_eq!(missing("@misc{author = {A}}").as_deref(), Some(keyless));
-        assert_eq!(missing("@misc{a, x 1}"), None);
+    fn an_entry_is_found_where_it_is_not_read() {
+        let (place, advice) = told_of("@misc{k}\narticle{a, x = 1}\n", "a");
+        assert_eq!(
+            (place, advice),
+            ("`a` stands at d.bib:2, in text that isn't read".into(), Seen::NoAtSign.with(&[]))
+        );
+        let (place, advice) = told_of("@misc{k}\n@misc{, x = 1}\n", "other");
+        assert_eq!(place, "@misc{}, which begins at d.bib:2, has no key: is it that one?");
+        assert_eq!(advice, "write the key into @misc{}, which begins at d.bib:2");
     }
 
     #[test]
-    fn a_value_that_is_not_closed_has_its_beginning() {
-        let text = "@misc{a,\n author = \"A}, year = 1}\n@misc{b}";
-        let files = files(text);
-        let (text, item) = (Text::new(text.as_bytes()), crate::database::Items::new(text.as_bytes()).next().unwrap());
-        let begun = begun_value(&files.all[0], &text, &item);
-        assert_eq!(begun.as_deref(), Some("in the value of `author`, which begins at d.bib:2"));
+    fn nothing_is_found_where_no_entry_is() {
+        assert_eq!(told_of("", "a"), ("no entry stands in d.bib".into(), String::new()));
+        assert_eq!(told_of("TY  - JOUR\n", "a").1, Seen::FileIsRis.with(&["d.bib"]));
+        let none = Files { top: b"job.aux".to_vec(), all: Vec::new() };
+        assert_eq!(told(&Entries::new(&none), &none, b"a").place.as_deref(), Some("no database is named"));
+        assert!(is_lost(&Entries::new(&none), &none, b"a") && !is_lost(&Entries::new(&none), &none, b""));
     }
 
     #[test]
     fn fields_are_meant_by_others() {
-        let files = files("@misc{white, jounral = {J}, title = {T}}, year = 2000}");
-        let entries = Entries::new(&files);
+        let whole = files("@misc{white, jounral = {J}, title = {T}}, year = 2000}");
+        let entries = Entries::new(&whole);
         let stored = entries.entry(b"white").unwrap();
         let meant = meant_field(b"ENTRY {journal title year}{}{}", stored, b"empty journal in white");
         assert_eq!(meant.as_deref(), Some("it has `jounral`: is it `journal`?"));
         assert_eq!(meant_field(b"ENTRY {journal title}{}{}", stored, b"empty title in white"), None);
+        let of_biblatex = files("@misc{k, journaltitle = {J}}");
+        let of_biblatex = Entries::new(&of_biblatex);
+        let meant = meant_field(b"ENTRY {journal}{}{}", of_biblatex.entry(b"k").unwrap(), b"empty journal in k");
+        assert_eq!(meant.as_deref(), Some("it has `journaltitle`: is it `journal`?"));
         assert_eq!(lost_fields(stored).as_deref(), Some("the entry ends at d.bib:1; `year` stands after its end"));
     }
 
@@ -240,7 +273,10 @@ mod tests {
     fn strings_are_meant_by_others() {
         let known: [&[u8]; 3] = [b"jan", b"sep", b"springer"];
         let meant = |name: &str| meant_string(name.as_bytes(), &known);
-        assert_eq!([meant("January"), meant("sept"), meant("sprnger")], [Some(known[0]), Some(known[1]), Some(known[2])]);
+        assert_eq!(
+            [meant("January"), meant("sept"), meant("sprnger")],
+            [Some(known[0]), Some(known[1]), Some(known[2])]
+        );
         assert_eq!([meant("june"), meant("xyz")], [None, None]);
     }
 }

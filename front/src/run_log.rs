@@ -97,12 +97,12 @@ impl RunLog<'_> {
         let mut notes = match (self.interrupted, self.ran.answer) {
             (Some(Interrupted::Run(signal)), Answer::Done(report)) => format!(
                 "Interrupted by {}: list and log are those of the first {} steps, and begin what the run would have written.\n",
-                signal.name,
+                signal.name(),
                 report.steps
             ),
             (Some(Interrupted::Search(signal)), Answer::Done(_)) => format!(
                 "Interrupted by {}: the run was done, and list and log are whole; where the style stood is left out.\n",
-                signal.name
+                signal.name()
             ),
             (_, Answer::LogFull) => {
                 format!("Ended: the messages fill the log's room of {:.1} MB (-log-room).\n", megabytes(rooms.log))

@@ -1,8 +1,9 @@
 //! `bibtex-search`: the original's command line and search paths over the proved library. Called as `bibtex-explain` it explains the log of
 //! a job, and writes nothing; called as `bibtex-lint` it checks styles.
 
+use crate::beside;
 use crate::exit::{Failure, Name, Status};
-use crate::job::Finder;
+use crate::job::{Finder, NO_SUCH_FILE};
 use crate::lint_program;
 use crate::outputs::Outputs;
 use crate::search::Search;
@@ -21,30 +22,13 @@ use std::sync::Arc;
 const WRITES: &str = "Writes the list of references of JOB.aux to JOB.bbl, and a log to JOB.blg.\n";
 const EXPLAINS: &str = "Explains what a run of JOB.aux says, and writes nothing.\n";
 
-const HELP: &str = "  Styles are found along BSTINPUTS, databases along BIBINPUTS, and both where
+const HELP: &str = concat!(
+    "  Styles are found along BSTINPUTS, databases along BIBINPUTS, and both where
   TeX has its own.
 
--min-crossrefs=N  how often a parent must be named to be listed by itself (2)
--terse            print only what went wrong, not the names of the files
--strict           end with status 2 where a cited key has no entry
--explain          print after each message where it stands and what to do;
-                  on a terminal this is the default
--no-explain       print the log as it is
--explain-only     explain what a run says, and write nothing; so it is where
-                  the program is called as bibtex-explain
--budget=N         how many steps the style may take (1000000000)
--text=WORD        how text is read: bytes, utf8, or auto: by letters only where
-                  bytes would leave half a letter in the list (auto)
--letters=LANG     sort letters outside ASCII as a language does, and change
-                  their case: plain, de, de-phonebook, fr, es, pl, cs, .. (no)
--line=N           how long a line of the list may be, 20 to 1000 (79)
--entry-max=N      how many bytes of a string a variable of an entry keeps
--global-max=N     the same of a global variable; TeX's set-up has both numbers
--log-room=N       how long the log may be: bytes, or K, M, G after N (64M)
--list-room=N      how long the list may be (1G)
--help             print this and exit
--version          print the version and exit
-
+",
+    include_str!("help/bibtex-search.txt"),
+    "
 An option has one hyphen or two, and may be shortened; its value stands after
 a '=' or in the next word. A word after '--' is JOB. Options of bibtex8 that
 say how large its tables are, or which letters it has, are taken and ignored.
@@ -52,7 +36,8 @@ say how large its tables are, or which letters it has, are taken and ignored.
 Exit status: 0 done; 1 the words, or an output's name by TeX's openout_any, are
 refused; 2 done, with error messages; 3 a limit, or there is no JOB.aux; 4 the
 budget was spent; 5 out of memory; 6 a file couldn't be read or written.
-";
+"
+);
 
 /// The program.
 pub fn main() -> ExitCode {
@@ -87,12 +72,24 @@ pub fn main() -> ExitCode {
             let _ = writeln!(io::stderr(), "Try `{name} --help' for more information.");
             Status::Refused
         }
-        Asked::Run(words) => prepare(&name, *words).and_then(Task::run).unwrap_or_else(|failure| {
-            name.say(&failure);
-            failure.status()
-        }),
+        Asked::Run(words) => {
+            prepare(&name, *words).and_then(Task::run).unwrap_or_else(|failure| failed(&name, &failure))
+        }
     }
     .into()
+}
+
+/// Says why a job isn't done, and which one may be meant by a job that isn't there.
+fn failed(name: &Name, failure: &Failure) -> Status {
+    let meant = match failure {
+        Failure::NoTop(top, reason) if reason == NO_SUCH_FILE => beside::meant_job(top),
+        _ => None,
+    };
+    match meant {
+        Some(meant) => name.say(format_args!("{failure} ({meant})")),
+        None => name.say(failure),
+    }
+    failure.status()
 }
 
 /// Ends the program at a mistake of its own. No output is touched then: they are written without a step that could panic.

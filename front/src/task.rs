@@ -91,8 +91,10 @@ impl Task {
         };
         let options = self.options_of_letters(budget);
         let run = |files: &Files| btx::run(&files.top, &files.all, &options, &self.words.rooms);
-        letter_run::run(&self.files, language, run)
-            .unwrap_or_else(|why| Ran { letters: Letters::LeftOut(why), ..self.run_as_it_is(budget) })
+        match letter_run::run(&self.files, language, run) {
+            Ok(ran) => ran.unwrap_or_else(|| self.run_as_it_is(budget)),
+            Err(why) => Ran { letters: Letters::LeftOut(why), ..self.run_as_it_is(budget) },
+        }
     }
 
     /// The options of a run with the letters of a language.

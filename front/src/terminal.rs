@@ -1,10 +1,11 @@
 //! What is safe to print on a terminal, and how wide it is.
 
+use crate::system::{AsFd, columns as columns_of_terminal};
 use std::ffi::OsStr;
 use std::io::{self, ErrorKind, IsTerminal, Write};
-use std::os::fd::AsRawFd;
 use std::thread;
 use std::time::Duration;
+use unicode_width::UnicodeWidthChar;
 
 /// Where explanations are printed.
 #[derive(Debug, Clone, Copy, PartialEq, Eq)]
@@ -32,13 +33,13 @@ impl Terminal {
     pub const NONE: Terminal = Terminal { is_terminal: false, has_colours: false, width: USUAL_WIDTH };
 
     /// What standard output is; `NO_COLOR` and `TERM` say whether colours are wanted on a terminal.
-    pub fn of(out: &(impl IsTerminal + AsRawFd)) -> Terminal {
+    pub fn of(out: &(impl IsTerminal + AsFd)) -> Terminal {
         if !out.is_terminal() {
             return Terminal::NONE;
         }
         let (no_color, term) = (std::env::var_os("NO_COLOR"), std::env::var_os("TERM"));
         let has_colours = wants_colours(no_color.as_deref(), term.as_deref());
-        let width = crate::system::columns(out).filter(|columns| *columns > 0).unwrap_or(USUAL_WIDTH);
+        let width = columns_of_terminal(out).unwrap_or(USUAL_WIDTH);
         Terminal { is_terminal: true, has_colours, width }
     }
 
@@ -116,18 +117,9 @@ pub fn columns(text: &str) -> usize {
     text.chars().map(columns_of).sum()
 }
 
-/// How many columns a character takes: combining ones none, those of East Asian scripts two.
+/// How many columns a character takes: combining ones none, those of East Asian scripts two. What is shown has no control character.
 pub fn columns_of(character: char) -> usize {
-    match character {
-        '\u{300}'..='\u{36f}' | '\u{1ab0}'..='\u{1aff}' | '\u{1dc0}'..='\u{1dff}' | '\u{200b}'..='\u{200d}' => 0,
-        '\u{20d0}'..='\u{20ff}' | '\u{fe00}'..='\u{fe0f}' | '\u{fe20}'..='\u{fe2f}' | '\u{feff}' => 0,
-        '\u{1100}'..='\u{115f}' | '\u{2e80}'..='\u{303e}' | '\u{3041}'..='\u{4dbf}' | '\u{4e00}'..='\u{a4cf}' => 2,
-        '\u{ac00}'..='\u{d7a3}' | '\u{f900}'..='\u{faff}' | '\u{fe30}'..='\u{fe6f}' | '\u{ff00}'..='\u{ff60}' => 2,
-        '\u{ffe0}'..='\u{ffe6}' | '\u{1f300}'..='\u{1f64f}' | '\u{1f900}'..='\u{1f9ff}' | '\u{20000}'..='\u{3fffd}' => {
-            2
-        }
-        _ => 1,
-    }
+    character.width().unwrap_or(0)
 }
 
 /// An indented text in lines of at most `most` columns, broken at spaces; those after the first begin with `indent`. A word that is longer

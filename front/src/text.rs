@@ -54,6 +54,14 @@ pub fn find(text: &[u8], what: &[u8]) -> Option<usize> {
     None
 }
 
+/// The first place of a byte from this place on. Of 32 bytes the processor compares many at once.
+pub fn find_byte(text: &[u8], from: usize, byte: u8) -> Option<usize> {
+    let has_it = |chunk: &[u8; 32]| chunk.iter().fold(0, |found, other| found | u8::from(*other == byte)) != 0;
+    let (chunks, _) = text[from..].as_chunks::<32>();
+    let at = from + 32 * chunks.iter().position(has_it).unwrap_or(chunks.len());
+    text[at..].iter().position(|other| *other == byte).map(|behind| at + behind)
+}
+
 /// The place of `what` in `text`: the last one.
 pub fn find_last(text: &[u8], what: &[u8]) -> Option<usize> {
     let Some((first, rest)) = what.split_first() else { return Some(text.len()) };

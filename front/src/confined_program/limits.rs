@@ -76,10 +76,10 @@ impl Limits {
     /// since the reasons that are printed may go to a long file. If a limit can't be set, nothing is run.
     pub fn set(&self) -> Result<(), Stop> {
         let rows = [
-            (Resource::CORE, 0, 0),
-            (Resource::MEMORY, bytes(self.memory), bytes(self.memory)),
-            (Resource::OPEN_FILES, OPEN_FILES, OPEN_FILES),
-            (Resource::PROCESSOR, self.processor, self.processor + 1),
+            (Resource::Core, 0, 0),
+            (Resource::As, bytes(self.memory), bytes(self.memory)),
+            (Resource::Nofile, OPEN_FILES, OPEN_FILES),
+            (Resource::Cpu, self.processor, self.processor + 1),
         ];
         for (resource, soft, hard) in rows {
             system::limit(resource, soft, hard)

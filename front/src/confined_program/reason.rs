@@ -50,10 +50,10 @@ fn of_device(outputs: &Outputs, limits: &Limits) -> String {
 
 /// What the signal means by which the system ended the program.
 fn of_kill(signal: i32, limits: &Limits) -> String {
-    if signal == Signal::PROCESSOR_TIME.number {
+    if signal == Signal::PROCESSOR_TIME.0 {
         return format!("the job took {} processor seconds, and wanted more", limits.processor);
     }
-    if signal == Signal::KILL.number {
+    if signal == Signal::KILL.0 {
         return format!(
             "the system killed the program: it took more than {} processor seconds, or the machine has no more memory",
             limits.processor

@@ -75,8 +75,7 @@ pub fn run(program: &Program, request: &Request, watch: &Watch) -> Result<(Endin
     command.args(&request.handed).arg("--").arg(request.job.word());
     let unstarted =
         |error| Stop::device(format!("the program {} can't be started: {}", program.0.display(), words_of(&error)));
-    system::bind_to_this_process(&mut command, bytes(request.limits.output));
-    system::execute_itself(&mut command).map_err(unstarted)?;
+    system::execute_itself(&mut command, bytes(request.limits.output)).map_err(unstarted)?;
     let (said, mut child) = start(command).map_err(unstarted)?;
     let ending = wait_for(&mut child, watch)
         .map_err(|error| Stop::device(format!("the program can't be waited for: {}", words_of(&error))))?;
@@ -109,10 +108,10 @@ fn gather(mut pipe: PipeReader) -> io::Result<Receiver<Vec<u8>>> {
 /// Waits until the program has ended, or ends it. Then nothing of its group is left.
 fn wait_for(child: &mut Child, watch: &Watch) -> io::Result<Ending> {
     let mut event = watch.wait();
-    while event == Event::Child && !system::has_ended(child.id()) {
+    while event == Event::Child && !system::has_ended(child) {
         event = watch.wait();
     }
-    system::kill_group(child.id());
+    system::kill_group(child);
     let status = child.wait()?;
     Ok(match event {
         Event::Child => status.signal().map_or(Ending::Exited(status.code().unwrap_or_default()), Ending::Killed),

@@ -32,7 +32,7 @@ impl Stop {
 
     /// This program was asked to end by a signal.
     pub fn by_signal(signal: Signal) -> Stop {
-        let reason = format!("the job was ended by signal {}", signal.number);
-        Stop { status: 128 + signal.number as u8, reason, signal: Some(signal) }
+        let reason = format!("the job was ended by signal {}", signal.0);
+        Stop { status: 128 + signal.0 as u8, reason, signal: Some(signal) }
     }
 }

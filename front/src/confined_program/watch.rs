@@ -47,7 +47,7 @@ impl Watch {
         match self.signals.wait(Duration::ZERO) {
             Some(Signal::PROCESSOR_TIME) => {
                 let reason = format!("the names of the job take more than {} processor seconds", self.processor);
-                Err(Stop::new(128 + Signal::PROCESSOR_TIME.number as u8, reason))
+                Err(Stop::new(128 + Signal::PROCESSOR_TIME.0 as u8, reason))
             }
             Some(signal) if signal != Signal::CHILD => Err(Stop::by_signal(signal)),
             _ if self.end <= Instant::now() => Err(self.time_is_up()),

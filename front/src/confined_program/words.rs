@@ -61,7 +61,7 @@ impl Job {
     /// What a caller may have meant who wrote an option in the place of the job.
     pub fn hint(&self) -> &'static str {
         if self.0.as_encoded_bytes().starts_with(b"-") {
-            "; the job is the first word, and options stand behind it"
+            "; the job is the first word, and options come after it"
         } else {
             ""
         }
@@ -108,8 +108,7 @@ pub fn version() -> String {
 
 /// What the program does, its options and its statuses.
 pub fn help() -> String {
-    let Limits { memory, aux, input, output, processor, clock, steps, names } = Limits::default();
-    format!(
+    const HELP: &str = concat!(
         "\
 Usage: bibtex-confined JOB [OPTION]...
   Runs a stranger's job, in the folder that holds its files, under limits.
@@ -119,22 +118,16 @@ Usage: bibtex-confined JOB [OPTION]...
   --min-crossrefs=N  --text=WORD  --line=N  --entry-max=N  --global-max=N
 
 These change the limits, and nothing else does:
-  --limit-memory=KB      of the address space ({memory})
-  --limit-aux=KB         of each .aux file ({aux})
-  --limit-input=KB       of each other file that is read ({input})
-  --limit-output=KB      of the list, and of the log ({output})
-  --limit-processor=N    seconds of the processor ({processor})
-  --limit-clock=N        seconds in all ({clock})
-  --limit-steps=N        steps of the style ({steps})
-  --limit-names=N        files that the .aux files name ({names})
-  --help, --version      print this, or the version, and run nothing
-
+",
+        include_str!("../help/bibtex-confined.txt"),
+        "
 The exit status is the program's; 1 where a name or a file is refused, 3 where
 there is no JOB.aux, 124 where the time was up, 128 and the number of a signal
 where the system ended the program. Where it isn't 0, standard error says why.
 BIBTEX_PROGRAM names the program (bibtex-proved if it isn't set).
 "
-    )
+    );
+    HELP.into()
 }
 
 #[cfg(test)]
@@ -149,7 +142,7 @@ mod tests {
     fn options_stand_behind_the_job() {
         let Ok(Words::Run(request)) = words(&["job", "--line=30", "--limit-clock=5"]) else { panic!("refused") };
         assert_eq!((request.handed.len(), request.limits.clock), (1, 5));
-        assert!(words(&["--line=30", "job"]).unwrap_err().reason.ends_with("options stand behind it"));
+        assert!(words(&["--line=30", "job"]).unwrap_err().reason.ends_with("options come after it"));
     }
 
     #[test]
@@ -158,6 +151,25 @@ mod tests {
             assert_eq!(words(&["job", option]).unwrap_err().status, 1, "{option}");
         }
         assert!(words(&[]).is_err() && words(&[""]).is_err());
+    }
+
+    #[test]
+    fn the_help_has_the_limits() {
+        let Limits { memory, aux, input, output, processor, clock, steps, names } = Limits::default();
+        let help = help();
+        for (name, limit) in [
+            ("memory", memory),
+            ("aux", aux),
+            ("input", input),
+            ("output", output),
+            ("processor", processor),
+            ("clock", clock),
+            ("steps", steps),
+            ("names", names),
+        ] {
+            let line = help.lines().find(|line| line.contains(&format!("--limit-{name}=")));
+            assert!(line.is_some_and(|line| line.ends_with(&format!(" ({limit})"))), "{name} {line:?}");
+        }
     }
 
     #[test]

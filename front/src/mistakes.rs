@@ -1,0 +1,337 @@
+//! What an author did where an item of a database can't go on, as its text shows it, and what to do about that.
+
+use crate::advice::Seen;
+use crate::database::{Inside, Item, name_at};
+use crate::explain::{begins_item, shown_path};
+use crate::job::File;
+use crate::terminal::plain;
+use crate::text::Text;
+use std::ops::Range;
+
+/// How many bytes of an item's line are looked at for what an author takes for a comment.
+const MOST_BEFORE: usize = 200;
+
+/// An item of a database, and the place of its error.
+struct Place<'b, 'a> {
+    file: &'b File,
+    text: &'b Text<'a>,
+    item: &'b Item<'a>,
+    place: usize,
+    inside: Inside<'a>,
+}
+
+/// What to do about this error at a place of an item, where the item's text shows it.
+pub fn what_to_do(file: &File, text: &Text<'_>, item: &Item<'_>, place: usize, error: &[u8]) -> Option<String> {
+    let inside = Inside::of(text.bytes, item);
+    let place = Place { file, text, item, place, inside };
+    match error {
+        b"I was expecting a , or a }" | b"I was expecting a , or a )" => place.after_part(),
+        b"I was expecting an =" => place.not_closed().or_else(|| place.before_equals()),
+        b"I was expecting a name" => place.not_closed().or_else(|| place.before_name()),
+        b"I was expecting a }" | b"I was expecting a )" => place.after_text(),
+        b"I was expecting a value" => place.before_value(),
+        b"Unbalanced braces" => place.runs_on(),
+        b"Illegal end of database file" => place.at_end(),
+        _ => None,
+    }
+}
+
+/// What to do about an entry that was meant to be hidden: its line begins with a `%` or a `@comment`.
+pub fn what_hides(file: &File, text: &Text<'_>, item: &Item<'_>) -> Option<String> {
+    let (line, _) = text.span(text.line_of(item.start));
+    let before = text.bytes[line..item.start].get(..MOST_BEFORE.min(item.start - line))?.trim_ascii_start();
+    let is_comment = before.get(..8).is_some_and(|word| word.eq_ignore_ascii_case(b"@comment"));
+    let is_meant = before.starts_with(b"%") || is_comment;
+    (is_meant && item.is_entry()).then(|| Seen::NotHidden.with(&[&begins_item(file, text, item)]))
+}
+
+/// Where the value begins that isn't closed.
+pub fn begun_value(file: &File, text: &Text<'_>, item: &Item<'_>) -> Option<String> {
+    let inside = Inside::of(text.bytes, item);
+    let start = inside.last_value?;
+    if inside.values.last().is_some_and(|value| value.start == start) {
+        return None;
+    }
+    let at = line_of(file, text, start);
+    Some(match inside.fields.last().filter(|_| item.is_entry()) {
+        Some(field) => format!("in the value of `{}`, which begins at {at}", plain(field)),
+        None => format!("in the value that begins at {at}"),
+    })
+}
+
+/// A line of a file, for people.
+pub fn line_of(file: &File, text: &Text<'_>, place: usize) -> String {
+    format!("{}:{}", plain(shown_path(file)), text.line_of(place))
+}
+
+impl<'a> Place<'_, 'a> {
+    fn byte(&self) -> Option<u8> {
+        self.text.bytes.get(self.place).copied()
+    }
+
+    /// The name that begins at the place, and the first byte after it that isn't whitespace.
+    fn name(&self) -> (&'a [u8], Option<u8>) {
+        let name = name_at(self.text.bytes, self.place);
+        let after = self.text.bytes[self.place + name.len()..].iter().find(|byte| !byte.is_ascii_whitespace());
+        (name, after.copied())
+    }
+
+    fn is_on_one_line(&self, other: usize) -> bool {
+        self.text.line_of(other) == self.text.line_of(self.place)
+    }
+
+    fn line(&self, place: usize) -> String {
+        line_of(self.file, self.text, place)
+    }
+
+    fn begins_item(&self) -> String {
+        begins_item(self.file, self.text, self.item)
+    }
+
+    /// What the last value is of: a field, or the string that the item defines.
+    fn owner(&self) -> Option<String> {
+        let name = if self.item.is_entry() { *self.inside.fields.last()? } else { self.item.key?.name };
+        Some(plain(name))
+    }
+
+    /// An entry's key or the value of a field has ended, and neither a comma nor the entry's end comes after it.
+    fn after_part(&self) -> Option<String> {
+        let key = self.item.key?;
+        match self.inside.values.last() {
+            None if self.byte() == Some(b'=') => Some(Seen::NoKey.with(&[&plain(self.item.kind), &plain(key.name)])),
+            None => self.not_closed().or_else(|| self.other_brace()).or_else(|| Some(self.after_key())),
+            Some(value) => self
+                .quote(value)
+                .or_else(|| self.runs_on())
+                .or_else(|| self.not_closed())
+                .or_else(|| self.other_brace())
+                .or_else(|| self.after_value(value)),
+        }
+    }
+
+    fn after_key(&self) -> String {
+        let key = self.item.key.map_or(&b""[..], |key| key.name);
+        let (word, after) = self.name();
+        let is_key = self.item.key.is_some_and(|key| self.is_on_one_line(key.end)) && after == Some(b',');
+        if is_key {
+            Seen::KeyOfWords.with(&[&plain(&[key, word].concat())])
+        } else {
+            Seen::NoCommaAfterKey.with(&[&plain(key)])
+        }
+    }
+
+    fn after_value(&self, value: &Range<usize>) -> Option<String> {
+        let (owner, first) = (self.owner()?, self.text.bytes[value.start]);
+        let (word, after) = self.name();
+        let is_field = !word.is_empty() && after == Some(b'=');
+        if is_field || !self.is_on_one_line(value.end) {
+            return Some(Seen::NoComma.with(&[&owner, &self.line(value.end.saturating_sub(1))]));
+        }
+        Some(match (first, self.byte()) {
+            (b'{', Some(b'{' | b'"')) | (b'"', _) => Seen::NoHash.with(&[&owner]),
+            (b'{', _) => Seen::BraceTooMany.with(&[&owner]),
+            (_, Some(b'{' | b'"')) => Seen::NoHash.with(&[&owner]),
+            _ => Seen::BareValue.with(&[&owner]),
+        })
+    }
+
+    /// A quote that ends a value earlier than it was meant: one that begins the next value, or one in the text.
+    fn quote(&self, value: &Range<usize>) -> Option<String> {
+        let is_quoted = value.end == self.place && self.text.bytes[value.start] == b'"';
+        let owner = self.owner().filter(|_| is_quoted)?;
+        Some(match self.is_on_one_line(value.start) {
+            true => Seen::QuoteInText.with(&[&owner]),
+            false => Seen::QuoteTooEarly.with(&[&owner, &self.line(value.start)]),
+        })
+    }
+
+    /// Another item begins in the line of the place, below the line of this one.
+    fn not_closed(&self) -> Option<String> {
+        let (start, _) = self.text.span(self.text.line_of(self.place));
+        let begins_item = |bytes: &[u8]| bytes.trim_ascii_start().starts_with(b"@");
+        let is_other = begins_item(&self.text.bytes[start..self.place]) || begins_item(&self.text.bytes[start..]);
+        let is_above = self.text.line_of(self.item.start) < self.text.line_of(self.place);
+        let is_it = is_other && is_above && self.item.entry_key().is_some();
+        is_it.then(|| Seen::NotClosed.with(&[&self.begins_item()]))
+    }
+
+    /// An item in braces that a parenthesis is to close, or the other way round.
+    fn other_brace(&self) -> Option<String> {
+        let after_kind = &self.text.bytes[self.item.start + 1..].trim_ascii_start()[self.item.kind.len()..];
+        let (opening, closing) = match (after_kind.trim_ascii_start().first()?, self.byte()?) {
+            (b'(', b'}') => ("(", ")"),
+            (b'{', b')') => ("{", "}"),
+            _ => return None,
+        };
+        Some(Seen::OtherBrace.with(&[&self.begins_item(), closing, opening]))
+    }
+
+    /// The first value that goes on over a line that looks like another field.
+    fn runs_on(&self) -> Option<String> {
+        let of_fields = self.inside.fields.iter().zip(&self.inside.values);
+        let of_last = self.inside.fields.last().zip(self.inside.last_value);
+        let open = of_last
+            .map(|(name, start)| (name, start..self.place))
+            .filter(|_| self.inside.values.len() < self.inside.fields.len());
+        let all = of_fields.map(|(name, value)| (name, value.clone())).chain(open).filter(|_| self.item.is_entry());
+        let mut found = all.filter_map(|(name, value)| Some((name, value.start, self.field_in(&value)?)));
+        let (name, start, taken) = found.next()?;
+        let taken_in = (plain(name_at(self.text.bytes, taken)), self.line(taken));
+        Some(Seen::RunsOn.with(&[&plain(name), &self.line(start), &taken_in.0, &taken_in.1]))
+    }
+
+    /// Where a line of a value begins as a field does: `name = {`.
+    fn field_in(&self, value: &Range<usize>) -> Option<usize> {
+        let bytes = &self.text.bytes[..value.end];
+        let ends = bytes[value.start..].iter().enumerate().filter(|(_, byte)| **byte == b'\n');
+        let lines = ends.map(|(end, _)| value.start + end + 1);
+        let is_blank = |byte: &&u8| matches!(byte, b' ' | b'\t');
+        lines.map(|line| line + bytes[line..].iter().take_while(is_blank).count()).find(|at| {
+            let name = name_at(bytes, *at);
+            let after = bytes[at + name.len()..].trim_ascii_start().strip_prefix(b"=").map(<[u8]>::trim_ascii_start);
+            let begins_value = |byte: &u8| matches!(byte, b'{' | b'"' | b'0'..=b'9');
+            name.first().is_some_and(u8::is_ascii_alphabetic) && after.and_then(<[u8]>::first).is_some_and(begins_value)
+        })
+    }
+
+    /// A name has ended, and no `=` comes after it.
+    fn before_equals(&self) -> Option<String> {
+        let name = if self.item.is_entry() { *self.inside.fields.last()? } else { self.item.key?.name };
+        let sign = |byte: &u8| matches!(byte, b':' | b'~' | b'-' | b'>');
+        if let Some((last, rest)) = name.split_last().filter(|(last, _)| sign(last)) {
+            return Some(Seen::OtherForEquals.with(&[&plain(rest), &plain(&[*last])]));
+        }
+        let (word, after) = self.name();
+        Some(match word {
+            [byte] if sign(byte) => Seen::OtherForEquals.with(&[&plain(name), &plain(word)]),
+            _ if !word.is_empty() && after == Some(b'=') => Seen::NameOfWords.with(&[&plain(&[name, word].concat())]),
+            _ if matches!(self.byte()?, b'{' | b'"') || !word.is_empty() => Seen::NoEquals.with(&[&plain(name)]),
+            _ => return None,
+        })
+    }
+
+    /// A name is expected: of an item's type, of a field or of a string.
+    fn before_name(&self) -> Option<String> {
+        let is_field = self.item.entry_key().is_some();
+        match self.byte()? {
+            b'{' | b'(' if self.item.kind.is_empty() => Some(Seen::NoType.with(&[])),
+            b'%' if is_field => Some(Seen::CommentSign.with(&[])),
+            b',' if is_field => Some(Seen::CommaTwice.with(&[])),
+            _ => None,
+        }
+    }
+
+    /// The value of a string or a preamble has ended, and the item's end doesn't come after it.
+    fn after_text(&self) -> Option<String> {
+        let value = self.inside.values.last()?;
+        let is_bare = !matches!(self.text.bytes[value.start], b'{' | b'"');
+        let Some(owner) = self.owner() else { return is_bare.then(|| Seen::BarePreamble.with(&[])) };
+        if self.byte() == Some(b',') || !self.is_on_one_line(value.end) {
+            return self.other_brace();
+        }
+        self.other_brace().or_else(|| self.after_value(value)).filter(|_| !owner.is_empty())
+    }
+
+    fn before_value(&self) -> Option<String> {
+        let owner = self.owner().filter(|_| matches!(self.byte(), Some(b',' | b'}' | b')')))?;
+        (self.inside.last_value == Some(self.place)).then(|| Seen::NoValue.with(&[&owner]))
+    }
+
+    /// The file ends in an item: in a value, or after one.
+    fn at_end(&self) -> Option<String> {
+        self.item.entry_key()?;
+        if let Some(runs_on) = self.runs_on() {
+            return Some(runs_on);
+        }
+        let is_in_value = self.inside.last_value != self.inside.values.last().map(|value| value.start);
+        let is_braced =
+            self.text.bytes[self.item.start..].iter().find(|byte| matches!(byte, b'{' | b'(')) == Some(&b'{');
+        (!is_in_value).then(|| Seen::NotClosedAtEnd.with(&[&self.begins_item(), if is_braced { "}" } else { ")" }]))
+    }
+}
+
+#[cfg(test)]
+mod tests {
+    use super::*;
+    use crate::database::Items;
+
+    /// What to do about the first item of a database, which can't go on at its end.
+    fn advice(text: &str) -> String {
+        let file = File { name: b"d.bib".to_vec(), bytes: None, path: b"./d.bib".to_vec() };
+        let (text, item) = (Text::new(text.as_bytes()), Items::new(text.as_bytes()).next().unwrap());
+        what_to_do(&file, &text, &item, item.end, item.fault.unwrap().as_bytes()).unwrap_or_default()
+    }
+
+    #[test]
+    fn keys_are_whole_words() {
+        assert_eq!(advice("@misc{author = {A}}"), "write the entry's key first: `@misc{KEY, author = ..`");
+        assert_eq!(advice("@misc{a b, x = 1}"), "write the key without whitespace: `ab`");
+        assert_eq!(advice("@misc{a x = 1}"), "put a comma after the key `a`");
+        assert_eq!(advice("@misc{a\n x = 1}"), "put a comma after the key `a`");
+        assert_eq!(advice("@{a, x = 1}"), "write the type after the `@`, as in `@article{KEY, ..`");
+        assert_eq!(advice("@misc{a,, x = 1}"), "take out one of the two commas");
+    }
+
+    #[test]
+    fn what_is_missing_after_a_value_is_named() {
+        assert_eq!(advice("@misc{a,\n x = {T}\n y = 1}"), "put a comma after the value of `x`, which ends at d.bib:2");
+        assert_eq!(advice("@misc{a, x = {T} y = 1}"), "put a comma after the value of `x`, which ends at d.bib:1");
+        assert_eq!(advice("@misc{a, x = \"T\" jan, y = 1}"), Seen::NoHash.with(&["x"]));
+        assert_eq!(advice("@misc{a, x = {T} \"S\"}"), Seen::NoHash.with(&["x"]));
+        assert_eq!(advice("@misc{a, x = {A {T}} S}, y = 1}"), Seen::BraceTooMany.with(&["x"]));
+        for bare in ["1-2", "12A", "A title", "in press"] {
+            assert_eq!(advice(&format!("@misc{{a, x = {bare}, y = 1}}")), Seen::BareValue.with(&["x"]), "{bare}");
+        }
+        let quoted = "close the value of `x`, which begins at d.bib:2: the quote before this place ends it";
+        assert_eq!(advice("@misc{a,\n x = \"T,\n y = \"B\", z = 1}"), quoted);
+        assert_eq!(advice("@misc{a,\n x = \"G\\\"odel\"}"), Seen::QuoteInText.with(&["x"]));
+    }
+
+    #[test]
+    fn what_is_not_closed_is_named() {
+        let unclosed = "close @misc{a}, which begins at d.bib:1: a `}` is missing above this line";
+        assert_eq!(advice("@misc{a, x = 1\n@misc{b}"), unclosed);
+        assert_eq!(advice("@misc{a, x = 1,\n@misc{b}"), unclosed);
+        assert_eq!(advice("@misc{a, x = {1}"), "close @misc{a}, which begins at d.bib:1: its last `}` is missing");
+        assert_eq!(advice("@misc(a, x = {1}"), "close @misc{a}, which begins at d.bib:1: its last `)` is missing");
+        assert_eq!(
+            advice("@misc(a, x = 1}"),
+            "close @misc{a}, which begins at d.bib:1 by `)`, since it is opened by `(`"
+        );
+        let runs_on =
+            "close the value of `x`, which begins at d.bib:2: it has taken in what looks like the field `y` (d.bib:3)";
+        assert_eq!(advice("@misc{a,\n x = {T {U},\n y = 1\n}\n@misc{b}"), runs_on);
+        assert_eq!(advice("@misc{a,\n x = \"T,\n y = {1}\n}\n"), runs_on);
+        assert_eq!(advice("@misc{a,\n x = {T,\n y = 2\n}\n"), runs_on);
+        assert_eq!(advice("@misc{a, x = {T"), "");
+    }
+
+    #[test]
+    fn signs_in_the_wrong_place_are_named() {
+        assert_eq!(advice("@misc{a, x {T}}"), "put an `=` after `x`");
+        assert_eq!(advice("@misc{a, x 1}"), "put an `=` after `x`");
+        assert_eq!(advice("@misc{a, x: {T}}"), "write `x = ..`, with an `=` in the place of the `:`");
+        assert_eq!(advice("@misc{a, x : {T}}"), "write `x = ..`, with an `=` in the place of the `:`");
+        assert_eq!(advice("@misc{a, book title = {T}}"), "write the field's name without whitespace: `booktitle = ..`");
+        assert_eq!(advice("@misc{a, % x\n y = 1}"), Seen::CommentSign.with(&[]));
+        assert_eq!(advice("@misc{a, x = , y = 1}"), "write the value of `x` after the `=`, or take the field out");
+    }
+
+    #[test]
+    fn strings_and_preambles_have_texts() {
+        assert_eq!(advice("@string{s = A title}"), Seen::BareValue.with(&["s"]));
+        assert_eq!(advice("@string{s {T}}"), "put an `=` after `s`");
+        assert_eq!(advice("@preamble{\\newcommand{\\x}{y}}"), Seen::BarePreamble.with(&[]));
+        assert_eq!(advice("@string{s = {T}, t = {U}}"), "");
+    }
+
+    #[test]
+    fn comments_hide_no_entry() {
+        let file = File { name: b"d.bib".to_vec(), bytes: None, path: b"./d.bib".to_vec() };
+        let hides = |text: &str| {
+            let item = Items::new(text.as_bytes()).find(Item::is_entry).unwrap();
+            what_hides(&file, &Text::new(text.as_bytes()), &item).is_some()
+        };
+        assert_eq!([hides("% @misc{a}"), hides("@Comment{@misc{a}}"), hides("%\n@misc{a}")], [true, true, false]);
+    }
+}

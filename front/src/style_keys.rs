@@ -1,0 +1,707 @@
+//! Whether a style may print what `purify$` made of letters, seen by its text alone: it is followed with what each literal and each variable may hold. What can't be followed may print it.
+
+use crate::database::Folded;
+use crate::style_text::{Kind, Token, Tokens};
+use std::collections::HashMap;
+use std::hash::{BuildHasherDefault, Hasher};
+
+/// What a text may hold: bits.
+type Held = u8;
+
+/// Neither letters with codes nor what is left of them.
+const PLAIN: Held = 0;
+/// Whole codes of letters.
+const LETTERS: Held = 1;
+/// What is left of a code without its control characters: what its letter sorts as.
+const KEYS: Held = 2;
+
+/// How many tokens are followed at most, how many names a style may have, and how often it is followed until its variables hold what they may.
+const MOST_STEPS: usize = 200_000;
+const MOST_NAMES: usize = 5_000;
+const MOST_ROUNDS: usize = 10;
+
+/// How many variables that keep texts a style may have.
+const MOST_TEXTS: usize = 128;
+
+/// A hash that is made quickly. (What a stranger can do with it is bounded by the number of names.)
+#[derive(Default)]
+struct Quick(u64);
+
+impl Hasher for Quick {
+    fn write(&mut self, bytes: &[u8]) {
+        let (words, rest) = bytes.as_chunks::<8>();
+        words.iter().for_each(|word| self.write_u64(u64::from_le_bytes(*word)));
+        rest.iter().for_each(|byte| self.write_u64(u64::from(*byte)));
+    }
+
+    fn write_u64(&mut self, word: u64) {
+        self.0 = (self.0.rotate_left(5) ^ word).wrapping_mul(0x517C_C1B7_2722_0A95);
+    }
+
+    fn write_u8(&mut self, byte: u8) {
+        self.write_u64(u64::from(byte));
+    }
+
+    fn write_usize(&mut self, word: usize) {
+        self.write_u64(word as u64);
+    }
+
+    fn finish(&self) -> u64 {
+        self.0 ^ self.0 >> 32
+    }
+}
+
+type QuickMap<K, V> = HashMap<K, V, BuildHasherDefault<Quick>>;
+
+/// A style that can't be followed.
+struct NotFollowed;
+
+type Followed<T> = Result<T, NotFollowed>;
+
+/// What a name of a style means.
+#[derive(Debug, Clone, Copy, PartialEq, Eq, Hash)]
+enum Meaning {
+    Field(Held),
+    Integer,
+    /// A variable that keeps a text, by its number: one of the style, and one of each entry.
+    Text(usize),
+    OfEntry(usize),
+    /// A function, by its number.
+    Function(usize),
+    Builtin(Effect),
+}
+
+/// What a built-in function does with what texts hold.
+#[derive(Debug, Clone, Copy, PartialEq, Eq, Hash)]
+enum Effect {
+    /// Pops so many.
+    Take(u8),
+    /// Pops so many, and pushes what holds no letters.
+    Answer(u8),
+    /// Pops so many above a text, which holds what it held.
+    Keep(u8),
+    Concatenate,
+    Assign,
+    CallType,
+    Preamble,
+    Duplicate,
+    If,
+    While,
+    Clear,
+    Purify,
+    Substring,
+    Swap,
+    Write,
+}
+
+/// The built-in functions, but those that are texts or integers.
+const BUILTINS: [(&str, Effect); 37] = [
+    ("=", Effect::Answer(2)),
+    ("<", Effect::Answer(2)),
+    (">", Effect::Answer(2)),
+    ("+", Effect::Answer(2)),
+    ("-", Effect::Answer(2)),
+    ("*", Effect::Concatenate),
+    (":=", Effect::Assign),
+    ("add.period$", Effect::Keep(0)),
+    ("call.type$", Effect::CallType),
+    ("change.case$", Effect::Keep(1)),
+    ("chr.to.int$", Effect::Answer(1)),
+    ("cite$", Effect::Answer(0)),
+    ("duplicate$", Effect::Duplicate),
+    ("empty$", Effect::Answer(1)),
+    ("format.name$", Effect::Keep(2)),
+    ("if$", Effect::If),
+    ("int.to.chr$", Effect::Answer(1)),
+    ("int.to.str$", Effect::Answer(1)),
+    ("missing$", Effect::Answer(1)),
+    ("newline$", Effect::Take(0)),
+    ("num.names$", Effect::Answer(1)),
+    ("pop$", Effect::Take(1)),
+    ("preamble$", Effect::Preamble),
+    ("purify$", Effect::Purify),
+    ("quote$", Effect::Answer(0)),
+    ("skip$", Effect::Take(0)),
+    ("stack$", Effect::Clear),
+    ("substring$", Effect::Substring),
+    ("swap$", Effect::Swap),
+    ("text.length$", Effect::Answer(1)),
+    ("text.prefix$", Effect::Keep(1)),
+    ("top$", Effect::Take(1)),
+    ("type$", Effect::Answer(0)),
+    ("warning$", Effect::Take(1)),
+    ("while$", Effect::While),
+    ("width$", Effect::Answer(1)),
+    ("write$", Effect::Write),
+];
+
+/// A token of a body.
+#[derive(Debug)]
+enum Step {
+    /// A text or an integer of the style.
+    Literal,
+    /// A name, and one with `'` before it.
+    Name(Meaning),
+    Quoted(Meaning),
+    /// A body in a body, by its number.
+    Body(usize),
+}
+
+/// A literal on the stack.
+#[derive(Debug, Clone, Copy, PartialEq, Eq, Hash)]
+enum Literal {
+    Text(Held),
+    Name(Meaning),
+    Body(usize),
+}
+
+impl Literal {
+    fn held(self) -> Held {
+        match self {
+            Literal::Text(held) => held,
+            Literal::Name(_) | Literal::Body(_) => PLAIN,
+        }
+    }
+}
+
+/// Where a style stands: what is on its stack, and what its variables hold. (Those of entries hold what they ever may, since a command goes through the entries.)
+#[derive(Debug, Clone, Default, PartialEq, Eq, Hash)]
+struct State {
+    /// The literals on top.
+    stack: Vec<Literal>,
+    /// What any literal below them may hold, of which it isn't known how many there are: two ways may leave different numbers, and another command may have left some.
+    below: Held,
+    /// Which variables hold letters, and which keys: a bit for each.
+    letters: u128,
+    keys: u128,
+}
+
+impl State {
+    fn push(&mut self, held: Held) {
+        self.stack.push(Literal::Text(held));
+    }
+
+    /// What a literal holds that is popped.
+    fn pop(&mut self) -> Held {
+        self.pop_literal().held()
+    }
+
+    fn pop_literal(&mut self) -> Literal {
+        self.stack.pop().unwrap_or(Literal::Text(self.below))
+    }
+
+    /// What is so after either of two ways.
+    fn join(&self, other: &State) -> Followed<State> {
+        let common = self.stack.len().min(other.stack.len());
+        let (deeper, tops) = self.stack.split_at(self.stack.len() - common);
+        let (deeper_too, other_tops) = other.stack.split_at(other.stack.len() - common);
+        let both = tops.iter().zip(other_tops).map(|pair| match pair {
+            (Literal::Text(held), Literal::Text(more)) => Ok(Literal::Text(held | more)),
+            (one, other) if one == other => Ok(*one),
+            _ => Err(NotFollowed),
+        });
+        let stack = both.collect::<Followed<Vec<Literal>>>()?;
+        let below =
+            deeper.iter().chain(deeper_too).fold(self.below | other.below, |below, literal| below | literal.held());
+        Ok(State { stack, below, letters: self.letters | other.letters, keys: self.keys | other.keys })
+    }
+
+    /// What a variable holds.
+    fn text(&self, number: usize) -> Held {
+        let held = |bits: u128, held: Held| if (bits >> number) & 1 == 1 { held } else { PLAIN };
+        held(self.letters, LETTERS) | held(self.keys, KEYS)
+    }
+
+    fn set_text(&mut self, number: usize, held: Held) {
+        self.letters = self.letters & !(1 << number) | u128::from(held & LETTERS != 0) << number;
+        self.keys = self.keys & !(1 << number) | u128::from(held & KEYS != 0) << number;
+    }
+
+    /// Whether a literal may hold keys that another command may take.
+    fn leaves_keys(&self) -> bool {
+        self.below & KEYS != 0 || self.stack.iter().any(|literal| literal.held() & KEYS != 0)
+    }
+}
+
+/// A style as it is read.
+#[derive(Default)]
+struct Style<'a> {
+    meanings: QuickMap<Folded<'a>, Meaning>,
+    /// How many variables it has, and how many each entry has.
+    texts: usize,
+    of_entries: usize,
+    bodies: Vec<Vec<Step>>,
+    /// The bodies of the functions.
+    functions: Vec<usize>,
+    /// What the commands execute.
+    executed: Vec<Meaning>,
+}
+
+/// The tokens of a style that are still to be read.
+struct Reading<'a> {
+    text: &'a [u8],
+    tokens: Tokens<'a>,
+}
+
+impl<'a> Reading<'a> {
+    fn word(&self, token: &Token) -> &'a [u8] {
+        &self.text[token.start..token.end]
+    }
+
+    fn expect(&mut self, kind: Kind) -> Followed<Token> {
+        self.tokens.next().filter(|token| token.kind == kind).ok_or(NotFollowed)
+    }
+
+    /// The names between braces.
+    fn names(&mut self) -> Followed<Vec<&'a [u8]>> {
+        self.expect(Kind::Open)?;
+        let mut names = Vec::new();
+        loop {
+            let token = self.tokens.next().ok_or(NotFollowed)?;
+            match token.kind {
+                Kind::Name => names.push(self.word(&token)),
+                Kind::Close => return Ok(names),
+                _ => return Err(NotFollowed),
+            }
+        }
+    }
+
+    /// The one name between braces.
+    fn name(&mut self) -> Followed<&'a [u8]> {
+        self.names()?.pop().ok_or(NotFollowed)
+    }
+}
+
+impl<'a> Style<'a> {
+    /// Reads a style; the values of the fields of these names have no codes.
+    fn read(text: &'a [u8], fixed: &[&str]) -> Followed<Style<'a>> {
+        let mut style = Style::default();
+        for (name, effect) in BUILTINS {
+            style.define(name.as_bytes(), Meaning::Builtin(effect))?;
+        }
+        for name in ["entry.max$", "global.max$"] {
+            style.define(name.as_bytes(), Meaning::Integer)?;
+        }
+        style.define_of_entry(b"sort.key$")?;
+        style.define(b"crossref", Meaning::Field(PLAIN))?;
+        let mut reading = Reading { text, tokens: Tokens::new(text) };
+        while let Some(token) = reading.tokens.next() {
+            if token.kind != Kind::Name {
+                return Err(NotFollowed);
+            }
+            let word = reading.word(&token);
+            style.read_command(word, &mut reading, fixed)?;
+        }
+        Ok(style)
+    }
+
+    fn define(&mut self, name: &'a [u8], meaning: Meaning) -> Followed<()> {
+        self.meanings.insert(Folded(name), meaning);
+        if self.meanings.len() > MOST_NAMES { Err(NotFollowed) } else { Ok(()) }
+    }
+
+    fn define_text(&mut self, name: &'a [u8]) -> Followed<()> {
+        self.define(name, Meaning::Text(self.texts))?;
+        self.texts += 1;
+        if self.texts > MOST_TEXTS { Err(NotFollowed) } else { Ok(()) }
+    }
+
+    fn define_of_entry(&mut self, name: &'a [u8]) -> Followed<()> {
+        self.define(name, Meaning::OfEntry(self.of_entries))?;
+        self.of_entries += 1;
+        Ok(())
+    }
+
+    fn read_command(&mut self, word: &[u8], reading: &mut Reading<'a>, fixed: &[&str]) -> Followed<()> {
+        match &*word.to_ascii_lowercase() {
+            b"entry" => {
+                for name in reading.names()? {
+                    let is_fixed = fixed.iter().any(|field| name.eq_ignore_ascii_case(field.as_bytes()));
+                    self.define(name, Meaning::Field(if is_fixed { PLAIN } else { LETTERS }))?;
+                }
+                for name in reading.names()? {
+                    self.define(name, Meaning::Integer)?;
+                }
+                for name in reading.names()? {
+                    self.define_of_entry(name)?;
+                }
+            }
+            b"integers" => {
+                for name in reading.names()? {
+                    self.define(name, Meaning::Integer)?;
+                }
+            }
+            b"strings" => {
+                for name in reading.names()? {
+                    self.define_text(name)?;
+                }
+            }
+            b"macro" => {
+                reading.name()?;
+                reading.expect(Kind::Open)?;
+                reading.expect(Kind::Text)?;
+                reading.expect(Kind::Close)?;
+            }
+            b"function" => {
+                let name = reading.name()?;
+                reading.expect(Kind::Open)?;
+                let body = self.read_body(reading)?;
+                self.define(name, Meaning::Function(self.functions.len()))?;
+                self.functions.push(body);
+            }
+            b"execute" | b"iterate" | b"reverse" => {
+                let meaning = self.meaning(reading.name()?)?;
+                self.executed.push(meaning);
+            }
+            b"read" | b"sort" => {}
+            _ => return Err(NotFollowed),
+        }
+        Ok(())
+    }
+
+    /// Reads a body after its `{`; its number. (Bodies in bodies are kept on a list of their own, so that no depth is too deep.)
+    fn read_body(&mut self, reading: &mut Reading<'a>) -> Followed<usize> {
+        let mut open: Vec<Vec<Step>> = vec![Vec::new()];
+        loop {
+            let token = reading.tokens.next().ok_or(NotFollowed)?;
+            let step = match token.kind {
+                Kind::Open => {
+                    open.push(Vec::new());
+                    continue;
+                }
+                Kind::Close => {
+                    self.bodies.push(open.pop().ok_or(NotFollowed)?);
+                    let number = self.bodies.len() - 1;
+                    if open.is_empty() {
+                        return Ok(number);
+                    }
+                    Step::Body(number)
+                }
+                Kind::Text | Kind::Integer => Step::Literal,
+                Kind::Name => Step::Name(self.meaning(reading.word(&token))?),
+                Kind::Quoted => Step::Quoted(self.meaning(&reading.word(&token)[1..])?),
+                Kind::OpenText | Kind::NoInteger | Kind::Stuff => return Err(NotFollowed),
+            };
+            open.last_mut().ok_or(NotFollowed)?.push(step);
+        }
+    }
+
+    fn meaning(&self, name: &'a [u8]) -> Followed<Meaning> {
+        self.meanings.get(&Folded(name)).copied().ok_or(NotFollowed)
+    }
+}
+
+/// How deep bodies are followed into one another.
+const DEEPEST: usize = 200;
+
+/// A style that is followed.
+struct Following<'s> {
+    style: &'s Style<'s>,
+    /// What a type's function is.
+    types: Vec<Meaning>,
+    /// What each variable of an entry may hold.
+    of_entries: Vec<Held>,
+    /// Whether a variable of an entry holds more than what was taken for all that it may, when it was read.
+    is_early: bool,
+    /// Which variables of an entry were read.
+    are_read: Vec<bool>,
+    /// What was found of a function in this round: from this state, in a loop or not, to that state.
+    known: QuickMap<(usize, bool, State), State>,
+    steps: usize,
+    loops: usize,
+    depth: usize,
+    prints_keys: bool,
+}
+
+impl Following<'_> {
+    /// Follows all commands, until no variable holds more than before.
+    fn follow_all(&mut self) -> Followed<()> {
+        // (letters are taken for what any variable may hold, so that one round is enough for most styles)
+        let mut begun = State { stack: Vec::new(), below: LETTERS, letters: u128::MAX, keys: 0 };
+        for _ in 0..MOST_ROUNDS {
+            let before = begun.clone();
+            self.known.clear();
+            self.is_early = false;
+            self.are_read.fill(false);
+            for meaning in &self.style.executed {
+                let mut state = begun.clone();
+                self.call(*meaning, &mut state)?;
+                if state.leaves_keys() {
+                    return Err(NotFollowed);
+                }
+                state.stack.clear();
+                begun = begun.join(&state)?;
+            }
+            if before == begun && !self.is_early {
+                return Ok(());
+            }
+        }
+        Err(NotFollowed)
+    }
+
+    fn body(&mut self, number: usize, state: &mut State) -> Followed<()> {
+        self.depth += 1;
+        if self.depth > DEEPEST {
+            return Err(NotFollowed);
+        }
+        let style = self.style;
+        for step in &style.bodies[number] {
+            self.steps += 1;
+            if self.steps > MOST_STEPS {
+                return Err(NotFollowed);
+            }
+            match step {
+                Step::Literal => state.push(PLAIN),
+                Step::Name(meaning) => self.call(*meaning, state)?,
+                Step::Quoted(meaning) => state.stack.push(Literal::Name(*meaning)),
+                Step::Body(number) => state.stack.push(Literal::Body(*number)),
+            }
+        }
+        self.depth -= 1;
+        Ok(())
+    }
+
+    fn function(&mut self, number: usize, state: &mut State) -> Followed<()> {
+        let before = (number, self.loops > 0, state.clone());
+        if let Some(after) = self.known.get(&before) {
+            state.clone_from(after);
+            return Ok(());
+        }
+        self.body(self.style.functions[number], state)?;
+        self.known.insert(before, state.clone());
+        Ok(())
+    }
+
+    fn call(&mut self, meaning: Meaning, state: &mut State) -> Followed<()> {
+        match meaning {
+            Meaning::Field(held) => state.push(held),
+            Meaning::Integer => state.push(PLAIN),
+            Meaning::Text(number) => state.push(state.text(number)),
+            Meaning::OfEntry(number) => {
+                self.are_read[number] = true;
+                state.push(self.of_entries[number]);
+            }
+            Meaning::Function(number) => self.function(number, state)?,
+            Meaning::Builtin(effect) => self.builtin(effect, state)?,
+        }
+        Ok(())
+    }
+
+    fn execute(&mut self, literal: Literal, state: &mut State) -> Followed<()> {
+        match literal {
+            Literal::Body(number) => self.body(number, state),
+            Literal::Name(meaning) => self.call(meaning, state),
+            Literal::Text(_) => Err(NotFollowed),
+        }
+    }
+
+    /// Follows each of these ways into one state.
+    fn any_of(&mut self, ways: &[Literal], state: &mut State) -> Followed<()> {
+        let mut joined: Option<State> = None;
+        for way in ways {
+            let mut after = state.clone();
+            self.execute(*way, &mut after)?;
+            joined = Some(match joined {
+                Some(other) => other.join(&after)?,
+                None => after,
+            });
+        }
+        if let Some(joined) = joined {
+            *state = joined;
+        }
+        Ok(())
+    }
+
+    /// Follows a loop until its state holds no more than before.
+    fn repeat(&mut self, test: Literal, body: Literal, state: &mut State) -> Followed<()> {
+        self.loops += 1;
+        for _ in 0..MOST_ROUNDS {
+            let mut after = state.clone();
+            self.execute(test, &mut after)?;
+            after.pop();
+            let ended = after.clone();
+            self.execute(body, &mut after)?;
+            let joined = state.join(&after)?;
+            if joined == *state {
+                self.loops -= 1;
+                *state = ended;
+                return Ok(());
+            }
+            *state = joined;
+        }
+        Err(NotFollowed)
+    }
+
+    fn builtin(&mut self, effect: Effect, state: &mut State) -> Followed<()> {
+        match effect {
+            Effect::Take(popped) => {
+                for _ in 0..popped {
+                    state.pop();
+                }
+            }
+            Effect::Answer(popped) => {
+                for _ in 0..popped {
+                    state.pop();
+                }
+                state.push(PLAIN);
+            }
+            Effect::Keep(popped) => {
+                for _ in 0..popped {
+                    state.pop();
+                }
+                let held = state.pop();
+                state.push(held);
+            }
+            Effect::Concatenate => {
+                let held = state.pop() | state.pop();
+                state.push(held);
+            }
+            Effect::Assign => {
+                let (variable, held) = (state.pop_literal(), state.pop());
+                match variable {
+                    Literal::Name(Meaning::Text(number)) => state.set_text(number, held),
+                    Literal::Name(Meaning::OfEntry(number)) => self.keep_of_entry(number, held),
+                    Literal::Name(Meaning::Integer) => {}
+                    _ => return Err(NotFollowed),
+                }
+            }
+            Effect::CallType => {
+                let ways: Vec<Literal> = self.types.iter().map(|meaning| Literal::Name(*meaning)).collect();
+                self.any_of(&ways, state)?;
+            }
+            // (it may have strings in it)
+            Effect::Preamble => state.push(LETTERS),
+            Effect::Duplicate => {
+                let literal = state.pop_literal();
+                state.stack.extend([literal, literal]);
+            }
+            Effect::If => {
+                let (no, yes) = (state.pop_literal(), state.pop_literal());
+                state.pop();
+                self.any_of(&[yes, no], state)?;
+            }
+            Effect::While => {
+                let (body, test) = (state.pop_literal(), state.pop_literal());
+                self.repeat(test, body, state)?;
+            }
+            Effect::Clear => state.stack.clear(),
+            Effect::Purify => {
+                let held = state.pop();
+                state.push(if held == PLAIN { PLAIN } else { KEYS });
+            }
+            Effect::Substring => {
+                state.pop();
+                state.pop();
+                let held = state.pop();
+                // (a loop may leave out each byte of a code but its key; what one cut leaves of it is seen in the list)
+                let left = if held & LETTERS != 0 && self.loops > 0 { KEYS } else { PLAIN };
+                state.push(held | left);
+            }
+            Effect::Swap => {
+                let (top, below) = (state.pop_literal(), state.pop_literal());
+                state.stack.extend([top, below]);
+            }
+            Effect::Write => self.prints_keys |= state.pop() & KEYS != 0,
+        }
+        Ok(())
+    }
+
+    /// Adds what a variable of an entry may hold.
+    fn keep_of_entry(&mut self, number: usize, held: Held) {
+        let more = self.of_entries[number] | held;
+        self.is_early |= self.are_read[number] && more != self.of_entries[number];
+        self.of_entries[number] = more;
+    }
+}
+
+/// Whether a style may print what `purify$` made of letters, in a job whose entries have these types; the values of the fields of these names have no codes.
+pub fn may_print_keys<'t>(text: &'t [u8], types: &[&'t [u8]], fixed: &[&str]) -> bool {
+    let follow = || {
+        let style = Style::read(text, fixed)?;
+        let default = style.meaning(b"default.type").ok();
+        let mut functions: Vec<Meaning> = default.into_iter().collect();
+        for kind in types {
+            let function =
+                style.meaning(kind).ok().filter(|meaning| matches!(meaning, Meaning::Function(_))).or(default);
+            functions.extend(function.filter(|function| !functions.contains(function)));
+        }
+        let mut following = Following {
+            style: &style,
+            types: functions,
+            of_entries: vec![LETTERS; style.of_entries],
+            is_early: false,
+            are_read: vec![false; style.of_entries],
+            known: QuickMap::default(),
+            steps: 0,
+            loops: 0,
+            depth: 0,
+            prints_keys: false,
+        };
+        following.follow_all()?;
+        Ok::<bool, NotFollowed>(following.prints_keys)
+    };
+    follow().unwrap_or(true)
+}
+
+#[cfg(test)]
+mod tests {
+    use super::*;
+
+    /// Whether a style with this body may print keys of the field `t`.
+    fn may_print(body: &str) -> bool {
+        let style = format!(
+            "ENTRY {{t year}} {{}} {{label}} STRINGS {{s}} INTEGERS {{n}}\nFUNCTION {{key}} {{purify$ \"l\" change.case$}}\nFUNCTION {{misc}} {{ {body} }}\nREAD\nITERATE {{call.type$}}\n"
+        );
+        may_print_keys(style.as_bytes(), &[b"Misc"], &["year"])
+    }
+
+    #[test]
+    fn what_is_made_for_sorting_alone_is_not_printed() {
+        for body in [
+            "t write$",
+            "t key 'sort.key$ := t write$",
+            "#1 {t} 'skip$ if$ write$",
+            "{#1} {t} while$",
+            "year purify$ #-1 #2 substring$ 's := t s * write$",
+            "t empty$ {\"\"} {t key} if$ pop$ t write$",
+            "{n #0 >} {t #1 \"{ll}\" format.name$ write$ n #1 - 'n :=} while$",
+            "t #4 #999 substring$ write$",
+            "t key label = 'skip$ {t write$} if$",
+            "t key duplicate$ pop$ pop$ t write$",
+            "t 's := {n #0 >} {n #1 > {\", \" * s *} 's if$ n #1 - 'n :=} while$ write$ s key 'sort.key$ :=",
+        ] {
+            assert!(!may_print(body), "{body}");
+        }
+    }
+
+    #[test]
+    fn what_may_be_printed_is_seen() {
+        for body in [
+            "t purify$ write$",
+            "t key write$",
+            "t key 's := s write$",
+            "s write$ t key 's :=",
+            "t key 'label := label #1 #3 substring$ write$",
+            "t empty$ 'skip$ {\"\" t key * write$} if$",
+            "t key \"x\" swap$ write$ pop$",
+            "t \"{x}\" * purify$ add.period$ write$",
+            "{n #0 >} {s write$ t purify$ 's :=} while$",
+            "{n #0 >} {t n #1 substring$ s * 's :=} while$ s write$",
+            "t purify$",
+            "t key {n #0 >} {n #1 > {\", \" * t *} 't if$ n #1 - 'n :=} while$ write$",
+            "sort.key$ write$ t purify$ 'sort.key$ :=",
+        ] {
+            assert!(may_print(body), "{body}");
+        }
+    }
+
+    #[test]
+    fn what_cannot_be_followed_may_print() {
+        for body in ["t 'n write$ if$", "unknown", "t \"", "t 'misc :=", "#1 't 'n if$ if$"] {
+            assert!(may_print(body), "{body}");
+        }
+        let deep = format!("{}t write${}", "#1 { ".repeat(300), " } 'skip$ if$".repeat(300));
+        assert!(may_print(&deep));
+        assert!(may_print_keys(b"x", &[], &[]) && !may_print_keys(b"", &[], &[]));
+    }
+}

@@ -1,0 +1,288 @@
+//! What no run logs although an author may have meant something else: the name of a string as a text, names that aren't parted by ` and `, and fields that the style doesn't read. It is said of
+//! the entries that a job cites, after its messages.
+
+use crate::advice::Seen;
+use crate::aux_text::cited_keys;
+use crate::database::{Folded, Inside};
+use crate::entries::{Entries, Stored};
+use crate::explain::shown_path;
+use crate::hints::names_of_fields;
+use crate::job::Files;
+use crate::letter_values::parts;
+use crate::nearest::nearest;
+use crate::shown_line::ShownLine;
+use crate::terminal::{Terminal, plain};
+use std::collections::{HashMap, HashSet};
+use std::ops::Range;
+
+/// Of how many entries that is looked for, and how much of it is shown.
+const MOST_ENTRIES: usize = 5_000;
+const MOST_SHOWN: usize = 5;
+const MOST_FIELDS: usize = 8;
+
+/// Fields in which the name of a string is meant to be one.
+const OF_STRINGS: [&str; 4] = ["journal", "month", "publisher", "series"];
+
+/// Fields that programs keep for themselves: no author looks for them in a list.
+const KEPT: [&str; 16] = [
+    "abstract",
+    "annote",
+    "bibsource",
+    "biburl",
+    "copyright",
+    "crossref",
+    "date-added",
+    "date-modified",
+    "file",
+    "groups",
+    "keywords",
+    "key",
+    "language",
+    "owner",
+    "priority",
+    "timestamp",
+];
+
+/// A place in an entry, in the text of a field, and what is seen there.
+#[derive(Debug, Clone)]
+struct Found<'b, 'a> {
+    stored: Stored<'b, 'a>,
+    field: &'a [u8],
+    text: Range<usize>,
+    place: usize,
+    seen: Seen,
+}
+
+impl<'b, 'a> Found<'b, 'a> {
+    fn shown(&self) -> Shown<'b, 'a> {
+        let text = &self.stored.database.text.bytes[self.text.clone()];
+        let advice = self.seen.with(&[&plain(self.field), &plain(text.trim_ascii())]);
+        Shown { stored: self.stored, place: self.place, advice }
+    }
+}
+
+/// What is found in the entries of a job.
+#[derive(Debug, Default)]
+pub struct Unsaid<'b, 'a> {
+    found: Vec<Found<'b, 'a>>,
+    /// For each field that the style doesn't read how many entries have it, and one of a near name that it reads.
+    unread: HashMap<Folded<'a>, (usize, Option<String>)>,
+}
+
+/// A place that is shown, and what to do about it.
+pub struct Shown<'b, 'a> {
+    stored: Stored<'b, 'a>,
+    place: usize,
+    pub advice: String,
+}
+
+impl Shown<'_, '_> {
+    /// Its line, with a mark.
+    pub fn lines(&self, terminal: &Terminal) -> Vec<String> {
+        let (file, text) = (self.stored.database.file, &self.stored.database.text);
+        let (name, number) = (plain(shown_path(file)), text.line_of(self.place));
+        let mark = Some(self.place - text.span(number).0);
+        ShownLine { name: &name, number, line: text.line(number), mark }.lines(terminal)
+    }
+}
+
+impl<'b, 'a> Unsaid<'b, 'a> {
+    /// What is found in the entries that a job cites. `strings` are the names of strings that it knows.
+    pub fn new(entries: &'b Entries<'a>, files: &'a Files, style: &[u8], strings: &[&[u8]]) -> Unsaid<'b, 'a> {
+        let mut unsaid = Unsaid::default();
+        let fields = names_of_fields(style);
+        let strings: HashSet<Folded<'_>> = strings.iter().map(|name| Folded(name)).collect();
+        let mut cited = HashSet::new();
+        let keys = cited_keys(files).filter(|key| cited.insert(Folded(key))).take(MOST_ENTRIES);
+        for stored in keys.filter_map(|key| entries.entry(key)) {
+            unsaid.look_at(stored, &fields, &strings);
+        }
+        unsaid
+    }
+
+    fn look_at(&mut self, stored: Stored<'b, 'a>, read: &[Vec<u8>], strings: &HashSet<Folded<'_>>) {
+        let bytes = stored.database.text.bytes;
+        let inside = Inside::of(bytes, stored.item);
+        let has = |name: &[u8]| inside.fields.iter().any(|field| field.eq_ignore_ascii_case(name));
+        for (name, value) in inside.fields.iter().zip(&inside.values) {
+            let is_read = read.iter().any(|known| known.eq_ignore_ascii_case(name));
+            if is_read && let Some(text) = whole_text(bytes, value) {
+                let seen = seen_in(name, bytes, &text, strings);
+                self.found.extend(seen.map(|(place, seen)| Found {
+                    stored,
+                    field: name,
+                    text: text.clone(),
+                    place,
+                    seen,
+                }));
+            } else if !is_read && !read.is_empty() && !is_one_of(name, &KEPT) {
+                let lacked = read.iter().map(Vec::as_slice).filter(|known| !has(known));
+                let known = self.unread.entry(Folded(name)).or_insert_with(|| (0, nearest(name, lacked).map(plain)));
+                known.0 += 1;
+            }
+        }
+    }
+
+    /// The first of the places, with what to do about each.
+    pub fn shown(&self) -> Vec<Shown<'b, 'a>> {
+        self.found.iter().take(MOST_SHOWN).map(Found::shown).collect()
+    }
+
+    /// How many places aren't shown.
+    pub fn more(&self) -> usize {
+        self.found.len().saturating_sub(MOST_SHOWN)
+    }
+
+    /// The fields that the style doesn't read, those of most entries first; None where there is none.
+    pub fn unread(&self) -> Option<String> {
+        let mut all: Vec<(&[u8], usize, &Option<String>)> =
+            self.unread.iter().map(|(name, (count, near))| (name.0, *count, near)).collect();
+        all.sort_by_key(|(name, count, near)| (near.is_none(), usize::MAX - count, *name));
+        let text = |(name, count, near): &(&[u8], usize, &Option<String>)| {
+            let times = if *count == 1 { String::new() } else { format!(" ({count} times)") };
+            let near = near.as_ref().map_or(String::new(), |near| format!(", is it `{near}`?"));
+            format!("`{}`{times}{near}", plain(name))
+        };
+        let shown: Vec<String> = all.iter().take(MOST_FIELDS).map(text).collect();
+        let dots = if all.len() > MOST_FIELDS { "; .." } else { "" };
+        (!shown.is_empty())
+            .then(|| format!("(Of the cited entries the style doesn't read: {}{dots})", shown.join("; ")))
+    }
+}
+
+fn is_one_of(name: &[u8], names: &[&str]) -> bool {
+    names.iter().any(|known| name.eq_ignore_ascii_case(known.as_bytes()))
+}
+
+/// The text of a value that is one text in braces or quotes.
+fn whole_text(bytes: &[u8], value: &Range<usize>) -> Option<Range<usize>> {
+    let parts = parts(&bytes[value.clone()]);
+    let [part] = &parts[..] else { return None };
+    (part.start == 1 && part.end + 1 == value.len()).then(|| value.start + part.start..value.start + part.end)
+}
+
+/// What is odd in the text of a field, and where.
+fn seen_in(name: &[u8], bytes: &[u8], text: &Range<usize>, strings: &HashSet<Folded<'_>>) -> Option<(usize, Seen)> {
+    let inside = &bytes[text.clone()];
+    if is_one_of(name, &OF_STRINGS) {
+        return strings.contains(&Folded(inside.trim_ascii())).then_some((text.start, Seen::StringAsText));
+    }
+    let is_of_names = is_one_of(name, &["author", "editor"]);
+    is_of_names.then(|| seen_in_names(inside)).flatten().map(|(place, seen)| (text.start + place, seen))
+}
+
+/// The words of a list of names that stand outside of braces, each with its place.
+fn words(names: &[u8]) -> Vec<(usize, &[u8])> {
+    let (mut words, mut depth, mut start) = (Vec::new(), 0_i64, None);
+    for (at, byte) in names.iter().enumerate() {
+        depth += i64::from(*byte == b'{') - i64::from(*byte == b'}');
+        let is_between = depth <= 0 && (byte.is_ascii_whitespace() || matches!(byte, b'~'));
+        match start {
+            None if !is_between => start = Some(at),
+            Some(from) if is_between => {
+                words.push((from, &names[from..at]));
+                start = None;
+            }
+            _ => {}
+        }
+    }
+    words.extend(start.map(|from| (from, &names[from..])));
+    words
+}
+
+/// What is odd in a list of names, and where.
+fn seen_in_names(names: &[u8]) -> Option<(usize, Seen)> {
+    let words = words(names);
+    let is = |number: usize, all: &[&[u8]]| {
+        words.get(number).is_some_and(|(_, word)| all.iter().any(|it| word.eq_ignore_ascii_case(it)))
+    };
+    let last = words.len().checked_sub(1)?;
+    if is(0, &[b"and"]) || is(last, &[b"and"]) {
+        let at = if is(0, &[b"and"]) { 0 } else { last };
+        return Some((words[at].0, Seen::AndAtEnd));
+    }
+    for (number, (place, word)) in words.iter().enumerate() {
+        let is_et_al = is(number, &[b"et", b"et."]) && is(number + 1, &[b"al", b"al.", b"al.,"]);
+        if is_et_al {
+            return Some((*place, Seen::EtAl));
+        }
+        let is_first = number == 0 || is(number - 1, &[b"and"]);
+        if is(number, &[b"others"]) && is_first && number < last {
+            return Some((*place, Seen::OthersInside));
+        }
+        let sign = word.ends_with(b";").then_some(place + word.len() - 1);
+        if let Some(at) = sign.or_else(|| is(number, &[b"&", b"\\&"]).then_some(*place)) {
+            return Some((at, Seen::NamesBySign));
+        }
+    }
+    words.split(|(_, word)| word.eq_ignore_ascii_case(b"and")).find_map(commas_for_and)
+}
+
+/// A name of two commas whose middle part has several words, so that each part is a name: no Jr has two words.
+fn commas_for_and(name: &[(usize, &[u8])]) -> Option<(usize, Seen)> {
+    let commas: Vec<usize> = (0..name.len()).filter(|number| name[*number].1.ends_with(b",")).collect();
+    let [first, second] = commas[..] else { return None };
+    let is_it = first > 0 && second > first + 1 && second + 2 < name.len();
+    is_it.then(|| (name[0].0, Seen::CommasForAnd))
+}
+
+#[cfg(test)]
+mod tests {
+    use super::*;
+    use crate::job::File;
+
+    fn file(name: &str, bytes: &str) -> File {
+        File { name: name.into(), bytes: Some(bytes.into()), path: Vec::new() }
+    }
+
+    fn with_unsaid<T>(database: &str, look: impl Fn(&Unsaid<'_, '_>) -> T) -> T {
+        let top = file("a.aux", "\\citation{k,l}\n\\bibdata{d}\n\\bibstyle{s}\n");
+        let files = Files { top: b"a.aux".to_vec(), all: vec![top, file("d.bib", database)] };
+        let entries = Entries::new(&files);
+        look(&Unsaid::new(&entries, &files, b"ENTRY {author month pages title}{}{}", &[b"jan", b"cacm"]))
+    }
+
+    #[test]
+    fn the_name_of_a_string_is_no_text() {
+        let seen = |value: &str| {
+            with_unsaid(&format!("@misc{{k, month = {value}}}"), |unsaid| unsaid.found.first().map(|found| found.seen))
+        };
+        assert_eq!([seen("{jan}"), seen("\"Jan\"")], [Some(Seen::StringAsText); 2]);
+        assert_eq!([seen("jan"), seen("{January}"), seen("{jan} # \"x\""), seen("1")], [None; 4]);
+    }
+
+    #[test]
+    fn names_are_parted_by_and() {
+        let seen = |names: &str| seen_in_names(names.as_bytes());
+        assert_eq!(seen("A. B and C. D and"), Some((14, Seen::AndAtEnd)));
+        assert_eq!(seen("and A. B"), Some((0, Seen::AndAtEnd)));
+        assert_eq!(seen("A. B et al."), Some((5, Seen::EtAl)));
+        assert_eq!(seen("A. B and others and C. D"), Some((9, Seen::OthersInside)));
+        assert_eq!(seen("B, A.; D, C."), Some((5, Seen::NamesBySign)));
+        assert_eq!(seen("A. B \\& C. D"), Some((5, Seen::NamesBySign)));
+        assert_eq!(seen("John Smith, Mary Jones, Bob Lee"), Some((0, Seen::CommasForAnd)));
+        for whole in [
+            "A. B and others",
+            "Smith, Jr, John",
+            "von Last, Jr., A. B. and C. D",
+            "{A and B et al.; C}",
+            "{Smith \\& Sons}",
+            "",
+            "{and}",
+            "Bob O'Hara",
+        ] {
+            assert_eq!(seen(whole), None, "{whole}");
+        }
+    }
+
+    #[test]
+    fn fields_that_are_not_read_are_counted() {
+        let unread = |database: &str| with_unsaid(database, |unsaid| unsaid.unread());
+        let two = "@misc{k, pagse = 1, url = {u}, abstract = {x}} @misc{l, url = {v}} @misc{m, doi = {w}}";
+        assert_eq!(
+            unread(two).as_deref(),
+            Some("(Of the cited entries the style doesn't read: `pagse`, is it `pages`?; `url` (2 times))")
+        );
+        assert_eq!(unread("@misc{k, title = {T}}"), None);
+    }
+}
