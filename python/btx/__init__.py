@@ -18,9 +18,9 @@ from .events import Event, Events, Met, Severity
 from .jobs import Content, Files, Finder, Name, in_folder, needs, run, run_in, run_paper
 from .messages import Kind, Message, messages_of
 from .names import Divided, NameParts, names
-from .options import TEX_LIVE, Options
+from .options import LETTERS, TEX_LIVE, Options
 from .reading import MONTHS, Bibliography, Entries, Entry, Mistake, Place, read
-from .refusals import DatabaseTooLong, FileUnknown, FinderRefused, LibraryMissing, MemoryRefused, NameRefused, NamesRefused, OptionRefused, OutputTooLong, Refusal, StyleTooLong
+from .refusals import DatabaseTooLong, FileUnknown, FinderRefused, LettersRefused, LibraryMissing, MemoryRefused, NameRefused, NamesRefused, OptionRefused, OutputTooLong, Refusal, StyleTooLong
 from .results import End, Report, Result
 from .version import VERSION as __version__
 
@@ -42,6 +42,8 @@ __all__ = [
     "Finder",
     "FinderRefused",
     "Kind",
+    "LETTERS",
+    "LettersRefused",
     "LibraryMissing",
     "MONTHS",
     "MemoryRefused",

@@ -13,7 +13,7 @@ from typing import List, Optional
 from . import asking, checkup, compare, extracting, server
 from .commands import STATUS_REFUSED, Words, broken_pipe, print_nowhere, prints_any_text
 from .jobs import run
-from .options import Options
+from .options import LETTERS, Options
 from .outputs import Inputs, write_outputs
 from .refusals import OutputTooLong, Refusal
 from .results import End
@@ -55,6 +55,7 @@ def parser() -> argparse.ArgumentParser:
     result.add_argument("--budget", type=int, metavar="N", help="how many steps the style may take (1,000,000,000)")
     result.add_argument("--line", type=int, metavar="N", help="the length of a line of the list (79)")
     result.add_argument("--utf8", action="store_true", help="read text as UTF-8")
+    result.add_argument("--letters", choices=LETTERS, metavar="LANG", default="no", help="sort letters outside ASCII as a language does, and change their case: sv, de, .. (no)")
     result.add_argument("--version", action="version", version=f"btx {VERSION}")
     result.add_argument("--terse", action="store_true", help="don't print the log")
     return result
@@ -78,7 +79,7 @@ def run_job(words: argparse.Namespace) -> int:
         return complain(str(error), STATUS_REFUSED)
     try:
         if not words.terse:
-            print_log(result.log)
+            print_log(result.noted_log)
     except BrokenPipeError:
         raise
     except OSError as error:
@@ -101,7 +102,7 @@ def chosen_options(words: argparse.Namespace, options: Options) -> Options:
     """The options with what the words say."""
     given = {name: getattr(words, name) for name in ("min_crossrefs", "budget", "line")}
     chosen = {name: value for name, value in given.items() if value is not None}
-    return replace(options, utf8=words.utf8, **chosen)
+    return replace(options, utf8=words.utf8, letters=words.letters, **chosen)
 
 
 def complain(text: str, status: int) -> int:

@@ -10,14 +10,16 @@ from __future__ import annotations
 
 import bisect
 import re
-from typing import Any, Dict, Iterator, List, NamedTuple, Optional, Set, Tuple
+import struct
+import sys
+from typing import Any, Callable, Dict, Iterator, List, NamedTuple, Optional, Sequence, Set, Tuple
 
 from .library import RECORD, read_records
-from .reading import COMMENT, ENTRY, FIELD, PREAMBLE, STRING, WRONG, without_collection
+from .reading import COMMENT, END, ENTRY, FIELD, PREAMBLE, STRING, WRONG, without_collection
 from .refusals import DatabaseTooLong
 from .values import Part, has_names, parts_of
 
-__all__ = ["Database", "Field", "Item", "Lines", "Slip", "Undefined", "read", "undefined_strings"]
+__all__ = ["Database", "Field", "Item", "Known", "KnownItem", "Lines", "Slip", "Undefined", "read", "undefined_strings"]
 
 NO_EQUALS = "I was expecting an ="
 REPEATED = "Repeated entry"
@@ -63,7 +65,7 @@ class Item:
     key_end: where that ends. fields: those of an entry; of a string or a preamble its value, whose name is empty. is_plain: whether each of these is. end: where its reading ended.
     slip: the mistake that ended it."""
 
-    __slots__ = ("start", "kind", "kind_end", "key", "key_end", "fields", "is_plain", "end", "slip")
+    __slots__ = ("start", "kind", "kind_end", "key", "key_end", "own_fields", "is_plain", "end", "slip")
 
     def __init__(self, start: int, kind: bytes, kind_end: int, key: Optional[bytes], end: int) -> None:
         self.start = start
@@ -71,14 +73,50 @@ class Item:
         self.kind_end = kind_end
         self.key = key
         self.key_end = self.end = end
-        self.fields: List[Field] = []
+        self.own_fields: List[Field] = []
         self.is_plain = True
         self.slip: Optional[Slip] = None
+
+    @property
+    def fields(self) -> List[Field]:
+        return self.own_fields
 
     @property
     def is_entry(self) -> bool:
         """Whether it is an entry that has come as far as its key."""
         return self.key is not None and self.kind != b"string"
+
+
+class Known(NamedTuple):
+    """What is kept of an entry whose values are plain, by its bytes: so what was found in it needn't be found again while another entry is edited.
+
+    kind, kind_end, key, key_end: as those of an item, with places counted from the `@`. findings and facts: what the reader of the item keeps with it."""
+
+    kind: bytes
+    kind_end: int
+    key: bytes
+    key_end: int
+    findings: Tuple[Tuple[int, int, str, str], ...]
+    facts: Tuple[Tuple[str, bytes, bytes], ...]
+
+
+class KnownItem(Item):
+    """An entry of which something is known. Its fields are made when they are asked for."""
+
+    __slots__ = ("known", "make")
+
+    def __init__(self, start: int, end: int, known: Known, make: "Callable[[Item], List[Field]]") -> None:
+        super().__init__(start, known.kind, start + known.kind_end, known.key, end)
+        self.key_end = start + known.key_end
+        self.known = known
+        self.make: Optional[Callable[[Item], List[Field]]] = make
+
+    @property
+    def fields(self) -> List[Field]:
+        if self.make is not None:
+            make, self.make = self.make, None
+            self.own_fields = make(self)
+        return self.own_fields
 
 
 class Lines:
@@ -140,13 +178,13 @@ class Database:
         return [part for part in parts_of(self.text, self.start(field), field.end) if part.is_name]
 
 
-def read(text: bytes, stored: Optional[Set[bytes]] = None, strings: Optional[Dict[bytes, bytes]] = None) -> Database:
+def read(text: bytes, stored: Optional[Set[bytes]] = None, strings: Optional[Dict[bytes, bytes]] = None, known: Optional[Dict[bytes, Known]] = None) -> Database:
     """Reads a database as a run does.
 
     stored: the keys, in lower case, of the entries that are stored so far, as of all entries in a job with `\\nocite{*}`; those of this database are added. Then a repeated
     entry is a mistake, and what follows its key is text, as in a run. Without it no key is stored, so each entry is read to its end.
-    strings: those that are defined before it, by names in lower case."""
-    reader = Reader(text, stored, dict(strings or {}))
+    strings: those that are defined before it, by names in lower case. known: what is known of entries, by their bytes."""
+    reader = Reader(text, stored, dict(strings or {}), known or {})
     with without_collection():
         again = reader.read_from(0)
         for _ in range(MOST_AGAIN):
@@ -154,13 +192,44 @@ def read(text: bytes, stored: Optional[Set[bytes]] = None, strings: Optional[Dic
     return Database(text, reader.items, reader.strings)
 
 
+class Records(Sequence[Record]):
+    """The records of a database, each of which is read when it is asked for."""
+
+    # An entry that was read to its end.
+    WHOLE = re.compile(bytes([ENTRY]) + b"[" + bytes([FIELD]) + b"]*" + bytes([END]))
+    PLACE = struct.Struct("=Q")
+
+    def __init__(self, data: bytes) -> None:
+        self.data = data
+        # (the low byte of each kind)
+        self.kinds = data[0 if sys.byteorder == "little" else 3 :: RECORD.size]
+
+    def __len__(self) -> int:
+        return len(self.kinds)
+
+    def __getitem__(self, number: Any) -> Any:
+        return RECORD.unpack_from(self.data, RECORD.size * number)
+
+    def last_of_entry(self, number: int) -> int:
+        """The number of the last record of an entry that begins here and was read to its end, else -1."""
+        found = self.WHOLE.match(self.kinds, number)
+        return -1 if found is None else found.end() - 1
+
+    def start(self, number: int) -> int:
+        return int(self.PLACE.unpack_from(self.data, RECORD.size * number + 8)[0])
+
+    def end(self, number: int) -> int:
+        return int(self.PLACE.unpack_from(self.data, RECORD.size * number + 16)[0])
+
+
 class Reader:
     """Makes items of the records of a database."""
 
-    def __init__(self, text: bytes, stored: Optional[Set[bytes]], strings: Dict[bytes, bytes]) -> None:
+    def __init__(self, text: bytes, stored: Optional[Set[bytes]], strings: Dict[bytes, bytes], known: Dict[bytes, Known]) -> None:
         self.text = text
         self.stored = stored
         self.strings = strings
+        self.known = known
         self.items: List[Item] = []
         self.names: Dict[bytes, bytes] = {}
 
@@ -169,9 +238,14 @@ class Reader:
         found = read_records(b"d", self.text[base:] if base else self.text, self.strings)
         if found is None:
             raise DatabaseTooLong(len(self.text))
-        records, texts = list(RECORD.iter_unpack(found[0])), found[1]
+        texts = found[1]
+        records = Records(found[0]) if self.known else list(RECORD.iter_unpack(found[0]))
         at = 0
         while at < len(records):
+            after = self.passed(base, records, at, texts) if isinstance(records, Records) else at
+            if after > at:
+                at = after
+                continue
             item = self.begun(base, records[at], texts)
             is_repeated = self.is_repeated(item)
             self.items.append(item)
@@ -180,6 +254,29 @@ class Reader:
                 return item.key_end
             at = last
         return None
+
+    def passed(self, base: int, records: "Records", at: int, texts: bytes) -> int:
+        """Adds an entry of which something is known; the number of the record after it, or `at` where nothing is."""
+        last = records.last_of_entry(at)
+        if last < 0:
+            return at
+        start, end = base + records.start(at), base + records.end(last)
+        known = self.known.get(self.text[start:end])
+        if known is None:
+            return at
+        if self.stored is not None:
+            key = known.key.lower()
+            if key in self.stored:
+                return at
+            self.stored.add(key)
+
+        def make(item: Item) -> List[Field]:
+            into: List[Field] = []
+            self.fields(base, item, into, records, at + 1, texts)
+            return into
+
+        self.items.append(KnownItem(start, end, known, make))
+        return last + 1
 
     def is_repeated(self, item: Item) -> bool:
         """Whether an entry's key is stored; if not, it is from now on."""
@@ -221,7 +318,7 @@ class Reader:
         found = OPENS_ITEM.match(self.text, place)
         return place if found is None else found.end()
 
-    def filled(self, base: int, item: Item, records: List[Record], at: int, texts: bytes, is_repeated: bool) -> int:
+    def filled(self, base: int, item: Item, records: Sequence[Record], at: int, texts: bytes, is_repeated: bool) -> int:
         """Adds what an item has after its beginning; the number of the record after the item."""
         kind, is_whole, _, end, _, _, _, text_at, text_len = records[at]
         if kind in (STRING, PREAMBLE):
@@ -245,7 +342,7 @@ class Reader:
             item.end = base + end
         return at + 1
 
-    def fields(self, base: int, item: Item, into: List[Field], records: List[Record], at: int, texts: bytes) -> int:
+    def fields(self, base: int, item: Item, into: List[Field], records: Sequence[Record], at: int, texts: bytes) -> int:
         """Adds the fields whose records begin here; the number of the record after them."""
         text, names, index, find, add = self.text, self.names, self.text.index, self.text.find, into.append
         while True:

@@ -147,7 +147,8 @@ def of_database(document: Document, workspace: Workspace) -> Iterator[Diagnostic
     """What the doctor says of a database, with the style in use."""
     used = workspace.style_in_use(document)
     style = None if used is None else used[1]
-    for finding in examine([Source(document.uri, document.text)], style):
+    memory = workspace.memory(document, None if used is None else used[0].text)
+    for finding in examine([Source(document.uri, document.text)], style, memory=memory):
         severity = HINT if finding.check == "unread-field" else SEVERITIES[finding.severity]
         yield Diagnostic(finding.start, finding.end, severity, finding.check, finding.text, partial(mending_of, document, workspace, finding, style))
 

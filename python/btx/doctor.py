@@ -10,7 +10,7 @@ from __future__ import annotations
 import re
 from typing import Dict, FrozenSet, Iterable, Iterator, List, NamedTuple, Optional, Set, Tuple
 
-from .bibtext import REPEATED, Database, Field, Item, Lines, read, undefined_strings
+from .bibtext import REPEATED, Database, Field, Item, Known, KnownItem, Lines, read, undefined_strings
 from .reading import without_collection
 from .values import BRACE
 from .bsttext import StyleText, read_style
@@ -116,13 +116,29 @@ def shown(text: bytes) -> str:
     return text.decode("utf8", "surrogateescape")
 
 
-def examine(sources: List[Source], style: Optional[Style] = None, citations: Optional[List[Citation]] = None, off: FrozenSet[str] = frozenset()) -> List[Finding]:
-    """All findings of these databases, as those of one job in this order; by file and place. off: the names of checks that are left out."""
-    examiner = Examiner(style)
+class Memory:
+    """What was found in entries the last time, by their bytes, for one style: in a text that is edited most of them stay as they were."""
+
+    def __init__(self) -> None:
+        self.known: Dict[bytes, Known] = {}
+
+
+def examine(
+    sources: List[Source],
+    style: Optional[Style] = None,
+    citations: Optional[List[Citation]] = None,
+    off: FrozenSet[str] = frozenset(),
+    memory: Optional[Memory] = None,
+) -> List[Finding]:
+    """All findings of these databases, as those of one job in this order; by file and place. off: the names of checks that are left out. memory: what was found the last time with
+    this style, which is brought up to date."""
+    examiner = Examiner(style, memory)
     with without_collection():
         for source in sources:
             examiner.examine(source)
         examiner.compare_works()
+    if memory is not None:
+        memory.known = examiner.kept
     if citations is not None:
         examiner.compare_citations(citations)
     order = {id(source): number for number, source in enumerate(sources)}
@@ -142,8 +158,10 @@ class Work(NamedTuple):
 class Examiner:
     """Examines databases one after another, and keeps what later ones are compared with."""
 
-    def __init__(self, style: Optional[Style]) -> None:
+    def __init__(self, style: Optional[Style], memory: Optional[Memory] = None) -> None:
         self.style = style
+        self.memory = memory
+        self.kept: Dict[bytes, Known] = {}
         known = {name: name for name in (*MONTHS, *JOURNALS)}
         self.strings: Dict[bytes, bytes] = dict(known if style is None else style.strings)
         self.stored: Set[bytes] = set()
@@ -162,7 +180,7 @@ class Examiner:
     def examine(self, source: Source) -> None:
         """Examines a database."""
         known = set(self.strings)
-        self.source, self.database = source, read(source.text, self.stored, self.strings)
+        self.source, self.database = source, read(source.text, self.stored, self.strings, None if self.memory is None else self.memory.known)
         self.strings = self.database.strings
         for unknown in undefined_strings(self.database, known):
             if self.reads(unknown.item, unknown.part.start):
@@ -192,9 +210,27 @@ class Examiner:
         key = item.key or b""
         work = Work(key, self.source, item.key_end - len(key), item.key_end)
         self.entries.setdefault(key.lower(), work)
+        if isinstance(item, KnownItem):
+            known = item.known
+            for start, end_of_finding, check, said in known.findings:
+                self.say(check, item.start + start, item.start + end_of_finding, said, item)
+            self.keep_facts(work, known.facts)
+            self.kept[self.source.text[item.start : item.end]] = known
+            return
+        first = len(self.found)
+        facts = self.entry(item, work)
+        if self.memory is not None and item.is_plain and item.slip is None:
+            start = item.start
+            findings = tuple((it.start - start, it.end - start, it.check, it.text) for it in self.found[first:])
+            self.kept[self.source.text[start : item.end]] = Known(item.kind, item.kind_end - start, key, item.key_end - start, findings, facts)
+
+    def entry(self, item: Item, work: Work) -> "Tuple[Tuple[str, bytes, bytes], ...]":
+        """Examines an entry; what tells its work and its parent."""
         if self.style is not None and item.kind not in self.style.types:
-            self.say("unknown-type", item.start, item.kind_end, f'entry type for "{shown(key)}" isn\'t style-file defined', item)
-        self.fields(item, work)
+            self.say("unknown-type", item.start, item.kind_end, f'entry type for "{shown(work.key)}" isn\'t style-file defined', item)
+        facts = tuple(self.fields(item, work))
+        self.keep_facts(work, facts)
+        return facts
 
     def slip(self, item: Item) -> None:
         assert item.slip is not None
@@ -212,9 +248,10 @@ class Examiner:
         if found is not None:
             self.say("fields-in-text", *found.span(1), f"this looks like the field {shown(found[1])}, and is in no entry: a run ignores it")
 
-    def fields(self, item: Item, work: Work) -> None:
-        """Examines the fields of an entry."""
-        text, database, values = self.source.text, self.database, {}
+    def fields(self, item: Item, work: Work) -> "Iterator[Tuple[str, bytes, bytes]]":
+        """Examines the fields of an entry; what tells its work and its parent."""
+        text, database = self.source.text, self.database
+        values: Dict[bytes, Field] = {}
         read_by_style = None if self.style is None else self.style.fields
         for field in item.fields:
             name = field.name
@@ -229,22 +266,25 @@ class Examiner:
                 self.say("empty-field", database.start(field), field.end, f"the field {shown(name)} is empty", item)
             elif name in EXAMINED:
                 EXAMINED[name](self, item, field)
-        self.remember(work, values)
-
-    def remember(self, work: Work, values: Dict[bytes, Field]) -> None:
-        """Keeps what tells a work, and its parent."""
-
         if b"doi" in values:
-            doi = RESOLVER.sub(b"", values[b"doi"].value.lower())
-            self.dois.setdefault(doi, []).append(work)
+            yield "doi", RESOLVER.sub(b"", values[b"doi"].value.lower()), b""
         if b"title" in values:
             value = values[b"title"].value
             title = (TEX_COMMAND.sub(b"", value) if b"\\" in value else value).lower().translate(None, NOT_TITLE)
-            year = values[b"year"].value if b"year" in values else b""
             if len(title) >= LEAST_TITLE:
-                self.titles.setdefault((title, year), []).append(work)
+                yield "title", title, values[b"year"].value if b"year" in values else b""
         if b"crossref" in values:
-            self.parents.setdefault(work.key.lower(), values[b"crossref"].value.lower())
+            yield "parent", values[b"crossref"].value.lower(), b""
+
+    def keep_facts(self, work: Work, facts: "Tuple[Tuple[str, bytes, bytes], ...]") -> None:
+        """Keeps what tells a work, and its parent."""
+        for fact, value, year in facts:
+            if fact == "doi":
+                self.dois.setdefault(value, []).append(work)
+            elif fact == "title":
+                self.titles.setdefault((value, year), []).append(work)
+            else:
+                self.parents.setdefault(work.key.lower(), value)
 
     def names(self, item: Item, field: Field) -> None:
         """Examines the names of a field."""

@@ -9,6 +9,7 @@ import pathlib
 from typing import Callable, Dict, List, Mapping, Optional, Union
 
 from . import library
+from .letters import run_with_letters
 from .options import Options
 from .outputs import Inputs, write_outputs
 from .refusals import FinderRefused, NameRefused
@@ -41,7 +42,8 @@ def run(job: Name, files: Files, options: Optional[Options] = None) -> Result:
     if not isinstance(chosen, Options):
         raise TypeError(f"options are Options, and not {chosen!r}")
     name = job_name(job)
-    result = library.run_over(name, gathered(name, files), chosen)
+    known = gathered(name, files)
+    result = library.run_over(name, known, chosen) if chosen.letters == "no" else run_with_letters(name, known, chosen)
     LOG.debug("%s ended: %s, warnings %d, errors %d", name_text(name), result.report.end.word, result.report.warnings, result.report.errors)
     return result
 

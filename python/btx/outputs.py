@@ -56,7 +56,7 @@ def write_outputs(job: str, result: Result, inputs: Inputs, folder: Optional[str
         if not inputs.search.may_write(name):
             raise NameRefused(name, "isn't to be written to (openout_any)")
     base = base if folder is None else os.path.join(os.fsencode(folder), base)
-    contents = {base + b".blg": result.log, base + b".bbl": result.bbl}
+    contents = {base + b".blg": result.noted_log, base + b".bbl": result.bbl}
     with contextlib.ExitStack() as opened:
         files = [opened.enter_context(opened_without_change(name)) for name in contents]
         check_apart(list(contents), files, inputs)

@@ -4,9 +4,9 @@ Each has its facts as attributes. Its arguments are those facts, and its text is
 
 from __future__ import annotations
 
-from typing import Optional, Union
+from typing import Optional, Tuple, Union
 
-__all__ = ["Refusal", "OptionRefused", "MemoryRefused", "FileUnknown", "OutputTooLong", "NameRefused", "FinderRefused", "LibraryMissing", "StyleTooLong", "DatabaseTooLong", "NamesRefused"]
+__all__ = ["Refusal", "OptionRefused", "LettersRefused", "MemoryRefused", "FileUnknown", "OutputTooLong", "NameRefused", "FinderRefused", "LibraryMissing", "StyleTooLong", "DatabaseTooLong", "NamesRefused"]
 
 
 class Refusal(Exception):
@@ -37,6 +37,18 @@ class OptionRefused(Refusal, ValueError):
 
     def __str__(self) -> str:
         return f"the option {self.option} is {self.value}, and may be {self.least} to {self.most}"
+
+
+class LettersRefused(Refusal, ValueError):
+    """There are no letters of a language. letters: its name. known: the names that there are."""
+
+    def __init__(self, letters: str, known: Tuple[str, ...]) -> None:
+        super().__init__(letters, known)
+        self.letters = letters
+        self.known = known
+
+    def __str__(self) -> str:
+        return f"the option letters is {self.letters!r}, and may be {', '.join(self.known)}"
 
 
 class NameRefused(Refusal, ValueError):

@@ -4,7 +4,7 @@ from __future__ import annotations
 
 import enum
 from dataclasses import dataclass, field
-from typing import List, NamedTuple
+from typing import List, NamedTuple, Tuple
 
 from .events import Events
 from .messages import Message, messages_with
@@ -51,6 +51,7 @@ class Result:
     """What a job gives: the bytes of the reference list (`.bbl`), those of the log (`.blg`), and the report.
 
     events: what the library says of each line of the log.
+    notes: what is to be said of the list's letters, where the letters of a language were asked for: why it was made without them, and a line with half a letter.
 
     Of a run that was stopped or that met a limit these are what it wrote until then."""
 
@@ -58,8 +59,14 @@ class Result:
     log: bytes
     report: Report
     events: Events = field(default=Events(), repr=False)
+    notes: Tuple[str, ...] = ()
 
     @property
     def messages(self) -> List[Message]:
         """The log as data, a message for each of its lines."""
         return messages_with(self.log, self.events)
+
+    @property
+    def noted_log(self) -> bytes:
+        """The log after its notes, a line each, as the file of a log has it."""
+        return "".join(f"{note}\n" for note in self.notes).encode("utf8") + self.log

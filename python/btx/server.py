@@ -12,8 +12,9 @@ from . import editing
 from .diagnosing import Diagnostic, diagnose
 from .documents import Document
 from .editing import Place, RenameRefused
+from .tokens import MODIFIERS, TYPES, data_of, tokens_of
 from .wire import BadMessage, Ended, Wire
-from .workspace import Workspace
+from .workspace import MOST_BYTES, Workspace
 
 __all__ = ["main"]
 
@@ -31,6 +32,7 @@ CAPABILITIES = {
     "completionProvider": {"triggerCharacters": ["@", "=", "#", "{", ",", "'"]},
     "documentSymbolProvider": True,
     "codeActionProvider": {"codeActionKinds": ["quickfix"]},
+    "semanticTokensProvider": {"legend": {"tokenTypes": list(TYPES), "tokenModifiers": list(MODIFIERS)}, "full": True, "range": True},
 }
 
 
@@ -75,6 +77,8 @@ class Server:
             "textDocument/completion": self.completion,
             "textDocument/documentSymbol": self.symbols,
             "textDocument/codeAction": self.actions,
+            "textDocument/semanticTokens/full": self.tokens,
+            "textDocument/semanticTokens/range": self.tokens,
         }
 
     # ---- messages ----
@@ -253,6 +257,16 @@ class Server:
             {"name": name, "detail": detail, "kind": kind, "range": document.range(*whole[1:]), "selectionRange": document.range(*place[1:])}
             for name, detail, kind, whole, place in editing.symbols(document, self.workspace)
         ]
+
+
+    def tokens(self, params: Dict[str, Any]) -> Dict[str, Any]:
+        """The tokens of a style, or those that touch a range of it; of any other text none."""
+        document = self.document(params)
+        if not document.uri.endswith(".bst") or len(document.text) > MOST_BYTES:
+            return {"data": []}
+        asked = params.get("range")
+        touched = () if asked is None else (document.place(asked["start"]), document.place(asked["end"]))
+        return {"data": data_of(document, tokens_of(document.text, self.workspace.style(document)), *touched)}
 
 
 def location(place: Place) -> Dict[str, Any]:

@@ -10,7 +10,7 @@ from typing import Dict, Iterator, List, Optional, Tuple
 from .bibtext import Database, read
 from .bsttext import StyleText, read_style
 from .documents import Document
-from .doctor import Style
+from .doctor import Memory, Style
 from .searching import Search, content_of, found_search
 
 __all__ = ["Base", "Workspace", "path_of", "uri_of"]
@@ -50,6 +50,7 @@ class Workspace:
         self.files: Dict[str, Tuple[Tuple[int, int], Document]] = {}
         self.bases: Dict[str, Tuple[bytes, Base]] = {}
         self.styles: Dict[str, Tuple[bytes, StyleText]] = {}
+        self.memories: Dict[str, Tuple[Optional[bytes], Memory]] = {}
         self.search: Optional[Search] = None
 
     def document(self, path: str) -> Optional[Document]:
@@ -87,6 +88,13 @@ class Workspace:
         kept = self.bases.get(document.uri)
         if kept is None or kept[0] is not document.text:
             kept = self.bases[document.uri] = document.text, Base(document.text)
+        return kept[1]
+
+    def memory(self, document: Document, style: Optional[bytes]) -> Memory:
+        """What was found in a database the last time, with the style of this text."""
+        kept = self.memories.get(document.uri)
+        if kept is None or kept[0] is not style:
+            kept = self.memories[document.uri] = style, Memory()
         return kept[1]
 
     def style(self, document: Document) -> StyleText:
@@ -130,5 +138,5 @@ class Workspace:
         return []
 
     def forget(self, uri: str) -> None:
-        for kept in (self.open, self.bases, self.styles):
+        for kept in (self.open, self.bases, self.styles, self.memories):
             kept.pop(uri, None)  # type: ignore[attr-defined]

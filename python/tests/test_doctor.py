@@ -3,13 +3,14 @@
 import json
 import os
 import pathlib
+import random
 import tempfile
 import time
 import unittest
 
 import btx
-from btx.doctor import CHECKS, Citation, Source, Style, examine, hide_braces
-from tests.spoilt import logged, run_module, spoilt
+from btx.doctor import CHECKS, Citation, Memory, Source, Style, examine, hide_braces
+from tests.spoilt import SEEDS, logged, run_module, spoilt, spoilt_once
 
 STYLE = b"ENTRY {author title year} {} {}\nMACRO {acm} {\"ACM\"}\nFUNCTION {book} {}\nFUNCTION {misc} {}\nREAD\n"
 TITLE = b"title = {A Title That Is Long}, year = 2000"
@@ -86,6 +87,23 @@ class Checks(unittest.TestCase):
             self.assertEqual(hide_braces(text), hidden)
 
 
+class Memories(unittest.TestCase):
+    def test_what_is_known_of_entries_changes_nothing(self):
+        """Texts that are edited again and again: what is found with the memory of the text before is what is found without."""
+        style = Style(b"ENTRY {title author year note doi}{}{}\nMACRO {zz} {\"Z\"}\nFUNCTION {misc} {}\n")
+        used = 0
+        for seed in range(6):
+            maker, memory = random.Random(seed), Memory()
+            text = b"\n".join(SEEDS * 2 + [b"@misc{n%d, title = {A Title of Its Own}, doi = {1}, pages = {1-2}, crossref = {K}, author = {\xc3\x89mile Zola and others and B}}" % it for it in range(6)])
+            for edit in range(60):
+                with self.subTest(seed=seed, edit=edit):
+                    source = Source("d.bib", text)
+                    used += sum(entry in text for entry in memory.known)
+                    self.assertEqual(examine([source], style, memory=memory), examine([source], style))
+                text = spoilt_once(text, maker) if maker.randrange(3) else text + b" "
+        self.assertGreater(used, 1000)
+
+
 class BesideRuns(unittest.TestCase):
     def test_what_a_run_logs(self):
         checks = ("mistake", "repeated-key", "repeated-field", "undefined-string")
@@ -151,6 +169,23 @@ class Command(unittest.TestCase):
 
 
 class Cost(unittest.TestCase):
+    def test_an_edited_text_costs_what_was_edited(self):
+        entry = b"@article{k%d,\n  author = {Ann Lee and Bo Ray},\n  title = {A Title That Is Long Enough %d},\n  journal = {A Journal of Things},\n  volume = {1},\n  pages = {1--9},\n  year = {2000},\n}\n\n"
+        text = b"".join(entry % (it, it) for it in range(3000))
+        memory, first, again = Memory(), [], []
+        for number in range(5):
+            source = Source("d.bib", text.replace(b"{k%d," % (100 * number), b"{other,"))
+            begin = time.process_time()
+            fresh = examine([source])
+            first.append(time.process_time() - begin)
+            examine([source], memory=memory)
+            edited = Source("d.bib", source.text.replace(b"{other,", b"{another,"))
+            begin = time.process_time()
+            found = examine([edited], memory=memory)
+            again.append(time.process_time() - begin)
+            self.assertEqual(len(found), len(fresh))
+        self.assertLess(min(again), 0.6 * min(first))
+
     def test_hostile_texts_take_a_linear_time(self):
         size = 100_000
         hostile = [b"@misc{k, author = {" + "é".encode() * size + b"{" * size + b"}" * size + b"}}", b"@misc{k, author = {" + b" et " * size + b"}}",

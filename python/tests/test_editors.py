@@ -1,4 +1,4 @@
-"""The extension of VS Code, driven through a stand-in of VS Code by node."""
+"""The files for editors: the extension of VS Code, driven through a stand-in of VS Code by node, and the recipe of eglot, driven by Emacs."""
 
 import json
 import os
@@ -46,6 +46,26 @@ class VisualStudioCode(unittest.TestCase):
         self.assertTrue((EDITORS / "vscode" / manifest["main"]).is_file())
         self.assertEqual(manifest["contributes"]["configuration"]["properties"]["btx.command"]["default"], ["python3", "-m", "btx", "lsp"])
         self.assertNotIn("dependencies", manifest)
+
+
+class Emacs(unittest.TestCase):
+    def test_the_recipe_of_eglot(self):
+        if shutil.which("emacs") is None or subprocess.run(["emacs", "--batch", "--eval", "(require 'eglot)"], capture_output=True).returncode != 0:
+            self.skipTest("there is no Emacs with eglot")
+        recipe = EDITORS / "btx.el"
+        with tempfile.TemporaryDirectory() as room:
+            folder = pathlib.Path(room).resolve()
+            (folder / "s.bst").write_text(STYLE)
+            (folder / "d.bib").write_text(BASE)
+            env = {**os.environ, "PYTHONPATH": str(SOURCES / "python"), "HOME": room}
+            words = ["emacs", "--batch", "--load", str(recipe), "--load", str(SOURCES / "python/tests/eglot.el")]
+            done = subprocess.run(words, cwd=folder, env=env, capture_output=True, timeout=200)
+        self.assertEqual(done.returncode, 0, done.stderr)
+        said = done.stdout.decode().splitlines()
+        self.assertEqual(said, [
+            "(mode bibtex-mode)", "(managed t)", '(diagnostic "btx [mistake]: I was expecting an =" 1)', "(mode btx-style-mode)", '(hover "function `output`")', "(definition 2)",
+            '(renamed "FUNCTION {misc} { put }")', "(renamed 2)",
+        ])
 
 
 if __name__ == "__main__":

@@ -18,6 +18,7 @@ REFUSALS = {
     btx.Refusal: ("odd",),
     btx.LibraryMissing: ("libbtx.so.1", "no such file"),
     btx.OptionRefused: ("line", 1, 20, 1000),
+    btx.LettersRefused: ("xx", ("no", "sv")),
     btx.NameRefused: (b"a\nb", "has a line end"),
     btx.FinderRefused: (None, "int"),
     btx.MemoryRefused: ("no memory",),
@@ -38,6 +39,7 @@ class Refusals(unittest.TestCase):
     def test_each_has_its_facts(self):
         facts = [
             (btx.OptionRefused, {"option": "line", "value": 1, "least": 20, "most": 1000}),
+            (btx.LettersRefused, {"letters": "xx", "known": ("no", "sv")}),
             (btx.NameRefused, {"name": b"a\nb", "reason": "has a line end"}),
             (btx.FinderRefused, {"name": None, "given": "int"}),
             (btx.OutputTooLong, {"bbl": b"list", "log": b"log"}),

@@ -11,6 +11,7 @@ import unittest
 from btx.builtins import BUILT_IN, described
 from btx.documents import Document, split_lines
 from btx.bsttext import read_style
+from btx.tokens import MODIFIERS, TYPES
 from btx.wire import Wire
 from tests.editor import Editor, edit, marked, spot
 from tests.jobs import SOURCES
@@ -118,6 +119,39 @@ class Styles(WithEditor):
                 self.assertEqual(self.editor.ask("textDocument/rename", {**where, "newName": name})["error"]["code"], -32803)
         self.assertEqual(self.editor.ask("textDocument/rename", {**self.editor.at("s.bst", *spot(STYLE, "write$")), "newName": "w"})["error"]["code"], -32803)
         self.assertEqual(self.editor.result("textDocument/prepareRename", **where)["start"]["line"], 6)
+
+    def tokens(self, name, text, method="full", **params):
+        """The tokens of a text: each word with its kind and what is said beside it."""
+        uri = {"textDocument": {"uri": self.editor.uri(name)}}
+        data = self.editor.result(f"textDocument/semanticTokens/{method}", **uri, **params)["data"]
+        lines, line, column, found = text.split("\n"), 0, 0, []
+        for lines_after, columns_after, length, kind, bits in zip(*[iter(data)] * 5):
+            line, column = line + lines_after, columns_after + (0 if lines_after else column)
+            written = lines[line].encode("utf-16-le")[2 * column : 2 * (column + length)].decode("utf-16-le")
+            found.append((written, TYPES[kind], [it for bit, it in enumerate(MODIFIERS) if bits >> bit & 1]))
+        return found
+
+    def test_tokens(self):
+        text = STYLE.replace("READ", "% a \"comment\" 😀\nFUNCTION {misc} { crossref 'n := acm entry.max$ \"50% 'x\" year\nREAD")
+        self.editor.open("s.bst", text)
+        found = self.tokens("s.bst", text)
+        for wanted in (
+            ("ENTRY", "keyword", []), ("author", "property", ["definition"]), ("label", "variable", ["definition"]), ("MACRO", "keyword", []), ("jan", "macro", ["definition"]),
+            ('"January"', "string", []), ("n", "variable", ["definition"]), ("output", "function", ["definition"]), ("write$", "function", ["defaultLibrary"]), ("title", "property", []),
+            ("output", "function", []), ("skip$", "function", ["defaultLibrary"]), ("#1", "number", []), ("n", "variable", []), ('"😀"', "string", []), ('% a "comment" 😀', "comment", []),
+            ("crossref", "property", ["defaultLibrary"]), ("acm", "macro", []), ("entry.max$", "variable", ["defaultLibrary"]), ('"50% \'x"', "string", []), ("year", "property", []),
+            ("READ", "keyword", []), ("call.type$", "function", ["defaultLibrary"]),
+        ):
+            with self.subTest(wanted=wanted):
+                self.assertIn(wanted, found)
+        self.assertNotIn("titel", [it[0] for it in found])
+        self.assertEqual([it[0] for it in found if it[1] == "comment"], ['% a "comment" 😀'])
+        part = self.tokens("s.bst", text, "range", range={"start": {"line": 1, "character": 0}, "end": {"line": 2, "character": 5}})
+        self.assertEqual([it[0] for it in part], ["MACRO", "jan", '"January"', "MACRO"])
+        self.editor.change("s.bst", {"text": "READ \"a"})
+        self.assertEqual(self.tokens("s.bst", "READ \"a"), [("READ", "keyword", []), ('"a', "string", [])])
+        self.editor.open("d.bib", BASE)
+        self.assertEqual(self.tokens("d.bib", BASE), [])
 
     def test_completion_and_symbols(self):
         self.editor.open("s.bst", STYLE)

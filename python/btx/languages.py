@@ -1,0 +1,163 @@
+"""What the letters of each language sort as. web/languages.py makes this file from the front end's sources: change it there."""
+
+from __future__ import annotations
+
+from typing import Dict, Tuple
+
+__all__ = [
+    "BUILTINS",
+    "FIXED",
+    "LANGUAGES",
+    "LONGER",
+    "OF_STYLES",
+    "OF_VALUES",
+    "REASONS",
+    "ROOT",
+]
+
+# Letters, and what each of them sorts as.
+Rule = Tuple[str, str]
+
+# Small letters, and what each of them sorts as in any language that has no rule of its own; a `*` is a byte after each letter of ASCII.
+ROOT: Tuple[Rule, ...] = (
+    ("àáâãäåāăąǎǟǡǻȁȃȧḁạảấầẩẫậắằẳẵặẚ", "a"),
+    ("ⱥ", "a*"),
+    ("æǣǽ", "ae"),
+    ("ḃḅḇ", "b"),
+    ("ƀƃɓ", "b*"),
+    ("çćĉċčḉ", "c"),
+    ("ƈȼ", "c*"),
+    ("ðďđḋḍḏḑḓ", "d"),
+    ("ƌȡẟɖɗ", "d*"),
+    ("ȸ", "db"),
+    ("ǆǳǅǲ", "dz"),
+    ("èéêëēĕėęěȅȇȩḕḗḙḛḝẹẻẽếềểễệ", "e"),
+    ("ǝɇəɛ", "e*"),
+    ("ḟ", "f"),
+    ("ƒ", "f*"),
+    ("ĝğġģǧǵḡ", "g"),
+    ("ƣǥɠɣ", "g*"),
+    ("ĥħȟḣḥḧḩḫẖ", "h"),
+    ("ƕ", "h*"),
+    ("ìíîïĩīĭįǐȉȋḭḯỉị", "i"),
+    ("ıɨɩ", "i*"),
+    ("ĳ", "ij"),
+    ("ĵǰ", "j"),
+    ("ȷɉ", "j*"),
+    ("ķǩḱḳḵ", "k"),
+    ("ƙ", "k*"),
+    ("ĺļľŀłḷḹḻḽ", "l"),
+    ("ƚƛȴ", "l*"),
+    ("ǉǈ", "lj"),
+    ("ỻ", "ll"),
+    ("ḿṁṃ", "m"),
+    ("ɯ", "m*"),
+    ("ñńņňŉǹṅṇṉṋ", "n"),
+    ("ŋƞȵɲ", "n*"),
+    ("ǌǋ", "nj"),
+    ("òóôõöøōŏőơǒǫǭǿȍȏȫȭȯȱṍṏṑṓọỏốồổỗộớờởỡợ", "o"),
+    ("ȣɔɵ", "o*"),
+    ("œ", "oe"),
+    ("ṕṗ", "p"),
+    ("ƥ", "p*"),
+    ("ĸɋ", "q*"),
+    ("ȹ", "qp"),
+    ("ŕŗřȑȓṙṛṝṟ", "r"),
+    ("ɍʀ", "r*"),
+    ("śŝşšſșṡṣṥṧṩẛ", "s"),
+    ("ƪȿẜẝʃ", "s*"),
+    ("ß", "ss"),
+    ("ţťțṫṭṯṱẗ", "t"),
+    ("ŧƫƭȶʈⱦ", "t*"),
+    ("ùúûüũūŭůűųưǔǖǘǚǜȕȗṳṵṷṹṻụủứừửữự", "u"),
+    ("ʉʊ", "u*"),
+    ("ṽṿ", "v"),
+    ("ỽʋʌ", "v*"),
+    ("ŵẁẃẅẇẉẘ", "w"),
+    ("ẋẍ", "x"),
+    ("ýÿŷȳẏẙỳỵỷỹ", "y"),
+    ("ƴȝɏỿ", "y*"),
+    ("źżžẑẓẕ", "z"),
+    ("þƅƨƶƹƺƻƽƿǯȥɀɂʒ", "z*"),
+    ("ƾ", "ts"),
+    ("ƍ", "zw"),
+)
+
+# The languages, each with its own rules.
+LANGUAGES: Tuple[Tuple[str, Tuple[Rule, ...]], ...] = (
+    ("plain", ()),
+    ("de", ()),
+    ("en", ()),
+    ("fr", ()),
+    ("it", ()),
+    ("nl", ()),
+    ("pt", ()),
+    ("de-phonebook", (("ä", "ae"), ("ö", "oe"), ("ü", "ue"))),
+    ("es", (("ñ", "n*"),)),
+    ("pl", (("ą", "a*"), ("ć", "c*"), ("ę", "e*"), ("ł", "l*"), ("ń", "n*"), ("ó", "o*"), ("ś", "s*"), ("ź", "z*"), ("ż", "z**"))),
+    ("cs", (("č", "c*"), ("ch", "h*"), ("ř", "r*"), ("š", "s*"), ("ž", "z*"))),
+    ("sk", (("ä", "a*"), ("č", "c*"), ("ch", "h*"), ("ô", "o*"), ("ř", "r*"), ("š", "s*"), ("ž", "z*"))),
+    ("hu", (("cs", "c*"), ("dz", "d*"), ("dzs", "d**"), ("gy", "g*"), ("ly", "l*"), ("ny", "n*"), ("öőȫ", "o*"), ("sz", "s*"), ("ty", "t*"), ("üűǖǘǚǜ", "u*"), ("zs", "z*"), ("ccs", "c*s"), ("ddz", "d*z"), ("ddzs", "d**zs"), ("ggy", "g*y"), ("lly", "l*y"), ("nny", "n*y"), ("ssz", "s*z"), ("tty", "t*y"), ("zzs", "z*s"))),
+    ("sv", (("å", "*a"), ("äæęǟǣǽ", "*b"), ("öøőœôȫǿ", "*c"), ("üűǖǘǚǜ", "y"), ("þ", "th"))),
+    ("da", (("æäęǟǣǽ", "*a"), ("øöőœȫǿ", "*b"), ("åǻ", "*ca"), ("aa", "*c"), ("üűǖǘǚǜ", "y"), ("þ", "th"))),
+    ("nb", (("æäęǟǣǽ", "*a"), ("øöőœȫǿ", "*b"), ("åǻ", "*ca"), ("aa", "*c"), ("üűǖǘǚǜ", "y"), ("þ", "th"))),
+    ("fi", (("åǻ", "*a"), ("äæǟǣǽ", "*b"), ("öøȫǿ", "*c"), ("üǖǘǚǜ", "y"))),
+    ("tr", (("ç", "c*"), ("ğ", "g*"), ("ı", "h*"), ("ö", "o*"), ("ş", "s*"), ("ü", "u*"))),
+    ("hr", (("č", "c*"), ("ć", "c**"), ("dž", "d*"), ("ǆ", "d*z*"), ("đ", "d**"), ("lj", "l*"), ("ǉ", "l*j"), ("nj", "n*"), ("ǌ", "n*j"), ("š", "s*"), ("ž", "z*"))),
+)
+
+# Fields whose values stay as they are.
+FIXED: Tuple[str, ...] = ("crossref", "doi", "file", "month", "number", "pages", "url", "volume", "xref", "year")
+
+# How many times as long the strings are that variables of a run with coded letters keep.
+LONGER: int = 4
+
+# Why the letters of a language are left out.
+REASONS: Dict[str, str] = {"NotUtf8": "an entry or a string isn't UTF-8", "ControlCharacters": "the style, an entry or a string has control characters", "PrintsKeys": "the style prints text that it made for sorting", "CutsLetters": "the style cuts text by bytes", "Unfinished": "the run didn't finish"}
+
+# How often databases are looked through for parents, and how far the beginning of an item is read for its key.
+OF_VALUES: Dict[str, int] = {"MOST_ROUNDS": 8, "LONGEST_HEAD": 200}
+
+# How far a style is followed.
+OF_STYLES: Dict[str, int] = {"MOST_STEPS": 200000, "MOST_NAMES": 5000, "MOST_ROUNDS": 10, "MOST_TEXTS": 128, "DEEPEST": 200}
+
+# The built-in functions, each with what it does to letters and how many literals it pops for that.
+BUILTINS: Tuple[Tuple[str, str, int], ...] = (
+    ("=", "Answer", 2),
+    ("<", "Answer", 2),
+    (">", "Answer", 2),
+    ("+", "Answer", 2),
+    ("-", "Answer", 2),
+    ("*", "Concatenate", 0),
+    (":=", "Assign", 0),
+    ("add.period$", "Keep", 0),
+    ("call.type$", "CallType", 0),
+    ("change.case$", "Keep", 1),
+    ("chr.to.int$", "Answer", 1),
+    ("cite$", "Answer", 0),
+    ("duplicate$", "Duplicate", 0),
+    ("empty$", "Answer", 1),
+    ("format.name$", "Keep", 2),
+    ("if$", "If", 0),
+    ("int.to.chr$", "Answer", 1),
+    ("int.to.str$", "Answer", 1),
+    ("missing$", "Answer", 1),
+    ("newline$", "Take", 0),
+    ("num.names$", "Answer", 1),
+    ("pop$", "Take", 1),
+    ("preamble$", "Preamble", 0),
+    ("purify$", "Purify", 0),
+    ("quote$", "Answer", 0),
+    ("skip$", "Take", 0),
+    ("stack$", "Clear", 0),
+    ("substring$", "Substring", 0),
+    ("swap$", "Swap", 0),
+    ("text.length$", "Answer", 1),
+    ("text.prefix$", "Keep", 1),
+    ("top$", "Take", 1),
+    ("type$", "Answer", 0),
+    ("warning$", "Take", 1),
+    ("while$", "While", 0),
+    ("width$", "Answer", 1),
+    ("write$", "Write", 0),
+)
