@@ -2,6 +2,7 @@
 # make library    proves and builds the library for C, library/out; make install-library installs it alone
 # make wheel      builds the package for Python with the library in it, python/dist; it needs make library, and Python's setuptools and wheel
 # make front      builds the front end, front/out/bibtex-search and front/out/bibtex-confined, over the proved library; it needs cargo
+#                 and some crates, which `contrib/setup build` installs on Debian
 # make web        builds the library as WebAssembly, web/npm, and the page that runs it, web/out/btx.html; it needs make library, binaryen and Node
 # make install    puts the program, the front end, their man pages, completion, the documents and, where it is built, the library below PREFIX
 #                 (DESTDIR before it, where a package is made). The program is installed as NAME, so that it doesn't hide TeX's own bibtex:

@@ -1,15 +1,24 @@
-# Completion in bash for bibtex-search, bibtex-confined, bibtex-lint and bibtex-proved: options, their values, jobs and styles.
+# Completion in bash for bibtex-search, bibtex-confined, bibtex-lint and bibtex-proved: options, their values, jobs and styles. By contrib/options.
 
 # _bibtex_options COMMAND: the names of its options, those with a value with a `=` after them.
 _bibtex_options() {
-    local kept='min-crossrefs= text= line= entry-max= global-max= help version'
     case $1 in
-    bibtex-search) echo "$kept terse strict explain no-explain explain-only letters= budget= log-room= list-room=" ;;
-    bibtex-confined)
-        echo "$kept limit-memory= limit-aux= limit-input= limit-output= limit-processor= limit-clock= limit-steps= limit-names="
-        ;;
+    bibtex-search) echo 'min-crossrefs= terse strict explain no-explain explain-only budget= text= letters= line= entry-max= global-max= log-room= list-room= help version' ;;
+    bibtex-confined) echo 'min-crossrefs= text= line= entry-max= global-max= limit-memory= limit-aux= limit-input= limit-output= limit-processor= limit-clock= limit-steps= limit-names= help version' ;;
     bibtex-lint) echo 'line json entry job steps= help version' ;;
-    *) echo "$kept budget= dir= terse" ;;
+    *) echo 'min-crossrefs= budget= dir= terse text= line= entry-max= global-max= help version' ;;
+    esac
+}
+
+# _bibtex_values COMMAND OPTION: the words that are offered for its value; */ and *.aux stand for folders and jobs.
+_bibtex_values() {
+    case $1:$2 in
+    bibtex-search:text) echo 'auto bytes utf8' ;;
+    bibtex-search:letters) echo 'no plain de de-phonebook en es fr it nl pt pl cs sk hu sv da nb fi tr hr' ;;
+    bibtex-confined:text) echo 'bytes utf8' ;;
+    bibtex-lint:job) echo '*.aux' ;;
+    *:dir) echo '*/' ;;
+    *:text) echo 'bytes utf8' ;;
     esac
 }
 
@@ -33,7 +42,7 @@ _bibtex_complete() {
         ;;
     styles)
         compopt -o filenames
-        mapfile -t COMPREPLY < <(compgen -f -X '!*.bst' -- "$2"; compgen -d -- "$2")
+        mapfile -t COMPREPLY < <(compgen -f -X '!*.bst' -- "$2"; compgen -f -X '!*.bib' -- "$2"; compgen -d -- "$2")
         ;;
     folders)
         compopt -o filenames
@@ -47,26 +56,22 @@ _bibtex_complete() {
 }
 
 _bibtex() {
-    local command=${1##*/} word=${COMP_WORDS[COMP_CWORD]} option options hyphens=--
+    local command=${1##*/} word=${COMP_WORDS[COMP_CWORD]} option options values hyphens=--
     [ "$word" != = ] || word=
     COMPREPLY=()
     option=$(_bibtex_option_at_cursor)
     options=$(_bibtex_options "$command")
-    [[ " $options " = *" $option= "* ]] || option=
+    values=$(_bibtex_values "$command" "$option")
+    [[ " $options " = *" $option= "* || -n $values ]] || option=
     [[ $command != bibtex-search || $word = --* ]] || hyphens=-
-    case $option:$word in
-    text:*)
-        case $command in
-        bibtex-search) _bibtex_complete words "$word" 'auto bytes utf8' ;;
-        *) _bibtex_complete words "$word" 'bytes utf8' ;;
-        esac
-        ;;
-    letters:*) _bibtex_complete words "$word" 'no plain de de-phonebook en es fr it nl pt pl cs sk hu sv da nb fi tr hr' ;;
-    dir:*) _bibtex_complete folders "$word" ;;
-    ?*:*) ;;
-    :-*) _bibtex_complete words "$word" "$hyphens${options// / $hyphens}" ;;
+    case $option:$values:$word in
+    ?*:\*/:*) _bibtex_complete folders "$word" ;;
+    ?*:\*.aux:*) _bibtex_complete jobs "$word" ;;
+    ?*:?*:*) _bibtex_complete words "$word" "$values" ;;
+    ?*::*) ;;
+    ::-*) _bibtex_complete words "$word" "$hyphens${options// / $hyphens}" ;;
     *)
-        if [ "$command" = bibtex-lint ] && [ "${COMP_WORDS[COMP_CWORD - 1]}" != --job ]; then
+        if [ "$command" = bibtex-lint ]; then
             _bibtex_complete styles "$word"
         else
             _bibtex_complete jobs "$word"
