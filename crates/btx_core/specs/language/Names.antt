@@ -197,7 +197,7 @@ name_errors divisions format number names =
 
 -- ---- what the divisions are
 
--- each string is divided as the relations say: into elements by `IsDivision`, into glyphs by `AreGlyphs`, and the others as above
+-- each string is divided as the relations say: into elements by `IsDivision`, into glyphs by `AreGlyphs`, and so on: a row for each
 
 pub record AreDivisions (divisions : Divisions) : Type 0 where
   pub elements : (mode : TextMode) (string : List ℕ) → IsDivision mode string (divisions.elements mode string)
