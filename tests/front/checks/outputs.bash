@@ -349,6 +349,15 @@ for kilobytes in 3000 5000 8000 12000 20000 40000 80000; do
 done
 end
 
+# can_be_loaded KILOBYTES PROGRAM: in so much memory the system can load the program, of which nothing is run here.
+can_be_loaded() {
+    (
+        ulimit -v "$1"
+        LD_TRACE_LOADED_OBJECTS=1 LD_LIBRARY_PATH=$libraries exec "$2" </dev/null
+    ) >/dev/null 2>&1
+    [ $? -ne 139 ]
+}
+
 # However little memory there is, one sentence says so, under the name of the program; but before the program begins, where the system can't load it, or the standard library has no memory for its alternative stack or for what a thread leaves.
 # (of bibtex-confined the proved program may be the one that had none. It says so itself at a few sizes alone, which is why those between 2,900 and 3,300 KB are near each other)
 begin least_memory
@@ -370,6 +379,7 @@ for called in bibtex-search bibtex-explain bibtex-lint bibtex-confined; do
             BIBTEX_PROGRAM=$program LD_LIBRARY_PATH=$libraries exec "${words[@]}" </dev/null
         ) >"$folder/stdout" 2>"$folder/stderr" || status=$?
         grep -qE 'alternative stack|TLS destructor' "$folder/stderr" && continue
+        [ "$status" -ne 139 ] || can_be_loaded "$kilobytes" "${words[0]}" || continue
         [ "$status" -ne 134 ] && [ "$status" -ne 139 ] || complaints+=("$called with $kilobytes KB: the exit status is $status")
         grep -qE 'memory allocation|panicked|backtrace|failed to spawn' "$folder/stderr" && complaints+=("$called with $kilobytes KB: $(head -n 3 "$folder/stderr")")
         grep '^bibtex-' "$folder/stderr" | grep -qv "^$called: " && complaints+=("$called with $kilobytes KB says under another name: $(head -n 3 "$folder/stderr")")
