@@ -147,6 +147,7 @@ refused_in utf8_names 0 --text utf8
 refused_in long_lines 0
 refused_in_sorted
 refused_in_worked broken_line 0 "FUNCTION {f} {\"$(letters 80 a)  b\" write\$ newline\$} EXECUTE {f}"
+refused_in_worked line_broken_between_two_calls 0 "FUNCTION {f} {\"$(letters 80 a) \" write\$ \" b\" write\$ newline\$} EXECUTE {f}"
 refused_in_worked name 0 "FUNCTION {f} {\"Charles Louis Xavier Joseph de la Vall{\\'e}e Poussin\" #1 \"{vv~}{ll}{, jj}{, f}?\" format.name\$ write\$ newline\$} EXECUTE {f}"
 refused_in_worked other_case 2 '' k,K
 refused_in_worked white_in_argument 2 '' 'k, j'

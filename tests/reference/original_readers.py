@@ -98,12 +98,13 @@ def take_database(job, name):
 
 
 def take_file(job, files, name, level):
+    """Where as many files are open as may be, the run ends before anything is asked of the name."""
+    if level + 1 == aux_files.MOST_OPEN_FILES:
+        raise aux_files.EndsEarly("limit files")
     if not name.endswith(b".aux") or name in job.named:
         return
     job.named.append(name)
     if name in files:
-        if level + 1 == aux_files.MOST_OPEN_FILES:
-            raise aux_files.EndsEarly("limit files")
         read_file(job, files, name, level + 1)
 
 

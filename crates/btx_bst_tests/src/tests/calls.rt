@@ -112,6 +112,19 @@ fn calling(alloc: Global, count: usize) -> Result<(bool, usize), Fault> {
     Ok((found.is_direct, found.functions))
 }
 
+// How many functions the style of this text has.
+fn functions_of(alloc: Global, text: &[u8]) -> Result<usize, Fault> {
+    Ok(look_over(alloc, text)?.functions)
+}
+
+#[test]
+fn bodies_in_braces_are_functions(rt: HostRuntime) {
+    let alone = b"ENTRY {title}{}{} FUNCTION {misc}{} READ".as_slice();
+    let branches = b"ENTRY {title}{}{} FUNCTION {misc}{} READ FUNCTION {f} {#1 {skip$} {} if$}".as_slice();
+    assert!(rt; functions_of(rt.alloc(), alone) == Ok(1));
+    assert!(rt; functions_of(rt.alloc(), branches) == Ok(4));
+}
+
 #[test]
 fn thousands_of_functions(rt: HostRuntime) {
     assert!(rt; calling(rt.alloc(), 4_097) == Ok((true, 4_098)));
