@@ -2,15 +2,13 @@
 use btx_command::{Refusal, Settings, exit_status, settings};
 use btx_run::{End, Options, Report, RunFault, TextMode};
 use std::alloc::{AllocError, Global};
-use std::test::Fail;
 
-// The words of a line.
-fn words_of(alloc: Global, line: &str) -> Result<Vec<String>, AllocError> {
-    let mut words = Vec::new(alloc);
+// Adds the words of a line.
+fn add_words(alloc: Global, words: &mut Vec<String>, line: &str) -> Result<(), AllocError> {
     for word in line.split(' ') {
         words.push(String::from_str(alloc, word)?)?;
     }
-    Ok(words)
+    Ok(())
 }
 
 // Whether options are those that a line asks for where it names none but the budget.
@@ -23,13 +21,16 @@ fn are_usual(options: Options, budget: u64) -> bool {
         entry_max,
         global_max,
     } = options;
-    min_crossrefs == 2
-        && steps == budget
-        && text == TextMode::Bytes
-        && (line.get(), entry_max.get(), global_max.get()) == (79, 250, 20_000)
+    let numbers = [min_crossrefs, line.get(), entry_max.get(), global_max.get()];
+    let facts = [
+        numbers == [2, 79, 250, 20_000],
+        steps == budget,
+        text == TextMode::Bytes,
+    ];
+    facts == [true; 3]
 }
 
-// What a line asks for: the letter `s` where it has settings, and the status of its refusal with whether that has a text.
+// What a line asks for: the letter `s` where it has these settings, and the status of its refusal with whether that has a text.
 fn asked(answer: Result<Settings<'_>, Refusal>) -> (u8, bool) {
     match answer {
         Ok(
@@ -40,18 +41,27 @@ fn asked(answer: Result<Settings<'_>, Refusal>) -> (u8, bool) {
                 terse,
                 options,
             },
-        ) => (
-            b's',
-            (directory, job, name, terse) == ("d", "j.aux", "j", true) && are_usual(options, 7),
-        ),
+        ) => {
+            let facts = [
+                directory == "d",
+                job == "j.aux",
+                name == "j",
+                terse,
+                are_usual(options, 7),
+            ];
+            (b's', facts == [true; 5])
+        }
         Err(refusal) => (refusal.status(), !refusal.text().is_empty()),
     }
 }
 
 // What is asked for by a line of words.
-fn asked_by(alloc: Global, line: &str) -> Result<(u8, bool), AllocError> {
-    let words = words_of(alloc, line)?;
-    Ok(asked(settings(alloc, words.as_slice())))
+fn asked_by(alloc: Global, line: &str) -> (u8, bool) {
+    let mut words = Vec::new(alloc);
+    match add_words(alloc, &mut words, line) {
+        Ok(()) => asked(settings(alloc, words.as_slice())),
+        Err(_) => (b'm', false),
+    }
 }
 
 // What a run answered that was stopped.
@@ -64,18 +74,25 @@ const STOPPED: Result<Report, RunFault> = Ok(Report {
     errors: 0,
 });
 
-#[test]
-fn command(rt: HostRuntime) -> Result<(), Fail> {
-    let alloc = rt.alloc();
-    assert!(rt; asked_by(alloc, "bibtex --dir d --budget 7 --terse j.aux")? == (b's', true));
-    assert!(rt; asked_by(alloc, "bibtex --help")? == (0, true));
-    assert!(rt; asked_by(alloc, "bibtex --min-crossrefs -1 j")? == (1, true));
-    assert!(rt; asked(Err(Refusal::Memory)) == (5, false));
+// Whether each answer has its status.
+fn have_statuses() -> bool {
     let statuses: [u8; 3] = [
         exit_status(&STOPPED),
         exit_status(&Err(RunFault::Memory)),
         exit_status(&Err(RunFault::Device)),
     ];
-    assert!(rt; statuses == [4, 5, 6]);
-    Ok(())
+    statuses == [4, 5, 6]
+}
+
+#[test]
+fn command(rt: HostRuntime) {
+    let alloc = rt.alloc();
+    let facts = [
+        asked_by(alloc, "bibtex --dir d --budget 7 --terse j.aux") == (b's', true),
+        asked_by(alloc, "bibtex --help") == (0, true),
+        asked_by(alloc, "bibtex --min-crossrefs -1 j") == (1, true),
+        asked(Err(Refusal::Memory)) == (5, false),
+        have_statuses(),
+    ];
+    assert!(rt; facts == [true; 5]);
 }

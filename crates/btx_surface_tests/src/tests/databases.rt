@@ -1,15 +1,17 @@
 //! What databases give to a job.
-use btx_aux::{AuxJob, FetchFault, MemoryFinder, read_aux};
+use crate::tests::files::the_job;
+use btx_aux::AuxJob;
 use btx_bib::{End, Library, read_databases};
 use btx_bst::{Style, read_style};
 use btx_text::Fault;
 use std::alloc::Global;
 
-const AUX: &[u8] = b"\\citation{k}\n\\bibdata{d}\n\\bibstyle{s}\n";
-
 const STYLE: &[u8] = b"ENTRY {title note}{}{} FUNCTION {misc}{} READ";
 
-const DATABASE: &[u8] = b"@preamble{{P}} @misc{K, title = {T}, title = {U}}";
+const SOURCES: [(&[u8], &[u8]); 1] = [(
+    b"d.bib",
+    b"@preamble{{P}} @misc{K, title = {T}, title = {U}}",
+)];
 
 // A letter for each end.
 fn end_letter(end: End) -> u8 {
@@ -35,41 +37,37 @@ fn is_library(library: &Library<'_>) -> bool {
     facts == [true; 8]
 }
 
-// Whether the database gives that to a job and its style.
-fn gives<'x>(alloc: Global, style: &Style<'x>, job: &'x AuxJob) -> Result<bool, Fault> {
-    let sources: [(&[u8], &[u8]); 1] = [(b"d.bib", DATABASE)];
-    let library: Library<'_> = read_databases(alloc, style, job, &sources, 2)?;
-    Ok(is_library(&library))
-}
-
-// Whether it gives that to the style's text and a job.
-fn gives_for(alloc: Global, job: &AuxJob) -> Result<bool, Fault> {
-    match read_style(alloc, b"s.bst", STYLE) {
-        Ok(style) => gives(alloc, &style, job),
-        Err(fault) => Err(fault),
+// Whether what was read is that library.
+fn is_read(library: Result<Library<'_>, Fault>) -> bool {
+    match library {
+        Ok(library) => is_library(&library),
+        Err(_) => false,
     }
 }
 
-// The job of a finder's files.
-fn job_from(alloc: Global, finder: MemoryFinder) -> Result<AuxJob, Fault> {
-    let mut finder = finder;
-    read_aux(alloc, &mut finder, b"job.aux")
+// Whether the database gives that to a job and its style.
+fn gives<'x>(alloc: Global, style: &Style<'x>, job: &'x AuxJob) -> bool {
+    is_read(read_databases(alloc, style, job, &SOURCES, 2))
+}
+
+// Whether it gives that to the style's text and a job.
+fn gives_for(alloc: Global, job: &AuxJob) -> bool {
+    match read_style(alloc, b"s.bst", STYLE) {
+        Ok(style) => gives(alloc, &style, job),
+        Err(_) => false,
+    }
 }
 
 // Whether it gives that to this job.
-fn gives_to(alloc: Global, job: Result<AuxJob, Fault>) -> Result<bool, Fault> {
+fn gives_to(alloc: Global, job: Result<AuxJob, Fault>) -> bool {
     match job {
         Ok(job) => gives_for(alloc, &job),
-        Err(fault) => Err(fault),
+        Err(_) => false,
     }
 }
 
 #[test]
 fn libraries(rt: HostRuntime) {
     let alloc = rt.alloc();
-    let finder: Result<MemoryFinder, FetchFault> = MemoryFinder::new(alloc, &[(b"job.aux", AUX)]);
-    let job = finder
-        .map_err(Fault::from)
-        .and_then(|finder| job_from(alloc, finder));
-    assert!(rt; gives_to(alloc, job) == Ok(true));
+    assert!(rt; gives_to(alloc, the_job(alloc)));
 }

@@ -1,20 +1,24 @@
 //! Where files come from, and what the `.aux` files of a job say.
 ghost use Rattle.std.specs.Prelude.{◌≡◌, [], IfErr, None, OnErr, OnOk};
 
+use crate::tests::texts::fault_letter;
 use btx_aux::{AuxJob, End, FetchFault, Finder, History, MemoryFinder, read_aux};
 use btx_text::{Failures, Fault};
 use std::alloc::Global;
 
-// A finder of one file. It doesn't show its content.
+// A finder of the top file alone. It doesn't show its content.
 #[derive(Drop)]
-struct OneFile<'a> {
-    name: &'a [u8],
-    bytes: &'a [u8],
+struct OneFile {
     // Whether its device fails.
     fails: bool,
     history: History,
     failures: Failures,
 }
+
+const TOP: &[u8] = b"job.aux";
+
+// The text of the top file, and what it says: a key, all entries after it, a database and a style.
+const AUX: &[u8] = b"\\citation{k,*}\n\\bibdata{d}\n\\bibstyle{s}\n";
 
 // Puts `bytes` in place of what `into` had.
 fn fill(into: &mut Vec<u8>, bytes: &[u8]) -> Result<(), FetchFault>
@@ -23,11 +27,13 @@ fn fill(into: &mut Vec<u8>, bytes: &[u8]) -> Result<(), FetchFault>
     ensures fault { IfErr result (λ fault. fault ≡ FetchFault.Memory) }
 {
     into.clear();
-    into.extend_from_slice(bytes)
-        .map_err(|_| FetchFault::Memory)
+    match into.extend_from_slice(bytes) {
+        Ok(()) => Ok(()),
+        Err(_) => Err(FetchFault::Memory),
+    }
 }
 
-impl Finder for OneFile<'_> {
+impl Finder for OneFile {
     ghost content = { λ _. None };
 
     ghost answers = { λ finder. finder.history };
@@ -40,11 +46,12 @@ impl Finder for OneFile<'_> {
         name: &[u8],
         into: &mut Vec<u8>,
     ) -> Result<bool, FetchFault> {
-        let bytes = if name == self.name { self.bytes } else { b"" };
-        let answer = if self.fails {
-            Err(FetchFault::Device)
-        } else {
-            fill(into, bytes).map(|()| name == self.name)
+        let is_top = name == TOP;
+        let filled = fill(into, if is_top { AUX } else { b"" });
+        let answer = match filled {
+            _ if self.fails => Err(FetchFault::Device),
+            Ok(()) => Ok(is_top),
+            Err(fault) => Err(fault),
         };
         let answer = self.history.answer(alloc, name, answer, into);
         self.failures
@@ -53,11 +60,9 @@ impl Finder for OneFile<'_> {
     }
 }
 
-// Makes a finder of the file `job.aux`, whose device fails or doesn't.
-fn one_file(alloc: Global, bytes: &[u8], fails: bool) -> OneFile<'_> {
+// Makes a finder of the top file, whose device fails or doesn't.
+fn one_file(alloc: Global, fails: bool) -> OneFile {
     OneFile {
-        name: b"job.aux",
-        bytes,
         fails,
         history: History::new(alloc),
         failures: Failures::none(),
@@ -69,21 +74,18 @@ fn end_letter(end: End) -> u8 {
     match end {
         End::Whole => b'w',
         End::TooManyOpen => b'o',
-        End::TopMissing => b'm',
+        End::TopMissing => b'n',
         End::FileLimit => b'l',
     }
 }
 
 // A letter for each fault of a fetch.
-fn fault_letter(fault: FetchFault) -> u8 {
+fn fetch_letter(fault: FetchFault) -> u8 {
     match fault {
-        FetchFault::Memory => b'm',
-        FetchFault::Device => b'd',
+        FetchFault::Memory => b'M',
+        FetchFault::Device => b'D',
     }
 }
-
-// The text of a top file, and what it says: a key, all entries after it, a database and a style.
-const AUX: &[u8] = b"\\citation{k,*}\n\\bibdata{d}\n\\bibstyle{s}\n";
 
 // Whether these are one name alone.
 fn is_only(names: &[Vec<u8>], name: &[u8]) -> bool {
@@ -93,8 +95,8 @@ fn is_only(names: &[Vec<u8>], name: &[u8]) -> bool {
     }
 }
 
-// Whether a job is that of the text, read from its one file.
-fn is_job(job: &AuxJob) -> bool {
+// The letter of a job's end, in place of `w` a `j` where it is that of the text, read from its one file.
+fn job_letter(job: &AuxJob) -> u8 {
     let facts = [
         is_only(job.keys(), b"k"),
         job.all() == Some(1),
@@ -103,52 +105,83 @@ fn is_job(job: &AuxJob) -> bool {
         job.log().len() == 1,
         end_letter(job.end()) == b'w',
     ];
-    facts == [true; 6]
-}
-
-// Whether a job is that of the text, and the letter of its end.
-fn outcome(answer: Result<AuxJob, Fault>) -> Result<(bool, u8), Fault> {
-    match answer {
-        Ok(job) => Ok((is_job(&job), end_letter(job.end()))),
-        Err(fault) => Err(fault),
+    if facts == [true; 6] {
+        b'j'
+    } else {
+        end_letter(job.end())
     }
 }
 
-// The outcome of reading the job of this name.
-fn reads<F: Finder + Drop>(alloc: Global, finder: F, name: &[u8]) -> Result<(bool, u8), Fault> {
+// The job of this name, read from a finder's files.
+fn job_from<F: Finder + Drop>(alloc: Global, finder: F, name: &[u8]) -> Result<AuxJob, Fault> {
     let mut finder = finder;
-    outcome(read_aux(alloc, &mut finder, name))
+    read_aux(alloc, &mut finder, name)
 }
 
-// Keeps the text under this name, in memory, after another that has it first.
-fn kept(alloc: Global, name: &[u8]) -> Result<MemoryFinder, FetchFault> {
-    let pairs: [(&[u8], &[u8]); 2] = [(name, b"other"), (name, AUX)];
-    MemoryFinder::new(alloc, &pairs)
+// A letter for a job, or for a fault.
+fn letter(answer: Result<AuxJob, Fault>) -> u8 {
+    match answer {
+        Ok(job) => job_letter(&job),
+        Err(fault) => fault_letter(fault),
+    }
 }
 
-// Whether a finder over memory has the file of this name, and its bytes.
-fn fetches(alloc: Global, name: &[u8]) -> Result<(bool, bool), FetchFault> {
-    let mut bytes = Vec::new(alloc);
-    let mut finder = kept(alloc, b"job.aux")?;
-    let found: Result<bool, FetchFault> = finder.fetch(alloc, name, &mut bytes);
-    found.map(|found| (found, bytes.as_slice() == AUX))
-}
-
-// The outcome of reading the job of the files in memory.
-fn reads_kept(alloc: Global) -> Result<(bool, u8), Fault> {
-    match kept(alloc, b"job.aux") {
-        Ok(finder) => reads(alloc, finder, b"job.aux"),
+// The job of files in memory, if they could be kept.
+fn job_of(alloc: Global, kept: Result<MemoryFinder, FetchFault>) -> Result<AuxJob, Fault> {
+    match kept {
+        Ok(finder) => job_from(alloc, finder, TOP),
         Err(fault) => Err(fault.into()),
     }
 }
 
+/// The job of the text.
+pub fn the_job(alloc: Global) -> Result<AuxJob, Fault> {
+    job_of(alloc, MemoryFinder::new(alloc, &PAIRS))
+}
+
+// A letter for what a fetch found: `f` for a file of that text, `n` for none.
+fn found_letter(facts: [bool; 2]) -> u8 {
+    if facts == [true; 2] {
+        b'f'
+    } else if facts == [false; 2] {
+        b'n'
+    } else {
+        b'x'
+    }
+}
+
+// A letter for what a fetch of this name answers.
+fn fetched(alloc: Global, finder: MemoryFinder, name: &[u8]) -> u8 {
+    let mut finder = finder;
+    let mut bytes = Vec::new(alloc);
+    let found: Result<bool, FetchFault> = finder.fetch(alloc, name, &mut bytes);
+    match found {
+        Ok(found) => found_letter([found, bytes.as_slice() == AUX]),
+        Err(fault) => fetch_letter(fault),
+    }
+}
+
+// The same of the files in memory, if they could be kept.
+fn fetch_kept(alloc: Global, kept: Result<MemoryFinder, FetchFault>, name: &[u8]) -> u8 {
+    match kept {
+        Ok(finder) => fetched(alloc, finder, name),
+        Err(fault) => fetch_letter(fault),
+    }
+}
+
+// The text of the top file stands after another that has its name first.
+const PAIRS: [(&[u8], &[u8]); 2] = [(TOP, b"other"), (TOP, AUX)];
+
 #[test]
 fn files(rt: HostRuntime) {
     let alloc = rt.alloc();
-    assert!(rt; reads(alloc, one_file(alloc, AUX, false), b"job.aux") == Ok((true, b'w')));
-    assert!(rt; reads(alloc, one_file(alloc, AUX, true), b"job.aux") == Err(Fault::Device));
-    assert!(rt; reads(alloc, one_file(alloc, AUX, false), b"none.aux") == Ok((false, b'm')));
-    assert!(rt; fetches(alloc, b"job.aux") == Ok((true, true)));
-    assert!(rt; fetches(alloc, b"none") == Ok((false, false)));
-    assert!(rt; reads_kept(alloc) == Ok((true, b'w')) && fault_letter(FetchFault::Memory) == b'm');
+    let letters = [
+        letter(job_from(alloc, one_file(alloc, false), TOP)),
+        letter(job_from(alloc, one_file(alloc, true), TOP)),
+        letter(job_from(alloc, one_file(alloc, false), b"none.aux")),
+        letter(the_job(alloc)),
+        fetch_kept(alloc, MemoryFinder::new(alloc, &PAIRS), TOP),
+        fetch_kept(alloc, MemoryFinder::new(alloc, &PAIRS), b"none"),
+    ];
+    assert!(rt; letters == *b"jdnjfn");
 }

@@ -1,6 +1,7 @@
 //! Where outputs go, the lines of a log, and how long lines are broken.
 ghost use Rattle.std.specs.Prelude.{None};
 
+use crate::tests::texts::fault_letter;
 use btx_out::{Breaker, LineLength, Log, Over, Sink, SinkFault};
 use btx_text::{Failures, Fault};
 use std::alloc::Global;
@@ -29,48 +30,89 @@ impl Sink for Narrow {
     }
 }
 
-// Writes a line of a log to a sink with `room` bytes of room, and answers how often that failed.
-fn log_to(room: usize) -> (Result<(), Fault>, u64) {
+// A letter for what a call answers.
+fn letter(answer: Result<(), Fault>) -> u8 {
+    match answer {
+        Ok(()) => b'k',
+        Err(fault) => fault_letter(fault),
+    }
+}
+
+// Whether a line of a log, written to a sink with `room` bytes of room, is answered so, and failed so often.
+fn logs(room: usize, answer: u8, failures: u64) -> bool {
     let mut sink = Narrow {
         room,
         failures: Failures::none(),
     };
-    let answer: Result<(), Fault> = Log::new().line(b"line", &mut sink);
-    (answer, sink.failures.count)
+    let facts = [
+        letter(Log::new().line(b"line", &mut sink)) == answer,
+        sink.failures.count == failures,
+    ];
+    facts == [true; 2]
+}
+
+// The line length of so many bytes, and 0 where there is none.
+fn length_of(bytes: u32) -> u32 {
+    let length: Option<LineLength> = LineLength::new(bytes);
+    match length {
+        Some(length) => length.get(),
+        None => 0,
+    }
 }
 
 // Whether a line length is a number from 20 to 1,000, and by default 79.
 fn bounds_lengths() -> bool {
-    let numbers: [Option<u32>; 4] = [19, 20, 1_000, 1_001].map(|bytes: u32| LineLength::new(
-        bytes,
-    ).map(LineLength::get));
-    numbers == [None, Some(20), Some(1_000), None] && LineLength::default().get() == 79
+    let numbers: [u32; 5] = [
+        length_of(19),
+        length_of(20),
+        length_of(1_000),
+        length_of(1_001),
+        LineLength::default().get(),
+    ];
+    numbers == [0, 20, 1_000, 0, 79]
 }
 
-// Writes two lines by a breaker, the second in two pieces.
-fn break_lines<W: Sink>(breaker: &mut Breaker, sink: &mut W) -> Result<(), Fault> {
-    breaker.put(b"aaa bbb ccc ddd eee fff ggg", sink)?;
-    breaker.newline(sink)?;
-    breaker.put(b"x", sink)?;
-    breaker.put(b"y", sink)?;
-    breaker.finish(sink)
+// Writes two lines by a breaker, the second in two pieces. A letter for what each call answers.
+fn break_lines<W: Sink>(breaker: &mut Breaker, sink: &mut W) -> [u8; 5] {
+    [
+        letter(breaker.put(b"aaa bbb ccc ddd eee fff ggg", sink)),
+        letter(breaker.newline(sink)),
+        letter(breaker.put(b"x", sink)),
+        letter(breaker.put(b"y", sink)),
+        letter(breaker.finish(sink)),
+    ]
 }
 
-// Whether lines are broken at 20 bytes, over a writer to memory.
+const BROKEN: &[u8] = b"aaa bbb ccc ddd eee\n  fff ggg\nxy\n";
+
+// Whether lines are broken at this length, over a writer to memory.
 fn breaks(alloc: Global, length: LineLength) -> bool {
     let mut over = Over::new(Vec::new(alloc));
-    let mut breaker = Breaker::new(length);
-    let answer = break_lines(&mut breaker, &mut over);
+    let letters = break_lines(&mut Breaker::new(length), &mut over);
     let Over { writer, failures } = over;
-    answer == Ok(())
-        && failures.count == 0
-        && writer.as_slice() == b"aaa bbb ccc ddd eee\n  fff ggg\nxy\n".as_slice()
+    let facts = [
+        letters == *b"kkkkk",
+        failures.count == 0,
+        writer.as_slice() == BROKEN,
+    ];
+    facts == [true; 3]
+}
+
+// Whether lines are broken at 20 bytes.
+fn breaks_at_twenty(alloc: Global) -> bool {
+    match LineLength::new(20) {
+        Some(length) => breaks(alloc, length),
+        None => false,
+    }
 }
 
 #[test]
 fn outputs(rt: HostRuntime) {
-    assert!(rt; log_to(5) == (Ok(()), 0));
-    assert!(rt; log_to(4) == (Err(Fault::Device), 1));
-    assert!(rt; bounds_lengths());
-    assert!(rt; LineLength::new(20).map(|length| breaks(rt.alloc(), length)) == Some(true));
+    let facts = [
+        logs(5, b'k', 0),
+        logs(4, b'd', 1),
+        bounds_lengths(),
+        breaks_at_twenty(rt.alloc()),
+    ];
+    assert!(rt; facts == [true; 4]);
 }

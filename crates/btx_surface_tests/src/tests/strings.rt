@@ -8,12 +8,13 @@ use std::alloc::Global;
 
 // Whether the numbers of strings and names are right.
 fn are_numbers() -> bool {
-    let lengths: [i32; 2] = [
+    let numbers: [i32; 4] = [
         text_length(b"\xc3\x89a", TextMode::Bytes),
         text_length(b"\xc3\x89a", TextMode::Utf8),
+        width(b"AB"),
+        num_names(b"A and B"),
     ];
-    let (widths, names): (i32, i32) = (width(b"AB"), num_names(b"A and B"));
-    lengths == [3, 2] && widths == 1458 && names == 2
+    numbers == [3, 2, 1458, 2]
 }
 
 // The number of each complaint that is set, the first bit being that of `x9`.
@@ -38,42 +39,60 @@ fn is(answer: Result<Answer, Fault>, want: &[u8], bits: u8) -> bool {
     }
 }
 
-#[test]
-fn strings(rt: HostRuntime) {
-    let alloc = rt.alloc();
-    assert!(rt; are_numbers());
-    assert!(rt; is(add_period(alloc, b"a"), b"a.", 0));
-    assert!(rt; is(purify(alloc, b"a-b"), b"a b", 0));
-    assert!(rt; is(change_case(alloc, b"Ab", b"u"), b"AB", 0));
-    assert!(rt; is(change_case(alloc, b"Ab", b"x"), b"Ab", 1));
-    assert!(rt;
-        is(
-            text_prefix(alloc, b"\xc3\x89a", 1, TextMode::Utf8),
-            b"\xc3\x89",
-            0
-        )
-    );
-    assert!(rt; is(substring(alloc, b"abcdef", -2, 3), b"cde", 0));
+// What is called.
+#[derive(Clone, Copy)]
+enum Call {
+    AddPeriod,
+    Purify,
+    Upper,
+    Unknown,
+    Prefix,
+    Substring,
+    Name(i32),
+}
+
+// A call of a string, what it is formatted by if it is names, and what it answers: a text, and complaints.
+type Row = (Call, &'static [u8], &'static [u8], &'static [u8], u8);
+
+const ROWS: [Row; 11] = [
+    (Call::AddPeriod, b"a", b"", b"a.", 0),
+    (Call::Purify, b"a-b", b"", b"a b", 0),
+    (Call::Upper, b"Ab", b"", b"AB", 0),
+    (Call::Unknown, b"Ab", b"", b"Ab", 1),
+    (Call::Prefix, b"\xc3\x89a", b"", b"\xc3\x89", 0),
+    (Call::Substring, b"abcdef", b"", b"cde", 0),
+    (Call::Name(1), b"Ann Lee", b"{f. }{ll}", b"A. Lee", 0),
+    (Call::Name(2), b"A", b"{ll}", b"", 2),
+    (Call::Name(1), b"Knuth, Donald,", b"{ll}", b"Knuth", 4),
+    (Call::Name(1), b"a, b, c, d", b"{ll}", b"a", 8),
+    (Call::Name(1), b"A", b"{lll}", b"", 16),
+];
+
+// The answer of a row's call.
+fn answer_of(alloc: Global, (call, string, format, _, _): Row) -> Result<Answer, Fault> {
+    match call {
+        Call::AddPeriod => add_period(alloc, string),
+        Call::Purify => purify(alloc, string),
+        Call::Upper => change_case(alloc, string, b"u"),
+        Call::Unknown => change_case(alloc, string, b"x"),
+        Call::Prefix => text_prefix(alloc, string, 1, TextMode::Utf8),
+        Call::Substring => substring(alloc, string, -2, 3),
+        Call::Name(number) => format_name(alloc, string, number, format, TextMode::Bytes),
+    }
+}
+
+// Whether each row holds.
+fn hold(alloc: Global, rows: &[Row]) -> bool {
+    for row in rows {
+        if !is(answer_of(alloc, *row), row.3, row.4) {
+            return false;
+        }
+    }
+    true
 }
 
 #[test]
-fn names(rt: HostRuntime) {
-    let (alloc, mode) = (rt.alloc(), TextMode::Bytes);
-    assert!(rt;
-        is(
-            format_name(alloc, b"Ann Lee", 1, b"{f. }{ll}", mode),
-            b"A. Lee",
-            0
-        )
-    );
-    assert!(rt; is(format_name(alloc, b"A", 2, b"{ll}", mode), b"", 2));
-    assert!(rt;
-        is(
-            format_name(alloc, b"Knuth, Donald,", 1, b"{ll}", mode),
-            b"Knuth",
-            4
-        )
-    );
-    assert!(rt; is(format_name(alloc, b"a, b, c, d", 1, b"{ll}", mode), b"a", 8));
-    assert!(rt; is(format_name(alloc, b"A", 1, b"{lll}", mode), b"", 16));
+fn strings(rt: HostRuntime) {
+    let facts = [are_numbers(), hold(rt.alloc(), &ROWS)];
+    assert!(rt; facts == [true; 2]);
 }

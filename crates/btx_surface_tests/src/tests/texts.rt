@@ -15,8 +15,8 @@ fn class_letter(class: Class) -> u8 {
     }
 }
 
-// A letter for each fault.
-fn fault_letter(fault: Fault) -> u8 {
+/// A letter for each fault.
+pub fn fault_letter(fault: Fault) -> u8 {
     match fault {
         Fault::Memory => b'm',
         Fault::Device => b'd',
@@ -25,19 +25,36 @@ fn fault_letter(fault: Fault) -> u8 {
     }
 }
 
+// Whether classes and faults have these letters.
+fn are_letters() -> bool {
+    let letters = [
+        class_letter(class(b' ')),
+        class_letter(class(b'x')),
+        class_letter(class(b'7')),
+        class_letter(class(b'~')),
+        class_letter(class(b'.')),
+        fault_letter(Fault::FileLimit),
+    ];
+    letters == *b"wadsof"
+}
+
 // Whether a text is cut into two lines, each without the whitespace at its end.
 fn is_cut() -> bool {
     let mut cut: Lines<'_> = lines(b"a \nb");
-    cut.next() == Some(b"a".as_slice())
-        && cut.next() == Some(b"b".as_slice())
-        && cut.next().is_none()
+    let facts = [
+        cut.next() == Some(b"a".as_slice()),
+        cut.next() == Some(b"b".as_slice()),
+        cut.next().is_none(),
+    ];
+    facts == [true; 3]
 }
 
 // Whether keys are lowered, and compared without case.
 fn are_keys() -> bool {
     let mut key = *b"Kn";
     fold_key(&mut key);
-    key == *b"kn" && same_key(b"KN", &key) && !same_key(b"K", &key)
+    let facts = [key == *b"kn", same_key(b"KN", &key), same_key(b"K", &key)];
+    facts == [true, true, false]
 }
 
 // A letter for each kind of element.
@@ -99,12 +116,14 @@ const IN_UTF8: [Parts; 5] = [
 
 #[test]
 fn texts(rt: HostRuntime) {
-    let letters = [b' ', b'x', b'7', b'~', b'.'].map(|byte: u8| class_letter(class(byte)));
-    assert!(rt; letters == *b"wadso");
-    assert!(rt; fault_letter(Fault::FileLimit) == b'f');
-    assert!(rt; is_cut() && are_keys());
-    assert!(rt; are(Elements::of(STRING), &IN_BYTES));
-    assert!(rt; are(Elements::of_text(STRING, TextMode::Bytes), &IN_BYTES));
-    assert!(rt; are(Elements::of_text(STRING, TextMode::Utf8), &IN_UTF8));
-    assert!(rt; depth_at(b"a{b", 2) == 1);
+    let facts = [
+        are_letters(),
+        is_cut(),
+        are_keys(),
+        are(Elements::of(STRING), &IN_BYTES),
+        are(Elements::of_text(STRING, TextMode::Bytes), &IN_BYTES),
+        are(Elements::of_text(STRING, TextMode::Utf8), &IN_UTF8),
+        depth_at(b"a{b", 2) == 1,
+    ];
+    assert!(rt; facts == [true; 7]);
 }
