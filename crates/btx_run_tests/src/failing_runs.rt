@@ -1,12 +1,10 @@
 //! Runs whose devices fail: what they have written then.
-use crate::jobs::{AUX, DATABASE, FOUND, File, STYLE, job_of, options, status_of};
-use btx_run::{FetchFault, MemoryFinder, Over, RunFault, run};
+use crate::jobs::{AUX, Came, DATABASE, DEVICE, FOUND, File, STYLE, job_of, options, status_of};
+use btx_run::{FetchFault, MemoryFinder, Over, run};
 use btx_tests::fakes::{Failing, FakeWriter};
 use btx_tests::finders::FaultyFinder;
 use btx_text::Failures;
 use std::alloc::Global;
-use std::process::Abort;
-use std::test::Fail;
 
 // A style that writes several lines, one of them long.
 const LINES: &[u8] =
@@ -45,7 +43,7 @@ fn sink(alloc: Global, device: Device) -> Over<FakeWriter> {
 // that is a way out on which all of it is dropped.
 #[derive(Drop)]
 struct Tried {
-    answer: Result<u8, RunFault>,
+    status: u8,
     bbl: Over<FakeWriter>,
     log: Over<FakeWriter>,
     // How often the finder was asked, and how often it failed.
@@ -77,7 +75,7 @@ fn try_job(
     let mut log = sink(alloc, log);
     let report = run(alloc, &mut finder, b"job", &options(9), &mut bbl, &mut log);
     Ok(Tried {
-        answer: status_of(report),
+        status: status_of(report),
         bbl,
         log,
         fetches: (finder.fetches, finder.failures.count),
@@ -114,11 +112,14 @@ fn try_side(
 // Whether an output failed once, was not written to again, and holds a prefix of a text that isn't all of it.
 fn is_cut(output: &Over<FakeWriter>, at: u64, whole: &[u8]) -> bool {
     let writer = &output.writer;
-    output.failures.count == 1
-        && output.failures.last_failed
-        && writer.writes == at.saturating_add(1)
-        && whole.starts_with(&writer.bytes)
-        && writer.bytes.len() < whole.len()
+    let facts = [
+        output.failures.count == 1,
+        output.failures.last_failed,
+        writer.writes == at.saturating_add(1),
+        whole.starts_with(&writer.bytes),
+        writer.bytes.len() < whole.len(),
+    ];
+    facts == [true; 5]
 }
 
 // Whether a run stopped at the write at which its `.bbl` fails. The log lacks its last line alone.
@@ -138,74 +139,74 @@ fn is_whole(tried: &Tried) -> bool {
     tried.bbl.writer.bytes.as_slice() == BBL && tried.log.writer.bytes.as_slice() == LOG
 }
 
-// Asserts that a run stopped where one output fails, or was past that write, and answers whether it was past it.
-fn is_past(rt: &impl Abort, tried: &Tried, side: Side, at: u64) -> bool {
-    let (output, other) = match side {
-        Side::Bbl => (&tried.bbl, &tried.log),
-        Side::Log => (&tried.log, &tried.bbl),
+// Whether a run was past the write at which one output fails, which was its next.
+fn is_past(tried: &Tried, output: &Over<FakeWriter>, at: u64) -> bool {
+    let facts = [
+        tried.status == 0,
+        output.writer.writes == at,
+        is_whole(tried),
+    ];
+    facts == [true; 3]
+}
+
+// What came of a run where one output fails at one write, and the other doesn't.
+fn came_of(tried: &Tried, side: Side, at: u64) -> Came {
+    let (output, other, stops) = match side {
+        Side::Bbl => (&tried.bbl, &tried.log, stops_at_bbl(tried, at)),
+        Side::Log => (&tried.log, &tried.bbl, stops_at_log(tried, at)),
     };
-    assert!(rt; other.failures.count == 0);
-    if tried.answer == Ok(0) {
-        assert!(rt; output.writer.writes == at && is_whole(tried));
-        return true;
+    if other.failures.count != 0 {
+        Came::Wrong
+    } else if is_past(tried, output, at) {
+        Came::Past
+    } else if stops & (tried.status == DEVICE) {
+        Came::BrokenOff
+    } else {
+        Came::Wrong
     }
-    assert!(rt; tried.answer == Err(RunFault::Device));
-    assert!(rt;
-        match side {
-            Side::Bbl => stops_at_bbl(tried, at),
-            Side::Log => stops_at_log(tried, at),
+}
+
+// The same where the output fails in this way.
+fn came(alloc: Global, side: Side, most: usize, how: Failing, at: u64) -> Came {
+    match try_side(alloc, side, most, how, at) {
+        Ok(tried) => came_of(&tried, side, at),
+        Err(_) => Came::Wrong,
+    }
+}
+
+// Fails one output at one write after another, until the run is past them all: whether it broke off at each as it has to.
+fn is_well_failed(alloc: Global, side: Side, most: usize, how: Failing) -> bool {
+    for at in 0..1000u64 {
+        match came(alloc, side, most, how, at) {
+            Came::Past => return true,
+            Came::BrokenOff => {}
+            Came::Wrong => return false,
         }
-    );
+    }
     false
 }
 
-// Whether a run was past the write at which one output fails.
-fn passes(
-    rt: &(impl Abort + AllocGlobal),
-    side: Side,
-    most: usize,
-    how: Failing,
-    at: u64,
-) -> Result<bool, FetchFault> {
-    let tried = try_side(rt.alloc(), side, most, how, at)?;
-    Ok(is_past(rt, &tried, side, at))
-}
-
-// Fails one output at one write after another, until the run is past them all.
-fn fail_side(
-    rt: &(impl Abort + AllocGlobal),
-    side: Side,
-    most: usize,
-    how: Failing,
-) -> Result<(), Fail> {
-    for at in 0..1000u64 {
-        if passes(rt, side, most, how, at)? {
-            return Ok(());
-        }
-    }
-    assert!(rt; false, "a run that is never done");
-    Ok(())
-}
-
-// Fails each output in each way, where it takes at most one of these numbers of bytes at a time.
-fn fail_sides(
-    rt: &(impl Abort + AllocGlobal),
-    hows: &[Failing],
-    sizes: &[usize],
-) -> Result<(), Fail> {
+// The same of each output, each way to fail, and each of these numbers of bytes that it takes at most at a time.
+fn are_well_failed(alloc: Global, hows: &[Failing], sizes: &[usize]) -> bool {
     for how in hows {
         for most in sizes {
-            fail_side(rt, Side::Bbl, *most, *how)?;
-            fail_side(rt, Side::Log, *most, *how)?;
+            if !is_well_failed(alloc, Side::Bbl, *most, *how)
+                || !is_well_failed(alloc, Side::Log, *most, *how)
+            {
+                return false;
+            }
         }
     }
-    Ok(())
+    true
 }
 
+const HOWS: [Failing; 3] = [Failing::Error, Failing::Zero, Failing::Interrupted];
+
+const SIZES: [usize; 8] = [1, 2, 3, 4, 5, 6, 7, 1000];
+
 #[test]
-fn keeps_step(rt: HostRuntime) -> Result<(), Fail> {
-    let hows = [Failing::Error, Failing::Zero, Failing::Interrupted];
-    fail_sides(&rt, &hows, &[1, 2, 3, 4, 5, 6, 7, 1000])
+fn keeps_step(rt: HostRuntime) {
+    assert!(rt; are_well_failed(rt.alloc(), &HOWS, &SIZES));
 }
 
 // A style that writes a line, warns, and writes another line.
@@ -226,40 +227,66 @@ fn list_behind(log: usize) -> &'static [u8] {
     }
 }
 
-// Whether both outputs of the job that warns break off in the same step, where the log fails.
-fn warns_in_step(alloc: Global, at: u64) -> Result<bool, FetchFault> {
-    let device = failing(1000, Failing::Error, at);
-    let tried = try_style(alloc, WARNING, sound(1000), device)?;
+// Whether both outputs of the job that warns broke off in the same step, where the log failed.
+fn is_in_step(tried: &Tried) -> bool {
     let list = list_behind(tried.log.writer.bytes.len());
-    Ok(tried.answer == Err(RunFault::Device) && tried.bbl.writer.bytes.as_slice() == list)
+    let facts = [
+        tried.status == DEVICE,
+        tried.bbl.writer.bytes.as_slice() == list,
+    ];
+    facts == [true; 2]
 }
 
-// Whether the log of the job that warns ends with the lines of the files where nothing of the list is written.
-fn warns_behind_the_list(alloc: Global) -> Result<bool, FetchFault> {
+// Whether they do where the log fails at one write.
+fn warns_in_step(alloc: Global, at: u64) -> bool {
+    let device = failing(1000, Failing::Error, at);
+    match try_style(alloc, WARNING, sound(1000), device) {
+        Ok(tried) => is_in_step(&tried),
+        Err(_) => false,
+    }
+}
+
+// How many of ten writes of the log they do at, up to the first at which they don't.
+fn warnings_in_step(alloc: Global) -> u64 {
+    for at in 0..10u64 {
+        if !warns_in_step(alloc, at) {
+            return at;
+        }
+    }
+    10
+}
+
+// Whether the log of the job that warned ends with the lines of the files, and nothing of the list is written.
+fn is_before_the_list(tried: &Tried) -> bool {
+    let facts = [
+        tried.status == DEVICE,
+        tried.bbl.writer.bytes.is_empty(),
+        tried.log.writer.bytes.as_slice() == FOUND,
+    ];
+    facts == [true; 3]
+}
+
+// Whether it is so where the list fails at its first write.
+fn warns_behind_the_list(alloc: Global) -> bool {
     let device = failing(1000, Failing::Error, 0);
-    let tried = try_style(alloc, WARNING, device, sound(1000))?;
-    Ok(
-        tried.answer == Err(RunFault::Device)
-            && tried.bbl.writer.bytes.is_empty()
-            && tried.log.writer.bytes.as_slice() == FOUND,
-    )
+    match try_style(alloc, WARNING, device, sound(1000)) {
+        Ok(tried) => is_before_the_list(&tried),
+        Err(_) => false,
+    }
 }
 
 // A warning between two lines of the list is logged only if the first was written, and the second is written only if the warning was logged.
 #[test]
-fn keeps_step_at_a_warning(rt: HostRuntime) -> Result<(), Fail> {
-    assert!(rt; warns_behind_the_list(rt.alloc())?);
-    for at in 0..10u64 {
-        assert!(rt; warns_in_step(rt.alloc(), at)?);
-    }
-    Ok(())
+fn keeps_step_at_a_warning(rt: HostRuntime) {
+    assert!(rt; warns_behind_the_list(rt.alloc()));
+    assert!(rt; warnings_in_step(rt.alloc()) == 10);
 }
 
 // A job, how often it fetches, and how its run ends.
 struct Fetching {
     files: &'static [File<'static>],
     count: u64,
-    answer: Result<u8, RunFault>,
+    status: u8,
 }
 
 const FETCHING: [Fetching; 5] = [
@@ -274,64 +301,72 @@ const FETCHING: [Fetching; 5] = [
             (b"a.aux", b"\\citation{k}"),
         ],
         count: 5,
-        answer: Ok(2),
+        status: 2,
     },
     Fetching {
         files: &[(b"job.aux", AUX), (b"s.bst", STYLE), (b"d.bib", DATABASE)],
         count: 3,
-        answer: Ok(0),
+        status: 0,
     },
     Fetching {
         files: &[(b"job.aux", AUX), (b"s.bst", STYLE), (b"d.bib", b"")],
         count: 3,
-        answer: Ok(0),
+        status: 0,
     },
     Fetching {
         files: &[(b"job.aux", AUX), (b"s.bst", b""), (b"d.bib", DATABASE)],
         count: 3,
-        answer: Ok(0),
+        status: 0,
     },
     Fetching {
         files: &[(b"job.aux", b""), (b"s.bst", STYLE), (b"d.bib", DATABASE)],
         count: 1,
-        answer: Ok(2),
+        status: 2,
     },
 ];
 
 // Whether a run ended so whose finder fails at one fetch, or after the last: the list is begun after the last fetch alone.
 fn is_fetched(tried: &Tried, row: &Fetching, fails_at: u64) -> bool {
-    if fails_at < row.count {
-        tried.answer == Err(RunFault::Device)
-            && tried.fetches == (fails_at.saturating_add(1), 0)
-            && tried.bbl.writer.writes == 0
+    let (fetches, failures) = tried.fetches;
+    let facts = if fails_at < row.count {
+        [
+            tried.status == DEVICE,
+            fetches == fails_at.saturating_add(1),
+            failures == 0,
+            tried.bbl.writer.writes == 0,
+        ]
     } else {
-        tried.answer == row.answer && tried.fetches == (row.count, u64::MAX)
-    }
+        [
+            tried.status == row.status,
+            fetches == row.count,
+            failures == u64::MAX,
+            true,
+        ]
+    };
+    facts == [true; 4]
 }
 
 // Whether the run of a row ends so where its finder fails at one fetch.
-fn fetches(alloc: Global, row: &Fetching, fails_at: u64) -> Result<bool, FetchFault> {
-    let tried = try_job(alloc, row.files, fails_at, sound(9), sound(9))?;
-    Ok(is_fetched(&tried, row, fails_at))
+fn fetches(alloc: Global, row: &Fetching, fails_at: u64) -> bool {
+    match try_job(alloc, row.files, fails_at, sound(9), sound(9)) {
+        Ok(tried) => is_fetched(&tried, row, fails_at),
+        Err(_) => false,
+    }
 }
 
-// Fails each of a job's fetches in turn, and then none.
-fn fail_fetches(rt: &(impl Abort + AllocGlobal), row: &Fetching) -> Result<(), Fail> {
-    for fails_at in 0..row.count.saturating_add(1) {
-        assert!(rt; fetches(rt.alloc(), row, fails_at)?);
+// Fails each fetch of each job in turn, and then none: how many jobs end so, up to the first that doesn't.
+fn well_fetched(alloc: Global, rows: &[Fetching]) -> usize {
+    for (number, row) in rows.iter().enumerate() {
+        for fails_at in 0..row.count.saturating_add(1) {
+            if !fetches(alloc, row, fails_at) {
+                return number;
+            }
+        }
     }
-    Ok(())
-}
-
-// Fails the fetches of each job.
-fn fail_jobs(rt: &(impl Abort + AllocGlobal), rows: &[Fetching]) -> Result<(), Fail> {
-    for row in rows {
-        fail_fetches(rt, row)?;
-    }
-    Ok(())
+    rows.len()
 }
 
 #[test]
-fn stops_at_a_failing_fetch(rt: HostRuntime) -> Result<(), Fail> {
-    fail_jobs(&rt, &FETCHING)
+fn stops_at_a_failing_fetch(rt: HostRuntime) {
+    assert!(rt; well_fetched(rt.alloc(), &FETCHING) == 5);
 }

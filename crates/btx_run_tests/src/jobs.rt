@@ -63,9 +63,24 @@ pub fn run_with(alloc: Global, files: &[File<'_>], options: &Options) -> Result<
     })
 }
 
-/// What a run answered, of its report the status alone.
-pub fn status_of(answer: Result<Report, RunFault>) -> Result<u8, RunFault> {
-    Ok(answer?.status)
+/// The status that stands for the fault of a device.
+pub const DEVICE: u8 = 6;
+
+/// The exit status for what a run answered.
+pub fn status_of(answer: Result<Report, RunFault>) -> u8 {
+    match answer {
+        Ok(report) => report.status,
+        Err(RunFault::Memory) => 5,
+        Err(RunFault::Device) => DEVICE,
+    }
+}
+
+/// What came of a run where a device fails at one write: it was past that write, it broke off there as it has to, or neither.
+#[derive(Clone, Copy)]
+pub enum Came {
+    Past,
+    BrokenOff,
+    Wrong,
 }
 
 // The log's last line.
@@ -83,6 +98,14 @@ fn behind<'a>(text: &'a [u8], pieces: &[&[u8]]) -> Option<&'a [u8]> {
     Some(rest)
 }
 
+// Whether a run's log has this last line after these pieces.
+fn is_logged(ran: &Outputs, log: &[&[u8]], last: Result<String, AllocError>) -> bool {
+    match last {
+        Ok(last) => behind(ran.log.as_slice(), log) == Some(last.as_bytes()),
+        Err(_) => false,
+    }
+}
+
 /// Whether a run wrote and answered so; the log is given in pieces, without the last line, which follows from the report and the words for its end.
 pub fn is_ended(
     alloc: Global,
@@ -91,11 +114,11 @@ pub fn is_ended(
     log: &[&[u8]],
     report: Report,
     words: &str,
-) -> Result<bool, AllocError> {
-    let last = last_line(alloc, words, &report)?;
-    Ok(
-        ran.answer == Ok(report)
-            && ran.bbl.as_slice() == bbl
-            && behind(ran.log.as_slice(), log) == Some(last.as_bytes()),
-    )
+) -> bool {
+    let facts = [
+        ran.answer == Ok(report),
+        ran.bbl.as_slice() == bbl,
+        is_logged(ran, log, last_line(alloc, words, &report)),
+    ];
+    facts == [true; 3]
 }

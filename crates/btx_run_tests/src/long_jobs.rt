@@ -1,110 +1,114 @@
 //! Jobs that are too long to be written out: limits with their number and with one more, many entries, and many names.
-use crate::jobs::Outputs;
 use crate::rows::SORTED;
-use crate::worked::{Ends, Row, USUAL, holds, is_given, run_row};
+use crate::worked::{Ends, Row, USUAL, holds};
 use btx_tests::texts::{calling_functions, joined, repeated};
-use btx_text::Fault;
 use std::alloc::{AllocError, Global};
-use std::test::Fail;
 
-// A style's function that pushes `count` literals and shows them.
-fn pushing(alloc: Global, count: usize) -> Result<Vec<u8>, AllocError> {
-    let literals = repeated(alloc, b"#7 ", count)?;
-    joined(
-        alloc,
-        &[b"FUNCTION {f} {", &literals, b"stack$} EXECUTE {f}"],
-    )
-}
-
-// Runs a job that pushes `count` literals.
-fn run_pushing(alloc: Global, count: usize) -> Result<Outputs, Fault> {
-    let text = pushing(alloc, count)?;
-    let row = Row {
-        text: &text,
-        ..USUAL
-    };
-    run_row(alloc, &row)
-}
-
-// Whether a run that pushes `count` literals shows `shown`, and has this end.
-fn pushes(alloc: Global, count: usize, shown: usize, ends: Ends) -> Result<bool, Fault> {
-    let after = repeated(alloc, b"7\n", shown)?;
-    let row = Row {
-        after: &after,
-        ends,
-        steps: 1_002,
-        ..USUAL
-    };
-    is_given(alloc, &run_pushing(alloc, count)?, &row)
-}
-
-// A style's function that doubles a string of 15,625 letters six times, and what it does then.
-fn doubling(alloc: Global, then: &[u8]) -> Result<Vec<u8>, AllocError> {
-    let letters = repeated(alloc, b"a", 15_625)?;
-    joined(
-        alloc,
-        &[
-            b"FUNCTION {d} {duplicate$ *} FUNCTION {f} {\"",
-            &letters,
-            b"\" d d d d d d ",
-            then,
-            b"} EXECUTE {f}",
-        ],
-    )
-}
-
-// Whether a run that doubles the string ends so.
-fn doubles(alloc: Global, then: &[u8], ends: Ends, steps: u64) -> Result<bool, Fault> {
-    let text = doubling(alloc, then)?;
-    let row = Row {
-        text: &text,
-        ends,
-        steps,
-        deepest: 2,
-        ..USUAL
-    };
-    holds(alloc, &row)
-}
-
-// Whether a run of `count` functions has this end, where each but the first calls the one before.
-fn calls(alloc: Global, count: usize, last: &[u8], ends: Ends, steps: u64) -> Result<bool, Fault> {
-    let functions = calling_functions(alloc, count)?;
-    let text = joined(alloc, &[&functions, b" EXECUTE {", last, b"}"])?;
-    let row = Row {
-        text: &text,
-        ends,
-        steps,
-        deepest: 4_096,
-        ..USUAL
-    };
-    holds(alloc, &row)
+// Whether the job of a row holds with this style after its READ.
+fn holds_with(alloc: Global, row: &Row<'_>, text: Result<Vec<u8>, AllocError>) -> bool {
+    match text {
+        Ok(text) => holds(
+            alloc,
+            &Row {
+                text: &text,
+                ..*row
+            },
+        ),
+        Err(_) => false,
+    }
 }
 
 // A text between two others, `count` times.
 fn between(
     alloc: Global,
-    front: &[u8],
-    text: &[u8],
+    (front, text, behind): (&[u8], &[u8], &[u8]),
     count: usize,
-    behind: &[u8],
 ) -> Result<Vec<u8>, AllocError> {
     let texts = repeated(alloc, text, count)?;
     joined(alloc, &[front, &texts, behind])
 }
 
-// Whether the job of a row holds with a database of which one text is there `count` times, between two others.
-fn holds_over(
-    alloc: Global,
-    row: &Row<'_>,
-    (front, text, behind): (&[u8], &[u8], &[u8]),
-    count: usize,
-) -> Result<bool, Fault> {
-    let database = between(alloc, front, text, count, behind)?;
-    let row = Row {
-        database: &database,
-        ..*row
-    };
-    holds(alloc, &row)
+// A style's function that pushes literals and shows them.
+const PUSHING: (&[u8], &[u8], &[u8]) = (b"FUNCTION {f} {", b"#7 ", b"stack$} EXECUTE {f}");
+
+// Whether a run that pushes `count` literals shows what is given, and has this end.
+fn shows(alloc: Global, count: usize, after: Result<Vec<u8>, AllocError>, ends: Ends) -> bool {
+    match after {
+        Ok(after) => {
+            let row = Row {
+                after: &after,
+                ends,
+                steps: 1_002,
+                ..USUAL
+            };
+            holds_with(alloc, &row, between(alloc, PUSHING, count))
+        }
+        Err(_) => false,
+    }
+}
+
+// Whether a run that pushes `count` literals shows `shown`, and has this end.
+fn pushes(alloc: Global, count: usize, shown: usize, ends: Ends) -> bool {
+    shows(alloc, count, repeated(alloc, b"7\n", shown), ends)
+}
+
+// A style's function that doubles a string of 15,625 letters six times, and another that adds a letter then.
+const DOUBLING: (&[u8], &[u8], &[u8]) = (
+    b"FUNCTION {d} {duplicate$ *} FUNCTION {f} {\"",
+    b"a",
+    b"\" d d d d d d pop$} EXECUTE {f}",
+);
+
+const DOUBLING_AND_ONE: (&[u8], &[u8], &[u8]) = (
+    b"FUNCTION {d} {duplicate$ *} FUNCTION {f} {\"",
+    b"a",
+    b"\" d d d d d d \"b\" * pop$} EXECUTE {f}",
+);
+
+const DOUBLED: Row<'static> = Row {
+    steps: 21,
+    deepest: 2,
+    ..USUAL
+};
+
+const DOUBLED_TOO_LONG: Row<'static> = Row {
+    ends: Ends::String,
+    steps: 22,
+    deepest: 2,
+    ..USUAL
+};
+
+// A style of `count` functions, each but the first calls the one before, and what is executed then.
+fn calling(alloc: Global, count: usize, then: &[u8]) -> Result<Vec<u8>, AllocError> {
+    let functions = calling_functions(alloc, count)?;
+    joined(alloc, &[&functions, then])
+}
+
+const CALLED: Row<'static> = Row {
+    steps: 4_096,
+    deepest: 4_096,
+    ..USUAL
+};
+
+const TOO_MANY_CALLS: Row<'static> = Row {
+    ends: Ends::Calls,
+    steps: 4_097,
+    deepest: 4_096,
+    ..USUAL
+};
+
+// Whether the job of a row holds with this database.
+fn holds_over(alloc: Global, row: &Row<'_>, database: Result<Vec<u8>, AllocError>) -> bool {
+    match database {
+        Ok(database) => holds(
+            alloc,
+            &Row {
+                database: &database,
+                ..*row
+            },
+        ),
+        Err(_) => false,
+    }
 }
 
 // The title of the cited entry, and of another one.
@@ -170,48 +174,60 @@ fn keys(alloc: Global) -> Result<Vec<u8>, AllocError> {
     Ok(text)
 }
 
-// Runs the job that sorts the entries.
-fn run_sorting(alloc: Global) -> Result<Outputs, Fault> {
-    let database = entries(alloc)?;
-    let row = Row {
-        aux: b"\\citation{*}\n\\bibdata{d}\n\\bibstyle{s}\n",
-        database: &database,
-        text: SORTED,
-        ..USUAL
-    };
-    run_row(alloc, &row)
-}
+// The job that sorts the entries.
+const SORTING: Row<'static> = Row {
+    aux: b"\\citation{*}\n\\bibdata{d}\n\\bibstyle{s}\n",
+    text: SORTED,
+    steps: 24_000,
+    ..USUAL
+};
 
-// Whether the entries are sorted.
-fn sorts(alloc: Global) -> Result<bool, Fault> {
-    let bbl = keys(alloc)?;
-    let row = Row {
-        bbl: &bbl,
-        steps: 24_000,
-        ..USUAL
-    };
-    is_given(alloc, &run_sorting(alloc)?, &row)
-}
-
-#[test]
-fn limits_and_one_more(rt: HostRuntime) -> Result<(), Fail> {
-    let alloc = rt.alloc();
-    assert!(rt; pushes(alloc, 1_000, 1_000, Ends::Finished)?);
-    assert!(rt; pushes(alloc, 1_001, 0, Ends::Literals)?);
-    assert!(rt; doubles(alloc, b"pop$", Ends::Finished, 21)?);
-    assert!(rt; doubles(alloc, b"\"b\" * pop$", Ends::String, 22)?);
-    assert!(rt; calls(alloc, 4_096, b"f4096", Ends::Finished, 4_096)?);
-    assert!(rt; calls(alloc, 4_097, b"f4097", Ends::Calls, 4_097)?);
-    Ok(())
+// Whether it writes these keys.
+fn sorts(alloc: Global, keys: Result<Vec<u8>, AllocError>) -> bool {
+    match keys {
+        Ok(bbl) => holds_over(
+            alloc,
+            &Row {
+                bbl: &bbl,
+                ..SORTING
+            },
+            entries(alloc),
+        ),
+        Err(_) => false,
+    }
 }
 
 #[test]
-fn long_databases(rt: HostRuntime) -> Result<(), Fail> {
+fn limits_and_one_more(rt: HostRuntime) {
     let alloc = rt.alloc();
-    assert!(rt; holds_over(alloc, &FIRST_LETTER, CITED, 1_000_000)?);
-    assert!(rt; holds_over(alloc, &TOO_LONG, CITED, 1_000_001)?);
-    assert!(rt; holds_over(alloc, &PASSED, NOT_CITED, 1_000_001)?);
-    assert!(rt; holds_over(alloc, &LAST_NAME, NAMES, 999)?);
-    assert!(rt; sorts(alloc)?);
-    Ok(())
+    let facts = [
+        pushes(alloc, 1_000, 1_000, Ends::Finished),
+        pushes(alloc, 1_001, 0, Ends::Literals),
+        holds_with(alloc, &DOUBLED, between(alloc, DOUBLING, 15_625)),
+        holds_with(
+            alloc,
+            &DOUBLED_TOO_LONG,
+            between(alloc, DOUBLING_AND_ONE, 15_625),
+        ),
+        holds_with(alloc, &CALLED, calling(alloc, 4_096, b" EXECUTE {f4096}")),
+        holds_with(
+            alloc,
+            &TOO_MANY_CALLS,
+            calling(alloc, 4_097, b" EXECUTE {f4097}"),
+        ),
+    ];
+    assert!(rt; facts == [true; 6]);
+}
+
+#[test]
+fn long_databases(rt: HostRuntime) {
+    let alloc = rt.alloc();
+    let facts = [
+        holds_over(alloc, &FIRST_LETTER, between(alloc, CITED, 1_000_000)),
+        holds_over(alloc, &TOO_LONG, between(alloc, CITED, 1_000_001)),
+        holds_over(alloc, &PASSED, between(alloc, NOT_CITED, 1_000_001)),
+        holds_over(alloc, &LAST_NAME, between(alloc, NAMES, 999)),
+        sorts(alloc, keys(alloc)),
+    ];
+    assert!(rt; facts == [true; 5]);
 }

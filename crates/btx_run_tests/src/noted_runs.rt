@@ -1,14 +1,11 @@
 //! Runs whose logs are noted: what a notebook is handed.
 ghost use Rattle.std.specs.Prelude.{None};
 
-use crate::jobs::{AUX, DATABASE, File, STYLE, job_of, options};
-use btx_run::{About, Executed, MemoryFinder, Notebook, Over, RunFault, run_noted};
+use crate::jobs::{AUX, Came, DATABASE, File, STYLE, job_of, options};
+use btx_run::{About, Executed, MemoryFinder, Notebook, Over, run_noted};
 use btx_tests::fakes::{Failing, FakeWriter};
-use btx_tests::texts::text_of;
 use btx_text::{Failures, Fault, LineKind, LogLine};
 use std::alloc::Global;
-use std::process::Abort;
-use std::test::Fail;
 
 // Keeps the lines, each with byte 10, and for each a letter of where it was met; of an execution also what is executed, for which entry.
 #[derive(Drop)]
@@ -49,23 +46,29 @@ impl Kept {
 
     // Appends where a line was met, of which kind.
     fn keep_place(&mut self, kind: LineKind, about: About<'_>) -> Result<(), Fault> {
-        self.places.push(match kind {
-            LineKind::Plain => b' ',
-            LineKind::Warning => b'?',
-            LineKind::Error => b'!',
-        })?;
-        match about {
-            About::Files => Ok(self.places.push(b'F')?),
-            About::Style => Ok(self.places.push(b'S')?),
-            About::Databases => Ok(self.places.push(b'D')?),
-            About::Execution(executed) => self.keep_executed(&executed),
-            About::End => Ok(self.places.push(b'E')?),
-        }
+        self.places.push(kind_letter(kind))?;
+        let place = match about {
+            About::Execution(executed) => return self.keep_executed(&executed),
+            About::Files => b'F',
+            About::Style => b'S',
+            About::Databases => b'D',
+            About::End => b'E',
+        };
+        Ok(self.places.push(place)?)
     }
 
     fn keep(&mut self, line: &LogLine, about: About<'_>) -> Result<(), Fault> {
         self.keep_line(line)?;
         self.keep_place(line.kind(), about)
+    }
+}
+
+// A letter for a kind of line.
+fn kind_letter(kind: LineKind) -> u8 {
+    match kind {
+        LineKind::Plain => b' ',
+        LineKind::Warning => b'?',
+        LineKind::Error => b'!',
     }
 }
 
@@ -118,15 +121,36 @@ fn run_and_note(
     })
 }
 
+// A job's `.aux` file, style and database, and where the lines of its log are met.
+type Row = (&'static [u8], &'static [u8], &'static [u8], &'static [u8]);
+
 // Whether a run's log is what was noted, line by line, and the lines were met at these places.
-fn is_noted(alloc: Global, files: &[File<'_>], places: &[u8]) -> Result<bool, Fault> {
-    let ran = run_and_note(alloc, files, Failing::Never, 0)?;
-    Ok(
-        ran.is_ok
-            && !ran.kept.is_full
-            && ran.log.writer.bytes.as_slice() == ran.kept.lines.as_slice()
-            && ran.kept.places.as_slice() == places,
-    )
+fn is_noted(ran: &NotedRun, places: &[u8]) -> bool {
+    let facts = [
+        ran.is_ok,
+        !ran.kept.is_full,
+        ran.log.writer.bytes.as_slice() == ran.kept.lines.as_slice(),
+        ran.kept.places.as_slice() == places,
+    ];
+    facts == [true; 4]
+}
+
+// Whether it is so of a row's run.
+fn notes(alloc: Global, (aux, style, database, places): Row) -> bool {
+    match run_and_note(alloc, &job_of(aux, style, database), Failing::Never, 0) {
+        Ok(ran) => is_noted(&ran, places),
+        Err(_) => false,
+    }
+}
+
+// How many of the rows it is so of, up to the first of which it isn't.
+fn noted_rows(alloc: Global, rows: &[Row]) -> usize {
+    for (number, row) in rows.iter().enumerate() {
+        if !notes(alloc, *row) {
+            return number;
+        }
+    }
+    rows.len()
 }
 
 // A job with an error in its `.aux` file.
@@ -141,41 +165,63 @@ const BAD_BODY: &[u8] =
 // A database with an error.
 const BAD_DATABASE: &[u8] = b"@misc{k title}\n";
 
+const ROWS: [Row; 5] = [
+    (AUX, STYLE, DATABASE, b" F F F E"),
+    (BAD_AUX, STYLE, DATABASE, b" F!F F F E"),
+    (AUX, BAD_STYLE, DATABASE, b" F F F!S E"),
+    (AUX, STYLE, BAD_DATABASE, b" F F F!D E"),
+    (
+        AUX,
+        BAD_BODY,
+        DATABASE,
+        b" F F F?warning$@k!pop$@k!ITERATE@k ITERATE@k E",
+    ),
+];
+
 #[test]
-fn notes_each_line(rt: HostRuntime) -> Result<(), Fail> {
-    let alloc = rt.alloc();
-    assert!(rt; is_noted(alloc, &job_of(AUX, STYLE, DATABASE), b" F F F E")?);
-    assert!(rt; is_noted(alloc, &job_of(BAD_AUX, STYLE, DATABASE), b" F!F F F E")?);
-    assert!(rt; is_noted(alloc, &job_of(AUX, BAD_STYLE, DATABASE), b" F F F!S E")?);
-    assert!(rt; is_noted(alloc, &job_of(AUX, STYLE, BAD_DATABASE), b" F F F!D E")?);
-    assert!(rt;
-        is_noted(
-            alloc,
-            &job_of(AUX, BAD_BODY, DATABASE),
-            b" F F F?warning$@k!pop$@k!ITERATE@k ITERATE@k E"
-        )?
-    );
-    Ok(())
+fn notes_each_line(rt: HostRuntime) {
+    assert!(rt; noted_rows(rt.alloc(), &ROWS) == 5);
 }
 
-// Whether a run is past the write at which its log fails. If not, the log is what was noted without its last line, and a prefix of that line.
-fn passes(rt: &(impl Abort + AllocGlobal), at: u64) -> Result<bool, Fault> {
-    let files = job_of(AUX, BAD_BODY, DATABASE);
-    let ran = run_and_note(rt.alloc(), &files, Failing::Error, at)?;
+// What came of a run whose log may fail at a write. If it does, the log is what was noted without its last line, and a prefix of that line.
+fn came_of(ran: &NotedRun) -> Came {
     let log = ran.log.writer.bytes.as_slice();
     let lines = ran.kept.lines.as_slice();
-    assert!(rt; lines.starts_with(log) && ran.kept.before <= log.len());
-    assert!(rt; ran.is_ok == (log.len() == lines.len()));
-    Ok(ran.is_ok)
+    let facts = [
+        lines.starts_with(log),
+        ran.kept.before <= log.len(),
+        ran.is_ok == (log.len() == lines.len()),
+    ];
+    if facts != [true; 3] {
+        Came::Wrong
+    } else if ran.is_ok {
+        Came::Past
+    } else {
+        Came::BrokenOff
+    }
+}
+
+// What comes of one whose log fails at this write.
+fn came(alloc: Global, at: u64) -> Came {
+    match run_and_note(alloc, &job_of(AUX, BAD_BODY, DATABASE), Failing::Error, at) {
+        Ok(ran) => came_of(&ran),
+        Err(_) => Came::Wrong,
+    }
+}
+
+// Fails the log at one write after another, until the run is past them all: whether it broke off at each as it has to.
+fn is_well_failed(alloc: Global) -> bool {
+    for at in 0..1000u64 {
+        match came(alloc, at) {
+            Came::Past => return true,
+            Came::BrokenOff => {}
+            Came::Wrong => return false,
+        }
+    }
+    false
 }
 
 #[test]
-fn notes_a_line_that_breaks_off(rt: HostRuntime) -> Result<(), Fail> {
-    for at in 0..1000u64 {
-        if passes(&rt, at)? {
-            return Ok(());
-        }
-    }
-    assert!(rt; false, "a run that is never done");
-    Ok(())
+fn notes_a_line_that_breaks_off(rt: HostRuntime) {
+    assert!(rt; is_well_failed(rt.alloc()));
 }

@@ -5,7 +5,6 @@ use crate::worked::{Row, run_row, style_of};
 use btx_tests::texts::spoilt;
 use btx_text::Fault;
 use std::alloc::Global;
-use std::test::Fail;
 
 // Each spoilt job has this budget, since a spoilt style may have a loop that doesn't end.
 const BUDGET: u64 = 10_000;
@@ -51,17 +50,25 @@ fn has_ended(ran: &Outputs) -> bool {
 
 // Whether a run ended as runs do, and another of the same job wrote and answered the same.
 fn are_same(one: &Outputs, other: &Outputs) -> bool {
-    has_ended(one)
-        && one.answer == other.answer
-        && one.bbl.as_slice() == other.bbl.as_slice()
-        && one.log.as_slice() == other.log.as_slice()
+    let facts = [
+        has_ended(one),
+        one.answer == other.answer,
+        one.bbl.as_slice() == other.bbl.as_slice(),
+        one.log.as_slice() == other.log.as_slice(),
+    ];
+    facts == [true; 4]
+}
+
+// Whether another run of the job of a row is the same as one that ended as runs do.
+fn is_repeated(alloc: Global, row: &Row<'_>, one: &Outputs) -> Result<bool, Fault> {
+    let other = run_row(alloc, row)?;
+    Ok(are_same(one, &other))
 }
 
 // Whether the job of a row ends so, and again.
 fn is_well(alloc: Global, row: &Row<'_>) -> Result<bool, Fault> {
     let one = run_row(alloc, row)?;
-    let other = run_row(alloc, row)?;
-    Ok(are_same(&one, &other))
+    is_repeated(alloc, row, &one)
 }
 
 // Whether it does with each of the bytes at one place of a file.
@@ -114,34 +121,30 @@ fn well_rows(alloc: Global, rows: &[Row<'_>]) -> Result<usize, Fault> {
 }
 
 // The same of those from the number `first` on that stand before the number `end`.
-fn well_between(alloc: Global, first: usize, end: usize) -> Result<usize, Fault> {
+fn well_between(alloc: Global, first: usize, end: usize) -> usize {
     match spoilt_rows().get(first..end) {
-        Some(rows) => well_rows(alloc, rows),
-        None => Ok(0),
+        Some(rows) => well_rows(alloc, rows).unwrap_or(0),
+        None => 0,
     }
 }
 
 // A test has a minute. So the twelve jobs are parted among four, by the bytes of their files.
 #[test]
-fn spoilt_jobs_from_0(rt: HostRuntime) -> Result<(), Fail> {
-    assert!(rt; well_between(rt.alloc(), 0, 3)? == 3);
-    Ok(())
+fn spoilt_jobs_from_0(rt: HostRuntime) {
+    assert!(rt; well_between(rt.alloc(), 0, 3) == 3);
 }
 
 #[test]
-fn spoilt_jobs_from_3(rt: HostRuntime) -> Result<(), Fail> {
-    assert!(rt; well_between(rt.alloc(), 3, 5)? == 2);
-    Ok(())
+fn spoilt_jobs_from_3(rt: HostRuntime) {
+    assert!(rt; well_between(rt.alloc(), 3, 5) == 2);
 }
 
 #[test]
-fn spoilt_jobs_from_5(rt: HostRuntime) -> Result<(), Fail> {
-    assert!(rt; well_between(rt.alloc(), 5, 8)? == 3);
-    Ok(())
+fn spoilt_jobs_from_5(rt: HostRuntime) {
+    assert!(rt; well_between(rt.alloc(), 5, 8) == 3);
 }
 
 #[test]
-fn spoilt_jobs_from_8(rt: HostRuntime) -> Result<(), Fail> {
-    assert!(rt; well_between(rt.alloc(), 8, 12)? == 4);
-    Ok(())
+fn spoilt_jobs_from_8(rt: HostRuntime) {
+    assert!(rt; well_between(rt.alloc(), 8, 12) == 4);
 }

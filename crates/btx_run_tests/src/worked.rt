@@ -100,25 +100,27 @@ pub fn run_row(alloc: Global, row: &Row<'_>) -> Result<Outputs, Fault> {
     run_with(alloc, &files, &options(row.budget))
 }
 
-/// Whether a run wrote and answered what a row says.
-pub fn is_given(alloc: Global, ran: &Outputs, row: &Row<'_>) -> Result<bool, Fault> {
+// Whether a run wrote and answered what a row says.
+fn is_given(alloc: Global, ran: &Outputs, row: &Row<'_>) -> bool {
     let log = [TOP, row.before, FILES, row.after];
     let (report, words) = row.report();
-    Ok(is_ended(alloc, ran, row.bbl, &log, report, words)?)
+    is_ended(alloc, ran, row.bbl, &log, report, words)
 }
 
 /// Whether the job of a row writes and answers what the row says.
-pub fn holds(alloc: Global, row: &Row<'_>) -> Result<bool, Fault> {
-    let ran = run_row(alloc, row)?;
-    is_given(alloc, &ran, row)
+pub fn holds(alloc: Global, row: &Row<'_>) -> bool {
+    match run_row(alloc, row) {
+        Ok(ran) => is_given(alloc, &ran, row),
+        Err(_) => false,
+    }
 }
 
-/// The number of the first row that doesn't hold, from 0, if one doesn't.
-pub fn first_wrong(alloc: Global, rows: &[Row<'_>]) -> Result<Option<usize>, Fault> {
+/// How many of the rows hold, up to the first that doesn't.
+pub fn holding(alloc: Global, rows: &[Row<'_>]) -> usize {
     for (number, row) in rows.iter().enumerate() {
-        if !holds(alloc, row)? {
-            return Ok(Some(number));
+        if !holds(alloc, row) {
+            return number;
         }
     }
-    Ok(None)
+    rows.len()
 }
