@@ -9,7 +9,13 @@
 
 local btx = {}
 
+-- The library, once it is loaded: LuaJIT takes declarations once.
+local loaded
+
 local function load_library()
+    if loaded then
+        return loaded.ffi, loaded.library
+    end
     local is_there, ffi = pcall(require, "ffi")
     if not is_there or not ffi.cdef then
         error("btx needs LuaTeX's ffi: run lualatex with --shell-escape", 0)
@@ -34,11 +40,14 @@ local function load_library()
     if not is_loaded then
         error("btx can't load its library: " .. tostring(library), 0)
     end
+    loaded = { ffi = ffi, library = library }
     return ffi, library
 end
 
 -- What the library answers.
 local DONE, REFUSED, FULL, ENDS = 0, 1, 4, 5
+-- How a run ended that came to an end of its own.
+local FINISHED = 0
 -- What a line of the log is, and where it was met.
 local KINDS = { [0] = "plain", "warning", "error" }
 local MET = { [0] = "files", "style", "databases", "execution", "end" }
@@ -84,12 +93,14 @@ local function needed(ffi, library, job, files)
     end
 end
 
--- btx.run(job, finder, options) -> list, log, report, events
+-- btx.run(job, finder, options) -> list, log, report, events, notes
 --
 -- finder(name) gives the bytes of the file of a name, or nil where there is none. options may have budget, min_crossrefs, line, entry_max,
--- global_max and utf8. The report has status (0 without errors, 2 with some, 3 at a limit, 4 stopped), steps, warnings and errors. An event is
--- a line of the log: its text; its kind, which is "plain", "warning" or "error"; where it was met, which is "files", "style", "databases",
--- "execution" or "end"; and the number of the current entry, from 1, if there is one. The library says what a line is, whatever its text.
+-- global_max, utf8 and letters: a language whose letters are sorted and have their case as `bibtex-search -letters=LANG` does it, or "no". With letters
+-- text is read by bytes, and once more by letters of UTF-8 where that would leave half a letter, unless utf8 says how; and the notes say what became of
+-- the list's letters, a line each. The report has status (0 without errors, 2 with some, 3 at a limit, 4 stopped), is_finished, steps, warnings and
+-- errors. An event is a line of the log: its text; its kind, which is "plain", "warning" or "error"; where it was met, which is "files", "style",
+-- "databases", "execution" or "end"; and the number of the current entry, from 1, if there is one. The library says what a line is, whatever its text.
 function btx.run(job, finder, options)
     if job:find("\n", 1, true) then
         error("btx: the name of a job has no line end", 0)
@@ -104,9 +115,26 @@ function btx.run(job, finder, options)
         new = needed(ffi, library, job, files)
     end
     local given = options or {}
-    local asked = ffi.new("btx_options", given.budget or 1000000000, given.min_crossrefs or 2, given.line or 79, given.entry_max or 500,
-        given.global_max or 200000, given.utf8 or false)
-    return btx.run_over(ffi, library, job, files, asked)
+    local function run(over, own)
+        local asked = ffi.new("btx_options", given.budget or 1000000000, given.min_crossrefs or 2, given.line or 79, own.entry_max or given.entry_max or 500,
+            own.global_max or given.global_max or 200000, own.utf8 or false)
+        return btx.run_over(ffi, library, job, over, asked)
+    end
+    if given.letters then
+        return btx.run_with_letters(files, given, run)
+    end
+    return run(files, { utf8 = given.utf8 })
+end
+
+-- Runs a job with the letters of a language. `run` gives what a run over these files gives, with options of its own.
+function btx.run_with_letters(files, given, run)
+    local text = given.utf8 == nil and "auto" or given.utf8 and "utf8" or "bytes"
+    local limits = { entry_max = given.entry_max or 500, global_max = given.global_max or 200000 }
+    local made, notes = require("btx_letters").run(given.letters, files, text, limits, function(over, own)
+        local list, log, report, events = run(over, own)
+        return { list = list, log = log, report = report, events = events }
+    end)
+    return made.list, made.log, made.report, made.events, notes
 end
 
 -- Runs the job over files that are all known; where an output is longer than its room, it gets more.
@@ -119,7 +147,7 @@ function btx.run_over(ffi, library, job, files, asked)
         local count = answer == DONE and tonumber(events_len[0]) or 0
         if answer == DONE and count <= events_room then
             return ffi.string(list, report.list_len), ffi.string(log, report.log_len), {
-                status = tonumber(report.status), steps = tonumber(report.steps), warnings = tonumber(report.warnings), errors = tonumber(report.errors),
+                status = tonumber(report.status), is_finished = tonumber(report.end_) == FINISHED, steps = tonumber(report.steps), warnings = tonumber(report.warnings), errors = tonumber(report.errors),
             }, btx.events_of(ffi.string(log, report.log_len), events, count)
         elseif answer == DONE then
             events_room = count
@@ -259,10 +287,10 @@ function btx.bibliography(wanted)
     lines[#lines + 1] = "\\bibdata{" .. table.concat(wanted.databases, ",") .. "}"
     lines[#lines + 1] = "\\bibstyle{" .. wanted.style .. "}"
     local aux = table.concat(lines, "\n") .. "\n"
-    local list, log, report, events = btx.run(job, function(name)
+    local list, log, report, events, notes = btx.run(job, function(name)
         return name == job .. ".aux" and aux or btx.find(name)
     end, wanted.options)
-    texio.write_nl("log", log)
+    texio.write_nl("log", table.concat(notes or {}, "\n") .. "\n" .. log)
     if report.status ~= 0 then
         tex.error("btx: " .. (first_error(events) or log:match("(Ended: [^,\n]*)") or "no list"))
     end

@@ -1,11 +1,12 @@
-"""Writes what the letters of each language sort as, for the packages for Node and Python, from the front end's table.
+"""Writes what the letters of each language sort as, for the packages for Node, Python and Lua, from the front end's table.
 
     python3 web/languages.py [OUT.js]
     python3 web/languages.py --python [OUT.py]
+    python3 web/languages.py --lua [OUT.lua]
 
 It takes these from the front end's sources, so that there is one of each: the table of letters, the fields whose values stay as they are, why letters are left out, what each built-in
-function does with letters, and the limits. OUT.js is web/npm/languages.js, which `web/build` has made so, and OUT.py is python/btx/languages.py, which stands in the repository: tests see that it is
-what this script makes. Where a table isn't read whole, nothing is written: the number of its rows has to be what it declares."""
+function does with letters, and the limits. OUT.js is web/npm/languages.js, which `web/build` has made so. OUT.py is python/btx/languages.py and OUT.lua is lua/btx_languages.lua, which stand in the repository: tests see that they are
+what this script makes. Lua knows the case of no letter outside ASCII, so OUT.lua has a table of these, too. Where a table isn't read whole, nothing is written: the number of its rows has to be what it declares."""
 
 import json
 import pathlib
@@ -14,7 +15,7 @@ import sys
 
 HERE = pathlib.Path(__file__).resolve().parent
 ROOT = HERE.parent
-OF_NODE, OF_PYTHON = HERE / "npm/languages.js", ROOT / "python/btx/languages.py"
+OF_NODE, OF_PYTHON, OF_LUA = HERE / "npm/languages.js", ROOT / "python/btx/languages.py", ROOT / "lua/btx_languages.lua"
 # What is read: each file of front/src by its name.
 FILES = ("languages", "letter_run", "letter_values", "database", "style_keys")
 
@@ -167,9 +168,63 @@ def module(texts):
     return "\n".join([*lines, ""])
 
 
+# A letter of the tables of which Python knows no capital before Unicode 16.
+CAPITALS = {"ƛ": "\ua7dc"}
+
+
+def cases(texts):
+    """Letters whose small letter sorts as something: of each itself, that small letter, it in the other case, and whether it is a capital."""
+    _, _, root = next(of_letters(texts))
+    own = [rule for _, rules in dict((name, value) for _, name, value in of_letters(texts))["LANGUAGES"] for rule in rules]
+    small = {letter for letters, _ in [*root, *own] for letter in letters if letter >= "\x80"}
+    smaller = {capital: letter for letter, capital in CAPITALS.items()}
+    for letter in map(chr, range(0x80, 0x20000)):
+        lower = smaller.get(letter) or letter.lower()
+        if lower[0] in small:
+            is_capital = letter.isupper() or letter in smaller
+            yield letter, lower[0], lower if is_capital else CAPITALS.get(letter) or letter.upper(), is_capital
+
+
+def as_lua(value):
+    """A value as Lua has it."""
+    if isinstance(value, dict):
+        return "{ %s }" % ", ".join(f"[{as_lua(name)}] = {as_lua(it)}" for name, it in value.items())
+    if isinstance(value, (list, tuple)):
+        return "{ %s }" % ", ".join(map(as_lua, value))
+    return json.dumps(value, ensure_ascii=False)
+
+
+def lua(texts):
+    """The same for Lua."""
+    found = list(cases(texts))
+    small = {letter: other for letter, _, other, is_capital in found if not is_capital}
+    pairs = [(letter, other) for letter, lower, other, is_capital in found if is_capital and lower == other and small.get(lower) == letter]
+    paired = {letter for pair in pairs for letter in pair}
+    values = {"FIXED": lambda fields: {field: True for field in fields}, "LANGUAGES": dict}
+    lines = ["-- What the letters of each language sort as. web/languages.py makes this file from the front end's sources: change it there.", "", "local tables = { CASES = {} }"]
+    for comment, name, value in tables(texts):
+        made = values.get(name, lambda it: it)(value)
+        rows = [f"    {f'[{as_lua(key)}] = ' if isinstance(made, dict) else ''}{as_lua(it)}," for key, it in (made.items() if isinstance(made, dict) else enumerate(made))] if name in LONG else []
+        lines += ["", f"-- {comment}", *([f"tables.{name} = {{", *rows, "}"] if rows else [f"tables.{name} = {as_lua(made)}"])]
+    lines += ["", "-- The names of the languages.", f"tables.NAMES = {as_lua([name for name, _ in dict((name, value) for _, name, value in of_letters(texts))['LANGUAGES']])}"]
+    lines += ["", "-- Capitals whose small letters sort as something, each before its small letter.", f'local PAIRS = "{"".join(one + other for one, other in pairs)}"']
+    lines += ["", "-- Letters that aren't of such a pair: itself, the small letter, it in the other case, and whether it is a capital.", "local OTHERS = {"]
+    lines += [*(f"    {as_lua(row)}," for row in found if row[0] not in paired), "}", "", *LUA_TAIL, "", "return tables", ""]
+    return "\n".join(lines)
+
+
+LUA_TAIL = """for capital, small in PAIRS:gmatch("([^\\128-\\191][\\128-\\191]*)([^\\128-\\191][\\128-\\191]*)") do
+    tables.CASES[capital] = { small = small, other = small, is_capital = true }
+    tables.CASES[small] = { small = small, other = capital, is_capital = false }
+end
+for _, row in ipairs(OTHERS) do
+    tables.CASES[row[1]] = { small = row[2], other = row[3], is_capital = row[4] }
+end""".split("\n")
+
+
 def main(words):
-    make, usual = (module, OF_PYTHON) if words[:1] == ["--python"] else (script, OF_NODE)
-    named = [word for word in words if word != "--python"]
+    make, usual = {"--python": (module, OF_PYTHON), "--lua": (lua, OF_LUA)}.get(words[0] if words else "", (script, OF_NODE))
+    named = [word for word in words if not word.startswith("--")]
     try:
         text = make(sources())
     except Unknown as why:
