@@ -158,6 +158,8 @@ pub enum Seen {
     AndAtEnd,
     NamesBySign,
     CommasForAnd,
+    BareOrganization,
+    OddDollars,
 }
 
 impl Seen {
@@ -210,6 +212,8 @@ impl Seen {
             Seen::AndAtEnd => "take out this `and`: it stands between two names",
             Seen::NamesBySign => "write ` and ` between two names",
             Seen::CommasForAnd => "write ` and ` between two names: with two commas this is one, `von Last, Jr, First`",
+            Seen::BareOrganization => "put the organization's whole name into braces of its own: here it is read as a person's first and last names",
+            Seen::OddDollars => "write `\\$` where no formula is meant: this `$` has no other one",
             Seen::OfBiblatex => "run `biber $1` in the place of BibTeX, or give `biblatex` the option `backend=bibtex` and run LaTeX",
         }
     }

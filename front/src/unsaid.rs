@@ -1,5 +1,5 @@
-//! What no run logs although an author may have meant something else: the name of a string as a text, names that aren't parted by ` and `, and fields that the style doesn't read. It is said of
-//! the entries that a job cites, after its messages.
+//! What no run logs although an author may have meant something else: the name of a string as a text, names that aren't parted by ` and `, an organization that is read as a person, a `$` without
+//! another one, and fields that the style doesn't read. It is said of the entries that a job cites, after its messages.
 
 use crate::advice::Seen;
 use crate::aux_text::cited_keys;
@@ -22,6 +22,21 @@ const MOST_FIELDS: usize = 8;
 
 /// Fields in which the name of a string is meant to be one.
 const OF_STRINGS: [&str; 4] = ["journal", "month", "publisher", "series"];
+
+/// Words that no person's name has; `python/btx/doctor.py` has the same.
+#[rustfmt::skip]
+const ORGANIZATIONS: [&str; 35] = [
+    "academy", "association", "bureau", "collaboration", "college", "commission", "committee", "consortium", "corporation", "council", "department", "federation", "foundation", "group",
+    "institut", "institute", "institution", "laboratories", "laboratory", "ministerium", "ministry", "ministère", "organisation", "organization", "society", "universidad", "universidade",
+    "universiteit", "universitet", "university", "università", "universität", "université", "universitat", "verein",
+];
+
+/// Fields of addresses and of other programs, which no style sets as a text of TeX.
+const NO_TEXTS: [&str; 10] =
+    ["abstract", "annote", "bdsk-file-1", "bdsk-url-1", "biburl", "doi", "eprint", "file", "keywords", "url"];
+
+/// Commands of TeX whose argument is an address, in which a `$` is a sign as others are.
+const OF_ADDRESSES: [&[u8]; 4] = [b"href", b"nolinkurl", b"path", b"url"];
 
 /// Fields that programs keep for themselves: no author looks for them in a list.
 const KEPT: [&str; 16] = [
@@ -168,7 +183,34 @@ fn seen_in(name: &[u8], bytes: &[u8], text: &Range<usize>, strings: &HashSet<Fol
         return strings.contains(&Folded(inside.trim_ascii())).then_some((text.start, Seen::StringAsText));
     }
     let is_of_names = is_one_of(name, &["author", "editor"]);
-    is_of_names.then(|| seen_in_names(inside)).flatten().map(|(place, seen)| (text.start + place, seen))
+    let in_names = is_of_names.then(|| seen_in_names(inside)).flatten();
+    let dollar = || odd_dollar(inside).filter(|_| !is_one_of(name, &NO_TEXTS)).map(|place| (place, Seen::OddDollars));
+    in_names.or_else(dollar).map(|(place, seen)| (text.start + place, seen))
+}
+
+/// The last `$` of a text where the number of those without a backslash is odd.
+fn odd_dollar(text: &[u8]) -> Option<usize> {
+    let (mut at, mut is_odd, mut last) = (0, false, 0);
+    let is_sign = |byte: &u8| matches!(byte, b'\\' | b'$');
+    while let Some(before) = text.get(at..).and_then(|rest| rest.iter().position(is_sign)) {
+        at += before;
+        if text[at] == b'\\' {
+            at += length_of_command(&text[at..]);
+        } else {
+            (is_odd, last) = (!is_odd, at);
+            at += 1;
+        }
+    }
+    is_odd.then_some(last)
+}
+
+/// How many bytes a command of TeX has that begins a text: the backslash and the byte after it, or all of an address.
+fn length_of_command(text: &[u8]) -> usize {
+    let argument = |command: &[u8]| text[1..].strip_prefix(command)?.trim_ascii_start().strip_prefix(b"{");
+    let after = OF_ADDRESSES.iter().find_map(|command| argument(command));
+    let brace =
+        after.and_then(|after| after.iter().position(|byte| matches!(byte, b'{' | b'}')).map(|at| &after[at..]));
+    brace.filter(|rest| rest[0] == b'}').map_or(2, |rest| text.len() - rest.len() + 1)
 }
 
 /// The words of a list of names that stand outside of braces, each with its place.
@@ -215,7 +257,18 @@ fn seen_in_names(names: &[u8]) -> Option<(usize, Seen)> {
             return Some((at, Seen::NamesBySign));
         }
     }
-    words.split(|(_, word)| word.eq_ignore_ascii_case(b"and")).find_map(commas_for_and)
+    let names = || words.split(|(_, word)| word.eq_ignore_ascii_case(b"and"));
+    names().find_map(commas_for_and).or_else(|| names().find_map(bare_organization))
+}
+
+/// A name of several words that no person's has.
+fn bare_organization(name: &[(usize, &[u8])]) -> Option<(usize, Seen)> {
+    let is_its_word = |word: &[u8]| {
+        let word = word.strip_suffix(b",").unwrap_or(word);
+        ORGANIZATIONS.iter().any(|known| word.eq_ignore_ascii_case(known.as_bytes()))
+    };
+    let is_it = name.len() > 1 && name.iter().any(|(_, word)| is_its_word(word));
+    is_it.then(|| (name[0].0, Seen::BareOrganization))
 }
 
 /// A name of two commas whose middle part has several words, so that each part is a name: no Jr has two words.
@@ -273,6 +326,36 @@ mod tests {
         ] {
             assert_eq!(seen(whole), None, "{whole}");
         }
+    }
+
+    #[test]
+    fn organizations_have_braces_of_their_own() {
+        let seen = |names: &str| seen_in_names(names.as_bytes());
+        assert_eq!(seen("A. B and World Health Organization"), Some((9, Seen::BareOrganization)));
+        assert_eq!(seen("Institute of Physics, London"), Some((0, Seen::BareOrganization)));
+        assert_eq!(seen("Université de Genève"), Some((0, Seen::BareOrganization)));
+        for whole in
+            ["{World Health Organization} and A. B", "UNESCO", "Committee", "Pat O'Group", "{Institute} {of} P"]
+        {
+            assert_eq!(seen(whole), None, "{whole}");
+        }
+    }
+
+    #[test]
+    fn a_dollar_sign_has_another_one() {
+        let place = |text: &str| odd_dollar(text.as_bytes());
+        assert_eq!(
+            [place("On $n"), place("$a$ and b$"), place("a\\\\$"), place("\\urls{$}")],
+            [Some(3), Some(9), Some(3), Some(6)]
+        );
+        assert_eq!([place("\\url {$"), place("\\url{{$}}"), place("$\\")], [Some(6), Some(6), Some(0)]);
+        for whole in ["", "$n$", "\\$5", "$$n$$", "\\url{a/$b}", "\\href {a$}{$c$}", "\\\\ $a$", "a\\"] {
+            assert_eq!(place(whole), None, "{whole}");
+        }
+        let seen = |field: &str| {
+            with_unsaid(&format!("@misc{{k, {field} = {{$}}}}"), |unsaid| unsaid.found.first().map(|found| found.seen))
+        };
+        assert_eq!([seen("title"), seen("note"), seen("url")], [Some(Seen::OddDollars), None, None]);
     }
 
     #[test]

@@ -163,6 +163,8 @@ def mending_of(document: Document, workspace: Workspace, finding: Finding, style
         return written(place, nearest(word, [it.decode("utf8", "replace") for it in style.fields]))
     if finding.check == "one-hyphen":
         return written(place, re.sub(r"(?<=[0-9])\s*[-\u2013\u2014]\s*(?=[0-9])", "--", word))
+    if finding.check == "bare-organization":
+        return written(place, f"{{{word}}}")
     if finding.check == "month-text":
         return written(place, word.strip('{}" \t\r\n')[:3].lower())
     if finding.check != "mistake" or finding.text == REPEATED:

@@ -40,8 +40,10 @@ CHECKS = {
         Check("repeated-title", "info", "A guess: title and year are equal, but for case, TeX's commands and punctuation."),
         Check("et-al", "warning", "A guess: a name has the words et al.; BibTeX's word for this is `and others`."),
         Check("others-inside", "warning", "Exact: `others` isn't the last name, so no style takes it for et al."),
+        Check("bare-organization", "warning", "A guess: a name has a word such as Institute and isn't in braces of its own, so it is read as a person's."),
         Check("von-letter", "info", "Exact, by RULES' von: such a word isn't abbreviated, and a style sorts the name by it."),
         Check("empty-field", "info", "Exact: the value is whitespace alone."),
+        Check("odd-dollars", "warning", "Exact: the number of `$` without a backslash is odd, but for addresses; TeX stops where a style prints the field."),
         Check("one-hyphen", "info", "A guess: a range of pages is written with two hyphens."),
         Check("month-text", "info", "A guess: a month that is written out can't be shortened by a style; `jan` can."),
         Check("unread-field", "info", "Exact, with --style: its ENTRY list doesn't have the field, so a run ignores it."),
@@ -62,8 +64,19 @@ NOT_TITLE = bytes(byte for byte in range(128) if not chr(byte).isalnum())
 ONE_HYPHEN = re.compile(rb"[0-9] ?(?:-|\xe2\x80\x93|\xe2\x80\x94) ?[0-9]")
 MONTH_NAME = re.compile(rb"(?:jan|feb|mar|apr|may|jun|jul|aug|sep|oct|nov|dec)[a-z]*\.?", re.IGNORECASE)
 ET_AL = re.compile(rb"(?<![A-Za-z])et\.?[ ~]*al(?![a-z])", re.IGNORECASE)
+# Words that no person's name has; front/src/unsaid.rs has the same.
+ORGANIZATIONS = (
+    "academy association bureau collaboration college commission committee consortium corporation council department federation foundation group institut institute institution laboratories laboratory"
+    " ministerium ministry ministère organisation organization society universidad universidade universiteit universitet university università universität université universitat verein"
+).split()
+OF_ORGANIZATIONS = re.compile(rb"(?<![^ \t\r\n~])(?:%s),?(?![^ \t\r\n~])" % "|".join(ORGANIZATIONS).encode(), re.IGNORECASE)
+# A dollar sign, and what has none of its own: what has a backslash before it, and an address.
+DOLLAR = re.compile(rb"\\(?:url|path|nolinkurl|href)[ \t\r\n]*\{[^{}]*\}|\\.|\$", re.DOTALL)
+# Fields of addresses and of other programs, which no style sets as a text of TeX.
+NO_TEXTS = frozenset(b"abstract annote bdsk-file-1 bdsk-url-1 biburl doi eprint file keywords url".split())
 # The word that parts names; a word of a name.
 PARTS_NAMES = re.compile(rb"[ \t\r\n]and(?=[ \t\r\n])", re.IGNORECASE)
+NAME_PARTS = re.compile(rb"[ \t\r\n~]+")
 NAME_WORD = re.compile(rb"[^ \t\r\n~,-]+")
 LEAST_TITLE = 12
 
@@ -266,6 +279,8 @@ class Examiner:
                 self.say("empty-field", database.start(field), field.end, f"the field {shown(name)} is empty", item)
             elif name in EXAMINED:
                 EXAMINED[name](self, item, field)
+            if b"$" in field.value and name not in NO_TEXTS and (read_by_style is None or name in read_by_style):
+                self.dollars(item, field)
         if b"doi" in values:
             yield "doi", RESOLVER.sub(b"", values[b"doi"].value.lower()), b""
         if b"title" in values:
@@ -289,7 +304,8 @@ class Examiner:
     def names(self, item: Item, field: Field) -> None:
         """Examines the names of a field."""
         value = field.value
-        may_be_doubtful = not value.isascii() or b"thers" in value or b"THERS" in value or ET_AL.search(value) is not None
+        has_organization = OF_ORGANIZATIONS.search(value) is not None
+        may_be_doubtful = has_organization or not value.isascii() or b"thers" in value or b"THERS" in value or ET_AL.search(value) is not None
         if not may_be_doubtful or not self.database.is_text(field):
             return
         text = self.database.raw(field)
@@ -298,7 +314,7 @@ class Examiner:
         if found is not None:
             self.say("et-al", offset + found.start(), offset + found.end(), "et al. is taken as a name: write `and others`", item)
         is_plain = text.isascii()
-        if is_plain and b"thers" not in text and b"THERS" not in text:
+        if is_plain and not has_organization and b"thers" not in text and b"THERS" not in text:
             return
         hidden = hide_braces(text)
         names = list(spans_of_names(hidden))
@@ -308,8 +324,22 @@ class Examiner:
                 start = hidden.index(name, start)
                 end = start + len(name)
                 self.say("others-inside", offset + start, offset + end, "`others` is the word for et al. as the last name alone", item)
+            if has_organization:
+                self.organization(item, offset, hidden, start, end)
             if not is_plain:
                 self.von(item, offset, hidden, start, end)
+
+    def organization(self, item: Item, offset: int, hidden: bytes, start: int, end: int) -> None:
+        """Looks for a word of an organization in a name of several words that isn't in braces."""
+        name = hidden[start:end].strip(b" \t\r\n")
+        if len(NAME_PARTS.split(name)) > 1 and OF_ORGANIZATIONS.search(name):
+            place = offset + hidden.index(name, start)
+            self.say("bare-organization", place, place + len(name), "an organization is read as a person, of first and last names: put its whole name into braces of its own", item)
+
+    def dollars(self, item: Item, field: Field) -> None:
+        """Looks for a `$` that has no other one."""
+        if sum(found[0] == b"$" for found in DOLLAR.finditer(field.value)) % 2:
+            self.say("odd-dollars", self.database.start(field), field.end, "a `$` has no other one: write `\\$` where no formula is meant", item)
 
     def von(self, item: Item, offset: int, hidden: bytes, start: int, end: int) -> None:
         """Looks for a word of a name that begins with a capital letter outside ASCII and is taken as von by its next letter."""

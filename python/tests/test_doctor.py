@@ -4,12 +4,14 @@ import json
 import os
 import pathlib
 import random
+import re
 import tempfile
 import time
 import unittest
 
 import btx
-from btx.doctor import CHECKS, Citation, Memory, Source, Style, examine, hide_braces
+from btx.doctor import CHECKS, NO_TEXTS, ORGANIZATIONS, Citation, Memory, Source, Style, examine, hide_braces
+from tests.jobs import SOURCES
 from tests.spoilt import SEEDS, logged, run_module, spoilt, spoilt_once
 
 STYLE = b"ENTRY {author title year} {} {}\nMACRO {acm} {\"ACM\"}\nFUNCTION {book} {}\nFUNCTION {misc} {}\nREAD\n"
@@ -27,6 +29,10 @@ ROWS = [
     ("et-al", b"@misc{k, author = {A. Bee <et al>.}}", b"@misc{k, author = {A. Bee and Pet Albers and others}}"),
     ("others-inside", b"@misc{k, author = {A Bee and <others> and C Dee}}", b"@misc{k, author = {A Bee and C Dee and others}}"),
     ("von-letter", "@misc{k, author = {<Émile> Zola}}".encode(), "@misc{k, author = {Zola, Émile and {\\'E}mile Zola and Émile and ÉA Zola and É{\\'M}ile Zola}}".encode()),
+    ("bare-organization", b"@misc{k, author = {A Bee and <World Health Organization>}}", b"@misc{k, author = {{World Health Organization} and UNESCO and Committee and Pat O'Groups}}"),
+    ("bare-organization", "@misc{k, editor = \"<Universität zu Köln>\"}".encode(), "@misc{k, editor = {{Universität zu Köln} and Jo Universitätsen}}".encode()),
+    ("odd-dollars", b"@misc{k, title = <{On $n}>}", b"@misc{k, title = {On $n$, \\$5, \\\\$m$ and \\url{http://a.b/$c}}, url = {http://a.b/$c}, doi = {$}}"),
+    ("odd-dollars", b"@misc{k, title = <{On \\\\$n} # { or m}>}", b"@misc{k, title = {On $n} # { or m$}}"),
     ("empty-field", b"@misc{k, note = <{ \n}>}", b"@misc{k, note = {a}, x = 0}"),
     ("one-hyphen", b"@misc{k, pages = <{1-2}>}", b"@misc{k, pages = {1--2, a-b}}"),
     ("month-text", b"@misc{k, month = <\"January\">}", b"@misc{k, month = jan} @misc{j, month = {Spring}}"),
@@ -34,6 +40,7 @@ ROWS = [
 OF_STYLE = [
     ("unread-field", b"@misc{k, <note> = {A}}", b"@misc{k, title = {A}, crossref = {x}}"),
     ("unknown-type", b"<@article>{k}", b"@book{k}"),
+    ("odd-dollars", b"@misc{k, title = <{$}>}", b"@misc{k, note = {$}}"),
     ("undefined-string", b"@misc{k, title = <jan>}", b"@misc{k, title = acm, note = zz}"),
 ]
 
@@ -77,6 +84,13 @@ class Checks(unittest.TestCase):
         self.assertEqual(rows, set(CHECKS))
         self.assertEqual({check.severity for check in CHECKS.values()}, {"error", "warning", "info"})
         self.assertTrue(all(check.exact.startswith(("Exact", "A guess")) for check in CHECKS.values()))
+
+    def test_the_front_end_has_the_same_words(self):
+        text = (SOURCES / "front/src/unsaid.rs").read_text(encoding="utf8")
+        for name, words in (("ORGANIZATIONS", set(ORGANIZATIONS)), ("NO_TEXTS", {it.decode() for it in NO_TEXTS})):
+            with self.subTest(name=name):
+                found = re.search(rf"const {name}: [^=]*=\s*\[(.*?)\];", text, re.S)
+                self.assertEqual(set(re.findall(r'"([^"]+)"', found[1])), words)
 
     def test_two_databases_are_those_of_one_job(self):
         one, two = Source("1.bib", b"@string{s = {x}} @misc{k}"), Source("2.bib", b"@misc{K, note = s} @misc{j, note = s}")

@@ -246,6 +246,14 @@ class Databases(WithEditor):
         self.assertEqual((change["range"]["start"], change["newText"]), ({"line": 1, "character": 14}, ","))
 
 
+    def test_an_organization_gets_braces(self):
+        text = "@book{k, title = {😀}, author = {A B and World Bank Group}}\n"
+        self.assertEqual(self.said("d.bib", text), [("World Bank Group", "bare-organization", 2)])
+        place = self.editor.at("d.bib", *spot(text, "World"))
+        (found,) = self.editor.result("textDocument/codeAction", textDocument=place["textDocument"], range={"start": place["position"], "end": place["position"]}, context={"diagnostics": []})
+        self.assertEqual(found["title"], "Write {World Bank Group}")
+
+
 class Documents(WithEditor):
     def test_citations(self):
         self.assertEqual(self.said("paper.tex", PAPER), [("bok1", "no-entry", 2)])

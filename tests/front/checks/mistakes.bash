@@ -129,3 +129,15 @@ done
 run_search -explain -terse job
 ! grep -q 'No message' "$folder/stdout" || complaints+=("-terse says it too: $(cat "$folder/stdout")")
 end
+
+begin mistakes_of_organizations_and_formulas
+write_author_style
+printf '%s\n' '\citation{a,b,c}' '\bibdata{d}' '\bibstyle{s}' >job.aux
+printf '%s\n' '@misc{a, author = {A. B and World Health Organization}}' '@misc{b, author = {{World Health Organization}}, title = {On $n}}' '@misc{c, author = {A. B}, title = {\$5, $n$ and \url{a/$b}}}' >d.bib
+run_search -explain job
+wants_status 0
+for words in "put the organization's whole name into braces of its own" 'd.bib:1: ' 'write `\$` where no formula is meant' 'd.bib:2: '; do
+    wants_words "$folder/stdout" "$words"
+done
+! grep -q 'd.bib:3' "$folder/stdout" || complaints+=("what is right is shown: $(cat "$folder/stdout")")
+end
