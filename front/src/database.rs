@@ -2,6 +2,7 @@
 //! Databases.
 
 use crate::text::{Text, find_byte};
+use memchr::memchr3;
 use std::collections::HashSet;
 use std::hash::{Hash, Hasher};
 use std::ops::Range;
@@ -297,6 +298,7 @@ impl<'a> Reader<'a> {
     }
 
     /// Takes the longest run of bytes that pass a test.
+    #[inline]
     fn take(&mut self, test: impl Fn(u8) -> bool) -> &'a [u8] {
         let rest = &self.text[self.at..];
         let taken = &rest[..rest.iter().position(|byte| !test(*byte)).unwrap_or(rest.len())];
@@ -305,12 +307,19 @@ impl<'a> Reader<'a> {
     }
 
     /// The byte after whitespace, which isn't taken.
+    #[inline]
     fn next_byte(&mut self) -> Read<u8> {
-        self.take(is_white);
-        self.text.get(self.at).copied().ok_or(END_OF_FILE)
+        while let Some(byte) = self.text.get(self.at) {
+            if !is_white(*byte) {
+                return Ok(*byte);
+            }
+            self.at += 1;
+        }
+        Err(END_OF_FILE)
     }
 
     /// Takes one of these bytes.
+    #[inline]
     fn expect(&mut self, wanted: &[u8], message: &'static str) -> Read<u8> {
         let byte = self.next_byte()?;
         if !wanted.contains(&byte) {
@@ -320,6 +329,7 @@ impl<'a> Reader<'a> {
         Ok(byte)
     }
 
+    #[inline]
     fn name(&mut self) -> Read<&'a [u8]> {
         if self.next_byte()?.is_ascii_digit() {
             return Err(NO_NAME);
@@ -407,18 +417,21 @@ impl<'a> Reader<'a> {
 
     /// Takes a text in braces or quotes.
     fn group(&mut self, opening: u8) -> Read<()> {
-        let (mut depth, start) = (0, self.at + 1);
-        for (at, byte) in self.text[start..].iter().enumerate() {
-            match *byte {
+        let (mut depth, mut at) = (0, self.at + 1);
+        while let Some(before) = memchr3(b'{', b'}', b'"', &self.text[at..]) {
+            at += before;
+            let byte = self.text[at];
+            match byte {
                 b'{' => depth += 1,
                 b'}' if depth > 0 => depth -= 1,
-                b'}' | b'"' if depth == 0 && (*byte == b'}' || opening == b'"') => {
-                    let is_unbalanced = opening == b'"' && *byte == b'}';
-                    self.at = start + at + usize::from(!is_unbalanced);
+                b'}' | b'"' if depth == 0 && (byte == b'}' || opening == b'"') => {
+                    let is_unbalanced = opening == b'"' && byte == b'}';
+                    self.at = at + usize::from(!is_unbalanced);
                     return if is_unbalanced { Err("Unbalanced braces") } else { Ok(()) };
                 }
                 _ => {}
             }
+            at += 1;
         }
         self.at = self.text.len();
         Err(END_OF_FILE)

@@ -1,8 +1,6 @@
 //! What the letters of a language sort as. The rules are those of primary weights alone: of the default table of Unicode 15.0 (DUCET), and of CLDR's tailorings as Perl's
 //! `Unicode::Collate::Locale` 1.31 has them. So `v` and `w` of Swedish and Finnish, which CLDR tells apart today, are two letters here.
 
-use std::collections::HashMap;
-
 /// A byte that sorts after each letter of ASCII; `purify$` keeps it, and it has no width. A `*` stands for it in the tables.
 pub const AFTER: u8 = 0xFF;
 
@@ -59,8 +57,8 @@ pub fn names() -> String {
 #[derive(Debug, Clone, PartialEq, Eq)]
 pub struct Language {
     pub name: &'static str,
-    /// What small letters sort as.
-    keys: HashMap<char, Vec<u8>>,
+    /// Its own rules.
+    own: &'static [Rule],
     /// Letters that are one, the longest first, and what the first of them sorts as.
     several: Vec<(&'static str, Vec<u8>)>,
 }
@@ -79,12 +77,10 @@ impl Language {
     /// The language of this name.
     pub fn named(name: &[u8]) -> Option<Language> {
         let (name, own) = *LANGUAGES.iter().find(|row| row.0.as_bytes() == name)?;
-        let single = ROOT.iter().chain(own).filter(|rule| are_single(rule.0));
-        let keys = single.flat_map(|(letters, written)| letters.chars().map(|letter| (letter, key(written)))).collect();
         let mut several: Vec<(&str, Vec<u8>)> =
             own.iter().filter(|rule| !are_single(rule.0)).map(|(letters, written)| (*letters, key(written))).collect();
         several.sort_by_key(|(letters, _)| std::cmp::Reverse(letters.chars().count()));
-        Some(Language { name, keys, several })
+        Some(Language { name, own, several })
     }
 
     /// Whether `I` is the capital of `ı`, and `İ` that of `i`.
@@ -98,8 +94,10 @@ impl Language {
     }
 
     /// What a small letter outside ASCII sorts as; None where it isn't a Latin one.
-    pub fn key(&self, small: char) -> Option<&[u8]> {
-        self.keys.get(&small).map(Vec::as_slice)
+    pub fn key(&self, small: char) -> Option<Vec<u8>> {
+        let mut own = self.own.iter().filter(|rule| are_single(rule.0));
+        let of_all = || ROOT.iter().find(|(letters, _)| letters.contains(small));
+        own.find(|(letters, _)| letters.contains(small)).or_else(of_all).map(|(_, written)| key(written))
     }
 
     /// What the first letter of a text sorts as by being one with those that follow.
@@ -131,7 +129,7 @@ mod tests {
 
     #[test]
     fn rules_of_a_language_come_before_those_of_all() {
-        let keys = |name: &str| ['ä', 'é', 'å'].map(|letter| language(name).key(letter).map(<[u8]>::to_vec));
+        let keys = |name: &str| ['ä', 'é', 'å'].map(|letter| language(name).key(letter));
         assert_eq!(keys("plain"), [key("a"), key("e"), key("a")].map(Some));
         assert_eq!(keys("de-phonebook"), [key("ae"), key("e"), key("a")].map(Some));
         assert_eq!(keys("da"), [key("*a"), key("e"), key("*ca")].map(Some));

@@ -28,24 +28,27 @@ pub fn has_digits(text: &[u8]) -> bool {
     text.chunks(4096).any(|piece| piece.iter().fold(false, |has, byte| has | is_digit(*byte)))
 }
 
-/// Whether each byte may begin a code, or may be left over of one.
-const IS_OF_CODE: [bool; 256] = {
-    let (mut table, mut byte) = ([false; 256], 0);
-    while byte < 256 {
-        table[byte] = byte as u8 == b'{' || is_digit(byte as u8) || byte as u8 >= MARK;
-        byte += 1;
-    }
-    table
-};
+/// Whether a byte is one of a code, or one that only keys have.
+const fn is_of_code(byte: u8) -> bool {
+    is_digit(byte) || byte >= MARK
+}
+
+/// The first byte from this place on that is one of a code, or that only keys have. Of 32 bytes the processor looks at many at once.
+fn find_of_code(text: &[u8], from: usize) -> Option<usize> {
+    let has_it = |chunk: &[u8; 32]| chunk.iter().fold(false, |has, byte| has | is_of_code(*byte));
+    let (chunks, _) = text[from..].as_chunks::<32>();
+    let at = from + 32 * chunks.iter().position(has_it).unwrap_or(chunks.len());
+    text[at..].iter().position(|byte| is_of_code(*byte)).map(|after| at + after)
+}
 
 fn value_of(digit: u8) -> Option<usize> {
-    DIGITS.iter().position(|byte| *byte == digit)
+    is_digit(digit).then(|| usize::from(digit) - if digit < 9 { 1 } else { 6 })
 }
 
 /// A letter that has a code.
 #[derive(Debug)]
 struct Letter {
-    itself: char,
+    itself: String,
     /// It in the other case.
     other: String,
     is_capital: bool,
@@ -62,7 +65,7 @@ impl Letter {
             _ if is_capital => itself.to_lowercase().collect(),
             _ => itself.to_uppercase().collect(),
         };
-        Letter { itself, other, is_capital }
+        Letter { itself: itself.into(), other, is_capital }
     }
 }
 
@@ -91,8 +94,33 @@ pub struct Codes {
     letters: Vec<Letter>,
     /// Their numbers, by themselves; the `I` of a foreign text is another one.
     numbers: HashMap<(char, bool), usize>,
-    /// The code of each, by itself; the `I` of a foreign text is another one. Empty where a letter outside ASCII has none.
-    codes: HashMap<(char, bool), Vec<u8>>,
+    /// The code of each letter outside ASCII that was met, by its place; empty where it has none.
+    codes: Vec<Option<Box<[u8]>>>,
+    /// Those of letters that have no place.
+    others: HashMap<char, Box<[u8]>>,
+}
+
+/// The place of a letter in a table: the Latin letters that most texts have.
+fn place_of(letter: char) -> Option<usize> {
+    match letter as usize {
+        number @ 0x80..=0x24F => Some(number - 0x80),
+        number @ 0x1E00..=0x1EFF => Some(number - 0x1E00 + 0x1D0),
+        _ => None,
+    }
+}
+
+/// How many places there are.
+const PLACES: usize = 0x2D0;
+
+/// The letter outside ASCII with which this text in UTF-8 begins.
+fn first_letter(text: &[u8]) -> Option<char> {
+    let bits = |at: usize| text.get(at).map(|byte| u32::from(byte & 0x3F));
+    let first = u32::from(*text.first()?);
+    char::from_u32(match first {
+        0xC0..=0xDF => (first & 0x1F) << 6 | bits(1)?,
+        0xE0..=0xEF => (first & 0xF) << 12 | bits(1)? << 6 | bits(2)?,
+        _ => (first & 7) << 18 | bits(1)? << 12 | bits(2)? << 6 | bits(3)?,
+    })
 }
 
 impl Codes {
@@ -104,64 +132,92 @@ impl Codes {
             mark,
             letters: Vec::new(),
             numbers: HashMap::new(),
-            codes: HashMap::new(),
+            codes: vec![None; PLACES],
+            others: HashMap::new(),
         }
     }
 
-    /// Writes a text of a value with its letters coded.
-    pub fn code(&mut self, text: &str, out: &mut Vec<u8>) {
-        if !self.language.has_rules_for_ascii() && text.is_ascii() {
-            return out.extend_from_slice(text.as_bytes());
+    /// Writes a text of a value, which is UTF-8, with its letters coded.
+    pub fn code(&mut self, text: &[u8], out: &mut Vec<u8>) {
+        if self.language.has_rules_for_ascii() {
+            return self.code_all(text, out);
         }
+        let (mut depth, mut at, mut copied) = (0, 0, 0);
+        while let Some(before) = text[at..].iter().position(|byte| *byte >= 0x80) {
+            if self.in_braces == InBraces::AsTheyAre {
+                depth += depth_of(&text[at..at + before]);
+            }
+            at += before;
+            let Some(letter) = first_letter(&text[at..]) else { break };
+            let after = at + letter.len_utf8();
+            if depth <= 0 && self.put(letter, &text[copied..at], out) {
+                copied = after;
+            }
+            at = after;
+        }
+        out.extend_from_slice(&text[copied..]);
+    }
+
+    /// The same where letters of ASCII may be coded, too.
+    fn code_all(&mut self, text: &[u8], out: &mut Vec<u8>) {
+        let Ok(text) = std::str::from_utf8(text) else { return out.extend_from_slice(text) };
         let (mut depth, mut copied, is_foreign) = (0, 0, text.is_ascii());
-        let has_rules_for_ascii = self.language.has_rules_for_ascii();
-        for (at, itself) in text.char_indices().filter(|_| has_rules_for_ascii || !is_foreign) {
+        for (at, itself) in text.char_indices() {
             depth += i64::from(itself == '{') - i64::from(itself == '}');
-            let may_be_coded = has_rules_for_ascii || !itself.is_ascii();
-            if !may_be_coded || depth > 0 && self.in_braces == InBraces::AsTheyAre {
+            if depth > 0 && self.in_braces == InBraces::AsTheyAre {
                 continue;
             }
-            let (before, after) = (&text.as_bytes()[copied..at], at + itself.len_utf8());
-            if self.put(itself, &text[at..], is_foreign, before, out) {
-                copied = after;
+            let before = &text.as_bytes()[copied..at];
+            let is_coded = match itself.is_ascii() {
+                true => self.put_of_ascii(itself, &text[at..], is_foreign, before, out),
+                false => self.put(itself, before, out),
+            };
+            if is_coded {
+                copied = at + itself.len_utf8();
             }
         }
         out.extend_from_slice(&text.as_bytes()[copied..]);
     }
 
-    /// Writes a letter with which `rest` begins, and what comes before it; false where it has no code, and nothing is written.
-    fn put(&mut self, itself: char, rest: &str, is_foreign: bool, before: &[u8], out: &mut Vec<u8>) -> bool {
-        // (what a letter of ASCII sorts as depends on those that follow)
-        let known = (itself, is_foreign && itself == 'I');
-        if !itself.is_ascii()
-            && let Some(code) = self.codes.get(&known)
-        {
-            if !code.is_empty() {
-                out.extend_from_slice(before);
-                out.extend_from_slice(code);
+    /// Writes a letter outside ASCII, and what comes before it; false where it has no code, and nothing is written.
+    fn put(&mut self, letter: char, before: &[u8], out: &mut Vec<u8>) -> bool {
+        let place = place_of(letter);
+        if place.map_or_else(|| !self.others.contains_key(&letter), |place| self.codes[place].is_none()) {
+            let key = self.key(letter, "", false);
+            let code = key.and_then(|key| self.code_of((letter, false), &key)).unwrap_or_default().into_boxed_slice();
+            match place {
+                Some(place) => self.codes[place] = Some(code),
+                None => {
+                    self.others.insert(letter, code);
+                }
             }
-            return !code.is_empty();
         }
-        let code = self.key(itself, rest, is_foreign).map(<[u8]>::to_vec).and_then(|key| self.code_of(known, &key));
-        let has_code = code.is_some();
-        if let Some(code) = &code {
-            out.extend_from_slice(before);
-            out.extend_from_slice(code);
-        }
-        if !itself.is_ascii() {
-            self.codes.insert(known, code.unwrap_or_default());
-        }
-        has_code
+        let code = place.map_or_else(|| self.others.get(&letter), |place| self.codes[place].as_ref());
+        let Some(code) = code.filter(|code| !code.is_empty()) else { return false };
+        out.extend_from_slice(before);
+        out.extend_from_slice(code);
+        true
+    }
+
+    /// The same of a letter of ASCII with which `rest` begins: what it sorts as depends on those that follow.
+    fn put_of_ascii(&mut self, itself: char, rest: &str, is_foreign: bool, before: &[u8], out: &mut Vec<u8>) -> bool {
+        let key = self.key(itself, rest, is_foreign);
+        let Some(code) = key.and_then(|key| self.code_of((itself, is_foreign && itself == 'I'), &key)) else {
+            return false;
+        };
+        out.extend_from_slice(before);
+        out.extend_from_slice(&code);
+        true
     }
 
     /// What a letter sorts as with which `rest` begins; None where that is itself.
-    fn key(&self, itself: char, rest: &str, is_foreign: bool) -> Option<&[u8]> {
+    fn key(&self, itself: char, rest: &str, is_foreign: bool) -> Option<Vec<u8>> {
         let language = &self.language;
         match itself {
             'I' if language.is_dotless() => language.key('ı'),
-            'i' if language.is_dotless() && !is_foreign => Some(b"i"),
-            'İ' => Some(b"i"),
-            _ if itself.is_ascii_alphabetic() => language.key_of_several(rest),
+            'i' if language.is_dotless() && !is_foreign => Some(b"i".to_vec()),
+            'İ' => Some(b"i".to_vec()),
+            _ if itself.is_ascii_alphabetic() => language.key_of_several(rest).map(<[u8]>::to_vec),
             _ if itself.is_ascii() => None,
             _ => language.key(itself.to_lowercase().next()?),
         }
@@ -195,16 +251,17 @@ impl Codes {
     pub fn turn_back(&self, text: &[u8]) -> Turned {
         let mut turned = Turned { text: Vec::with_capacity(text.len()), is_whole: true };
         let (mut at, mut copied) = (0, 0);
-        while let Some(before) = text[at..].iter().position(|byte| IS_OF_CODE[usize::from(*byte)]) {
-            at += before;
-            if let Some(code) = self.code_at(&text[at..]) {
-                turned.text.extend_from_slice(&text[copied..at]);
+        while let Some(found) = find_of_code(text, at) {
+            // (the first control character of a code stands after `{\`)
+            let start = found.checked_sub(2).filter(|start| *start >= copied);
+            if let Some((start, code)) = start.and_then(|start| Some((start, self.code_at(&text[start..])?))) {
+                turned.text.extend_from_slice(&text[copied..start]);
                 turned.text.extend_from_slice(self.letter(&code).as_bytes());
-                at += code.len;
-                copied = at;
+                copied = start + code.len;
+                at = copied;
             } else {
-                turned.is_whole &= text[at] == b'{';
-                at += 1;
+                turned.is_whole = false;
+                at = found + 1;
             }
         }
         turned.text.extend_from_slice(&text[copied..]);
@@ -221,13 +278,18 @@ impl Codes {
     }
 
     /// The letter that a code stands for: in the other case where its key has another case than it was given.
-    fn letter(&self, code: &Code<'_>) -> String {
+    fn letter(&self, code: &Code<'_>) -> &str {
         let letter = &self.letters[code.number];
         match code.key.iter().find(|byte| byte.is_ascii_alphabetic()) {
-            Some(byte) if byte.is_ascii_uppercase() != letter.is_capital => letter.other.clone(),
-            _ => letter.itself.into(),
+            Some(byte) if byte.is_ascii_uppercase() != letter.is_capital => &letter.other,
+            _ => &letter.itself,
         }
     }
+}
+
+/// How many more braces a text opens than it closes.
+fn depth_of(text: &[u8]) -> i64 {
+    text.iter().map(|byte| i64::from(*byte == b'{') - i64::from(*byte == b'}')).sum()
 }
 
 /// A code in a text.
@@ -244,7 +306,7 @@ mod tests {
 
     fn coded(codes: &mut Codes, text: &str) -> Vec<u8> {
         let mut out = Vec::new();
-        codes.code(text, &mut out);
+        codes.code(text.as_bytes(), &mut out);
         out
     }
 

@@ -4,9 +4,9 @@ use crate::btx::{Answer, Ran};
 use crate::job::{File, Files};
 use crate::languages::{AFTER, Language};
 use crate::letter_codes::{Codes, InBraces, MARK, has_digits};
-use crate::letter_values::{self, FIXED, parts};
+use crate::letter_values::{self, FIXED, is_one_text, parts};
 use crate::style_keys;
-use crate::text::find;
+use memchr::{memchr2_iter, memmem};
 use std::ops::Range;
 use std::sync::Arc;
 use std::thread;
@@ -124,7 +124,10 @@ impl Job<'_> {
     fn coded(&self, in_braces: InBraces, are_marked: bool) -> Coded {
         let mut codes = Codes::new(self.language, in_braces, are_marked);
         let mut code = |(file, values): (&File, &Vec<Range<usize>>)| {
-            let bytes = file.bytes.as_deref().map(|bytes| coded_text(bytes, values, &mut codes));
+            let bytes = match values[..] {
+                [] => file.bytes.clone(),
+                _ => file.bytes.as_deref().map(|bytes| coded_text(bytes, values, &mut codes)),
+            };
             File { name: file.name.clone(), bytes, path: file.path.clone() }
         };
         let all = self.files.all.iter().zip(&self.values).map(&mut code).collect();
@@ -149,8 +152,7 @@ impl Job<'_> {
     /// Whether no brace of a list is left over from a code that was cut. A style may leave out braces of its own.
     fn has_all_braces(&self, list: &[u8], run: impl Fn(&Files) -> Ran) -> bool {
         const CUT: &[u8] = b"{\\}";
-        let is_cut =
-            find(list, CUT).is_some() && !self.files.all.iter().any(|file| find(bytes_of(file), CUT).is_some());
+        let is_cut = has(list, CUT) && !self.files.all.iter().any(|file| has(bytes_of(file), CUT));
         let depths = depths(list);
         !is_cut && (depths == (0, 0) || depths == self::depths(&run(self.files).list))
     }
@@ -167,26 +169,35 @@ impl Job<'_> {
 fn coded_text(text: &[u8], values: &[Range<usize>], codes: &mut Codes) -> Vec<u8> {
     let mut out = Vec::with_capacity(text.len() + text.len() / 4);
     let mut at = 0;
-    for value in values {
-        for part in parts(&text[value.clone()]) {
-            let (start, end) = (value.start + part.start, value.start + part.end);
-            // An entry that stands in another's value was coded with it.
-            if start < at {
-                continue;
-            }
+    let mut code = |start: usize, end: usize| {
+        // An entry that stands in another's value was coded with it.
+        if start >= at {
             out.extend_from_slice(&text[at..start]);
-            codes.code(std::str::from_utf8(&text[start..end]).unwrap_or_default(), &mut out);
+            codes.code(&text[start..end], &mut out);
             at = end;
+        }
+    };
+    for value in values {
+        if is_one_text(&text[value.clone()]) {
+            code(value.start + 1, value.end - 1);
+        } else {
+            let parts = parts(&text[value.clone()]);
+            parts.into_iter().for_each(|part| code(value.start + part.start, value.start + part.end));
         }
     }
     out.extend_from_slice(&text[at..]);
     out
 }
 
+/// Whether a text has this one in it.
+fn has(text: &[u8], what: &[u8]) -> bool {
+    memmem::find(text, what).is_some()
+}
+
 /// How many braces are open at the end of a text, and at least anywhere in it.
 fn depths(text: &[u8]) -> (i64, i64) {
-    text.iter().fold((0, 0), |(depth, least), byte| {
-        let depth = depth + i64::from(*byte == b'{') - i64::from(*byte == b'}');
+    memchr2_iter(b'{', b'}', text).fold((0, 0), |(depth, least), at| {
+        let depth = if text[at] == b'{' { depth + 1 } else { depth - 1 };
         (depth, depth.min(least))
     })
 }
@@ -243,7 +254,8 @@ mod tests {
     #[test]
     fn an_entry_in_the_value_of_another_is_coded_once() {
         let style = "ENTRY {title} {} {}\nFUNCTION {misc} { title write$ newline$ }\nREAD\nITERATE {call.type$}\n";
-        let database = "@misc{outer, title = {é @misc{inner, title = {ö}} ö}}\n@misc{k, title = {x}, crossref = {outer}}\n";
+        let database =
+            "@misc{outer, title = {é @misc{inner, title = {ö}} ö}}\n@misc{k, title = {x}, crossref = {outer}}\n";
         let top = file("a.aux", "\\citation{inner,k}\n\\bibdata{b}\n\\bibstyle{s}\n");
         let files = Files { top: b"a.aux".to_vec(), all: vec![top, file("s.bst", style), file("b.bib", database)] };
         let rooms = Rooms { list: 1 << 16, log: 1 << 16 };

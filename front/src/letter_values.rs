@@ -13,6 +13,10 @@ use std::ops::Range;
 /// Fields whose values stay as they are: the key of another entry, where something is found, and what styles print as they would sort it, or take apart byte by byte.
 pub const FIXED: [&str; 10] = ["crossref", "doi", "file", "month", "number", "pages", "url", "volume", "xref", "year"];
 
+fn is_fixed(name: &[u8]) -> bool {
+    FIXED.iter().any(|field| field.len() == name.len() && name.eq_ignore_ascii_case(field.as_bytes()))
+}
+
 /// What of a job may be coded.
 #[derive(Debug, Default)]
 pub struct Chosen<'a> {
@@ -74,7 +78,9 @@ struct Database<'a> {
 
 impl<'a> Database<'a> {
     fn new(text: &'a [u8]) -> Database<'a> {
-        Database { text, heads: heads(text).collect(), values: Vec::new(), strings: Vec::new(), fixed: Vec::new() }
+        let mut found = Vec::with_capacity(text.len() / 256);
+        found.extend(heads(text));
+        Database { text, heads: found, values: Vec::new(), strings: Vec::new(), fixed: Vec::new() }
     }
 
     /// Reads the items that are wanted and weren't read yet, and adds their parents to what is wanted.
@@ -111,10 +117,10 @@ impl<'a> Database<'a> {
             types.insert(Folded(item.kind));
         }
         for (name, value) in inside.fields.iter().zip(&inside.values) {
-            if FIXED.iter().any(|field| name.eq_ignore_ascii_case(field.as_bytes())) {
-                self.fixed.extend(names_in(&self.text[value.clone()]));
-            } else {
+            if !is_fixed(name) {
                 self.values.push(value.clone());
+            } else if !is_one_text(&self.text[value.clone()]) {
+                self.fixed.extend(names_in(&self.text[value.clone()]));
             }
         }
         for parent in &item.parents {
@@ -126,12 +132,11 @@ impl<'a> Database<'a> {
             self.strings.push((key.name, value.clone()));
         }
         // (what a parent is that strings say isn't known here)
-        let is_parent = |name: &&[u8]| name.eq_ignore_ascii_case(b"crossref");
-        wanted.are_all |= inside
-            .fields
-            .iter()
-            .zip(&inside.values)
-            .any(|(name, value)| is_parent(name) && names_in(&self.text[value.clone()]).next().is_some());
+        let mut of_fields = inside.fields.iter().zip(&inside.values);
+        let is_of_strings = |(name, value): (&&[u8], &Range<usize>)| {
+            name.eq_ignore_ascii_case(b"crossref") && names_in(&self.text[value.clone()]).next().is_some()
+        };
+        wanted.are_all |= !item.parents.is_empty() && of_fields.any(is_of_strings);
         Ok(item.end)
     }
 
@@ -199,9 +204,7 @@ fn fixed_strings<'a>(databases: &[Database<'a>]) -> HashSet<Folded<'a>> {
 /// The names of strings in a value.
 fn names_in(value: &[u8]) -> impl Iterator<Item = &[u8]> {
     let mut at = 0;
-    // (most values are one text)
-    let is_text = matches!(value, [b'{' | b'"', ..]) && !value.contains(&b'#');
-    let value = if is_text { b"" } else { value };
+    let value = if is_one_text(value) { b"" } else { value };
     let texts = parts(value).into_iter().chain(std::iter::once(value.len()..value.len()));
     let between = texts.map(move |part| {
         let piece = &value[at.min(part.start)..part.start];
@@ -212,6 +215,11 @@ fn names_in(value: &[u8]) -> impl Iterator<Item = &[u8]> {
     between
         .flat_map(move |piece| piece.split(move |byte| !is_of_name(*byte)))
         .filter(|name| name.first().is_some_and(|byte| !byte.is_ascii_digit()))
+}
+
+/// Whether a whole value is certainly one text in braces or quotes, as most are.
+pub fn is_one_text(value: &[u8]) -> bool {
+    matches!(value, [b'{' | b'"', .., _]) && !value.contains(&b'#')
 }
 
 /// The texts in a value, which stand in braces or quotes; round them stand numbers, names of strings and `#`.

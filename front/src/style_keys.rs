@@ -1,9 +1,9 @@
 //! Whether a style may print what `purify$` made of letters, seen by its text alone: it is followed with what each literal and each variable may hold. What can't be followed may print it.
 
-use crate::database::Folded;
 use crate::style_text::{Kind, Token, Tokens};
 use std::collections::HashMap;
-use std::hash::{BuildHasherDefault, Hasher};
+use std::hash::{BuildHasherDefault, Hash, Hasher};
+use std::ops::Range;
 
 /// What a text may hold: bits.
 type Held = u8;
@@ -20,8 +20,12 @@ const MOST_STEPS: usize = 200_000;
 const MOST_NAMES: usize = 5_000;
 const MOST_ROUNDS: usize = 10;
 
-/// How many variables that keep texts a style may have.
+/// How many variables that keep texts a style may have, and how many literals its stack.
 const MOST_TEXTS: usize = 128;
+const MOST_LITERALS: usize = 48;
+
+/// How many states a function is known from.
+const MOST_KNOWN: usize = 32;
 
 /// A hash that is made quickly. (What a stranger can do with it is bounded by the number of names.)
 #[derive(Default)]
@@ -29,25 +33,37 @@ struct Quick(u64);
 
 impl Hasher for Quick {
     fn write(&mut self, bytes: &[u8]) {
-        let (words, rest) = bytes.as_chunks::<8>();
-        words.iter().for_each(|word| self.write_u64(u64::from_le_bytes(*word)));
-        rest.iter().for_each(|byte| self.write_u64(u64::from(*byte)));
+        bytes.iter().for_each(|byte| self.write_u64(u64::from(*byte)));
     }
 
     fn write_u64(&mut self, word: u64) {
         self.0 = (self.0.rotate_left(5) ^ word).wrapping_mul(0x517C_C1B7_2722_0A95);
     }
 
-    fn write_u8(&mut self, byte: u8) {
-        self.write_u64(u64::from(byte));
-    }
-
-    fn write_usize(&mut self, word: usize) {
-        self.write_u64(word as u64);
-    }
-
     fn finish(&self) -> u64 {
         self.0 ^ self.0 >> 32
+    }
+}
+
+/// A name of a style, of which the case of `A-Z` doesn't matter.
+#[derive(Debug, Clone, Copy)]
+struct Name<'a>(&'a [u8]);
+
+impl PartialEq for Name<'_> {
+    fn eq(&self, other: &Self) -> bool {
+        self.0.eq_ignore_ascii_case(other.0)
+    }
+}
+
+impl Eq for Name<'_> {}
+
+impl Hash for Name<'_> {
+    fn hash<H: Hasher>(&self, state: &mut H) {
+        // (with this bit two letters are the same that differ in their case)
+        const SMALL: u64 = 0x2020_2020_2020_2020;
+        let (words, rest) = self.0.as_chunks::<8>();
+        words.iter().for_each(|word| state.write_u64(u64::from_le_bytes(*word) | SMALL));
+        state.write_u64(rest.iter().fold(rest.len() as u64, |word, byte| word << 8 | u64::from(*byte | 0x20)));
     }
 }
 
@@ -59,20 +75,20 @@ struct NotFollowed;
 type Followed<T> = Result<T, NotFollowed>;
 
 /// What a name of a style means.
-#[derive(Debug, Clone, Copy, PartialEq, Eq, Hash)]
+#[derive(Debug, Clone, Copy, PartialEq, Eq)]
 enum Meaning {
     Field(Held),
     Integer,
     /// A variable that keeps a text, by its number: one of the style, and one of each entry.
-    Text(usize),
-    OfEntry(usize),
+    Text(u32),
+    OfEntry(u32),
     /// A function, by its number.
-    Function(usize),
+    Function(u32),
     Builtin(Effect),
 }
 
 /// What a built-in function does with what texts hold.
-#[derive(Debug, Clone, Copy, PartialEq, Eq, Hash)]
+#[derive(Debug, Clone, Copy, PartialEq, Eq)]
 enum Effect {
     /// Pops so many.
     Take(u8),
@@ -136,7 +152,7 @@ const BUILTINS: [(&str, Effect); 37] = [
 ];
 
 /// A token of a body.
-#[derive(Debug)]
+#[derive(Debug, Clone, Copy)]
 enum Step {
     /// A text or an integer of the style.
     Literal,
@@ -144,15 +160,15 @@ enum Step {
     Name(Meaning),
     Quoted(Meaning),
     /// A body in a body, by its number.
-    Body(usize),
+    Body(u32),
 }
 
 /// A literal on the stack.
-#[derive(Debug, Clone, Copy, PartialEq, Eq, Hash)]
+#[derive(Debug, Clone, Copy, PartialEq, Eq)]
 enum Literal {
     Text(Held),
     Name(Meaning),
-    Body(usize),
+    Body(u32),
 }
 
 impl Literal {
@@ -164,11 +180,34 @@ impl Literal {
     }
 }
 
+/// The literals on top of a stack, in room of their own, so that they are copied at once.
+#[derive(Debug, Clone, Copy)]
+struct Stack {
+    room: [Literal; MOST_LITERALS],
+    len: usize,
+}
+
+impl Stack {
+    fn literals(&self) -> &[Literal] {
+        &self.room[..self.len]
+    }
+
+    fn push(&mut self, literal: Literal) -> Followed<()> {
+        *self.room.get_mut(self.len).ok_or(NotFollowed)? = literal;
+        self.len += 1;
+        Ok(())
+    }
+
+    fn pop(&mut self) -> Option<Literal> {
+        self.len = self.len.checked_sub(1)?;
+        Some(self.room[self.len])
+    }
+}
+
 /// Where a style stands: what is on its stack, and what its variables hold. (Those of entries hold what they ever may, since a command goes through the entries.)
-#[derive(Debug, Clone, Default, PartialEq, Eq, Hash)]
+#[derive(Debug, Clone, Copy)]
 struct State {
-    /// The literals on top.
-    stack: Vec<Literal>,
+    stack: Stack,
     /// What any literal below them may hold, of which it isn't known how many there are: two ways may leave different numbers, and another command may have left some.
     below: Held,
     /// Which variables hold letters, and which keys: a bit for each.
@@ -176,9 +215,20 @@ struct State {
     keys: u128,
 }
 
+impl PartialEq for State {
+    fn eq(&self, other: &State) -> bool {
+        self.held() == other.held() && self.stack.literals() == other.stack.literals()
+    }
+}
+
 impl State {
-    fn push(&mut self, held: Held) {
-        self.stack.push(Literal::Text(held));
+    /// What it holds but for the literals on top.
+    fn held(&self) -> (Held, u128, u128) {
+        (self.below, self.letters, self.keys)
+    }
+
+    fn push(&mut self, held: Held) -> Followed<()> {
+        self.stack.push(Literal::Text(held))
     }
 
     /// What a literal holds that is popped.
@@ -192,49 +242,63 @@ impl State {
 
     /// What is so after either of two ways.
     fn join(&self, other: &State) -> Followed<State> {
-        let common = self.stack.len().min(other.stack.len());
-        let (deeper, tops) = self.stack.split_at(self.stack.len() - common);
-        let (deeper_too, other_tops) = other.stack.split_at(other.stack.len() - common);
-        let both = tops.iter().zip(other_tops).map(|pair| match pair {
-            (Literal::Text(held), Literal::Text(more)) => Ok(Literal::Text(held | more)),
-            (one, other) if one == other => Ok(*one),
-            _ => Err(NotFollowed),
-        });
-        let stack = both.collect::<Followed<Vec<Literal>>>()?;
-        let below =
+        let (ours, theirs) = (self.stack.literals(), other.stack.literals());
+        let common = ours.len().min(theirs.len());
+        let (deeper, tops) = ours.split_at(ours.len() - common);
+        let (deeper_too, other_tops) = theirs.split_at(theirs.len() - common);
+        let mut joined = *self;
+        joined.stack.len = common;
+        for (at, pair) in tops.iter().zip(other_tops).enumerate() {
+            joined.stack.room[at] = match pair {
+                (Literal::Text(held), Literal::Text(more)) => Literal::Text(held | more),
+                (one, other) if one == other => *one,
+                _ => return Err(NotFollowed),
+            };
+        }
+        joined.below =
             deeper.iter().chain(deeper_too).fold(self.below | other.below, |below, literal| below | literal.held());
-        Ok(State { stack, below, letters: self.letters | other.letters, keys: self.keys | other.keys })
+        (joined.letters, joined.keys) = (self.letters | other.letters, self.keys | other.keys);
+        Ok(joined)
     }
 
     /// What a variable holds.
-    fn text(&self, number: usize) -> Held {
+    fn text(&self, number: u32) -> Held {
         let held = |bits: u128, held: Held| if (bits >> number) & 1 == 1 { held } else { PLAIN };
         held(self.letters, LETTERS) | held(self.keys, KEYS)
     }
 
-    fn set_text(&mut self, number: usize, held: Held) {
+    fn set_text(&mut self, number: u32, held: Held) {
         self.letters = self.letters & !(1 << number) | u128::from(held & LETTERS != 0) << number;
         self.keys = self.keys & !(1 << number) | u128::from(held & KEYS != 0) << number;
     }
 
     /// Whether a literal may hold keys that another command may take.
     fn leaves_keys(&self) -> bool {
-        self.below & KEYS != 0 || self.stack.iter().any(|literal| literal.held() & KEYS != 0)
+        self.below & KEYS != 0 || self.stack.literals().iter().any(|literal| literal.held() & KEYS != 0)
     }
 }
 
 /// A style as it is read.
 #[derive(Default)]
 struct Style<'a> {
-    meanings: QuickMap<Folded<'a>, Meaning>,
+    meanings: QuickMap<Name<'a>, Meaning>,
     /// How many variables it has, and how many each entry has.
-    texts: usize,
-    of_entries: usize,
-    bodies: Vec<Vec<Step>>,
+    texts: u32,
+    of_entries: u32,
+    /// The steps of all bodies, and where those of each stand.
+    steps: Vec<Step>,
+    bodies: Vec<Range<usize>>,
     /// The bodies of the functions.
-    functions: Vec<usize>,
+    functions: Vec<u32>,
     /// What the commands execute.
     executed: Vec<Meaning>,
+    /// Room for the steps of bodies that aren't closed yet.
+    open: Vec<Step>,
+}
+
+/// A number of something in a style.
+fn number_of(count: usize) -> Followed<u32> {
+    u32::try_from(count).map_err(|_| NotFollowed)
 }
 
 /// The tokens of a style that are still to be read.
@@ -276,6 +340,8 @@ impl<'a> Style<'a> {
     /// Reads a style; the values of the fields of these names have no codes.
     fn read(text: &'a [u8], fixed: &[&str]) -> Followed<Style<'a>> {
         let mut style = Style::default();
+        style.meanings.reserve(text.len() / 64 + BUILTINS.len());
+        style.steps.reserve(text.len() / 16);
         for (name, effect) in BUILTINS {
             style.define(name.as_bytes(), Meaning::Builtin(effect))?;
         }
@@ -296,14 +362,14 @@ impl<'a> Style<'a> {
     }
 
     fn define(&mut self, name: &'a [u8], meaning: Meaning) -> Followed<()> {
-        self.meanings.insert(Folded(name), meaning);
+        self.meanings.insert(Name(name), meaning);
         if self.meanings.len() > MOST_NAMES { Err(NotFollowed) } else { Ok(()) }
     }
 
     fn define_text(&mut self, name: &'a [u8]) -> Followed<()> {
         self.define(name, Meaning::Text(self.texts))?;
         self.texts += 1;
-        if self.texts > MOST_TEXTS { Err(NotFollowed) } else { Ok(()) }
+        if self.texts as usize > MOST_TEXTS { Err(NotFollowed) } else { Ok(()) }
     }
 
     fn define_of_entry(&mut self, name: &'a [u8]) -> Followed<()> {
@@ -346,7 +412,7 @@ impl<'a> Style<'a> {
                 let name = reading.name()?;
                 reading.expect(Kind::Open)?;
                 let body = self.read_body(reading)?;
-                self.define(name, Meaning::Function(self.functions.len()))?;
+                self.define(name, Meaning::Function(number_of(self.functions.len())?))?;
                 self.functions.push(body);
             }
             b"execute" | b"iterate" | b"reverse" => {
@@ -360,19 +426,24 @@ impl<'a> Style<'a> {
     }
 
     /// Reads a body after its `{`; its number. (Bodies in bodies are kept on a list of their own, so that no depth is too deep.)
-    fn read_body(&mut self, reading: &mut Reading<'a>) -> Followed<usize> {
-        let mut open: Vec<Vec<Step>> = vec![Vec::new()];
+    fn read_body(&mut self, reading: &mut Reading<'a>) -> Followed<u32> {
+        // (the steps of the bodies that are open, and where those of each begin)
+        let (mut steps, mut begins) = (std::mem::take(&mut self.open), vec![0]);
         loop {
             let token = reading.tokens.next().ok_or(NotFollowed)?;
             let step = match token.kind {
                 Kind::Open => {
-                    open.push(Vec::new());
+                    begins.push(steps.len());
                     continue;
                 }
                 Kind::Close => {
-                    self.bodies.push(open.pop().ok_or(NotFollowed)?);
-                    let number = self.bodies.len() - 1;
-                    if open.is_empty() {
+                    let begin = begins.pop().ok_or(NotFollowed)?;
+                    let start = self.steps.len();
+                    self.steps.extend(steps.drain(begin..));
+                    self.bodies.push(start..self.steps.len());
+                    let number = number_of(self.bodies.len() - 1)?;
+                    if begins.is_empty() {
+                        self.open = steps;
                         return Ok(number);
                     }
                     Step::Body(number)
@@ -382,31 +453,60 @@ impl<'a> Style<'a> {
                 Kind::Quoted => Step::Quoted(self.meaning(&reading.word(&token)[1..])?),
                 Kind::OpenText | Kind::NoInteger | Kind::Stuff => return Err(NotFollowed),
             };
-            open.last_mut().ok_or(NotFollowed)?.push(step);
+            steps.push(step);
         }
     }
 
     fn meaning(&self, name: &'a [u8]) -> Followed<Meaning> {
-        self.meanings.get(&Folded(name)).copied().ok_or(NotFollowed)
+        self.meanings.get(&Name(name)).copied().ok_or(NotFollowed)
     }
 }
 
 /// How deep bodies are followed into one another.
 const DEEPEST: usize = 200;
 
+/// What was found of a function: from this state, in a loop or not, to that state.
+struct Known {
+    is_in_loop: bool,
+    before: Saved,
+    after: Saved,
+}
+
+/// A state in as little room as it needs.
+struct Saved {
+    held: (Held, u128, u128),
+    stack: Box<[Literal]>,
+}
+
+impl Saved {
+    fn new(state: &State) -> Saved {
+        Saved { held: state.held(), stack: state.stack.literals().into() }
+    }
+
+    fn is(&self, state: &State) -> bool {
+        self.held == state.held() && *self.stack == *state.stack.literals()
+    }
+
+    fn restore(&self, state: &mut State) {
+        (state.below, state.letters, state.keys) = self.held;
+        state.stack.len = self.stack.len();
+        state.stack.room[..self.stack.len()].copy_from_slice(&self.stack);
+    }
+}
+
 /// A style that is followed.
 struct Following<'s> {
     style: &'s Style<'s>,
-    /// What a type's function is.
-    types: Vec<Meaning>,
+    /// The functions of the types.
+    types: Vec<Literal>,
     /// What each variable of an entry may hold.
     of_entries: Vec<Held>,
     /// Whether a variable of an entry holds more than what was taken for all that it may, when it was read.
     is_early: bool,
     /// Which variables of an entry were read.
     are_read: Vec<bool>,
-    /// What was found of a function in this round: from this state, in a loop or not, to that state.
-    known: QuickMap<(usize, bool, State), State>,
+    /// What was found of each function in this round.
+    known: Vec<Vec<Known>>,
     steps: usize,
     loops: usize,
     depth: usize,
@@ -417,19 +517,20 @@ impl Following<'_> {
     /// Follows all commands, until no variable holds more than before.
     fn follow_all(&mut self) -> Followed<()> {
         // (letters are taken for what any variable may hold, so that one round is enough for most styles)
-        let mut begun = State { stack: Vec::new(), below: LETTERS, letters: u128::MAX, keys: 0 };
+        let stack = Stack { room: [Literal::Text(PLAIN); MOST_LITERALS], len: 0 };
+        let mut begun = State { stack, below: LETTERS, letters: u128::MAX, keys: 0 };
         for _ in 0..MOST_ROUNDS {
-            let before = begun.clone();
-            self.known.clear();
+            let before = begun;
+            self.known.iter_mut().for_each(Vec::clear);
             self.is_early = false;
             self.are_read.fill(false);
             for meaning in &self.style.executed {
-                let mut state = begun.clone();
+                let mut state = begun;
                 self.call(*meaning, &mut state)?;
                 if state.leaves_keys() {
                     return Err(NotFollowed);
                 }
-                state.stack.clear();
+                state.stack.len = 0;
                 begun = begun.join(&state)?;
             }
             if before == begun && !self.is_early {
@@ -439,47 +540,51 @@ impl Following<'_> {
         Err(NotFollowed)
     }
 
-    fn body(&mut self, number: usize, state: &mut State) -> Followed<()> {
+    fn body(&mut self, number: u32, state: &mut State) -> Followed<()> {
         self.depth += 1;
         if self.depth > DEEPEST {
             return Err(NotFollowed);
         }
         let style = self.style;
-        for step in &style.bodies[number] {
+        for step in &style.steps[style.bodies[number as usize].clone()] {
             self.steps += 1;
             if self.steps > MOST_STEPS {
                 return Err(NotFollowed);
             }
             match step {
-                Step::Literal => state.push(PLAIN),
+                Step::Literal => state.push(PLAIN)?,
                 Step::Name(meaning) => self.call(*meaning, state)?,
-                Step::Quoted(meaning) => state.stack.push(Literal::Name(*meaning)),
-                Step::Body(number) => state.stack.push(Literal::Body(*number)),
+                Step::Quoted(meaning) => state.stack.push(Literal::Name(*meaning))?,
+                Step::Body(number) => state.stack.push(Literal::Body(*number))?,
             }
         }
         self.depth -= 1;
         Ok(())
     }
 
-    fn function(&mut self, number: usize, state: &mut State) -> Followed<()> {
-        let before = (number, self.loops > 0, state.clone());
-        if let Some(after) = self.known.get(&before) {
-            state.clone_from(after);
+    fn function(&mut self, number: u32, state: &mut State) -> Followed<()> {
+        let (place, is_in_loop) = (number as usize, self.loops > 0);
+        let is_it = |known: &&Known| known.is_in_loop == is_in_loop && known.before.is(state);
+        if let Some(known) = self.known[place].iter().find(is_it) {
+            known.after.restore(state);
             return Ok(());
         }
-        self.body(self.style.functions[number], state)?;
-        self.known.insert(before, state.clone());
+        let before = Saved::new(state);
+        self.body(self.style.functions[place], state)?;
+        if self.known[place].len() < MOST_KNOWN {
+            self.known[place].push(Known { is_in_loop, before, after: Saved::new(state) });
+        }
         Ok(())
     }
 
     fn call(&mut self, meaning: Meaning, state: &mut State) -> Followed<()> {
         match meaning {
-            Meaning::Field(held) => state.push(held),
-            Meaning::Integer => state.push(PLAIN),
-            Meaning::Text(number) => state.push(state.text(number)),
+            Meaning::Field(held) => state.push(held)?,
+            Meaning::Integer => state.push(PLAIN)?,
+            Meaning::Text(number) => state.push(state.text(number))?,
             Meaning::OfEntry(number) => {
-                self.are_read[number] = true;
-                state.push(self.of_entries[number]);
+                self.are_read[number as usize] = true;
+                state.push(self.of_entries[number as usize])?;
             }
             Meaning::Function(number) => self.function(number, state)?,
             Meaning::Builtin(effect) => self.builtin(effect, state)?,
@@ -499,7 +604,7 @@ impl Following<'_> {
     fn any_of(&mut self, ways: &[Literal], state: &mut State) -> Followed<()> {
         let mut joined: Option<State> = None;
         for way in ways {
-            let mut after = state.clone();
+            let mut after = *state;
             self.execute(*way, &mut after)?;
             joined = Some(match joined {
                 Some(other) => other.join(&after)?,
@@ -516,10 +621,10 @@ impl Following<'_> {
     fn repeat(&mut self, test: Literal, body: Literal, state: &mut State) -> Followed<()> {
         self.loops += 1;
         for _ in 0..MOST_ROUNDS {
-            let mut after = state.clone();
+            let mut after = *state;
             self.execute(test, &mut after)?;
             after.pop();
-            let ended = after.clone();
+            let ended = after;
             self.execute(body, &mut after)?;
             let joined = state.join(&after)?;
             if joined == *state {
@@ -543,18 +648,18 @@ impl Following<'_> {
                 for _ in 0..popped {
                     state.pop();
                 }
-                state.push(PLAIN);
+                state.push(PLAIN)?;
             }
             Effect::Keep(popped) => {
                 for _ in 0..popped {
                     state.pop();
                 }
                 let held = state.pop();
-                state.push(held);
+                state.push(held)?;
             }
             Effect::Concatenate => {
                 let held = state.pop() | state.pop();
-                state.push(held);
+                state.push(held)?;
             }
             Effect::Assign => {
                 let (variable, held) = (state.pop_literal(), state.pop());
@@ -566,14 +671,15 @@ impl Following<'_> {
                 }
             }
             Effect::CallType => {
-                let ways: Vec<Literal> = self.types.iter().map(|meaning| Literal::Name(*meaning)).collect();
-                self.any_of(&ways, state)?;
+                let types = self.types.clone();
+                self.any_of(&types, state)?;
             }
             // (it may have strings in it)
-            Effect::Preamble => state.push(LETTERS),
+            Effect::Preamble => state.push(LETTERS)?,
             Effect::Duplicate => {
                 let literal = state.pop_literal();
-                state.stack.extend([literal, literal]);
+                state.stack.push(literal)?;
+                state.stack.push(literal)?;
             }
             Effect::If => {
                 let (no, yes) = (state.pop_literal(), state.pop_literal());
@@ -584,10 +690,10 @@ impl Following<'_> {
                 let (body, test) = (state.pop_literal(), state.pop_literal());
                 self.repeat(test, body, state)?;
             }
-            Effect::Clear => state.stack.clear(),
+            Effect::Clear => state.stack.len = 0,
             Effect::Purify => {
                 let held = state.pop();
-                state.push(if held == PLAIN { PLAIN } else { KEYS });
+                state.push(if held == PLAIN { PLAIN } else { KEYS })?;
             }
             Effect::Substring => {
                 state.pop();
@@ -595,11 +701,12 @@ impl Following<'_> {
                 let held = state.pop();
                 // (a loop may leave out each byte of a code but its key; what one cut leaves of it is seen in the list)
                 let left = if held & LETTERS != 0 && self.loops > 0 { KEYS } else { PLAIN };
-                state.push(held | left);
+                state.push(held | left)?;
             }
             Effect::Swap => {
                 let (top, below) = (state.pop_literal(), state.pop_literal());
-                state.stack.extend([top, below]);
+                state.stack.push(top)?;
+                state.stack.push(below)?;
             }
             Effect::Write => self.prints_keys |= state.pop() & KEYS != 0,
         }
@@ -607,7 +714,8 @@ impl Following<'_> {
     }
 
     /// Adds what a variable of an entry may hold.
-    fn keep_of_entry(&mut self, number: usize, held: Held) {
+    fn keep_of_entry(&mut self, number: u32, held: Held) {
+        let number = number as usize;
         let more = self.of_entries[number] | held;
         self.is_early |= self.are_read[number] && more != self.of_entries[number];
         self.of_entries[number] = more;
@@ -627,11 +735,11 @@ pub fn may_print_keys<'t>(text: &'t [u8], types: &[&'t [u8]], fixed: &[&str]) ->
         }
         let mut following = Following {
             style: &style,
-            types: functions,
-            of_entries: vec![LETTERS; style.of_entries],
+            types: functions.into_iter().map(Literal::Name).collect(),
+            of_entries: vec![LETTERS; style.of_entries as usize],
             is_early: false,
-            are_read: vec![false; style.of_entries],
-            known: QuickMap::default(),
+            are_read: vec![false; style.of_entries as usize],
+            known: style.functions.iter().map(|_| Vec::new()).collect(),
             steps: 0,
             loops: 0,
             depth: 0,

@@ -7,7 +7,7 @@
 use crate::advice;
 use crate::database::Folded;
 use crate::nearest::{distance, nearest};
-use crate::text::{Text, is_white};
+use crate::text::{Text, find_byte, is_white};
 use std::collections::HashSet;
 
 /// What a token is.
@@ -52,8 +52,18 @@ pub struct Tokens<'a> {
     is_behind_literal: bool,
 }
 
+/// Whether each byte ends a name.
+const ENDS_NAME: [bool; 256] = {
+    let (mut table, mut byte) = ([false; 256], 0);
+    while byte < 256 {
+        table[byte] = is_white(byte as u8) || matches!(byte as u8, b'\n' | b'}' | b'%');
+        byte += 1;
+    }
+    table
+};
+
 fn ends_name(byte: u8) -> bool {
-    is_white(byte) || matches!(byte, b'\n' | b'}' | b'%')
+    ENDS_NAME[usize::from(byte)]
 }
 
 impl<'a> Tokens<'a> {
@@ -72,18 +82,21 @@ impl<'a> Tokens<'a> {
     }
 
     /// Passes over bytes up to one that passes a test, or to the end.
+    #[inline]
     fn pass_to(&mut self, test: impl Fn(u8) -> bool) {
-        let rest = &self.text[self.at..];
-        self.at += rest.iter().position(|byte| test(*byte)).unwrap_or(rest.len());
+        while self.text.get(self.at).is_some_and(|byte| !test(*byte)) {
+            self.at += 1;
+        }
     }
 
+    #[inline]
     fn skip_space(&mut self) {
         loop {
             self.pass_to(|byte| !is_white(byte) && byte != b'\n');
             if self.byte() != Some(b'%') {
                 return;
             }
-            self.pass_to(|byte| byte == b'\n');
+            self.at = find_byte(self.text, self.at, b'\n').unwrap_or(self.text.len());
         }
     }
 
@@ -103,6 +116,11 @@ impl<'a> Tokens<'a> {
         let rest = &self.text[self.at + 1..];
         let minus = usize::from(rest.first() == Some(&b'-'));
         let digits = rest[minus..].iter().take_while(|byte| byte.is_ascii_digit()).count();
+        // (so few digits are one)
+        if (1..10).contains(&digits) {
+            self.at += 1 + minus + digits;
+            return Kind::Integer;
+        }
         let number = std::str::from_utf8(&rest[..minus + digits]).ok().and_then(|number| number.parse::<i32>().ok());
         if number.is_none() {
             self.pass_to(ends_name);

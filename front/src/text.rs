@@ -1,5 +1,6 @@
 //! The text of a file, by bytes and by lines.
 
+use memchr::memchr;
 use std::io::BufRead;
 
 /// A text, and where its lines begin.
@@ -54,12 +55,9 @@ pub fn find(text: &[u8], what: &[u8]) -> Option<usize> {
     None
 }
 
-/// The first place of a byte from this place on. Of 32 bytes the processor compares many at once.
+/// The first place of a byte from this place on.
 pub fn find_byte(text: &[u8], from: usize, byte: u8) -> Option<usize> {
-    let has_it = |chunk: &[u8; 32]| chunk.iter().fold(0, |found, other| found | u8::from(*other == byte)) != 0;
-    let (chunks, _) = text[from..].as_chunks::<32>();
-    let at = from + 32 * chunks.iter().position(has_it).unwrap_or(chunks.len());
-    text[at..].iter().position(|other| *other == byte).map(|behind| at + behind)
+    memchr(byte, &text[from..]).map(|after| from + after)
 }
 
 /// The place of `what` in `text`: the last one.
@@ -105,7 +103,7 @@ pub fn split_last<'a>(text: &'a [u8], what: &[u8]) -> Option<(&'a [u8], &'a [u8]
 }
 
 /// Whether a byte is whitespace inside a line: a space, a tab, a carriage return.
-pub fn is_white(byte: u8) -> bool {
+pub const fn is_white(byte: u8) -> bool {
     matches!(byte, b' ' | b'\t' | b'\r')
 }
 

@@ -2,6 +2,7 @@
 
     python3 letters.py orders SEARCH             names of each language, sorted by -letters: prints each pair in another order than the language's, and each label of other letters
     python3 letters.py styles SEARCH FOLDER..    a database full of such letters by each style below the folders: in how many lists there is half a letter, and what else is odd
+    python3 letters.py costs SEARCH [RUNS]       what -letters=de costs in `plain`, which kpsewhich finds: instructions, which valgrind counts, and the least processor time of RUNS runs each way, in turns
 
 SEARCH is the program bibtex-search. The last line of `orders` is the number of pairs.
 """
@@ -10,10 +11,12 @@ import collections
 import itertools
 import os
 import pathlib
+import random
 import re
 import subprocess
 import sys
 import tempfile
+import unicodedata
 
 # Names by their language, each in the order that it wants: CLDR's, as Perl's Unicode::Collate::Locale 1.31 has it, but that a comma counts, and `w` isn't `v`.
 NAMES = {
@@ -144,7 +147,64 @@ def check_styles(search, folders):
         print(f"{odd}: {len(names)}" + (f" ({', '.join(names)})" if len(names) < 20 else ""))
 
 
+# What is measured: how many entries a database has and how many of them are cited, one in how many has such letters (0: none), and the fields beside author, title, booktitle and year.
+MOST_FIELDS = ("journal", "volume", "number", "pages", "publisher", "school", "institution", "address", "note")
+COSTS = [(80, 30, 1, MOST_FIELDS), (1_600, 30, 1, MOST_FIELDS), (1_000, 1_000, 1, MOST_FIELDS[:5]), (10_000, 10_000, 1, ("volume",)), (1_000, 300, 7, MOST_FIELDS), (1_600, 300, 0, MOST_FIELDS)]
+
+
+def entry_of(number, chance, has_letters, fields):
+    names = sum((row.split("|") for row in NAMES.values()), [])
+    authors = " and ".join(chance.choice(names) for _ in range(1 + number % 4))
+    title = f"{TITLES[number % 8]} {chance.choice(['of waves', 'and soil', 'in systems'])}"
+    own = {"author": authors, "title": title, "booktitle": TITLES[(number + 3) % 8], "year": str(1950 + number % 70), **{field: FIELDS[field] for field in fields}}
+    entry = "@%s{k%d,\n%s}\n\n" % (TYPES[number % 13], number, "".join("  %s = {%s},\n" % field for field in own.items()))
+    return entry if has_letters else unicodedata.normalize("NFD", entry).encode("ascii", "ignore").decode()
+
+
+def write_job(entries, cited, one_in, fields):
+    """Writes a job; how long its database is."""
+    chance = random.Random(f"{entries} {cited} {one_in}")
+    text = "".join(entry_of(number, chance, one_in and number % one_in == 0, fields) for number in range(entries))
+    pathlib.Path("d.bib").write_text(text)
+    keys = [f"k{number}" for number in chance.sample(range(entries), cited)]
+    pathlib.Path("job.aux").write_text("".join(f"\\citation{{{key}}}\n" for key in keys) + "\\bibdata{d}\n\\bibstyle{plain}\n")
+    return len(text.encode())
+
+
+def seconds(words):
+    """How long a run keeps a processor."""
+    pid = subprocess.Popen(words, stdin=subprocess.DEVNULL, stdout=subprocess.DEVNULL, stderr=subprocess.DEVNULL).pid
+    used = os.wait4(pid, 0)[2]
+    return used.ru_utime + used.ru_stime
+
+
+def instructions(words):
+    done = subprocess.run(["valgrind", "--tool=callgrind", "--callgrind-out-file=/dev/null", *words], stdin=subprocess.DEVNULL, capture_output=True, text=True)
+    return int(re.search(r"Collected : (\d+)", done.stderr)[1])
+
+
+def check_costs(search, runs):
+    ways = [[str(search), "-terse", "-no-explain", *more, "job"] for more in ([], ["-letters=de"])]
+    for entries, cited, one_in, fields in COSTS:
+        size = write_job(entries, cited, one_in, fields)
+        counted = [instructions(words) for words in ways]
+        times = [[], []]
+        for _ in range(max(3, runs * 30 // (30 + cited))):
+            for words, taken in zip(ways, times):
+                taken.append(seconds(words))
+        least = [1000 * min(taken) for taken in times]
+        shares = [with_letters / without for without, with_letters in (counted, least)]
+        print(f"{cited:,} of {size / 1e6:.2f} MB, one in {one_in}: {counted[0] / 1e6:.1f} and {counted[1] / 1e6:.1f} million instructions, {shares[0]:.3f}; {least[0]:.2f} and {least[1]:.2f} ms, {shares[1]:.3f} times", flush=True)
+
+
 def main(what, search, *folders):
+    if what == "costs":
+        search, runs = pathlib.Path(search).resolve(), int(folders[0]) if folders else 100
+        with tempfile.TemporaryDirectory() as room:
+            os.chdir(room)
+            check_costs(search, runs)
+            os.chdir("/")
+        return
     search, folders = pathlib.Path(search).resolve(), [pathlib.Path(folder).resolve() for folder in folders]
     with tempfile.TemporaryDirectory() as room:
         os.chdir(room)
