@@ -8,9 +8,10 @@ from typing import Any, Dict, Iterator, List, NamedTuple, Optional, Tuple
 from .bibtext import Database, Item
 from .bsttext import COMMANDS, LIST_WORD, Word
 from .builtins import BUILT_IN, described
-from .diagnosing import citations
+from .diagnosing import citations, types_of
 from .doctor import JOURNALS, MONTHS
 from .documents import Document
+from .standard import FIELDS, TYPES
 from .workspace import Workspace
 
 __all__ = ["Named", "Place", "RenameRefused", "completions", "definition", "hover", "name_at", "references", "rename", "symbols"]
@@ -20,12 +21,6 @@ IN_CITE = re.compile(rb"\\[A-Za-z]*[cC]ite[A-Za-z]*\*?(?:\[[^\]\r\n]*\]){0,2}\{[
 AFTER_AT = re.compile(rb"@[A-Za-z]*$")
 AFTER_CROSSREF = re.compile(rb"(?i)crossref\s*=\s*[{\"][^{}\"]*$")
 AFTER_EQUALS = re.compile(rb"[=#]\s*[^\s{}\"#,=]*$")
-# What the standard styles of TeX define.
-TYPES = "article book booklet conference inbook incollection inproceedings manual mastersthesis misc phdthesis proceedings techreport unpublished".split()
-FIELDS = (
-    "address annote author booktitle chapter crossref edition editor howpublished institution journal key month note number organization pages publisher school "
-    "series title type volume year".split()
-)
 PREDEFINED = {"crossref": "field", "sort.key$": "string of entries", "entry.max$": "integer", "global.max$": "integer"}
 # What the protocol calls kinds of symbols and of completions.
 FUNCTION, FIELD, STRING, VARIABLE, KEY, KEYWORD = 12, 8, 15, 13, 20, 14
@@ -230,12 +225,6 @@ def completions_of_database(document: Document, workspace: Workspace, before: by
     if b"{" in before.rpartition(b",")[2]:
         return []
     return [(name, "field", "field") for name in (FIELDS if used is None else sorted(map(shown, used[1].fields)))]
-
-
-def types_of(functions: List[str], uses_of: List[Word]) -> List[str]:
-    """The functions that no other one of the style uses: those are its types."""
-    used = {word.name for word in uses_of}
-    return [name for name in functions if name not in used]
 
 
 def keys_of(document: Document, workspace: Workspace) -> List[Tuple[str, str, str]]:
