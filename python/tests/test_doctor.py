@@ -145,6 +145,16 @@ class Command(unittest.TestCase):
         self.assertEqual([row["name"] for row in rows], ["no-entry", "unread-field", "mistake"])
         self.assertEqual(status, 2)
 
+    def test_a_job_names_its_databases(self):
+        (self.folder / "p.aux").write_text("\\@input{c.aux}\n\\bibdata{nosuch,d.bib}\n\\bibdata{other}\n")
+        (self.folder / "c.aux").write_text("\\citation{no}\n")
+        status, out, errors = self.run_doctor("--job", "p", "--off", "uncited")
+        self.assertEqual((status, errors), (2, "btx: there is no database nosuch.bib\n"))
+        self.assertEqual({line.split(":")[0] for line in out.splitlines()}, {"c.aux", "d.bib"})
+        self.assertEqual(self.run_doctor("--job", "p", "d.bib")[2], "")
+        (self.folder / "p.aux").write_text("\\bibdata{nosuch}\n")
+        self.assertEqual(self.run_doctor("--job", "p")[:2], (1, ""))
+
     def test_off_and_list(self):
         self.assertEqual(self.run_doctor("--off", "mistake,undefined-string", "d.bib"), (0, "", ""))
         status, out, _ = self.run_doctor("--list")
