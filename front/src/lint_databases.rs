@@ -51,7 +51,11 @@ pub fn examine(name: &Name, databases: &[Vec<u8>], as_json: bool) -> Status {
 /// The exit status of the package's doctor; None where there is no Python or no package.
 fn by_python(databases: &[Vec<u8>], as_json: bool) -> Option<i32> {
     let mut command = Command::new("python3");
-    command.args(["-c", START]).arg(installed_package().unwrap_or_default()).args(as_json.then_some("--json")).arg("--");
+    command
+        .args(["-c", START])
+        .arg(installed_package().unwrap_or_default())
+        .args(as_json.then_some("--json"))
+        .arg("--");
     command.args(databases.iter().map(|path| OsStr::from_bytes(path)));
     command.status().ok()?.code().filter(|code| *code != MISSING)
 }
@@ -139,7 +143,10 @@ mod tests {
         assert_eq!(shown(&["@misc{a}\n", "\n@book{a}"]), ["2 Repeated entry repeated-key"]);
         let hidden = "@misc{a}\n@misc{a, note = {\n@misc{b 1}\n}}";
         assert_eq!(shown(&[hidden]), ["2 Repeated entry repeated-key", "3 I was expecting a , or a } mistake"]);
-        assert_eq!(shown(&["@misc{a, note 1}\n@misc"]), ["1 I was expecting an = mistake", "2 Illegal end of database file mistake"]);
+        assert_eq!(
+            shown(&["@misc{a, note 1}\n@misc"]),
+            ["1 I was expecting an = mistake", "2 Illegal end of database file mistake"]
+        );
     }
 
     #[test]
