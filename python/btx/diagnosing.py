@@ -2,6 +2,7 @@
 
 from __future__ import annotations
 
+import bisect
 import difflib
 import itertools
 import os
@@ -10,7 +11,7 @@ from functools import partial
 from typing import Callable, Dict, Iterable, Iterator, List, NamedTuple, Optional, Tuple
 
 from .bibtext import NO_EQUALS, REPEATED
-from .bsttext import COMMANDS, StyleText
+from .bsttext import COMMANDS, Word, uses_between
 from .builtins import BUILT_IN
 from .checking import Fault, StyleWarning, check
 from .doctor import Finding, Source, Style, examine
@@ -34,6 +35,8 @@ FAULTS = {
 }
 # How many diagnostics of a text are shown at most.
 MOST_SHOWN = 1000
+# How many warnings of a style are looked for one by one.
+MOST_LOOKED_FOR = 20
 UNKNOWN = re.compile(r"(.*) (?:is an unknown function|isn't a command)", re.DOTALL)
 CITES = re.compile(rb"\\(?:no)?[A-Za-z]*[cC]ite[A-Za-z]*\*?(?:\[[^\]\r\n]*\]){0,2}\{([^{}]*)\}")
 AUX_CITES = re.compile(rb"(?m)^\\citation\{([^}\s]*)\}")
@@ -86,20 +89,28 @@ def diagnose(document: Document, workspace: Workspace) -> List[Diagnostic]:
 def of_style(document: Document, workspace: Workspace) -> Iterator[Diagnostic]:
     """The mistakes of a style's text, as a run logs them, and what the check says of it."""
     files = {"j.aux": b"\\citation{*}\n\\bibdata{d}\n\\bibstyle{s}\n", "s.bst": document.text, "d.bib": b""}
-    style = workspace.style(document)
     for message in run("j", files, Options(budget=0)).messages:
         if message.kind is Kind.ERROR and message.file == "s.bst" and message.line is not None:
-            yield style_mistake(document, style, message)
+            yield style_mistake(document, workspace, message)
     warnings = check(document.text).warnings
-    for warning in [it for it in warnings if it.is_first] or warnings:
-        start, end = place_of_warning(document, style, warning)
+    warnings = [it for it in warnings if it.is_first] or warnings
+    # (the whole style is read only where it takes less than to look for each warning)
+    uses = workspace.style(document).uses if len(warnings) > MOST_LOOKED_FOR else None
+    starts = None if uses is None else [word.start for word in uses]
+    for warning in warnings:
+        start, end = document.line_range(max(warning.line, 1))
+        if uses is None or starts is None:
+            words = uses_between(document.text, start, end)
+        else:
+            words = uses[bisect.bisect_left(starts, start) : bisect.bisect_left(starts, end)]
+        start, end = place_of_warning(warning, words) or (start, end)
         types = ", ".join(name or "a type that the style doesn't know" for name in warning.types)
         field = f"; the field {warning.missing} may be missing" if warning.missing else ""
         said = f"{warning.next} {FAULTS.get(warning.fault, 'may fail') if warning.fault else 'may fail'}{field}" + (f" ({types})" if types else "")
         yield Diagnostic(start, end, WARNING, "check", said)
 
 
-def style_mistake(document: Document, style: StyleText, message: Message) -> Diagnostic:
+def style_mistake(document: Document, workspace: Workspace, message: Message) -> Diagnostic:
     """A mistake of a style's text, on the word that it names or else on its line."""
     start, end = document.line_range(message.line or 1)
     line = document.text[start:end]
@@ -112,12 +123,12 @@ def style_mistake(document: Document, style: StyleText, message: Message) -> Dia
     if place is None:
         return Diagnostic(start, end, ERROR, "mistake", message.text)
     is_command = message.text.endswith("command")
-    return Diagnostic(*place.span(), ERROR, "mistake", message.text, partial(known_word, style, found[1], place.span(), is_command))
+    return Diagnostic(*place.span(), ERROR, "mistake", message.text, partial(known_word, document, workspace, found[1], place.span(), is_command))
 
 
-def known_word(style: StyleText, word: str, place: Tuple[int, int], is_command: bool) -> Optional[Mending]:
+def known_word(document: Document, workspace: Workspace, word: str, place: Tuple[int, int], is_command: bool) -> Optional[Mending]:
     """The command or the function that is spelled most like a word."""
-    names = COMMANDS if is_command else [*BUILT_IN, *(it.name for it in style.definitions if it.kind != "string")]
+    names = COMMANDS if is_command else [*BUILT_IN, *(it.name for it in workspace.style(document).definitions if it.kind != "string")]
     near = nearest(word, [name.lower() for name in names])
     return written(place, near.upper() if near and is_command else near)
 
@@ -130,14 +141,12 @@ def closing(document: Document, text: str, place: int) -> Optional[Mending]:
     return None if found is None else Mending(f"Add the {found[1]}", place, place, found[1])
 
 
-def place_of_warning(document: Document, style: StyleText, warning: StyleWarning) -> Tuple[int, int]:
-    """The token of a warning; where it isn't found its line."""
-    start, end = document.line_range(max(warning.line, 1))
-    words = [word for word in style.uses if start <= word.start < end]
+def place_of_warning(warning: StyleWarning, words: List[Word]) -> Optional[Tuple[int, int]]:
+    """The token of a warning, of the words that are used on its line."""
     for spot in warning.places[:1]:
         words = [word for word in words if word.token == spot.token]
     words = [word for word in words if word.name == warning.next.lower()] or words
-    return (words[0].start, words[0].end) if words else (start, end)
+    return (words[0].start, words[0].end) if words else None
 
 
 # ---- databases ----
@@ -147,8 +156,7 @@ def of_database(document: Document, workspace: Workspace) -> Iterator[Diagnostic
     """What the doctor says of a database, with the style in use."""
     used = workspace.style_in_use(document)
     style = None if used is None else used[1]
-    memory = workspace.memory(document, None if used is None else used[0].text)
-    for finding in examine([Source(document.uri, document.text)], style, memory=memory):
+    for finding in examine([Source(document.uri, document.text)], style, most=MOST_SHOWN + 1):
         severity = HINT if finding.check == "unread-field" else SEVERITIES[finding.severity]
         yield Diagnostic(finding.start, finding.end, severity, finding.check, finding.text, partial(mending_of, document, workspace, finding, style))
 
@@ -210,7 +218,7 @@ def unknown_citations(document: Document, workspace: Workspace) -> Iterator[Diag
     databases = workspace.databases(document)
     keys: Dict[bytes, bytes] = {}
     for database in databases:
-        keys.update((item.key.lower(), item.key) for item in workspace.base(database).database.items if item.is_entry and item.key is not None)
+        keys.update((item.key.lower(), item.key) for item in workspace.base(database).items if item.is_entry and item.key is not None)
     for start, end in citations(document) if databases else ():
         key = document.text[start:end]
         if key.lower() not in keys and key != b"*":

@@ -67,7 +67,7 @@ def names_of(document: Document, workspace: Workspace) -> Iterator[Tuple[Named, 
             kind = "macro" if word.kind == "string" else "function"
             yield Named(kind, word.name, Place(document, word.start, word.end)), bool(word.kind)
     elif document.uri.endswith(".bib"):
-        database = workspace.base(document).database
+        database = workspace.base(document)
         for item in database.items:
             yield from names_of_item(document, database, item)
     else:
@@ -175,7 +175,7 @@ def hover_of_entry(workspace: Workspace, named: Named) -> Optional[str]:
         return None if value is None else f"string `{named.name}` = {shown(value)}"
     for place in definition(named, workspace):
         base = workspace.base(place.document)
-        for item in base.database.items:
+        for item in base.items:
             if item.is_entry and item.key_end == place.end:
                 values = {field.name: field.value for field in reversed(item.fields)}
                 rows = [f"{name}: {shown(values[name.encode()].strip())}" for name in ("author", "editor", "title", "year") if name.encode() in values]
@@ -192,7 +192,7 @@ def symbols(document: Document, workspace: Workspace) -> Iterator[Tuple[str, str
             kind = {"FUNCTION": FUNCTION, "MACRO": STRING}.get(command.word, KEYWORD if command.name else VARIABLE)
             yield shown_name, command.word, kind, Place(document, command.start, command.end), Place(document, name.start, name.end)
     elif document.uri.endswith(".bib"):
-        for item in workspace.base(document).database.items:
+        for item in workspace.base(document).items:
             if item.key:
                 where = Place(document, item.key_end - len(item.key), item.key_end)
                 yield shown(item.key), shown(item.kind), KEY if item.is_entry else STRING, Place(document, item.start, max(item.end, item.key_end)), where
@@ -240,7 +240,7 @@ def types_of(functions: List[str], uses_of: List[Word]) -> List[str]:
 
 def keys_of(document: Document, workspace: Workspace) -> List[Tuple[str, str, str]]:
     base = workspace.base(document)
-    return [(shown(item.key), "key", title_of(item)) for item in base.database.items if item.is_entry and item.key]
+    return [(shown(item.key), "key", title_of(item)) for item in base.items if item.is_entry and item.key]
 
 
 def title_of(item: Item) -> str:
