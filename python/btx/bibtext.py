@@ -36,6 +36,8 @@ OPENS_ITEM = re.compile(rb"[ \t\r\n]*[{(][ \t\r\n]*")
 # A text ends with one of these, if no name ends there.
 ENDS_TEXT = b'}"'
 LINE_END = re.compile(rb"\n")
+# The bytes that don't begin a character of UTF-8.
+CONTINUES = frozenset(bytes([byte]) for byte in range(0x80, 0xC0))
 
 
 class Field(NamedTuple):
@@ -103,6 +105,11 @@ class Item:
                 self.own_fields = [] if kind != ENTRY or self.is_repeated else [field_of(records, number) for number in range(self.at + 1, self.last)]
         return self.own_fields
 
+    def value_of(self, name: bytes) -> Optional[bytes]:
+        """What its first field of this name comes to; None where there is none."""
+        names = self.records.names[self.at + 1 : self.last]
+        return self.records.value(self.at + 1 + names.index(name)) if name in names else None
+
     def value_alone(self, kind: int) -> Field:
         """The value of a string or a preamble."""
         text = self.records.text
@@ -130,14 +137,21 @@ class Lines:
     def __init__(self, text: bytes) -> None:
         self.text = text
         self.starts = [0, *(found.end() for found in LINE_END.finditer(text))]
+        # A line, a place on it, and the characters before that.
+        self.passed = 0, 0, 0
 
     def line_of(self, place: int) -> int:
         return bisect.bisect_right(self.starts, place) - 1
 
     def at(self, place: int) -> Tuple[int, int]:
-        """The line of a place, and how many characters of UTF-8 are before it on its line. A byte that is none counts as one."""
+        """The line of a place, and how many characters of UTF-8 are before it on its line. A byte that is none counts as one. They are counted once, where places are asked for in
+        their order."""
         line = self.line_of(place)
-        return line, len(self.text[self.starts[line] : place].decode("utf8", "surrogateescape"))
+        _, at, column = self.passed if self.passed[0] == line and self.passed[1] <= place else (line, self.starts[line], 0)
+        column += len(self.text[at:place].decode("utf8", "surrogateescape"))
+        if self.text[place : place + 1] not in CONTINUES:
+            self.passed = line, place, column
+        return line, column
 
     def logged_line(self, place: int) -> int:
         """The number of a place's line in a log, from 1: the end of the file has that of its last line."""
@@ -151,6 +165,14 @@ class Database:
         self.text = text
         self.items = items
         self.strings = strings
+        self.starts: Optional[List[int]] = None
+
+    def items_at(self, place: int) -> List[Item]:
+        """The items that a place is in, or directly after."""
+        if self.starts is None:
+            self.starts = [item.start for item in self.items]
+        last = bisect.bisect_right(self.starts, place)
+        return self.items[max(last - 2, 0) : last]
 
     def start(self, field: Field) -> int:
         """Where a field's value begins."""

@@ -21,7 +21,7 @@ from .messages import Kind, Message
 from .options import Options
 from .workspace import MOST_BYTES, Workspace, path_of
 
-__all__ = ["Diagnostic", "Mending", "citations", "diagnose", "nearest"]
+__all__ = ["Diagnostic", "Mending", "cited", "diagnose", "nearest"]
 
 ERROR, WARNING, INFO, HINT = 1, 2, 3, 4
 SEVERITIES = {"error": ERROR, "warning": WARNING, "info": INFO}
@@ -213,13 +213,18 @@ def citations(document: Document) -> Iterator[Tuple[int, int]]:
             yield key.span()
 
 
+def cited(document: Document, workspace: Workspace) -> List[Tuple[int, int]]:
+    """The same, found once for a text."""
+    return workspace.made("citations", document, lambda _: list(citations(document)))  # type: ignore[no-any-return]
+
+
 def unknown_citations(document: Document, workspace: Workspace) -> Iterator[Diagnostic]:
     """The citations without an entry in the databases of a document. Where no database is found, nothing is said."""
     databases = workspace.databases(document)
     keys: Dict[bytes, bytes] = {}
     for database in databases:
         keys.update((item.key.lower(), item.key) for item in workspace.base(database).items if item.is_entry and item.key is not None)
-    for start, end in citations(document) if databases else ():
+    for start, end in cited(document, workspace) if databases else ():
         key = document.text[start:end]
         if key.lower() not in keys and key != b"*":
             said = f'I didn\'t find a database entry for "{key.decode("utf8", "replace")}"'

@@ -372,7 +372,7 @@ class Examiner:
             cited.add(key)
         if b"*" in cited:
             return
-        parents = {parent_of(item) for key, (_, _, item) in entries.items() if key in cited}
+        parents = {(item.value_of(b"crossref") or b"").lower() for key, (_, _, item) in entries.items() if key in cited and item.value_of(b"crossref") is not None}
         for key, (number, source, item) in entries.items():
             if key not in cited and key not in parents:
                 self.number, self.source = number, source
@@ -384,12 +384,6 @@ EXAMINED = ((b"author", Examiner.names), (b"editor", Examiner.names), (b"pages",
 
 def key_of(item: Item) -> Optional[bytes]:
     return item.key if item.is_entry else None
-
-
-def parent_of(item: Item) -> Optional[bytes]:
-    """The key, in lower case, that the crossref of an entry names."""
-    names = item.records.names[item.at + 1 : item.last]
-    return item.records.value(item.at + 1 + names.index(b"crossref")).lower() if b"crossref" in names else None
 
 
 def has_others_inside(value: bytes) -> bool:
