@@ -4,7 +4,8 @@
 # make front      builds the front end, front/out/bibtex-search and front/out/bibtex-confined, over the proved library; it needs cargo
 #                 and some crates, which `contrib/setup build` installs on Debian
 # make web        builds the library as WebAssembly, web/npm, and the page that runs it, web/out/btx.html; it needs make library, binaryen and Node
-# make install    puts the program, the front end, their man pages, completion, the documents and, where it is built, the library below PREFIX
+# make install    puts the program, the front end, their man pages, completion, the documents, Python's package, what editors and LuaTeX need, and, where it is
+#                 built, the library below PREFIX
 #                 (DESTDIR before it, where a package is made). The program is installed as NAME, so that it doesn't hide TeX's own bibtex:
 #                 contrib/README.md says why
 # make uninstall  takes them away again
@@ -24,6 +25,11 @@ doc = $(share)/doc/bibtex-proved
 bash = $(share)/bash-completion/completions
 zsh = $(share)/zsh/site-functions
 fish = $(share)/fish/vendor_completions.d
+shared = $(share)/bibtex-proved
+vim = $(share)/vim/vimfiles
+luatex = $(share)/texmf/tex/luatex/btx
+# The folder below PREFIX in which the system's Python looks for packages; none where it looks in none.
+python = $(shell /usr/bin/python3 -c 'import site; print(next((it for it in site.getsitepackages() if it.startswith("$(PREFIX)/lib")), ""))' 2>/dev/null)
 program = $(or $(BIBTEX_PROGRAM),crates/bibtex/out/bibtex)
 front = front/out
 page = $(subst -,\\-,$(NAME))
@@ -31,7 +37,7 @@ title = $(shell printf '%s' '$(page)' | tr a-z A-Z)
 # The commands whose options are completed, beside bibtex-search.
 completed = bibtex-confined bibtex-lint bibtex-proved
 
-.PHONY: all check library wheel front try web book install install-program install-front install-completion install-documents install-library uninstall
+.PHONY: all check library wheel front try web book install install-program install-front install-completion install-documents install-python install-editors install-library uninstall
 
 all:
 	contrib/build
@@ -59,7 +65,7 @@ web:
 book:
 	python3 -B docs/book/make.py --pdf
 
-install: install-program install-front install-completion install-documents $(if $(wildcard library/out/libbtx.so.1),install-library)
+install: install-program install-front install-completion install-documents install-python install-editors $(if $(wildcard library/out/libbtx.so.1),install-library)
 
 install-program:
 	@test -x '$(program)' || { echo 'there is no $(program): run make first' >&2; exit 1; }
@@ -90,6 +96,20 @@ install-documents:
 	install -m 644 contrib/README.md '$(doc)/contrib'
 	find examples -type f ! -name '*.pyc' ! -path examples/first/run | LC_ALL=C sort | while IFS= read -r file; do install -D -m 644 "$$file" '$(doc)'/"$$file" || exit 1; done
 
+# Python's package lies beside the program's folder, where bibtex-lint looks for it; a line in a folder of Python's own makes `python3 -m btx` find it, too.
+install-python:
+	install -d '$(shared)/python/btx'
+	install -m 644 python/btx/*.py python/btx/py.typed '$(shared)/python/btx'
+	$(if $(wildcard library/out/libbtx.so.1),ln -sf ../../../../lib/libbtx.so.1 '$(shared)/python/btx/libbtx.so.1')
+	$(if $(python),install -d '$(DESTDIR)$(python)' && echo '$(PREFIX)/share/bibtex-proved/python' >'$(DESTDIR)$(python)/bibtex-proved.pth')
+
+install-editors:
+	install -d '$(vim)/compiler' '$(luatex)' '$(shared)/editors/vscode'
+	install -m 644 contrib/vim/compiler/*.vim '$(vim)/compiler'
+	install -m 644 lua/btx*.lua '$(luatex)'
+	install -m 644 contrib/editors/btx.el contrib/editors/btx.lua '$(shared)/editors'
+	install -m 644 contrib/editors/vscode/extension.js contrib/editors/vscode/language.json contrib/editors/vscode/package.json '$(shared)/editors/vscode'
+
 install-library:
 	$(MAKE) --no-print-directory -C library install PREFIX='$(PREFIX)' DESTDIR='$(DESTDIR)'
 
@@ -98,5 +118,6 @@ uninstall:
 	rm -f '$(man)/$(NAME).1' '$(man)/bibtex-search.1' '$(man)/bibtex-confined.1' '$(man)/bibtex-explain.1' '$(man)/bibtex-lint.1'
 	rm -f '$(bash)/bibtex-search' '$(zsh)/_bibtex-search' '$(fish)/bibtex-search.fish'
 	for name in $(completed); do rm -f '$(bash)'/$$name '$(fish)'/$$name.fish; done
-	rm -rf '$(doc)'
+	rm -rf '$(doc)' '$(shared)' '$(luatex)'
+	rm -f '$(vim)/compiler/bibtex-search.vim' $(if $(python),'$(DESTDIR)$(python)/bibtex-proved.pth')
 	if test -f library/Makefile; then $(MAKE) --no-print-directory -C library uninstall PREFIX='$(PREFIX)' DESTDIR='$(DESTDIR)'; fi

@@ -527,7 +527,7 @@ impl<'a> Faults<'a> {
 }
 
 /// The line of a fault: the end of the file has the number of its last line.
-fn line_of_fault(text: &Text<'_>, place: usize) -> usize {
+pub fn line_of_fault(text: &Text<'_>, place: usize) -> usize {
     text.line_of(place.min(text.bytes.len().saturating_sub(1)))
 }
 

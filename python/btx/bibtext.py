@@ -4,27 +4,29 @@
     for item in database.items:
         print(item.start, item.key, item.slip)
 
-The library reads the database; its records are made into items here. Where an entry is repeated, a run looks for items after its key; so the rest is read once more there."""
+The library reads the database; its records are made into items here. Where an entry is repeated, a run looks for items after its key; so the text from there on is read once more, in
+pieces, up to an item of the first reading."""
 
 from __future__ import annotations
 
 import bisect
 import re
-import struct
-import sys
-from typing import Any, Callable, Dict, Iterator, List, NamedTuple, Optional, Sequence, Set, Tuple
+from typing import Dict, Iterator, List, NamedTuple, Optional, Set, Tuple
 
-from .library import RECORD, read_records
-from .reading import COMMENT, END, ENTRY, FIELD, PREAMBLE, STRING, WRONG, without_collection
+from .library import read_records
+from .reading import END, ENTRY, PREAMBLE, STRING, WRONG, without_collection
+from .records import LowerNames, Records
 from .refusals import DatabaseTooLong
+from .values import NAME as WORD
 from .values import Part, has_names, parts_of
 
-__all__ = ["Database", "Field", "Item", "Known", "KnownItem", "Lines", "Slip", "Undefined", "read", "undefined_strings"]
+__all__ = ["Database", "Field", "Item", "Lines", "Slip", "Undefined", "read", "undefined_strings"]
 
 NO_EQUALS = "I was expecting an ="
 REPEATED = "Repeated entry"
-# How often the rest of a database is read once more.
+# How often the rest of a database is read once more since other strings are defined before it; the bytes of the first piece that is.
 MOST_AGAIN = 50
+LEAST_PIECE = 512
 
 SKIPS_WHITE = re.compile(rb"[ \t\r\n]*")
 NAME = rb"[^\x00- \"#%'(),={}0-9][^\x00- \"#%'(),={}]*"
@@ -34,8 +36,8 @@ OPENS_ITEM = re.compile(rb"[ \t\r\n]*[{(][ \t\r\n]*")
 # A text ends with one of these, if no name ends there.
 ENDS_TEXT = b'}"'
 LINE_END = re.compile(rb"\n")
-# A record: kind, is_whole, start, end, line, name_at, name_len, text_at, text_len.
-Record = Tuple[Any, ...]
+# The bytes that don't begin a character of UTF-8.
+CONTINUES = frozenset(bytes([byte]) for byte in range(0x80, 0xC0))
 
 
 class Field(NamedTuple):
@@ -59,64 +61,74 @@ class Slip(NamedTuple):
 
 
 class Item:
-    """An item of a database.
+    """An item of a database: those of the records that have the numbers `at` to `last`.
 
-    start: where its `@` is. kind: its type in lower case; kind_end: where that ends. key: that of an entry, or the name of a string; None if it has none.
-    key_end: where that ends. fields: those of an entry; of a string or a preamble its value, whose name is empty. is_plain: whether each of these is. end: where its reading ended.
-    slip: the mistake that ended it."""
+    start: where its `@` is. kind: its type in lower case. key: that of an entry, or the name of a string; None if it has none. key_end: where that ends. end: where its
+    reading ended. slip: the mistake that ended it."""
 
-    __slots__ = ("start", "kind", "kind_end", "key", "key_end", "own_fields", "is_plain", "end", "slip")
+    __slots__ = ("records", "at", "last", "start", "kind", "key", "key_end", "end", "slip", "own_fields")
 
-    def __init__(self, start: int, kind: bytes, kind_end: int, key: Optional[bytes], end: int) -> None:
+    def __init__(self, records: Records, at: int, last: int, start: int, kind: bytes, key: Optional[bytes], key_end: int) -> None:
+        self.records = records
+        self.at = at
+        self.last = last
         self.start = start
         self.kind = kind
-        self.kind_end = kind_end
         self.key = key
-        self.key_end = self.end = end
-        self.own_fields: List[Field] = []
-        self.is_plain = True
+        self.key_end = key_end
+        self.end = records.ends[last]
         self.slip: Optional[Slip] = None
+        self.own_fields: Optional[List[Field]] = None
 
     @property
-    def fields(self) -> List[Field]:
-        return self.own_fields
+    def kind_end(self) -> int:
+        """Where its type ends."""
+        return BEGINS_ITEM.match(self.records.text, self.start).end()  # type: ignore[union-attr]
 
     @property
     def is_entry(self) -> bool:
         """Whether it is an entry that has come as far as its key."""
         return self.key is not None and self.kind != b"string"
 
-
-class Known(NamedTuple):
-    """What is kept of an entry whose values are plain, by its bytes: so what was found in it needn't be found again while another entry is edited.
-
-    kind, kind_end, key, key_end: as those of an item, with places counted from the `@`. findings and facts: what the reader of the item keeps with it."""
-
-    kind: bytes
-    kind_end: int
-    key: bytes
-    key_end: int
-    findings: Tuple[Tuple[int, int, str, str], ...]
-    facts: Tuple[Tuple[str, bytes, bytes], ...]
-
-
-class KnownItem(Item):
-    """An entry of which something is known. Its fields are made when they are asked for."""
-
-    __slots__ = ("known", "make")
-
-    def __init__(self, start: int, end: int, known: Known, make: "Callable[[Item], List[Field]]") -> None:
-        super().__init__(start, known.kind, start + known.kind_end, known.key, end)
-        self.key_end = start + known.key_end
-        self.known = known
-        self.make: Optional[Callable[[Item], List[Field]]] = make
+    @property
+    def is_repeated(self) -> bool:
+        return self.slip is not None and self.slip.text == REPEATED
 
     @property
     def fields(self) -> List[Field]:
-        if self.make is not None:
-            make, self.make = self.make, None
-            self.own_fields = make(self)
+        """Those of an entry; of a string or a preamble its value, whose name is empty. They are made when somebody asks for them."""
+        if self.own_fields is None:
+            records, kind = self.records, self.records.kinds[self.at]
+            if kind in (STRING, PREAMBLE):
+                self.own_fields = [self.value_alone(kind)]
+            else:
+                self.own_fields = [] if kind != ENTRY or self.is_repeated else [field_of(records, number) for number in range(self.at + 1, self.last)]
         return self.own_fields
+
+    def value_of(self, name: bytes) -> Optional[bytes]:
+        """What its first field of this name comes to; None where there is none."""
+        names = self.records.names[self.at + 1 : self.last]
+        return self.records.value(self.at + 1 + names.index(name)) if name in names else None
+
+    def value_alone(self, kind: int) -> Field:
+        """The value of a string or a preamble."""
+        text = self.records.text
+        after = text.index(b"=", self.key_end) + 1 if kind == STRING else opened(text, self.kind_end)
+        return Field(b"", after, after, self.records.value(self.at), after, self.records.ends[self.at], False)
+
+
+def field_of(records: Records, number: int) -> Field:
+    """The field of a record."""
+    text, start, end, length = records.text, records.starts[number], records.ends[number], records.name_len[number]
+    after = text.index(b"=", start + length) + 1
+    is_plain = text[end - 1] in ENDS_TEXT and text.find(b"#", after, end) < 0
+    return Field(records.names[number], start, start + length, records.value(number), after, end, is_plain)
+
+
+def opened(text: bytes, place: int) -> int:
+    """The first byte after the brace of an item whose type ends here, and after whitespace."""
+    found = OPENS_ITEM.match(text, place)
+    return place if found is None else found.end()
 
 
 class Lines:
@@ -125,14 +137,21 @@ class Lines:
     def __init__(self, text: bytes) -> None:
         self.text = text
         self.starts = [0, *(found.end() for found in LINE_END.finditer(text))]
+        # A line, a place on it, and the characters before that.
+        self.passed = 0, 0, 0
 
     def line_of(self, place: int) -> int:
         return bisect.bisect_right(self.starts, place) - 1
 
     def at(self, place: int) -> Tuple[int, int]:
-        """The line of a place, and how many characters of UTF-8 are before it on its line. A byte that is none counts as one."""
+        """The line of a place, and how many characters of UTF-8 are before it on its line. A byte that is none counts as one. They are counted once, where places are asked for in
+        their order."""
         line = self.line_of(place)
-        return line, len(self.text[self.starts[line] : place].decode("utf8", "surrogateescape"))
+        _, at, column = self.passed if self.passed[0] == line and self.passed[1] <= place else (line, self.starts[line], 0)
+        column += len(self.text[at:place].decode("utf8", "surrogateescape"))
+        if self.text[place : place + 1] not in CONTINUES:
+            self.passed = line, place, column
+        return line, column
 
     def logged_line(self, place: int) -> int:
         """The number of a place's line in a log, from 1: the end of the file has that of its last line."""
@@ -146,6 +165,14 @@ class Database:
         self.text = text
         self.items = items
         self.strings = strings
+        self.starts: Optional[List[int]] = None
+
+    def items_at(self, place: int) -> List[Item]:
+        """The items that a place is in, or directly after."""
+        if self.starts is None:
+            self.starts = [item.start for item in self.items]
+        last = bisect.bisect_right(self.starts, place)
+        return self.items[max(last - 2, 0) : last]
 
     def start(self, field: Field) -> int:
         """Where a field's value begins."""
@@ -178,213 +205,183 @@ class Database:
         return [part for part in parts_of(self.text, self.start(field), field.end) if part.is_name]
 
 
-def read(text: bytes, stored: Optional[Set[bytes]] = None, strings: Optional[Dict[bytes, bytes]] = None, known: Optional[Dict[bytes, Known]] = None) -> Database:
+def read(text: bytes, stored: Optional[Set[bytes]] = None, strings: Optional[Dict[bytes, bytes]] = None) -> Database:
     """Reads a database as a run does.
 
     stored: the keys, in lower case, of the entries that are stored so far, as of all entries in a job with `\\nocite{*}`; those of this database are added. Then a repeated
     entry is a mistake, and what follows its key is text, as in a run. Without it no key is stored, so each entry is read to its end.
-    strings: those that are defined before it, by names in lower case. known: what is known of entries, by their bytes."""
-    reader = Reader(text, stored, dict(strings or {}), known or {})
+    strings: those that are defined before it, by names in lower case."""
+    reader = Reader(text, stored, dict(strings or {}))
     with without_collection():
-        again = reader.read_from(0)
-        for _ in range(MOST_AGAIN):
-            again = None if again is None else reader.read_from(again)
+        place: Optional[int] = 0
+        while place is not None:
+            place = reader.read_from(place)
     return Database(text, reader.items, reader.strings)
-
-
-class Records(Sequence[Record]):
-    """The records of a database, each of which is read when it is asked for."""
-
-    # An entry that was read to its end.
-    WHOLE = re.compile(bytes([ENTRY]) + b"[" + bytes([FIELD]) + b"]*" + bytes([END]))
-    PLACE = struct.Struct("=Q")
-
-    def __init__(self, data: bytes) -> None:
-        self.data = data
-        # (the low byte of each kind)
-        self.kinds = data[0 if sys.byteorder == "little" else 3 :: RECORD.size]
-
-    def __len__(self) -> int:
-        return len(self.kinds)
-
-    def __getitem__(self, number: Any) -> Any:
-        return RECORD.unpack_from(self.data, RECORD.size * number)
-
-    def last_of_entry(self, number: int) -> int:
-        """The number of the last record of an entry that begins here and was read to its end, else -1."""
-        found = self.WHOLE.match(self.kinds, number)
-        return -1 if found is None else found.end() - 1
-
-    def start(self, number: int) -> int:
-        return int(self.PLACE.unpack_from(self.data, RECORD.size * number + 8)[0])
-
-    def end(self, number: int) -> int:
-        return int(self.PLACE.unpack_from(self.data, RECORD.size * number + 16)[0])
 
 
 class Reader:
     """Makes items of the records of a database."""
 
-    def __init__(self, text: bytes, stored: Optional[Set[bytes]], strings: Dict[bytes, bytes], known: Dict[bytes, Known]) -> None:
+    def __init__(self, text: bytes, stored: Optional[Set[bytes]], strings: Dict[bytes, bytes]) -> None:
         self.text = text
         self.stored = stored
         self.strings = strings
-        self.known = known
         self.items: List[Item] = []
-        self.names: Dict[bytes, bytes] = {}
+        self.names = LowerNames()
+        self.again = 0
 
-    def read_from(self, base: int) -> Optional[int]:
-        """Reads the items from a place on. It answers where the rest is to be read once more, if a repeated entry hides items."""
-        found = read_records(b"d", self.text[base:] if base else self.text, self.strings)
+    def records(self, start: int, end: int, strings: Dict[bytes, bytes]) -> Records:
+        """The records of a part of the text, before which these strings are known."""
+        part = self.text if end - start == len(self.text) else self.text[start:end]
+        found = read_records(b"d", part, strings)
         if found is None:
             raise DatabaseTooLong(len(self.text))
-        texts = found[1]
-        records = Records(found[0]) if self.known else list(RECORD.iter_unpack(found[0]))
-        at = 0
-        while at < len(records):
-            after = self.passed(base, records, at, texts) if isinstance(records, Records) else at
-            if after > at:
-                at = after
-                continue
-            item = self.begun(base, records[at], texts)
-            is_repeated = self.is_repeated(item)
-            self.items.append(item)
-            last = self.filled(base, item, records, at, texts, is_repeated)
-            if is_repeated and self.text.find(b"@", item.key_end, base + records[last - 1][3]) >= 0:
-                return item.key_end
-            at = last
+        return Records(self.text, start, end, *found, self.names)
+
+    def read_from(self, place: int) -> Optional[int]:
+        """Reads the items from a place on. It answers where the rest is to be read once more, since what a repeated entry hides defines other strings before it."""
+        records = self.records(place, len(self.text), self.strings)
+        spans, turn, find = records.items(), 0, self.text.find
+        while turn < len(spans):
+            at, last = spans[turn]
+            item = self.add(records, at, last)
+            turn += 1
+            if item.slip is not None and item.is_repeated and find(b"@", item.key_end, records.ends[last]) >= 0:
+                hidden = Hidden(self, records, spans, turn)
+                turn = hidden.read_from(item.key_end)
+                if hidden.changes_strings and turn < len(spans) and self.again < MOST_AGAIN:
+                    self.again += 1
+                    return hidden.place
         return None
 
-    def passed(self, base: int, records: "Records", at: int, texts: bytes) -> int:
-        """Adds an entry of which something is known; the number of the record after it, or `at` where nothing is."""
-        last = records.last_of_entry(at)
-        if last < 0:
-            return at
-        start, end = base + records.start(at), base + records.end(last)
-        known = self.known.get(self.text[start:end])
-        if known is None:
-            return at
-        if self.stored is not None:
-            key = known.key.lower()
+    def add(self, records: Records, at: int, last: int) -> Item:
+        """Adds the item of these records."""
+        item = self.item(records, at, last)
+        self.items.append(item)
+        kind = records.kinds[at]
+        if kind == ENTRY and self.stored is not None and item.key is not None:
+            key = item.key.lower()
             if key in self.stored:
-                return at
+                item.slip, item.end = Slip(item.key_end, REPEATED), item.key_end
+                return item
             self.stored.add(key)
+        elif kind == STRING and records.is_whole[at] and item.key is not None:
+            self.strings[item.key.lower()] = records.value(at)
+        if records.kinds[last] == WRONG:
+            said = records.value(last).rpartition(b"--line ")[0][len(b"Error--") :]
+            item.slip = Slip(records.starts[last], said.decode())
+        return item
 
-        def make(item: Item) -> List[Field]:
-            into: List[Field] = []
-            self.fields(base, item, into, records, at + 1, texts)
-            return into
-
-        self.items.append(KnownItem(start, end, known, make))
-        return last + 1
-
-    def is_repeated(self, item: Item) -> bool:
-        """Whether an entry's key is stored; if not, it is from now on."""
-        if self.stored is None or not item.is_entry or item.key is None:
-            return False
-        key = item.key.lower()
-        if key in self.stored:
-            return True
-        self.stored.add(key)
-        return False
-
-    def begun(self, base: int, record: Record, texts: bytes) -> Item:
-        """The item that begins with a record."""
-        kind, _, start, end, _, name_at, name_len, text_at, text_len = record
-        start, end = base + start, base + end
+    def item(self, records: Records, at: int, last: int) -> Item:
+        """The item of these records, so far as the first of them tells it."""
+        kind, start, end = records.kinds[at], records.starts[at], records.ends[at]
+        if kind == ENTRY:
+            return Item(records, at, last, start, records.names[at], records.value(at), end)
         if kind == WRONG:
             # (nothing of it was read whole: it begins with the first `@` after the item before it)
-            start = self.text.find(b"@", max(base, self.items[-1].end if self.items else 0))
-        if kind == ENTRY:
-            written = texts[name_at : name_at + name_len]
-            return Item(start, self.lowered(written), self.text.index(written, start) + name_len, texts[text_at : text_at + text_len], end)
+            start = self.text.find(b"@", max(records.base, self.items[-1].end if self.items else 0))
         found = BEGINS_ITEM.match(self.text, start)
         assert found is not None
-        name, key = (found[1] or b"").lower(), None
-        if kind == STRING:
-            key = texts[name_at : name_at + name_len]
-            end = self.opened(found.end()) + name_len
-        return Item(start, name, found.end(), key, end)
+        if kind != STRING:
+            return Item(records, at, last, start, (found[1] or b"").lower(), None, end)
+        name_end = opened(self.text, found.end()) + records.name_len[at]
+        return Item(records, at, last, start, b"string", self.text[name_end - records.name_len[at] : name_end], name_end)
 
-    def lowered(self, written: bytes) -> bytes:
-        """A name in lower case, which is made once."""
-        name = self.names.get(written)
-        if name is None:
-            name = self.names[written] = written.lower()
-        return name
 
-    def opened(self, place: int) -> int:
-        """The first byte after the brace of an item whose type ends here, and after whitespace."""
-        found = OPENS_ITEM.match(self.text, place)
-        return place if found is None else found.end()
+class Hidden:
+    """Reads what a repeated entry hides: a run looks for items directly after its key.
 
-    def filled(self, base: int, item: Item, records: Sequence[Record], at: int, texts: bytes, is_repeated: bool) -> int:
-        """Adds what an item has after its beginning; the number of the record after the item."""
-        kind, is_whole, _, end, _, _, _, text_at, text_len = records[at]
-        if kind in (STRING, PREAMBLE):
-            value = texts[text_at : text_at + text_len]
-            after = self.text.index(b"=", item.key_end) + 1 if kind == STRING else self.opened(item.kind_end)
-            item.fields.append(Field(b"", after, after, value, after, base + end, False))
-            item.is_plain = False
-            if kind == STRING and is_whole and item.key is not None:
-                self.strings[item.key.lower()] = value
-        if kind == COMMENT:
-            return at + 1
-        if kind != WRONG:
-            at = self.fields(base, item, [] if is_repeated else item.fields, records, at + 1, texts)
-        kind, _, start, end, _, _, _, text_at, text_len = records[at]
-        if is_repeated:
-            item.slip, item.end = Slip(item.key_end, REPEATED), item.key_end
-        elif kind == WRONG:
-            said = texts[text_at : text_at + text_len].rpartition(b"--line ")[0][len(b"Error--") :]
-            item.slip, item.end = Slip(base + start, said.decode()), base + start
-        else:
-            item.end = base + end
-        return at + 1
+    The items after it are read in pieces, each about twice as long as the one before, up to one that the first reading has too: from there on nothing is different, but for strings.
+    turn: which item of the first reading ends next. changes_strings: whether a string is defined or isn't any more. place: where the next item is looked for."""
 
-    def fields(self, base: int, item: Item, into: List[Field], records: Sequence[Record], at: int, texts: bytes) -> int:
-        """Adds the fields whose records begin here; the number of the record after them."""
-        text, names, index, find, add = self.text, self.names, self.text.index, self.text.find, into.append
+    def __init__(self, reader: Reader, whole: Records, spans: List[Tuple[int, int]], turn: int) -> None:
+        self.reader = reader
+        self.whole = whole
+        self.spans = spans
+        self.turn = turn
+        self.size = LEAST_PIECE
+        self.place = 0
+        self.changes_strings = False
+
+    def read_from(self, place: int) -> int:
+        """Reads the items from a place on. It answers the number of the item with which the first reading goes on."""
+        self.place = place
+        while not self.is_known():
+            end = min(self.place + self.size, len(self.reader.text))
+            named = {name.lower() for name in WORD.findall(self.reader.text, self.place, end)} if self.reader.strings else ()
+            self.read_piece(self.reader.records(self.place, end, {name: self.reader.strings[name] for name in named if name in self.reader.strings}))
+        return self.turn
+
+    def is_known(self) -> bool:
+        """Goes to the next `@`: whether an item of the first reading begins there, or there is none."""
+        ends, spans = self.whole.ends, self.spans
         while True:
-            kind, _, start, end, _, name_at, name_len, text_at, text_len = records[at]
-            if kind != FIELD:
-                return at
-            written = texts[name_at : name_at + name_len]
-            name = names.get(written) or self.lowered(written)
-            start, end = base + start, base + end
-            after = index(b"=", start + name_len) + 1
-            is_plain = text[end - 1] in ENDS_TEXT and find(b"#", after, end) < 0
-            add(Field(name, start, start + name_len, texts[text_at : text_at + text_len], after, end, is_plain))
-            if not is_plain:
-                item.is_plain = False
-            at += 1
+            place = self.reader.text.find(b"@", self.place)
+            self.place = len(self.reader.text) if place < 0 else place
+            while self.turn < len(spans) and ends[spans[self.turn][1]] <= self.place:
+                self.changes_strings |= self.whole.kinds[spans[self.turn][0]] == STRING
+                self.turn += 1
+            before = ends[spans[self.turn - 1][1]]
+            return place < 0 or (before <= place and self.reader.text.find(b"@", before) == place)
+
+    def read_piece(self, records: Records) -> None:
+        """Adds the items of a piece, as far as they are surely read as in the whole text."""
+        reader, is_last = self.reader, records.limit == len(self.reader.text)
+        for number, (at, last) in enumerate(records.items()):
+            if number and self.is_known():
+                return
+            if not is_last and self.is_cut(records, at, last):
+                break
+            self.changes_strings |= records.kinds[at] == STRING and records.value(at) != reader.strings.get(records.names[at])
+            item = reader.add(records, at, last)
+            self.place = item.end
+            if item.is_repeated and reader.text.find(b"@", item.key_end, records.ends[last]) >= 0:
+                self.size = LEAST_PIECE
+                return
+        self.size *= 2
+
+    def is_cut(self, records: Records, at: int, last: int) -> bool:
+        """Whether an item may be read otherwise in a longer piece. Of a repeated entry nothing counts that is after its key."""
+        if records.kinds[at] == ENTRY and records.ends[at] < records.limit and records.value(at).lower() in (self.reader.stored or ()):
+            return False
+        return records.ends[last] >= records.limit and records.kinds[last] != END
 
 
 class Undefined(NamedTuple):
-    """A name without a string, as a run logs it. item: that of the value. is_own: whether it is in the definition of that very string."""
+    """A name without a string, as a run logs it. item: that of the value. field: the name of its field, if it is in one. is_own: whether it is in the definition of that very string."""
 
     part: Part
     item: Item
+    field: bytes
     is_own: bool
 
 
 def undefined_strings(database: Database, strings: Set[bytes]) -> Iterator[Undefined]:
     """The names without a string, in the order of the text. strings: the names, in lower case, that are defined before the database; those that it defines are added."""
     for item in database.items:
-        own = item.key.lower() if item.key is not None and item.kind == b"string" else None
-        if not item.is_plain:
-            yield from undefined_of(database, item, own, strings)
-        if own is not None and item.fields:
-            strings.add(own)
+        kind = item.records.kinds[item.at]
+        if kind == ENTRY:
+            if not item.is_repeated and item.records.lacks_string(item.at + 1, item.last):
+                yield from undefined_of(database, item, strings)
+        elif kind in (STRING, PREAMBLE):
+            own, records = item.key.lower() if item.key is not None else None, item.records
+            if database.text[records.ends[item.at] - 1] not in ENDS_TEXT or records.lacks_string(item.at, item.at + 1):
+                yield from undefined_in(database, item, item.fields[0], own, strings)
+            if own is not None:
+                strings.add(own)
 
 
-def undefined_of(database: Database, item: Item, own: Optional[bytes], strings: Set[bytes]) -> Iterator[Undefined]:
-    """The names without a string in the values of an item."""
-    names: Set[bytes] = set()
-    for field in item.fields:
-        if not field.is_plain and not (field.name and field.name in names):
-            for part in database.names(field):
-                name = database.text[part.start : part.end].lower()
-                if name == own or name not in strings:
-                    yield Undefined(part, item, name == own)
-        names.add(field.name)
+def undefined_of(database: Database, item: Item, strings: Set[bytes]) -> Iterator[Undefined]:
+    """The names without a string in the fields of an entry. Of fields with the same name the first counts."""
+    records, first = item.records, item.at + 1
+    for number in records.lacking(first, item.last):
+        if records.names[number] not in records.names[first:number]:
+            yield from undefined_in(database, item, field_of(records, number), None, strings)
+
+
+def undefined_in(database: Database, item: Item, field: Field, own: Optional[bytes], strings: Set[bytes]) -> Iterator[Undefined]:
+    """The names without a string in a value. own: the name of the string that the value is to define."""
+    for part in database.names(field):
+        name = database.text[part.start : part.end].lower()
+        if name == own or name not in strings:
+            yield Undefined(part, item, field.name, name == own)

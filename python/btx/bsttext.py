@@ -8,7 +8,7 @@ from __future__ import annotations
 import re
 from typing import Dict, List, NamedTuple, Optional, Tuple
 
-__all__ = ["COMMANDS", "Command", "StyleText", "Word", "read_style"]
+__all__ = ["COMMANDS", "Command", "StyleText", "Word", "read_style", "uses_between"]
 
 COMMANDS = ("ENTRY", "EXECUTE", "FUNCTION", "INTEGERS", "ITERATE", "MACRO", "READ", "REVERSE", "SORT", "STRINGS")
 # What lies between tokens; a command's word, and where one begins a line; a token of a body; a word of a list.
@@ -68,25 +68,35 @@ def read_style(text: bytes) -> StyleText:
     return reader.found
 
 
-class StyleReader:
-    """Reads a style, forward only."""
+def uses_between(text: bytes, start: int, end: int) -> List[Word]:
+    """The names that a style uses between two places. Only the commands around them are read."""
+    at = text.rfind(b"\n", 0, start) + 1
+    while at > 0 and BEGINS_LINE.match(text, at) is None:
+        at = text.rfind(b"\n", 0, at - 1) + 1
+    reader = StyleReader(text, at)
+    while reader.at < end:
+        reader.command()
+    return [word for word in reader.found.uses if start <= word.start < end]
 
-    def __init__(self, text: bytes) -> None:
+
+class StyleReader:
+    """Reads a style from a place on, forward only."""
+
+    def __init__(self, text: bytes, at: int = 0) -> None:
         self.text = text
-        self.at = 0
+        self.at = at
         self.found = StyleText()
-        self.lines = [found.start() for found in BEGINS_LINE.finditer(text)]
-        self.lines.append(len(text))
-        self.next_line = 0
+        self.next_line = -1
 
     def skip_space(self) -> None:
         self.at = SPACE.match(self.text, self.at).end()  # type: ignore[union-attr]
 
     def limit(self) -> int:
         """Where the next command begins at the latest."""
-        while self.lines[self.next_line] < self.at:
-            self.next_line += 1
-        return self.lines[self.next_line]
+        if self.next_line < self.at:
+            found = BEGINS_LINE.search(self.text, self.at)
+            self.next_line = len(self.text) if found is None else found.start()
+        return self.next_line
 
     def command(self) -> None:
         """Reads a command, or passes over what is none."""

@@ -1,4 +1,4 @@
-"""`python3 -m btx doctor [--style S] [--job J] [--json] [--off NAME,..] BIB..`: what can be said of databases without a run. It changes no file."""
+"""`python3 -m btx doctor [--style S] [--job J] [--json] [--off NAME,..] [BIB..]`: what can be said of databases without a run. It changes no file."""
 
 from __future__ import annotations
 
@@ -21,6 +21,7 @@ STATUS_MISTAKES = 2
 STATUS_DEVICE = 6
 # A line of an .aux file whose argument counts.
 COMMAND = re.compile(rb"(?m)^\\(citation|@input)\{([^}\r\n \t]*)\}\r?$")
+BIBDATA = re.compile(rb"(?m)^\\bibdata\{([^}\r\n \t]*)\}\r?$")
 MOST_AUX = 1000
 
 
@@ -48,7 +49,7 @@ def main(words: List[str]) -> int:
 
 def parser() -> argparse.ArgumentParser:
     result = Words(prog="python3 -m btx doctor", description="Says what is wrong or doubtful in databases, without a document. It changes no file.")
-    result.add_argument("databases", metavar="BIB", nargs="*", help="a database; several are examined as those of one job")
+    result.add_argument("databases", metavar="BIB", nargs="*", help="a database; several are examined as those of one job; those of --job where none is named")
     result.add_argument("--style", metavar="S", help="the style: which fields, types and strings it has")
     result.add_argument("--job", metavar="J", help="the .aux file of a document: which entries it cites")
     result.add_argument("--json", action="store_true", help="print a line of JSON for each finding")
@@ -65,14 +66,14 @@ def print_table() -> None:
 
 def check_up(given: argparse.Namespace) -> int:
     """Examines the databases, and prints what is found."""
-    if not given.databases:
-        raise Refused("name a database, or --list")
+    if not given.databases and given.job is None:
+        raise Refused("name a database, a --job, or --list")
     off: FrozenSet[str] = frozenset(filter(None, given.off.split(",")))
     unknown = sorted(off - set(CHECKS))
     if unknown:
         raise Refused(f"there is no check {unknown[0]}: --list prints them")
     search = found_search()
-    sources = [Source(path, content_of(os.fsencode(path), MOST_BYTES)) for path in given.databases]
+    sources = [Source(path, content_of(os.fsencode(path), MOST_BYTES)) for path in given.databases or databases_of(given.job, search)]
     style = None if given.style is None else Style(named_style(given.style, search))
     citations = None if given.job is None else list(citations_of(given.job))
     found = examine(sources, style, citations, off)
@@ -92,8 +93,22 @@ def named_style(name: str, search: Search) -> bytes:
     return content_of(found, MOST_BYTES)
 
 
-def citations_of(job: str) -> Iterator[Citation]:
-    """The citations of a job's .aux files, in their order. An included file is looked for from the present folder, and then beside the job's."""
+def databases_of(job: str, search: Search) -> List[str]:
+    """Where the databases are that a job names: as a run does it takes the first list of them. One that isn't there is named on standard error."""
+    lists = (found[1] for source in aux_files(job) for found in BIBDATA.finditer(source.text))
+    names = [name if name.endswith(b".bib") else name + b".bib" for name in next(lists, b"").split(b",") if name]
+    found = [(name, search.path_of(name)) for name in names]
+    for name, path in found:
+        if path is None:
+            print(f"btx: there is no database {shown(os.fsdecode(name))}", file=sys.stderr)
+    paths = [os.fsdecode(path[2:] if path.startswith(b"./") else path) for _, path in found if path is not None]
+    if not paths:
+        raise Refused(f"{job} names no database that is there: name one")
+    return paths
+
+
+def aux_files(job: str) -> Iterator[Source]:
+    """A job's .aux files, in the order in which they are read. An included file is looked for from the present folder, and then beside the job's."""
     top = job if job.endswith(".aux") else job + ".aux"
     folder = os.path.dirname(top)
     waiting: List[str] = [top]
@@ -104,13 +119,22 @@ def citations_of(job: str) -> Iterator[Citation]:
             continue
         seen.add(path)
         source = Source(path, content_of(os.fsencode(path), MOST_BYTES))
-        included: List[str] = []
-        for found in COMMAND.finditer(source.text):
-            if found[1] == b"citation":
-                yield from citations_in(source, found.start(2), found[2])
-            else:
-                included += filter(None, [existing(os.fsdecode(found[2]), folder)])
-        waiting[:0] = included
+        yield source
+        found = (it for it in COMMAND.finditer(source.text) if it[1] == b"@input")
+        waiting[:0] = filter(None, (existing(os.fsdecode(it[2]), folder) for it in found))
+
+
+def citations_of(job: str) -> Iterator[Citation]:
+    """The citations of a job's .aux files."""
+    for source in aux_files(job):
+        yield from citations_of_file(source)
+
+
+def citations_of_file(source: Source) -> Iterator[Citation]:
+    """The citations of one .aux file, in their order."""
+    for found in COMMAND.finditer(source.text):
+        if found[1] == b"citation":
+            yield from citations_in(source, found.start(2), found[2])
 
 
 def citations_in(source: Source, start: int, keys: bytes) -> Iterator[Citation]:

@@ -2,25 +2,28 @@
 
 from __future__ import annotations
 
-import difflib
+import bisect
 import itertools
 import os
 import re
-from functools import partial
-from typing import Callable, Dict, Iterable, Iterator, List, NamedTuple, Optional, Tuple
+from functools import lru_cache, partial
+from typing import Callable, Dict, Iterator, List, NamedTuple, Optional, Set, Tuple
 
-from .bibtext import NO_EQUALS, REPEATED
-from .bsttext import COMMANDS, StyleText
+from .bibtext import REPEATED
+from .bsttext import COMMANDS, StyleText, Word, uses_between
 from .builtins import BUILT_IN
 from .checking import Fault, StyleWarning, check
-from .doctor import Finding, Source, Style, examine
+from .doctor import JOURNALS, MONTHS, Finding, Source, Style, examine
 from .documents import Document
 from .jobs import run
+from .mending import Mending, mend
 from .messages import Kind, Message
 from .options import Options
+from .spelling import nearest
+from .standard import TYPES
 from .workspace import MOST_BYTES, Workspace, path_of
 
-__all__ = ["Diagnostic", "Mending", "citations", "diagnose", "nearest"]
+__all__ = ["Diagnostic", "Mending", "cited", "diagnose", "types_of"]
 
 ERROR, WARNING, INFO, HINT = 1, 2, 3, 4
 SEVERITIES = {"error": ERROR, "warning": WARNING, "info": INFO}
@@ -34,19 +37,15 @@ FAULTS = {
 }
 # How many diagnostics of a text are shown at most.
 MOST_SHOWN = 1000
+# How many warnings of a style are looked for one by one.
+MOST_LOOKED_FOR = 20
 UNKNOWN = re.compile(r"(.*) (?:is an unknown function|isn't a command)", re.DOTALL)
+# What holds no brace of a style's text: comments and literals; a part of its text, or a comment.
+NO_BRACES = re.compile(rb"%[^\n]*|\"[^\"\n]*\"?")
+STYLE_TEXT = re.compile(rb"\"[^\"\n]*\"?|[^ \t\r\n%\"]+|(%)[^\n]*")
 CITES = re.compile(rb"\\(?:no)?[A-Za-z]*[cC]ite[A-Za-z]*\*?(?:\[[^\]\r\n]*\]){0,2}\{([^{}]*)\}")
 AUX_CITES = re.compile(rb"(?m)^\\citation\{([^}\s]*)\}")
 KEY = re.compile(rb"[^,\s]+")
-
-
-class Mending(NamedTuple):
-    """An edit that a diagnostic suggests: its title, and the text that is put from `start` to `end`."""
-
-    title: str
-    start: int
-    end: int
-    text: str
 
 
 class Diagnostic(NamedTuple):
@@ -58,11 +57,6 @@ class Diagnostic(NamedTuple):
     code: str
     text: str
     mend: Callable[[], Optional[Mending]] = lambda: None
-
-
-def nearest(word: str, names: Iterable[str]) -> Optional[str]:
-    """The name that is spelled most like a word, if any is like it."""
-    return next(iter(difflib.get_close_matches(word.lower(), sorted(set(names)), 1, 0.6)), None)
 
 
 def diagnose(document: Document, workspace: Workspace) -> List[Diagnostic]:
@@ -85,59 +79,112 @@ def diagnose(document: Document, workspace: Workspace) -> List[Diagnostic]:
 
 def of_style(document: Document, workspace: Workspace) -> Iterator[Diagnostic]:
     """The mistakes of a style's text, as a run logs them, and what the check says of it."""
-    files = {"j.aux": b"\\citation{*}\n\\bibdata{d}\n\\bibstyle{s}\n", "s.bst": document.text, "d.bib": b""}
-    style = workspace.style(document)
-    for message in run("j", files, Options(budget=0)).messages:
+    for message in logged_of_style(document.text):
         if message.kind is Kind.ERROR and message.file == "s.bst" and message.line is not None:
-            yield style_mistake(document, style, message)
+            yield style_mistake(document, workspace, message)
     warnings = check(document.text).warnings
-    for warning in [it for it in warnings if it.is_first] or warnings:
-        start, end = place_of_warning(document, style, warning)
+    warnings = [it for it in warnings if it.is_first] or warnings
+    # (the whole style is read only where it takes less than to look for each warning)
+    uses = workspace.style(document).uses if len(warnings) > MOST_LOOKED_FOR else None
+    starts = None if uses is None else [word.start for word in uses]
+    for warning in warnings:
+        start, end = document.line_range(max(warning.line, 1))
+        if uses is None or starts is None:
+            words = uses_between(document.text, start, end)
+        else:
+            words = uses[bisect.bisect_left(starts, start) : bisect.bisect_left(starts, end)]
+        start, end = place_of_warning(warning, words) or (start, end)
         types = ", ".join(name or "a type that the style doesn't know" for name in warning.types)
         field = f"; the field {warning.missing} may be missing" if warning.missing else ""
         said = f"{warning.next} {FAULTS.get(warning.fault, 'may fail') if warning.fault else 'may fail'}{field}" + (f" ({types})" if types else "")
         yield Diagnostic(start, end, WARNING, "check", said)
 
 
-def style_mistake(document: Document, style: StyleText, message: Message) -> Diagnostic:
+def style_mistake(document: Document, workspace: Workspace, message: Message) -> Diagnostic:
     """A mistake of a style's text, on the word that it names or else on its line."""
     start, end = document.line_range(message.line or 1)
     line = document.text[start:end]
     start += len(line) - len(line.lstrip())
     found = UNKNOWN.fullmatch(message.text)
     if found is None:
-        return Diagnostic(start, end, ERROR, "mistake", message.text, partial(closing, document, message.text, end))
+        return Diagnostic(start, end, ERROR, "mistake", message.text, partial(closing_of, document, workspace, message.text, end))
     word = found[1].encode("utf8", "surrogateescape")
     place = re.compile(rb"(?<![^\s{}'])" + re.escape(word) + rb"(?![^\s}%{])", re.IGNORECASE).search(document.text, start, end)
     if place is None:
         return Diagnostic(start, end, ERROR, "mistake", message.text)
     is_command = message.text.endswith("command")
-    return Diagnostic(*place.span(), ERROR, "mistake", message.text, partial(known_word, style, found[1], place.span(), is_command))
+    return Diagnostic(*place.span(), ERROR, "mistake", message.text, partial(known_word, document, workspace, found[1], place.span(), is_command))
 
 
-def known_word(style: StyleText, word: str, place: Tuple[int, int], is_command: bool) -> Optional[Mending]:
-    """The command or the function that is spelled most like a word."""
+def known_word(document: Document, workspace: Workspace, word: str, place: Tuple[int, int], is_command: bool) -> Optional[Mending]:
+    """The command or the function that is spelled most like a word. A word that is one itself is unknown only since a brace is missing above it."""
+    style = workspace.style(document)
     names = COMMANDS if is_command else [*BUILT_IN, *(it.name for it in style.definitions if it.kind != "string")]
+    if word.upper() in COMMANDS or word.lower() in names:
+        return closing(document, style, "", place[0])
     near = nearest(word, [name.lower() for name in names])
     return written(place, near.upper() if near and is_command else near)
 
 
-def closing(document: Document, text: str, place: int) -> Optional[Mending]:
-    """The sign that is missing, as a mending."""
+def closing_of(document: Document, workspace: Workspace, text: str, place: int) -> Optional[Mending]:
+    """The brace that is missing; the style is read only where somebody asks."""
+    return closing(document, workspace.style(document), text, place)
+
+
+def closing(document: Document, style: StyleText, text: str, place: int) -> Optional[Mending]:
+    """The brace that is missing, as a mending: where the command ends that isn't closed, or at the end, or at this place. It is suggested only where the style then has fewer mistakes."""
+    found = re.fullmatch(r"I was expecting a ([{}])", text)
+    guesses = [*unclosed(document.text, style, place)]
     if text.startswith("Illegal end of"):
-        return Mending("Add the brace at the end", len(document.text), len(document.text), "}\n")
-    found = re.fullmatch(r"I was expecting a (?:, or a )?([{})])", text)
-    return None if found is None else Mending(f"Add the {found[1]}", place, place, found[1])
+        guesses.append(Mending("Add the brace at the end", len(document.text), len(document.text), "}\n"))
+    if found is not None:
+        guesses.append(Mending(f"Add the {found[1]}", place, place, found[1]))
+    before = mistakes_of_style(document.text) if guesses else 0
+    return next((guess for guess in guesses if mistakes_of_style(applied(document.text, guess)) < before), None)
 
 
-def place_of_warning(document: Document, style: StyleText, warning: StyleWarning) -> Tuple[int, int]:
-    """The token of a warning; where it isn't found its line."""
-    start, end = document.line_range(max(warning.line, 1))
-    words = [word for word in style.uses if start <= word.start < end]
+def unclosed(text: bytes, style: StyleText, place: int) -> Iterator[Mending]:
+    """The braces that are missing in the last command before a place that isn't closed, where it ends."""
+    for command in reversed([it for it in style.commands if it.start < place]):
+        bare = NO_BRACES.sub(b"", text[command.start : command.end])
+        missing = bare.count(b"{") - bare.count(b"}")
+        if missing > 0:
+            name = command.word if command.name is None else f"{command.word} {{{command.name.name}}}"
+            end = end_of_text(text, command.start, command.end)
+            yield Mending(f"Close {name}", end, end, ("\n" if b"\n" in text[command.start : end] else " ") + "}" * missing)
+            return
+
+
+def end_of_text(text: bytes, start: int, end: int) -> int:
+    """Where a command's text ends, without the whitespace and the comments after it."""
+    last = start
+    for found in STYLE_TEXT.finditer(text, start, end):
+        last = last if found[1] else found.end()
+    return last
+
+
+def applied(text: bytes, mending: Mending) -> bytes:
+    return text[: mending.start] + mending.text.encode("utf8", "surrogateescape") + text[mending.end :]
+
+
+@lru_cache(maxsize=8)
+def mistakes_of_style(text: bytes) -> int:
+    """How many mistakes a run logs of a style's text."""
+    return sum(1 for message in logged_of_style(text) if message.kind is Kind.ERROR and message.file == "s.bst")
+
+
+def logged_of_style(text: bytes) -> List[Message]:
+    """What a run of no entries logs."""
+    files = {"j.aux": b"\\citation{*}\n\\bibdata{d}\n\\bibstyle{s}\n", "s.bst": text, "d.bib": b""}
+    return run("j", files, Options(budget=0)).messages
+
+
+def place_of_warning(warning: StyleWarning, words: List[Word]) -> Optional[Tuple[int, int]]:
+    """The token of a warning, of the words that are used on its line."""
     for spot in warning.places[:1]:
         words = [word for word in words if word.token == spot.token]
     words = [word for word in words if word.name == warning.next.lower()] or words
-    return (words[0].start, words[0].end) if words else (start, end)
+    return (words[0].start, words[0].end) if words else None
 
 
 # ---- databases ----
@@ -147,39 +194,69 @@ def of_database(document: Document, workspace: Workspace) -> Iterator[Diagnostic
     """What the doctor says of a database, with the style in use."""
     used = workspace.style_in_use(document)
     style = None if used is None else used[1]
-    memory = workspace.memory(document, None if used is None else used[0].text)
-    for finding in examine([Source(document.uri, document.text)], style, memory=memory):
+    for finding in examine([Source(document.uri, document.text)], style, most=MOST_SHOWN + 1):
         severity = HINT if finding.check == "unread-field" else SEVERITIES[finding.severity]
-        yield Diagnostic(finding.start, finding.end, severity, finding.check, finding.text, partial(mending_of, document, workspace, finding, style))
+        yield Diagnostic(finding.start, finding.end, severity, finding.check, finding.text, partial(mending_of, document, workspace, finding, used))
 
 
-def mending_of(document: Document, workspace: Workspace, finding: Finding, style: Optional[Style]) -> Optional[Mending]:
+def mending_of(document: Document, workspace: Workspace, finding: Finding, used: Optional[Tuple[Document, Style, StyleText]]) -> Optional[Mending]:
     """The edit that a finding suggests."""
-    word, place = document.text[finding.start : finding.end].decode("utf8", "replace"), (finding.start, finding.end)
+    word, place = shown(document.text[finding.start : finding.end]), (finding.start, finding.end)
     if finding.check == "undefined-string":
-        known = style.strings if style is not None else ()
-        return written(place, nearest(word, [it.decode("utf8", "replace") for it in (*workspace.base(document).strings, *known)]))
-    if finding.check == "unread-field" and style is not None:
-        return written(place, nearest(word, [it.decode("utf8", "replace") for it in style.fields]))
+        return written(place, nearest(word, strings_before(document, workspace, finding.start, used)))
+    if finding.check == "unread-field" and used is not None:
+        had = {field.name for item in workspace.base(document).items if item.start < finding.start < item.end for field in item.fields}
+        return written(place, nearest(word, map(shown, used[1].fields - had)))
+    if finding.check == "unknown-type" and used is not None:
+        kind = word.lstrip("@ \t\r\n")
+        return written((finding.end - len(kind.encode("utf8", "surrogateescape")), finding.end), nearest(kind, known_types(used[2])))
     if finding.check == "one-hyphen":
         return written(place, re.sub(r"(?<=[0-9])\s*[-\u2013\u2014]\s*(?=[0-9])", "--", word))
     if finding.check == "bare-organization":
         return written(place, f"{{{word}}}")
     if finding.check == "month-text":
-        return written(place, word.strip('{}" \t\r\n')[:3].lower())
+        month = word.strip('{}" \t\r\n')[:3].lower()
+        return written(place, month if month in strings_before(document, workspace, finding.start, used) else None)
     if finding.check != "mistake" or finding.text == REPEATED:
         return None
-    if finding.text.startswith("I was expecting a , or a"):
-        end = len(document.text[: finding.start].rstrip(b" \t\r\n"))
-        return Mending("Add the comma", end, end, ",")
-    if finding.text == NO_EQUALS:
-        return Mending("Add the =", finding.start, finding.start, "= ")
-    return closing(document, finding.text, len(document.text[: finding.start].rstrip(b" \t\r\n")))
+    return mending_of_mistake(document, workspace, finding.start)
+
+
+def strings_before(document: Document, workspace: Workspace, place: int, used: Optional[Tuple[Document, Style, StyleText]]) -> Set[str]:
+    """The names of the strings that are defined before a place: those of the database, and those of the style in use or else of TeX's standard styles."""
+    items = workspace.base(document).items
+    own = {item.key for item in items if item.kind == b"string" and item.key is not None and item.end < place}
+    return {shown(name).lower() for name in (*own, *((*MONTHS, *JOURNALS) if used is None else used[1].strings))}
+
+
+def known_types(style: StyleText) -> List[str]:
+    """The types of a style: the functions that no other one uses, and those of the standard types that it has."""
+    functions = style.named("function")
+    return [*types_of(functions, style.uses), *(name for name in TYPES if name in functions)]
+
+
+def types_of(functions: List[str], uses_of: List[Word]) -> List[str]:
+    """The functions that no other one of the style uses."""
+    used = {word.name for word in uses_of}
+    return [name for name in functions if name not in used]
+
+
+def mending_of_mistake(document: Document, workspace: Workspace, place: int) -> Optional[Mending]:
+    """The edit that mends the mistake at a place of a database."""
+    items = workspace.base(document).items
+    number = bisect.bisect_right([item.start for item in items], place) - 1
+    slips = ((at, items[at].slip) for at in range(number, max(number - 2, -1), -1))
+    found = next((at for at, slip in slips if slip is not None and slip.place == place), None)
+    return None if found is None else mend(document.text, items, found)
 
 
 def written(place: Tuple[int, int], text: Optional[str]) -> Optional[Mending]:
     """A text in the place of what is there."""
-    return None if text is None else Mending(f"Write {text}", *place, text)
+    return None if text is None else Mending(f"Change to `{text}`", *place, text)
+
+
+def shown(text: bytes) -> str:
+    return text.decode("utf8", "surrogateescape")
 
 
 # ---- documents ----
@@ -207,13 +284,18 @@ def citations(document: Document) -> Iterator[Tuple[int, int]]:
             yield key.span()
 
 
+def cited(document: Document, workspace: Workspace) -> List[Tuple[int, int]]:
+    """The same, found once for a text."""
+    return workspace.made("citations", document, lambda _: list(citations(document)))  # type: ignore[no-any-return]
+
+
 def unknown_citations(document: Document, workspace: Workspace) -> Iterator[Diagnostic]:
     """The citations without an entry in the databases of a document. Where no database is found, nothing is said."""
     databases = workspace.databases(document)
     keys: Dict[bytes, bytes] = {}
     for database in databases:
-        keys.update((item.key.lower(), item.key) for item in workspace.base(database).database.items if item.is_entry and item.key is not None)
-    for start, end in citations(document) if databases else ():
+        keys.update((item.key.lower(), item.key) for item in workspace.base(database).items if item.is_entry and item.key is not None)
+    for start, end in cited(document, workspace) if databases else ():
         key = document.text[start:end]
         if key.lower() not in keys and key != b"*":
             said = f'I didn\'t find a database entry for "{key.decode("utf8", "replace")}"'

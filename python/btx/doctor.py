@@ -8,12 +8,13 @@ A check that a run would log says what the run logs. The others are guesses, and
 from __future__ import annotations
 
 import re
-from typing import Dict, FrozenSet, Iterable, Iterator, List, NamedTuple, Optional, Set, Tuple
+from operator import itemgetter
+from typing import Dict, FrozenSet, Iterable, Iterator, List, NamedTuple, Optional, Set, Tuple, Union
 
-from .bibtext import REPEATED, Database, Field, Item, Known, KnownItem, Lines, read, undefined_strings
+from .bibtext import ENDS_TEXT, Database, Field, Item, Lines, field_of, read, undefined_strings
+from .bsttext import StyleText, read_style
 from .reading import without_collection
 from .values import BRACE
-from .bsttext import StyleText, read_style
 
 __all__ = ["CHECKS", "Check", "Citation", "Finding", "Source", "Style", "examine"]
 
@@ -51,10 +52,32 @@ CHECKS = {
     )
 }
 
+# What is said of each, with the names that it is about.
+SAID = {
+    "mistake": "{}",
+    "repeated-key": "{}",
+    "repeated-field": "I'm ignoring {}'s extra \"{}\" field",
+    "undefined-string": 'string name "{}" is {}',
+    "no-entry": 'I didn\'t find a database entry for "{}"',
+    "unknown-type": 'entry type for "{}" isn\'t style-file defined',
+    "fields-in-text": "this looks like the field {}, and is in no entry: a run ignores it",
+    "repeated-doi": "it has the doi of {}",
+    "repeated-title": "it has the title and year of {}",
+    "et-al": "et al. is taken as a name: write `and others`",
+    "others-inside": "`others` is the word for et al. as the last name alone",
+    "bare-organization": "an organization is read as a person, of first and last names: put its whole name into braces of its own",
+    "von-letter": "{} is taken as von by its letter {}: put the first letter into braces with its accent as TeX's command, or write Last, First",
+    "empty-field": "the field {} is empty",
+    "odd-dollars": "a `$` has no other one: write `\\$` where no formula is meant",
+    "one-hyphen": "a range of pages with one hyphen: write `--`",
+    "month-text": "the month as text: write `{}`, without braces",
+    "unread-field": "the style doesn't read the field {}",
+    "uncited": "nothing cites it",
+}
+
 MONTHS = b"jan feb mar apr may jun jul aug sep oct nov dec".split()
 # What plain, abbrv, alpha and unsrt define beside the months.
 JOURNALS = b"acmcs acta cacm ibmjrd ibmsj ieeese ieeetc ieeetcad ipl jacm jcss scp sicomp tocs tods tog toms toois toplas tcs".split()
-NOT_TYPES = (b"comment", b"preamble", b"string")
 
 LOOKS_LIKE_FIELD = re.compile(rb"(?m)^[ \t,]*([A-Za-z][A-Za-z_-]*)[ \t]*=[ \t]*[{\"0-9]")
 RESOLVER = re.compile(rb"^(?:https?://(?:dx\.)?doi\.org/|doi:)[ \t]*")
@@ -67,13 +90,15 @@ ET_AL = re.compile(rb"(?<![A-Za-z])et\.?[ ~]*al(?![a-z])", re.IGNORECASE)
 # Words that no person's name has; front/src/unsaid.rs has the same.
 ORGANIZATIONS = (
     "academy association bureau collaboration college commission committee consortium corporation council department federation foundation group institut institute institution laboratories laboratory"
-    " ministerium ministry ministère organisation organization society universidad universidade universiteit universitet university università universität université universitat verein"
+    " ministerium ministry ministère organisation organization society universidad universidade universiteit universitet university universität université universitat verein"
 ).split()
 OF_ORGANIZATIONS = re.compile(rb"(?<![^ \t\r\n~])(?:%s),?(?![^ \t\r\n~])" % "|".join(ORGANIZATIONS).encode(), re.IGNORECASE)
 # A dollar sign, and what has none of its own: what has a backslash before it, and an address.
 DOLLAR = re.compile(rb"\\(?:url|path|nolinkurl|href)[ \t\r\n]*\{[^{}]*\}|\\.|\$", re.DOTALL)
 # Fields of addresses and of other programs, which no style sets as a text of TeX.
 NO_TEXTS = frozenset(b"abstract annote bdsk-file-1 bdsk-url-1 biburl doi eprint file keywords url".split())
+# A word that may be taken as von: it begins outside ASCII, and its first letter of ASCII is a small one.
+VON = re.compile(rb"(?:^|[ \t\r\n~,-])[\x80-\xff][^A-Za-z \t\r\n~,-]*[a-z]")
 # The word that parts names; a word of a name.
 PARTS_NAMES = re.compile(rb"[ \t\r\n]and(?=[ \t\r\n])", re.IGNORECASE)
 NAME_PARTS = re.compile(rb"[ \t\r\n~]+")
@@ -129,11 +154,8 @@ def shown(text: bytes) -> str:
     return text.decode("utf8", "surrogateescape")
 
 
-class Memory:
-    """What was found in entries the last time, by their bytes, for one style: in a text that is edited most of them stay as they were."""
-
-    def __init__(self) -> None:
-        self.known: Dict[bytes, Known] = {}
+# What is found: the number of the source, where it begins and ends, the check, what it is about, the key of its entry, and the source.
+Found = Tuple[int, int, int, str, Tuple[Union[bytes, str], ...], Optional[bytes], Source]
 
 
 def examine(
@@ -141,117 +163,78 @@ def examine(
     style: Optional[Style] = None,
     citations: Optional[List[Citation]] = None,
     off: FrozenSet[str] = frozenset(),
-    memory: Optional[Memory] = None,
+    most: Optional[int] = None,
 ) -> List[Finding]:
-    """All findings of these databases, as those of one job in this order; by file and place. off: the names of checks that are left out. memory: what was found the last time with
-    this style, which is brought up to date."""
-    examiner = Examiner(style, memory)
+    """All findings of these databases, as those of one job in this order; by file and place. off: the names of checks that are left out. most: how many are wanted at most."""
+    examiner = Examiner(style)
     with without_collection():
-        for source in sources:
-            examiner.examine(source)
-        examiner.compare_works()
-    if memory is not None:
-        memory.known = examiner.kept
-    if citations is not None:
-        examiner.compare_citations(citations)
-    order = {id(source): number for number, source in enumerate(sources)}
-    found = [finding for finding in examiner.found if finding.check not in off]
-    return sorted(found, key=lambda finding: (order.get(id(finding.source), -1), finding.start, finding.end))
-
-
-class Work(NamedTuple):
-    """An entry whose work may be elsewhere too. place: where its key begins and ends."""
-
-    key: bytes
-    source: Source
-    start: int
-    end: int
+        for number, source in enumerate(sources):
+            examiner.examine(number, source)
+        if citations is not None:
+            examiner.compare_citations(citations)
+    found = examiner.found if not off else [it for it in examiner.found if it[3] not in off]
+    found.sort(key=itemgetter(0, 1, 2))
+    return [
+        Finding(source, start, end, check, SAID[check].format(*(it if isinstance(it, str) else shown(it) for it in what)), shown(key or b""))
+        for _, start, end, check, what, key, source in found[:most]
+    ]
 
 
 class Examiner:
-    """Examines databases one after another, and keeps what later ones are compared with."""
+    """Examines databases one after another, and keeps what later ones are compared with.
 
-    def __init__(self, style: Optional[Style], memory: Optional[Memory] = None) -> None:
+    dois, titles: the key of the first entry with a doi, and with a title and a year. found: in any order."""
+
+    def __init__(self, style: Optional[Style]) -> None:
         self.style = style
-        self.memory = memory
-        self.kept: Dict[bytes, Known] = {}
         known = {name: name for name in (*MONTHS, *JOURNALS)}
         self.strings: Dict[bytes, bytes] = dict(known if style is None else style.strings)
         self.stored: Set[bytes] = set()
-        self.entries: Dict[bytes, Work] = {}
-        self.parents: Dict[bytes, bytes] = {}
-        self.dois: Dict[bytes, List[Work]] = {}
-        self.titles: Dict[Tuple[bytes, bytes], List[Work]] = {}
-        self.found: List[Finding] = []
-        self.source = Source("", b"")
+        self.databases: List[Tuple[int, Source, Database]] = []
+        self.dois: Dict[bytes, bytes] = {}
+        self.titles: Dict[Tuple[bytes, bytes], bytes] = {}
+        self.found: List[Found] = []
+        self.number, self.source = 0, Source("", b"")
         self.database = Database(b"", [], {})
 
-    def say(self, check: str, start: int, end: int, text: str, item: Optional[Item] = None) -> None:
-        key = shown(item.key) if item is not None and item.is_entry and item.key is not None else ""
-        self.found.append(Finding(self.source, start, end, check, text, key))
+    def say(self, check: str, start: int, end: int, key: Optional[bytes], *what: Union[bytes, str]) -> None:
+        self.found.append((self.number, start, end, check, what, key, self.source))
 
-    def examine(self, source: Source) -> None:
+    def examine(self, number: int, source: Source) -> None:
         """Examines a database."""
-        known = set(self.strings)
-        self.source, self.database = source, read(source.text, self.stored, self.strings, None if self.memory is None else self.memory.known)
+        known, style = set(self.strings), self.style
+        self.number, self.source, self.database = number, source, read(source.text, self.stored, self.strings)
+        self.databases.append((number, source, self.database))
         self.strings = self.database.strings
         for unknown in undefined_strings(self.database, known):
-            if self.reads(unknown.item, unknown.part.start):
-                name = shown(source.text[unknown.part.start : unknown.part.end])
+            if style is None or not unknown.item.is_entry or unknown.field in style.fields:
+                name = source.text[unknown.part.start : unknown.part.end]
                 what = "used in its own definition" if unknown.is_own else "undefined"
-                self.say("undefined-string", unknown.part.start, unknown.part.end, f'string name "{name}" is {what}', unknown.item)
-        items = self.database.items
-        ends = [item.start for item in items[1:]] + [len(source.text)]
-        self.text_between(0, items[0].start if items else len(source.text))
-        for item, end in zip(items, ends):
-            self.item(item, end)
+                self.say("undefined-string", unknown.part.start, unknown.part.end, key_of(unknown.item), name, what)
+        self.between_items()
+        for item in self.database.items:
+            if item.is_entry and not item.is_repeated:
+                self.entry(item)
 
-    def reads(self, item: Item, place: int) -> bool:
-        """Whether the style, if one is known, reads the field of this place."""
-        if self.style is None or not item.is_entry:
-            return True
-        return any(field.after <= place < field.end and field.name in self.style.fields for field in item.fields)
-
-    def item(self, item: Item, end: int) -> None:
-        """Examines an item, and the text after it up to `end`."""
-        if item.slip is not None:
-            self.slip(item)
-        elif item.kind != b"comment":
-            self.text_between(item.end, end)
-        if not item.is_entry or (item.slip is not None and item.slip.text == REPEATED):
-            return
-        key = item.key or b""
-        work = Work(key, self.source, item.key_end - len(key), item.key_end)
-        self.entries.setdefault(key.lower(), work)
-        if isinstance(item, KnownItem):
-            known = item.known
-            for start, end_of_finding, check, said in known.findings:
-                self.say(check, item.start + start, item.start + end_of_finding, said, item)
-            self.keep_facts(work, known.facts)
-            self.kept[self.source.text[item.start : item.end]] = known
-            return
-        first = len(self.found)
-        facts = self.entry(item, work)
-        if self.memory is not None and item.is_plain and item.slip is None:
-            start = item.start
-            findings = tuple((it.start - start, it.end - start, it.check, it.text) for it in self.found[first:])
-            self.kept[self.source.text[start : item.end]] = Known(item.kind, item.kind_end - start, key, item.key_end - start, findings, facts)
-
-    def entry(self, item: Item, work: Work) -> "Tuple[Tuple[str, bytes, bytes], ...]":
-        """Examines an entry; what tells its work and its parent."""
-        if self.style is not None and item.kind not in self.style.types:
-            self.say("unknown-type", item.start, item.kind_end, f'entry type for "{shown(work.key)}" isn\'t style-file defined', item)
-        facts = tuple(self.fields(item, work))
-        self.keep_facts(work, facts)
-        return facts
+    def between_items(self) -> None:
+        """Says where the reading of an item ends with a mistake, and looks for fields in the text between items."""
+        text, items, find = self.source.text, self.database.items, self.source.text.find
+        self.text_between(0, items[0].start if items else len(text))
+        for item, following in zip(items, [*items[1:], None]):
+            if item.slip is not None:
+                self.slip(item)
+                continue
+            end = len(text) if following is None else following.start
+            if find(b"=", item.end, end) >= 0 and item.kind != b"comment":
+                self.text_between(item.end, end)
 
     def slip(self, item: Item) -> None:
         assert item.slip is not None
         place, text = item.slip
-        if text == REPEATED:
-            self.say("repeated-key", item.key_end - len(item.key or b""), item.key_end, text, item)
+        if item.is_repeated:
+            self.say("repeated-key", item.key_end - len(item.key or b""), item.key_end, key_of(item), text)
         else:
-            self.say("mistake", place, min(place + 1, len(self.source.text)), text, item)
+            self.say("mistake", place, min(place + 1, len(self.source.text)), key_of(item), text)
 
     def text_between(self, start: int, end: int) -> None:
         """Looks for fields in the text between items."""
@@ -259,87 +242,129 @@ class Examiner:
             return
         found = LOOKS_LIKE_FIELD.search(self.source.text, start, end)
         if found is not None:
-            self.say("fields-in-text", *found.span(1), f"this looks like the field {shown(found[1])}, and is in no entry: a run ignores it")
+            self.say("fields-in-text", *found.span(1), None, found[1])
 
-    def fields(self, item: Item, work: Work) -> "Iterator[Tuple[str, bytes, bytes]]":
-        """Examines the fields of an entry; what tells its work and its parent."""
-        text, database = self.source.text, self.database
-        values: Dict[bytes, Field] = {}
-        read_by_style = None if self.style is None else self.style.fields
-        for field in item.fields:
-            name = field.name
-            if name in values:
-                written = shown(text[field.name_start : field.name_end])
-                self.say("repeated-field", field.name_start, field.name_end, f'I\'m ignoring {shown(work.key)}\'s extra "{written}" field', item)
-                continue
-            values[name] = field
-            if read_by_style is not None and name not in read_by_style:
-                self.say("unread-field", field.name_start, field.name_end, f"the style doesn't read the field {shown(name)}", item)
-            if not field.value and database.is_text(field):
-                self.say("empty-field", database.start(field), field.end, f"the field {shown(name)} is empty", item)
-            elif name in EXAMINED:
-                EXAMINED[name](self, item, field)
-            if b"$" in field.value and name not in NO_TEXTS and (read_by_style is None or name in read_by_style):
-                self.dollars(item, field)
-        if b"doi" in values:
-            yield "doi", RESOLVER.sub(b"", values[b"doi"].value.lower()), b""
-        if b"title" in values:
-            value = values[b"title"].value
+    # ---- entries ----
+
+    def entry(self, item: Item) -> None:
+        """Examines an entry: its type, its fields, and what tells its work."""
+        records, first, last = item.records, item.at + 1, item.last
+        names = records.names[first:last]
+        numbers = dict(zip(names, range(first, last)))
+        if len(numbers) < last - first:
+            numbers = self.first_of_each(item, names)
+        if self.style is not None:
+            self.unread(item, self.style, numbers)
+        if records.lacks_string(first, last):
+            self.empty(item, numbers)
+        for name, examine in EXAMINED:
+            if name in numbers:
+                examine(self, item, numbers[name])
+        if self.source.text.find(b"$", item.start, item.end) >= 0:
+            self.dollars(item, numbers)
+        self.work(item, numbers)
+
+    def first_of_each(self, item: Item, names: List[bytes]) -> Dict[bytes, int]:
+        """The number of the first field of each name; the others are said."""
+        numbers: Dict[bytes, int] = {}
+        for number, name in enumerate(names, item.at + 1):
+            if numbers.setdefault(name, number) != number:
+                start, end = self.name_of(item, number)
+                self.say("repeated-field", start, end, item.key, item.key or b"", self.source.text[start:end])
+        return numbers
+
+    def name_of(self, item: Item, number: int) -> Tuple[int, int]:
+        """Where the name of a field begins and ends."""
+        start = item.records.starts[number]
+        return start, start + item.records.name_len[number]
+
+    def unread(self, item: Item, style: Style, numbers: Dict[bytes, int]) -> None:
+        """Says what of an entry the style doesn't know."""
+        if item.kind not in style.types:
+            self.say("unknown-type", item.start, item.kind_end, item.key, item.key or b"")
+        if not style.fields.issuperset(numbers):
+            for name, number in numbers.items():
+                if name not in style.fields:
+                    self.say("unread-field", *self.name_of(item, number), item.key, name)
+
+    def empty(self, item: Item, numbers: Dict[bytes, int]) -> None:
+        """Says which fields are empty."""
+        records = item.records
+        for number in records.lacking(item.at + 1, item.last):
+            name = records.names[number]
+            if not records.text_len[number] and numbers[name] == number:
+                field = field_of(records, number)
+                if self.database.is_text(field):
+                    self.say("empty-field", self.database.start(field), field.end, item.key, name)
+
+    def work(self, item: Item, numbers: Dict[bytes, int]) -> None:
+        """Says whether an earlier entry has the doi, or the title and year, of an entry."""
+        records, key = item.records, item.key or b""
+        if b"doi" in numbers:
+            first = self.dois.setdefault(RESOLVER.sub(b"", records.value(numbers[b"doi"]).lower()), key)
+            if first != key:
+                self.say("repeated-doi", item.key_end - len(key), item.key_end, key, first)
+        if b"title" in numbers:
+            value = records.value(numbers[b"title"])
             title = (TEX_COMMAND.sub(b"", value) if b"\\" in value else value).lower().translate(None, NOT_TITLE)
             if len(title) >= LEAST_TITLE:
-                yield "title", title, values[b"year"].value if b"year" in values else b""
-        if b"crossref" in values:
-            yield "parent", values[b"crossref"].value.lower(), b""
+                first = self.titles.setdefault((title, records.value(numbers[b"year"]) if b"year" in numbers else b""), key)
+                if first != key:
+                    self.say("repeated-title", item.key_end - len(key), item.key_end, key, first)
 
-    def keep_facts(self, work: Work, facts: "Tuple[Tuple[str, bytes, bytes], ...]") -> None:
-        """Keeps what tells a work, and its parent."""
-        for fact, value, year in facts:
-            if fact == "doi":
-                self.dois.setdefault(value, []).append(work)
-            elif fact == "title":
-                self.titles.setdefault((value, year), []).append(work)
-            else:
-                self.parents.setdefault(work.key.lower(), value)
+    # ---- fields ----
 
-    def names(self, item: Item, field: Field) -> None:
+    def text_of(self, item: Item, number: int) -> Optional[Field]:
+        """A field, if its value is one text."""
+        field = field_of(item.records, number)
+        return field if self.database.is_text(field) else None
+
+    def names(self, item: Item, number: int) -> None:
         """Examines the names of a field."""
-        value = field.value
+        value = item.records.value(number)
         has_organization = OF_ORGANIZATIONS.search(value) is not None
-        may_be_doubtful = has_organization or not value.isascii() or b"thers" in value or b"THERS" in value or ET_AL.search(value) is not None
-        if not may_be_doubtful or not self.database.is_text(field):
+        if value.isascii() and not has_organization and not has_others_inside(value) and not has_et_al(value):
             return
-        text = self.database.raw(field)
+        field = self.text_of(item, number)
+        if field is None:
+            return
+        text, offset = self.database.raw(field), self.database.start(field) + 1
         found = ET_AL.search(text)
-        offset = self.database.start(field) + 1
         if found is not None:
-            self.say("et-al", offset + found.start(), offset + found.end(), "et al. is taken as a name: write `and others`", item)
-        is_plain = text.isascii()
-        if is_plain and not has_organization and b"thers" not in text and b"THERS" not in text:
-            return
+            self.say("et-al", offset + found.start(), offset + found.end(), item.key)
         hidden = hide_braces(text)
-        names = list(spans_of_names(hidden))
-        for number, (start, end) in enumerate(names):
-            name = hidden[start:end].strip(b" \t\r\n")
-            if number + 1 < len(names) and name.lower() == b"others":
-                start = hidden.index(name, start)
-                end = start + len(name)
-                self.say("others-inside", offset + start, offset + end, "`others` is the word for et al. as the last name alone", item)
-            if has_organization:
+        if has_others_inside(text):
+            self.others(item, offset, hidden)
+        if has_organization:
+            for start, end in spans_of_names(hidden):
                 self.organization(item, offset, hidden, start, end)
-            if not is_plain:
+        if VON.search(hidden):
+            for start, end in spans_of_names(hidden):
                 self.von(item, offset, hidden, start, end)
+
+    def others(self, item: Item, offset: int, hidden: bytes) -> None:
+        """Looks for `others` before the last name."""
+        for start, end in list(spans_of_names(hidden))[:-1]:
+            if hidden[start:end].strip(b" \t\r\n").lower() == b"others":
+                place = offset + hidden.index(hidden[start:end].strip(b" \t\r\n"), start)
+                self.say("others-inside", place, place + len(b"others"), item.key)
 
     def organization(self, item: Item, offset: int, hidden: bytes, start: int, end: int) -> None:
         """Looks for a word of an organization in a name of several words that isn't in braces."""
         name = hidden[start:end].strip(b" \t\r\n")
         if len(NAME_PARTS.split(name)) > 1 and OF_ORGANIZATIONS.search(name):
             place = offset + hidden.index(name, start)
-            self.say("bare-organization", place, place + len(name), "an organization is read as a person, of first and last names: put its whole name into braces of its own", item)
+            self.say("bare-organization", place, place + len(name), item.key)
 
-    def dollars(self, item: Item, field: Field) -> None:
-        """Looks for a `$` that has no other one."""
-        if sum(found[0] == b"$" for found in DOLLAR.finditer(field.value)) % 2:
-            self.say("odd-dollars", self.database.start(field), field.end, "a `$` has no other one: write `\\$` where no formula is meant", item)
+    def dollars(self, item: Item, numbers: Dict[bytes, int]) -> None:
+        """Looks for a `$` that has no other one, in the fields that a style may print."""
+        for name, number in numbers.items():
+            value = item.records.value(number)
+            if b"$" not in value or name in NO_TEXTS or (self.style is not None and name not in self.style.fields):
+                continue
+            if sum(found[0] == b"$" for found in DOLLAR.finditer(value)) % 2:
+                field = field_of(item.records, number)
+                self.say("odd-dollars", self.database.start(field), field.end, item.key)
 
     def von(self, item: Item, offset: int, hidden: bytes, start: int, end: int) -> None:
         """Looks for a word of a name that begins with a capital letter outside ASCII and is taken as von by its next letter."""
@@ -351,47 +376,62 @@ class Examiner:
             place = offset + word.start()
             is_special = b"{\\" in self.source.text[place : place + len(word[0])]
             if not first[0].isascii() and first[0].isupper() and letter.islower() and not is_special:
-                said = f"{first} is taken as von by its letter {letter}: put the first letter into braces with its accent as TeX's command, or write Last, First"
-                self.say("von-letter", place, place + len(word[0]), said, item)
+                self.say("von-letter", place, place + len(word[0]), item.key, first, letter)
 
-    def pages(self, item: Item, field: Field) -> None:
-        found = ONE_HYPHEN.search(field.value)
-        if found is not None and b"--" not in field.value and self.database.is_text(field):
-            self.say("one-hyphen", self.database.start(field), field.end, "a range of pages with one hyphen: write `--`", item)
+    def pages(self, item: Item, number: int) -> None:
+        value = item.records.value(number)
+        if b"--" not in value and ONE_HYPHEN.search(value) is not None:
+            field = self.text_of(item, number)
+            if field is not None:
+                self.say("one-hyphen", self.database.start(field), field.end, item.key)
 
-    def month(self, item: Item, field: Field) -> None:
-        if MONTH_NAME.fullmatch(field.value) and self.database.is_text(field):
-            short = shown(field.value[:3].lower())
-            self.say("month-text", self.database.start(field), field.end, f"the month as text: write `{short}`, without braces", item)
+    def month(self, item: Item, number: int) -> None:
+        records = item.records
+        if records.text[records.ends[number] - 1] in ENDS_TEXT and MONTH_NAME.fullmatch(records.value(number)):
+            field = self.text_of(item, number)
+            if field is not None:
+                self.say("month-text", self.database.start(field), field.end, item.key, field.value[:3].lower())
 
-    def compare_works(self) -> None:
-        """Says which entries have the doi, or the title and year, of an earlier one."""
-        for works, check, what in ((self.dois, "repeated-doi", "the doi"), (self.titles, "repeated-title", "the title and year")):
-            for group in works.values():  # type: ignore[attr-defined]
-                first = group[0]
-                for work in group[1:]:
-                    self.source = work.source
-                    text = f"it has {what} of {shown(first.key)}"
-                    self.found.append(Finding(work.source, work.start, work.end, check, text, shown(work.key)))
+    # ---- citations ----
 
     def compare_citations(self, citations: List[Citation]) -> None:
         """Says which citations have no entry, and which entries nothing cites."""
+        entries: Dict[bytes, Tuple[int, Source, Item]] = {}
+        for number, source, database in self.databases:
+            for item in database.items:
+                if item.is_entry and not item.is_repeated:
+                    entries.setdefault((item.key or b"").lower(), (number, source, item))
         cited: Set[bytes] = set()
         for citation in citations:
             key = citation.key.lower()
-            if key not in cited and key != b"*" and key not in self.entries:
-                text = f'I didn\'t find a database entry for "{shown(citation.key)}"'
-                self.found.append(Finding(citation.source, citation.start, citation.start + len(citation.key), "no-entry", text, shown(citation.key)))
+            if key not in cited and key != b"*" and key not in entries:
+                self.number, self.source = -1, citation.source
+                self.say("no-entry", citation.start, citation.start + len(citation.key), citation.key, citation.key)
             cited.add(key)
         if b"*" in cited:
             return
-        used = cited | {parent for child, parent in self.parents.items() if child in cited}
-        for key, work in self.entries.items():
-            if key not in used:
-                self.found.append(Finding(work.source, work.start, work.end, "uncited", "nothing cites it", shown(work.key)))
+        parents = {(item.value_of(b"crossref") or b"").lower() for key, (_, _, item) in entries.items() if key in cited and item.value_of(b"crossref") is not None}
+        for key, (number, source, item) in entries.items():
+            if key not in cited and key not in parents:
+                self.number, self.source = number, source
+                self.say("uncited", item.key_end - len(key), item.key_end, item.key)
 
 
-EXAMINED = {b"author": Examiner.names, b"editor": Examiner.names, b"pages": Examiner.pages, b"month": Examiner.month}
+EXAMINED = ((b"author", Examiner.names), (b"editor", Examiner.names), (b"pages", Examiner.pages), (b"month", Examiner.month))
+
+
+def key_of(item: Item) -> Optional[bytes]:
+    return item.key if item.is_entry else None
+
+
+def has_others_inside(value: bytes) -> bool:
+    """Whether `others` may be another name than the last one."""
+    return (b"thers" in value or b"THERS" in value) and not (value[-6:].lower() == b"others" and value.lower().count(b"others") == 1)
+
+
+def has_et_al(value: bytes) -> bool:
+    # (first what takes less time)
+    return b"etal" in value.lower().translate(None, b". ~") and ET_AL.search(value) is not None
 
 
 def hide_braces(text: bytes) -> bytes:

@@ -3,6 +3,7 @@
 from __future__ import annotations
 
 import bisect
+import itertools
 import re
 from typing import Any, Dict, List, Optional
 
@@ -13,6 +14,9 @@ Range = Dict[str, Position]
 
 FEED = re.compile(rb"\n")
 LINE = re.compile(r"[^\r\n]*(?:\r\n|\r|\n)")
+# The bytes that begin no letter of UTF-8, those that begin none of four bytes, and the letters that have two units of UTF-16.
+NOT_FIRST, NOT_OF_FOUR = bytes(range(0x80, 0xC0)), bytes(range(0xF0))
+OF_TWO_UNITS = re.compile("[\U00010000-\U0010ffff]")
 
 
 def split_lines(text: str) -> List[str]:
@@ -25,10 +29,10 @@ def split_lines(text: str) -> List[str]:
 
 
 def units(text: bytes) -> int:
-    """How many units of UTF-16 a text in UTF-8 has."""
+    """How many units of UTF-16 a text in UTF-8 has: one for the first byte of each letter, and two where the letter has four bytes."""
     if text.isascii():
         return len(text)
-    return sum((byte & 0xC0 != 0x80) + (byte >= 0xF0) for byte in text)
+    return len(text.translate(None, NOT_FIRST)) + len(text.translate(None, NOT_OF_FOUR))
 
 
 def index_of(line: str, column: int) -> int:
@@ -37,12 +41,13 @@ def index_of(line: str, column: int) -> int:
     column = max(column, 0)
     if line.isascii():
         return min(column, end)
-    passed = 0
-    for index in range(end):
-        passed += 1 + (line[index] > "\uffff")
-        if passed > column:
-            return index
-    return end
+    more = 0
+    for found in OF_TWO_UNITS.finditer(line, 0, end):
+        unit = found.start() + more
+        if unit + 1 >= column:
+            return min(found.start(), column - more)
+        more += 1
+    return min(column - more, end)
 
 
 class Document:
@@ -58,6 +63,8 @@ class Document:
         self.known: Optional[bytes] = None
         self.starts: List[int] = []
         self.feeds: List[int] = []
+        # A line, a byte of it, and the units before that.
+        self.passed = 0, 0, 0
 
     def change(self, changes: List[Dict[str, Any]]) -> None:
         """Makes the changes of a notice, one after another."""
@@ -95,7 +102,7 @@ class Document:
         """The bytes of the text, in UTF-8."""
         if self.known is None:
             self.known = "".join(self.lines).encode("utf8", "surrogatepass")
-            self.starts, self.feeds = [], []
+            self.starts, self.feeds, self.passed = [], [], (0, 0, 0)
         return self.known
 
     def place(self, position: Position) -> int:
@@ -107,18 +114,18 @@ class Document:
         """The bytes at which the lines begin."""
         text = self.text
         if not self.starts:
-            self.starts, at = [0], 0
-            for line in self.lines[:-1]:
-                at += len(line) if line.isascii() else len(line.encode("utf8", "surrogatepass"))
-                self.starts.append(at)
-        assert self.starts[-1] <= len(text)
+            # (a text that ends with a line has an empty one after it)
+            self.starts = [0, *itertools.accumulate(map(len, text.splitlines(True)))][: len(self.lines)]
         return self.starts
 
     def position(self, place: int) -> Position:
-        """The position of a byte."""
+        """The position of a byte. What is before it on its line is counted once, where positions are asked for in their order."""
         starts = self.line_starts()
         line = bisect.bisect_right(starts, place) - 1
-        return {"line": line, "character": units(self.text[starts[line] : place])}
+        _, at, column = self.passed if self.passed[0] == line and starts[line] <= self.passed[1] <= place else (line, starts[line], 0)
+        column += units(self.text[at:place])
+        self.passed = line, place, column
+        return {"line": line, "character": column}
 
     def range(self, start: int, end: int) -> Range:
         return {"start": self.position(start), "end": self.position(end)}

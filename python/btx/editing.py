@@ -8,9 +8,10 @@ from typing import Any, Dict, Iterator, List, NamedTuple, Optional, Tuple
 from .bibtext import Database, Item
 from .bsttext import COMMANDS, LIST_WORD, Word
 from .builtins import BUILT_IN, described
-from .diagnosing import citations
+from .diagnosing import cited, types_of
 from .doctor import JOURNALS, MONTHS
 from .documents import Document
+from .standard import FIELDS, TYPES
 from .workspace import Workspace
 
 __all__ = ["Named", "Place", "RenameRefused", "completions", "definition", "hover", "name_at", "references", "rename", "symbols"]
@@ -20,12 +21,6 @@ IN_CITE = re.compile(rb"\\[A-Za-z]*[cC]ite[A-Za-z]*\*?(?:\[[^\]\r\n]*\]){0,2}\{[
 AFTER_AT = re.compile(rb"@[A-Za-z]*$")
 AFTER_CROSSREF = re.compile(rb"(?i)crossref\s*=\s*[{\"][^{}\"]*$")
 AFTER_EQUALS = re.compile(rb"[=#]\s*[^\s{}\"#,=]*$")
-# What the standard styles of TeX define.
-TYPES = "article book booklet conference inbook incollection inproceedings manual mastersthesis misc phdthesis proceedings techreport unpublished".split()
-FIELDS = (
-    "address annote author booktitle chapter crossref edition editor howpublished institution journal key month note number organization pages publisher school "
-    "series title type volume year".split()
-)
 PREDEFINED = {"crossref": "field", "sort.key$": "string of entries", "entry.max$": "integer", "global.max$": "integer"}
 # What the protocol calls kinds of symbols and of completions.
 FUNCTION, FIELD, STRING, VARIABLE, KEY, KEYWORD = 12, 8, 15, 13, 20, 14
@@ -67,11 +62,11 @@ def names_of(document: Document, workspace: Workspace) -> Iterator[Tuple[Named, 
             kind = "macro" if word.kind == "string" else "function"
             yield Named(kind, word.name, Place(document, word.start, word.end)), bool(word.kind)
     elif document.uri.endswith(".bib"):
-        database = workspace.base(document).database
+        database = workspace.base(document)
         for item in database.items:
             yield from names_of_item(document, database, item)
     else:
-        for start, end in citations(document):
+        for start, end in cited(document, workspace):
             yield Named("key", shown(document.text[start:end].lower()), Place(document, start, end)), False
 
 
@@ -93,30 +88,62 @@ def names_of_item(document: Document, database: Database, item: Item) -> Iterato
 
 def name_at(document: Document, workspace: Workspace, place: int) -> Optional[Named]:
     """The name at a place of a text, or directly before it."""
-    found = [named for named, _ in names_of(document, workspace) if named.place.start <= place <= named.place.end]
+    found = [named for named in names_near(document, workspace, place) if named.place.start <= place <= named.place.end]
     return min(found, key=lambda named: named.place.end == place) if found else None
+
+
+def names_near(document: Document, workspace: Workspace, place: int) -> Iterator[Named]:
+    """Some names of a text, among them all at this place."""
+    if document.uri.endswith(".bst"):
+        style = workspace.style(document)
+        for word in (*style.definitions, *style.uses):
+            if word.start <= place <= word.end:
+                yield Named("macro" if word.kind == "string" else "function", word.name, Place(document, word.start, word.end))
+    elif document.uri.endswith(".bib"):
+        database = workspace.base(document)
+        for item in database.items_at(place):
+            yield from (named for named, _ in names_of_item(document, database, item))
+    else:
+        for start, end in cited(document, workspace):
+            if start <= place <= end:
+                yield Named("key", shown(document.text[start:end].lower()), Place(document, start, end))
 
 
 def uses(named: Named, workspace: Workspace) -> Iterator[Tuple[Place, bool]]:
     """All places of a name, and whether each is its definition: in its text, and of a key and a string also in the files beside it."""
-    endings = {"key": (".bib", ".tex", ".aux"), "string": (".bib",), "macro": (".bst",), "function": (".bst",)}[named.kind]
-    document = named.place.document
-    files = [document] if document.uri.endswith(".bst") else workspace.beside(document, *endings)
-    for file in files:
+    for file in files_of(named, workspace):
         for other, is_definition in names_of(file, workspace):
             if (other.kind, other.name) == (named.kind, named.name):
                 yield other.place, is_definition
 
 
+def files_of(named: Named, workspace: Workspace) -> List[Document]:
+    """The files that may have a name."""
+    endings = {"key": (".bib", ".tex", ".aux"), "string": (".bib",), "macro": (".bst",), "function": (".bst",)}[named.kind]
+    document = named.place.document
+    return [document] if document.uri.endswith(".bst") else list(workspace.beside(document, *endings))
+
+
+def definitions_in(document: Document, named: Named, workspace: Workspace) -> Iterator[Place]:
+    """The places of a text where a name is defined."""
+    if document.uri.endswith(".bst"):
+        for word in workspace.style(document).definitions:
+            if word.name == named.name and (word.kind == "string") == (named.kind == "macro"):
+                yield Place(document, word.start, word.end)
+    elif document.uri.endswith(".bib"):
+        for item in workspace.base(document).items:
+            if item.key and item.is_entry == (named.kind == "key") and shown(item.key.lower()) == named.name:
+                yield Place(document, item.key_end - len(item.key), item.key_end)
+
+
 def definition(named: Named, workspace: Workspace) -> List[Place]:
-    found = [place for place, is_definition in uses(named, workspace) if is_definition]
+    found = [place for file in files_of(named, workspace) for place in definitions_in(file, named, workspace)]
     if not found and named.kind == "string":
         used = workspace.style_in_use(named.place.document)
         if used is not None:
             found = [Place(used[0], word.start, word.end) for word in used[2].definitions if (word.kind, word.name) == ("string", named.name)]
     if not found and named.kind == "key":
-        for base in workspace.databases(named.place.document):
-            found += [other.place for other, is_definition in names_of(base, workspace) if is_definition and (other.kind, other.name) == ("key", named.name)]
+        found = [place for base in workspace.databases(named.place.document) for place in definitions_in(base, named, workspace)]
     return found
 
 
@@ -175,7 +202,7 @@ def hover_of_entry(workspace: Workspace, named: Named) -> Optional[str]:
         return None if value is None else f"string `{named.name}` = {shown(value)}"
     for place in definition(named, workspace):
         base = workspace.base(place.document)
-        for item in base.database.items:
+        for item in base.items:
             if item.is_entry and item.key_end == place.end:
                 values = {field.name: field.value for field in reversed(item.fields)}
                 rows = [f"{name}: {shown(values[name.encode()].strip())}" for name in ("author", "editor", "title", "year") if name.encode() in values]
@@ -192,7 +219,7 @@ def symbols(document: Document, workspace: Workspace) -> Iterator[Tuple[str, str
             kind = {"FUNCTION": FUNCTION, "MACRO": STRING}.get(command.word, KEYWORD if command.name else VARIABLE)
             yield shown_name, command.word, kind, Place(document, command.start, command.end), Place(document, name.start, name.end)
     elif document.uri.endswith(".bib"):
-        for item in workspace.base(document).database.items:
+        for item in workspace.base(document).items:
             if item.key:
                 where = Place(document, item.key_end - len(item.key), item.key_end)
                 yield shown(item.key), shown(item.kind), KEY if item.is_entry else STRING, Place(document, item.start, max(item.end, item.key_end)), where
@@ -232,19 +259,13 @@ def completions_of_database(document: Document, workspace: Workspace, before: by
     return [(name, "field", "field") for name in (FIELDS if used is None else sorted(map(shown, used[1].fields)))]
 
 
-def types_of(functions: List[str], uses_of: List[Word]) -> List[str]:
-    """The functions that no other one of the style uses: those are its types."""
-    used = {word.name for word in uses_of}
-    return [name for name in functions if name not in used]
-
-
 def keys_of(document: Document, workspace: Workspace) -> List[Tuple[str, str, str]]:
     base = workspace.base(document)
-    return [(shown(item.key), "key", title_of(item)) for item in base.database.items if item.is_entry and item.key]
+    return [(shown(item.key), "key", title_of(item)) for item in base.items if item.is_entry and item.key]
 
 
 def title_of(item: Item) -> str:
-    return shown(next((field.value for field in item.fields if field.name == b"title"), b"")[:80])
+    return shown((item.value_of(b"title") or b"")[:80])
 
 
 def rows_of(rows: List[Tuple[str, str, str]]) -> List[Dict[str, Any]]:

@@ -33,7 +33,7 @@ FIRST_EVENTS = 1 << 16
 # A record of a database: kind, is_whole, start, end, line, name_at, name_len, text_at, text_len.
 RECORD = struct.Struct("=I?3x7Q")
 # How many bytes of a database have room for a record at first.
-BYTES_OF_A_RECORD = 24
+BYTES_OF_A_RECORD = 16
 
 
 class Text(ctypes.Structure):

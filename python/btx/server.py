@@ -193,18 +193,18 @@ class Server:
         self.wire.send({"method": "textDocument/publishDiagnostics", "params": params})
 
     def actions(self, params: Dict[str, Any]) -> List[Dict[str, Any]]:
-        """The mendings of the diagnostics that touch a range."""
+        """The mendings of the diagnostics that touch a range, each once."""
         document = self.document(params)
         start, end = document.place(params["range"]["start"]), document.place(params["range"]["end"])
-        found = []
+        found: Dict[Any, Dict[str, Any]] = {}
         for it in self.diagnostics(document):
             mending = it.mend() if it.start <= end and it.end >= start else None
             if mending is None:
                 continue
             edit = {"range": document.range(mending.start, mending.end), "newText": mending.text}
-            changes = {"changes": {document.uri: [edit]}}
-            found.append({"title": mending.title, "kind": "quickfix", "diagnostics": [shown_diagnostic(document, it)], "edit": changes})
-        return found
+            action = {"title": mending.title, "kind": "quickfix", "diagnostics": [], "edit": {"changes": {document.uri: [edit]}}}
+            found.setdefault(mending, action)["diagnostics"].append(shown_diagnostic(document, it))
+        return list(found.values())
 
     # ---- places ----
 

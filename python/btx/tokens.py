@@ -15,6 +15,7 @@ __all__ = ["MODIFIERS", "TYPES", "Token", "data_of", "tokens_of"]
 TYPES = ("keyword", "function", "variable", "property", "macro", "string", "number", "comment")
 MODIFIERS = ("definition", "defaultLibrary")
 DEFINITION, LIBRARY = 1, 2
+NUMBERS = {kind: number for number, kind in enumerate(TYPES)}
 KINDS = {
     "function": "function", "string": "macro", "integer": "variable", "string variable": "variable", "field": "property", "integer of entries": "variable", "string of entries": "variable",
 }
@@ -63,14 +64,14 @@ def data_of(document: Document, tokens: List[Token], start: int = 0, end: Option
     """Tokens as the protocol has them: of each how many lines and columns it is after the one before, its length, its kind and its bits. Only those that touch the bytes from `start` to `end`."""
     text, starts = document.text, document.line_starts()
     data: List[int] = []
-    line = last_line = last_column = 0
+    line = last_line = last_column = last_start = 0
     for token in tokens:
         if token.end <= start or (end is not None and token.start >= end):
             continue
         while line + 1 < len(starts) and starts[line + 1] <= token.start:
             line += 1
-        column = units(text[starts[line] : token.start])
+        column = last_column + units(text[last_start : token.start]) if line == last_line else units(text[starts[line] : token.start])
         length = units(text[token.start : token.end].rstrip(b"\r"))
-        data += [line - last_line, column - (last_column if line == last_line else 0), length, TYPES.index(token.kind), token.modifiers]
-        last_line, last_column = line, column
+        data += [line - last_line, column - (last_column if line == last_line else 0), length, NUMBERS[token.kind], token.modifiers]
+        last_line, last_column, last_start = line, column, token.start
     return data

@@ -5,15 +5,15 @@ from __future__ import annotations
 import os
 import re
 import urllib.parse
-from typing import Dict, Iterator, List, Optional, Tuple
+from typing import Any, Callable, Dict, Iterator, List, Optional, Tuple
 
 from .bibtext import Database, read
 from .bsttext import StyleText, read_style
 from .documents import Document
-from .doctor import Memory, Style
+from .doctor import Style
 from .searching import Search, content_of, found_search
 
-__all__ = ["Base", "Workspace", "path_of", "uri_of"]
+__all__ = ["Workspace", "path_of", "uri_of"]
 
 # A text of more bytes is neither checked while typing nor read beside an open one.
 MOST_BYTES = 8_000_000
@@ -34,23 +34,13 @@ def uri_of(path: str) -> str:
     return "file://" + urllib.parse.quote(os.fsencode(os.path.abspath(path)))
 
 
-class Base:
-    """A database that was read, with what it defines."""
-
-    def __init__(self, text: bytes) -> None:
-        self.database: Database = read(text)
-        self.strings: Dict[bytes, bytes] = self.database.strings
-
-
 class Workspace:
     """The open texts by their URI, and what is known of files; what was read of a text is kept until the text changes."""
 
     def __init__(self) -> None:
         self.open: Dict[str, Document] = {}
         self.files: Dict[str, Tuple[Tuple[int, int], Document]] = {}
-        self.bases: Dict[str, Tuple[bytes, Base]] = {}
-        self.styles: Dict[str, Tuple[bytes, StyleText]] = {}
-        self.memories: Dict[str, Tuple[Optional[bytes], Memory]] = {}
+        self.known: Dict[str, Dict[str, Tuple[bytes, Any]]] = {}
         self.search: Optional[Search] = None
 
     def document(self, path: str) -> Optional[Document]:
@@ -84,33 +74,35 @@ class Workspace:
             if found is not None and found.uri != document.uri:
                 yield found
 
-    def base(self, document: Document) -> Base:
-        kept = self.bases.get(document.uri)
+    def made(self, what: str, document: Document, make: "Callable[[bytes], Any]") -> Any:
+        """What is made of a text. It is kept until the text changes."""
+        kept = self.known.setdefault(document.uri, {}).get(what)
         if kept is None or kept[0] is not document.text:
-            kept = self.bases[document.uri] = document.text, Base(document.text)
+            kept = self.known[document.uri][what] = document.text, make(document.text)
         return kept[1]
 
-    def memory(self, document: Document, style: Optional[bytes]) -> Memory:
-        """What was found in a database the last time, with the style of this text."""
-        kept = self.memories.get(document.uri)
-        if kept is None or kept[0] is not style:
-            kept = self.memories[document.uri] = style, Memory()
-        return kept[1]
+    def base(self, document: Document) -> Database:
+        return self.made("database", document, read)  # type: ignore[no-any-return]
 
     def style(self, document: Document) -> StyleText:
-        kept = self.styles.get(document.uri)
-        if kept is None or kept[0] is not document.text:
-            kept = self.styles[document.uri] = document.text, read_style(document.text)
-        return kept[1]
+        return self.made("style", document, read_style)  # type: ignore[no-any-return]
+
+    def style_read(self, document: Document) -> Style:
+        """What a style reads."""
+        return self.made("style read", document, lambda text: Style(text, self.style(document)))  # type: ignore[no-any-return]
+
+    def argument(self, document: Document, command: "re.Pattern[bytes]") -> Optional[bytes]:
+        """The argument of the first of these commands in a text."""
+        found = self.made(repr(command.pattern), document, command.search)
+        return None if found is None else found[1]
 
     def style_in_use(self, document: Document) -> Optional[Tuple[Document, Style, StyleText]]:
         """The style that an `.aux` or a `.tex` file beside a text names, if there is one."""
         for beside in self.beside(document, ".aux", ".tex"):
-            named = BIBSTYLE.search(beside.text)
-            found = None if named is None else self.named(document, os.fsdecode(named[1]) + ".bst")
+            named = self.argument(beside, BIBSTYLE)
+            found = None if named is None else self.named(document, os.fsdecode(named) + ".bst")
             if found is not None:
-                read_of = self.style(found)
-                return found, Style(found.text, read_of), read_of
+                return found, self.style_read(found), self.style(found)
         return None
 
     def named(self, document: Document, name: str) -> Optional[Document]:
@@ -130,13 +122,13 @@ class Workspace:
         path = path_of(document.uri)
         others = [document, self.document(os.path.splitext(path)[0] + ".aux"), *self.beside(document, ".aux")]
         for other in others:
-            named = None if other is None else BIBDATA.search(other.text)
+            named = None if other is None else self.argument(other, BIBDATA)
             if named is not None:
-                names = [os.fsdecode(name.strip()) for name in named[1].split(b",")]
+                names = [os.fsdecode(name.strip()) for name in named.split(b",")]
                 found = [self.named(document, name if name.endswith(".bib") else name + ".bib") for name in names]
                 return [it for it in found if it is not None]
         return []
 
     def forget(self, uri: str) -> None:
-        for kept in (self.open, self.bases, self.styles, self.memories):
-            kept.pop(uri, None)  # type: ignore[attr-defined]
+        self.open.pop(uri, None)
+        self.known.pop(uri, None)

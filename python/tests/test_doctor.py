@@ -5,14 +5,19 @@ import os
 import pathlib
 import random
 import re
+import sys
 import tempfile
 import time
 import unittest
+import unittest.mock
 
 import btx
-from btx.doctor import CHECKS, NO_TEXTS, ORGANIZATIONS, Citation, Memory, Source, Style, examine, hide_braces
+from btx.diagnosing import diagnose
+from btx.doctor import CHECKS, NO_TEXTS, ORGANIZATIONS, SAID, Citation, Source, Style, examine, hide_braces
+from btx.documents import Document
+from btx.workspace import Workspace
 from tests.jobs import SOURCES
-from tests.spoilt import SEEDS, logged, run_module, spoilt, spoilt_once
+from tests.spoilt import SEEDS, SIGNS, logged, run_module, spoilt
 
 STYLE = b"ENTRY {author title year} {} {}\nMACRO {acm} {\"ACM\"}\nFUNCTION {book} {}\nFUNCTION {misc} {}\nREAD\n"
 TITLE = b"title = {A Title That Is Long}, year = 2000"
@@ -49,6 +54,21 @@ def found_in(text, style=None, **named):
     return examine([Source("d.bib", text)], style, **named)
 
 
+def calls_of(what):
+    """How many functions of Python are called, whatever the machine is."""
+    calls = [0]
+
+    def count(frame, event, argument):
+        calls[0] += event == "call"
+
+    sys.setprofile(count)
+    try:
+        what()
+    finally:
+        sys.setprofile(None)
+    return calls[0]
+
+
 class Checks(unittest.TestCase):
     def check_rows(self, rows, style):
         for name, marked, other in rows:
@@ -82,6 +102,7 @@ class Checks(unittest.TestCase):
     def test_all_checks_have_a_row(self):
         rows = {name for name, *_ in (*ROWS, *OF_STYLE)} | {"no-entry", "uncited"}
         self.assertEqual(rows, set(CHECKS))
+        self.assertEqual(set(SAID), set(CHECKS))
         self.assertEqual({check.severity for check in CHECKS.values()}, {"error", "warning", "info"})
         self.assertTrue(all(check.exact.startswith(("Exact", "A guess")) for check in CHECKS.values()))
 
@@ -101,21 +122,29 @@ class Checks(unittest.TestCase):
             self.assertEqual(hide_braces(text), hidden)
 
 
-class Memories(unittest.TestCase):
-    def test_what_is_known_of_entries_changes_nothing(self):
-        """Texts that are edited again and again: what is found with the memory of the text before is what is found without."""
-        style = Style(b"ENTRY {title author year note doi}{}{}\nMACRO {zz} {\"Z\"}\nFUNCTION {misc} {}\n")
-        used = 0
-        for seed in range(6):
-            maker, memory = random.Random(seed), Memory()
-            text = b"\n".join(SEEDS * 2 + [b"@misc{n%d, title = {A Title of Its Own}, doi = {1}, pages = {1-2}, crossref = {K}, author = {\xc3\x89mile Zola and others and B}}" % it for it in range(6)])
-            for edit in range(60):
-                with self.subTest(seed=seed, edit=edit):
-                    source = Source("d.bib", text)
-                    used += sum(entry in text for entry in memory.known)
-                    self.assertEqual(examine([source], style, memory=memory), examine([source], style))
-                text = spoilt_once(text, maker) if maker.randrange(3) else text + b" "
-        self.assertGreater(used, 1000)
+class Edited(unittest.TestCase):
+    def test_what_is_said_of_an_edited_text_is_what_is_said_of_it_alone(self):
+        """Texts that are edited again and again in a workspace, with a style in use."""
+        with tempfile.TemporaryDirectory() as room:
+            pathlib.Path(room, "s.bst").write_bytes(b"ENTRY {title author year note doi}{}{}\nMACRO {zz} {\"Z\"}\nFUNCTION {misc} {}\n")
+            pathlib.Path(room, "j.aux").write_bytes(b"\\bibstyle{s}\n")
+            for seed in range(4):
+                maker, workspace, uri = random.Random(seed), Workspace(), pathlib.Path(room, "d.bib").as_uri()
+                text = (b"\n".join(SEEDS * 2) + b"@misc{n, doi = {1}, pages = {1-2}, author = {\xc3\x89mile Zola and others and B}}").decode()
+                document = workspace.open[uri] = Document(uri, text)
+                for edit in range(40):
+                    with self.subTest(seed=seed, edit=edit):
+                        alone = diagnose(Document(uri, document.text.decode()), Workspace())
+                        self.assertEqual([it[:5] for it in diagnose(document, workspace)], [it[:5] for it in alone])
+                    line = maker.randrange(len(document.lines))
+                    places = [{"line": line, "character": maker.randrange(12)} for _ in range(2)]
+                    document.edit(dict(zip(("start", "end"), places)), maker.choice([it.decode("latin1") for it in SIGNS] + ["@misc{a}"]))
+
+    def test_the_first_findings_are_the_first_of_all(self):
+        source = Source("d.bib", b"".join(SEEDS))
+        whole = examine([source])
+        for most in range(len(whole) + 2):
+            self.assertEqual(examine([source], most=most), whole[:most])
 
 
 class BesideRuns(unittest.TestCase):
@@ -159,6 +188,16 @@ class Command(unittest.TestCase):
         self.assertEqual([row["name"] for row in rows], ["no-entry", "unread-field", "mistake"])
         self.assertEqual(status, 2)
 
+    def test_a_job_names_its_databases(self):
+        (self.folder / "p.aux").write_text("\\@input{c.aux}\n\\bibdata{nosuch,d.bib}\n\\bibdata{other}\n")
+        (self.folder / "c.aux").write_text("\\citation{no}\n")
+        status, out, errors = self.run_doctor("--job", "p", "--off", "uncited")
+        self.assertEqual((status, errors), (2, "btx: there is no database nosuch.bib\n"))
+        self.assertEqual({line.split(":")[0] for line in out.splitlines()}, {"c.aux", "d.bib"})
+        self.assertEqual(self.run_doctor("--job", "p", "d.bib")[2], "")
+        (self.folder / "p.aux").write_text("\\bibdata{nosuch}\n")
+        self.assertEqual(self.run_doctor("--job", "p")[:2], (1, ""))
+
     def test_off_and_list(self):
         self.assertEqual(self.run_doctor("--off", "mistake,undefined-string", "d.bib"), (0, "", ""))
         status, out, _ = self.run_doctor("--list")
@@ -183,22 +222,34 @@ class Command(unittest.TestCase):
 
 
 class Cost(unittest.TestCase):
-    def test_an_edited_text_costs_what_was_edited(self):
-        entry = b"@article{k%d,\n  author = {Ann Lee and Bo Ray},\n  title = {A Title That Is Long Enough %d},\n  journal = {A Journal of Things},\n  volume = {1},\n  pages = {1--9},\n  year = {2000},\n}\n\n"
-        text = b"".join(entry % (it, it) for it in range(3000))
-        memory, first, again = Memory(), [], []
-        for number in range(5):
-            source = Source("d.bib", text.replace(b"{k%d," % (100 * number), b"{other,"))
-            begin = time.process_time()
-            fresh = examine([source])
-            first.append(time.process_time() - begin)
-            examine([source], memory=memory)
-            edited = Source("d.bib", source.text.replace(b"{other,", b"{another,"))
-            begin = time.process_time()
-            found = examine([edited], memory=memory)
-            again.append(time.process_time() - begin)
-            self.assertEqual(len(found), len(fresh))
-        self.assertLess(min(again), 0.6 * min(first))
+    def test_no_step_of_python_is_made_for_each_field(self):
+        entry = b"@article{k%d,\n  author = {Ann Lee and Bo Ray},\n  title = {A Title That Is Long Enough %d},\n  year = {2000},\n" + b"".join(b"  x%d = {1},\n" % it for it in range(40)) + b"}\n"
+        steps, more = (calls_of(lambda number=number: found_in(b"".join(entry % (it, it) for it in range(number)))) for number in (300, 1200))
+        self.assertLess(more, 4.2 * steps)
+        self.assertLess(more, 30 * 1200)
+
+    def test_the_steps_grow_with_the_text(self):
+        for entry in (b"@misc{k%d, title = {A Title That Is Long}, doi = {1}, note = zz, author = {A and others and B}}\n", b"@misc{k, note = {me@example.org and @misc{b, x = {1}}}}%%%d\n",
+                      b"@misc{k, note = {@misc{k, note = {@string{s%d = s # {1}}}}}}\n", b"@misc{k, note = {@misc{k%d, note = {1}}}, year = {1}\n"):
+            for style in (None, Style(STYLE)):
+                with self.subTest(entry=entry[:40], style=style):
+                    steps, more = (calls_of(lambda number=number: found_in(b"".join(entry % it for it in range(number)), style)) for number in (500, 2000))
+                    self.assertLess(more, 5 * steps)
+
+    def test_what_repeated_entries_hide_is_read_about_once_more(self):
+        """However many there are, and all of them."""
+        number, given = 3000, []
+        text = b"".join(b"@misc{k%d, note = {me@example.org}, title = {A Title of Some Length and the Number %d}}\n" % (it, it) for it in range(number)) * 2
+
+        def counted(file, part, strings):
+            given.append(len(part))
+            return btx.library.read_records(file, part, strings)
+
+        with unittest.mock.patch("btx.bibtext.read_records", counted):
+            found = found_in(text)
+        self.assertEqual([sum(it.check == check for it in found) for check in ("repeated-key", "mistake")], [number, number])
+        self.assertLess(max(given[1:]), 2000)
+        self.assertLess(sum(given), 15 * len(text))
 
     def test_hostile_texts_take_a_linear_time(self):
         size = 100_000

@@ -1,4 +1,4 @@
-"""The files for editors: the extension of VS Code, driven through a stand-in of VS Code by node, and the recipe of eglot, driven by Emacs."""
+"""The files for editors: the extension of VS Code, driven through a stand-in of VS Code by node, and the recipes of eglot and of Neovim, driven by Emacs and Neovim."""
 
 import json
 import os
@@ -66,6 +66,25 @@ class Emacs(unittest.TestCase):
             "(mode bibtex-mode)", "(managed t)", '(diagnostic "btx [mistake]: I was expecting an =" 1)', "(mode btx-style-mode)", '(hover "function `output`")', "(definition 2)",
             '(renamed "FUNCTION {misc} { put }")', "(renamed 2)",
         ])
+
+
+class Neovim(unittest.TestCase):
+    def test_the_recipe(self):
+        if shutil.which("nvim") is None:
+            self.skipTest("there is no Neovim")
+        with tempfile.TemporaryDirectory() as room:
+            folder = pathlib.Path(room).resolve()
+            (folder / "s.bst").write_text(STYLE)
+            (folder / "d.bib").write_text(BASE)
+            named = {f"XDG_{name}_HOME": str(folder / ".nvim") for name in ("CONFIG", "DATA", "STATE", "CACHE")}
+            env = {**os.environ, **named, "PYTHONPATH": str(SOURCES / "python"), "HOME": room}
+            words = ["nvim", "--headless", "--clean", "-c", f"luafile {EDITORS / 'btx.lua'}", "-c", f"luafile {SOURCES / 'python/tests/neovim.lua'}"]
+            done = subprocess.run(words, cwd=folder, env=env, stdin=subprocess.DEVNULL, capture_output=True, timeout=200)
+        self.assertEqual(done.returncode, 0, done.stderr)
+        self.assertEqual(done.stdout.decode().splitlines(), [
+            "type bib", "clients 1", "diagnostic 0 I was expecting an =", "action Add the =", "line @misc{k, note = 1}", "diagnostics 0", "type bst", "hover function `output`",
+            "line FUNCTION {misc} { put }", "servers 1",
+        ], done.stderr)
 
 
 if __name__ == "__main__":

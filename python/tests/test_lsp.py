@@ -264,7 +264,7 @@ class Documents(WithEditor):
         self.assertEqual(self.places({"d.bib": BASE}, found), [("d.bib", "kay", 1)])
         place = self.editor.at("paper.tex", *spot(PAPER, "bok1"))
         (found,) = self.editor.result("textDocument/codeAction", textDocument=place["textDocument"], range={"start": place["position"], "end": place["position"]}, context={"diagnostics": []})
-        self.assertEqual(found["title"], "Write Book1")
+        self.assertEqual(found["title"], "Change to `Book1`")
 
     def test_auxiliary_files(self):
         self.assertEqual(self.said("paper.aux", AUX), [("\\citation{a b}", "mistake", 1), ("zz", "no-entry", 2)])

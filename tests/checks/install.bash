@@ -18,6 +18,11 @@ wants_installed() {
 }
 
 if command -v make >/dev/null; then
+    # (the package, with a link to the library where that is built)
+    package=$(cd "$here/../python" && ls btx/*.py btx/py.typed)
+    [ ! -f "$here/../library/out/libbtx.so.1" ] || package="$package btx/libbtx.so.1"
+    package=$(printf './usr/share/bibtex-proved/python/%s\n' $package | LC_ALL=C sort)
+
     begin installed
     make_there install
     wants_status 0
@@ -25,10 +30,14 @@ if command -v make >/dev/null; then
     wants_installed ./usr/bin/bibtex-confined ./usr/bin/bibtex-explain ./usr/bin/bibtex-lint ./usr/bin/bibtex-proved ./usr/bin/bibtex-search \
         ./usr/share/bash-completion/completions/bibtex-confined ./usr/share/bash-completion/completions/bibtex-lint ./usr/share/bash-completion/completions/bibtex-proved \
         ./usr/share/bash-completion/completions/bibtex-search \
+        ./usr/share/bibtex-proved/editors/btx.el ./usr/share/bibtex-proved/editors/btx.lua ./usr/share/bibtex-proved/editors/vscode/extension.js \
+        ./usr/share/bibtex-proved/editors/vscode/language.json ./usr/share/bibtex-proved/editors/vscode/package.json $package \
         ./usr/share/fish/vendor_completions.d/bibtex-confined.fish ./usr/share/fish/vendor_completions.d/bibtex-lint.fish ./usr/share/fish/vendor_completions.d/bibtex-proved.fish \
         ./usr/share/fish/vendor_completions.d/bibtex-search.fish \
         ./usr/share/man/man1/bibtex-confined.1 ./usr/share/man/man1/bibtex-explain.1 ./usr/share/man/man1/bibtex-lint.1 ./usr/share/man/man1/bibtex-proved.1 \
-        ./usr/share/man/man1/bibtex-search.1 ./usr/share/zsh/site-functions/_bibtex-search
+        ./usr/share/man/man1/bibtex-search.1 ./usr/share/texmf/tex/luatex/btx/btx.lua ./usr/share/texmf/tex/luatex/btx/btx_languages.lua \
+        ./usr/share/texmf/tex/luatex/btx/btx_letters.lua ./usr/share/texmf/tex/luatex/btx/btx_style_keys.lua ./usr/share/vim/vimfiles/compiler/bibtex-search.vim \
+        ./usr/share/zsh/site-functions/_bibtex-search
     cmp -s "$folder/root/usr/bin/bibtex-proved" "$program" || complaints+=('the installed program is another')
     for name in proved search explain confined; do
         [ -x "$folder/root/usr/bin/bibtex-$name" ] || complaints+=("the installed bibtex-$name may not be run")
@@ -41,6 +50,24 @@ if command -v make >/dev/null; then
         cmp -s "$here/../$file" "$folder/root/usr/share/doc/bibtex-proved/$file" || complaints+=("there is no document $file")
     done
     end
+
+    # The system's Python finds the package by a line in a folder of its own below PREFIX.
+    if [ -x /usr/bin/python3 ]; then
+        begin installed_package_is_found
+        make_there install PREFIX=/usr/local
+        wants_status 0
+        line=$(find "$folder/root/usr/local/lib" -name bibtex-proved.pth 2>/dev/null)
+        /usr/bin/python3 -B -c 'import importlib.util, site, sys
+for line in sys.argv[1:]:
+    path = open(line).read().rstrip("\n")
+    folder = line.split("/usr/local/")[0]
+    assert line[len(folder):].rpartition("/")[0] in site.getsitepackages() and path == "/usr/local/share/bibtex-proved/python", line
+    sys.path.append(folder + path)
+assert importlib.util.find_spec("btx").origin.startswith(folder)' $line 2>"$folder/stderr" || complaints+=("the package isn't found: $(tail -n 1 "$folder/stderr")")
+        make_there uninstall PREFIX=/usr/local
+        [ -z "$(find "$folder/root" ! -type d)" ] || complaints+=("there is $(find "$folder/root" ! -type d)")
+        end
+    fi
 
     begin install_without_a_program
     make_there program=/nosuch/bibtex install

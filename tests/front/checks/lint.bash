@@ -748,7 +748,8 @@ begin lint_of_a_database_without_the_package
 write_base
 without_python refs.bib
 wants_status 2
-wants_output 'refs.bib:3: error: I was expecting an = [mistake]
+wants_output 'refs.bib:2: error: Repeated entry [repeated-key]
+refs.bib:3: error: I was expecting an = [mistake]
 '
 wants_error_like "^bibtex-lint: only what a run would log is shown: Python's package btx, which examines more, isn't there$"
 without_python --json refs.bib
@@ -760,6 +761,16 @@ for words in '--line refs.bib' '--steps=9 refs.bib' 'refs.bib clean'; do
     run_lint $words
     wants_status 1
 done
+end
+
+# Several databases are those of one job.
+begin lint_of_databases_without_the_package
+write_base
+printf '@book{B}\n@book{new}\n' >more.bib
+without_python refs.bib more.bib
+wants_status 2
+wants_line_of_output 'more.bib:1: error: Repeated entry [repeated-key]'
+[ "$(wc -l <"$folder/stdout")" -eq 3 ] || complaints+=("it says $(cat "$folder/stdout")")
 end
 
 begin lint_of_a_database_imports_nothing_from_its_folder
@@ -784,6 +795,19 @@ if [ -n "$library_for_python" ]; then
     PYTHONPATH=$sources/python BTX_LIBRARY=$library_for_python PYTHONDONTWRITEBYTECODE=1 run_lint --json refs.bib
     wants_status 2
     wants_words "$folder/stdout" '"name": "one-hyphen"'
+    end
+
+    # (as make install puts it: beside the folder of the program)
+    begin lint_of_a_database_with_the_installed_package
+    write_base
+    mkdir -p there/bin there/share/bibtex-proved
+    cp "$search" there/bin/bibtex-search
+    ln -s bibtex-search there/bin/bibtex-lint
+    ln -s "$sources/python" there/share/bibtex-proved/python
+    status=0
+    PYTHONPATH='' BTX_LIBRARY=$library_for_python PYTHONDONTWRITEBYTECODE=1 there/bin/bibtex-lint refs.bib </dev/null >"$folder/stdout" 2>"$folder/stderr" || status=$?
+    wants_status 2
+    wants_line_of_output 'refs.bib:2:7: error: Repeated entry (a) [repeated-key]'
     end
 else
     echo "left out: databases by Python's package (without libbtx.so.1 beside the programs or in library/out)"

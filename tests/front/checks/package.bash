@@ -63,6 +63,7 @@ if command -v dpkg-deb >/dev/null && command -v make >/dev/null; then
     for file in bin/bibtex-{proved,search,explain,lint,confined} share/man/man1/bibtex-{proved,search,explain,lint,confined}.1.gz \
         share/bash-completion/completions/bibtex-{search,confined,proved} share/zsh/vendor-completions/_bibtex-search \
         share/fish/vendor_completions.d/bibtex-{search,confined,proved}.fish \
+        share/bibtex-proved/editors/{btx.el,btx.lua,vscode/package.json} share/vim/vimfiles/compiler/bibtex-search.vim share/texmf/tex/luatex/btx/btx{,_letters}.lua \
         share/doc/bibtex-proved/{README.md,AS-INSTALLED.md,CHANGELOG.md,changelog.gz,copyright,contrib/README.md,examples/README.md} \
         share/doc/bibtex-proved/docs/{RULES,STYLES,SERVICES,DIFFERENCES,DECISIONS,ASSUMPTIONS,PROOFS,ARCHITECTURE,CONTRIBUTING}.md \
         share/doc/bibtex-proved/examples/{first/job.bbl,article/article.bst,article/edges.aux}; do

@@ -1,0 +1,86 @@
+"""The records of a database that the library has read, in columns: what all records have is made at once, without a step of Python for each of them."""
+
+from __future__ import annotations
+
+import bisect
+import re
+import sys
+from array import array
+from operator import not_
+from typing import Dict, Iterator, List, Optional, Tuple
+
+from .library import RECORD
+from .reading import COMMENT, END, ENTRY, FIELD, PREAMBLE, STRING, WRONG
+
+__all__ = ["LowerNames", "Records"]
+
+# The records of an item, by the bytes of their kinds.
+ITEM = re.compile(b"[%c%c]|[%c%c][%c%c]|%c%c*[%c%c]" % (COMMENT, WRONG, PREAMBLE, STRING, END, WRONG, ENTRY, FIELD, END, WRONG))
+# How many words a record has, and which of them a number is.
+WORDS = RECORD.size // 8
+START, END_PLACE, NAME_AT, NAME_LEN, TEXT_AT, TEXT_LEN = 1, 2, 4, 5, 6, 7
+
+
+class LowerNames(Dict[bytes, bytes]):
+    """Names in lower case: a database has few of them, so each is made once."""
+
+    def __missing__(self, name: bytes) -> bytes:
+        made = self[name] = name.lower()
+        return made
+
+
+class Records:
+    """The records of a database, or of a piece of it that begins at `base` and ends at `limit`.
+
+    kinds: of each record its kind, as a byte. starts, ends: the bytes of the database between which it is. names: its name, in lower case."""
+
+    def __init__(self, text: bytes, base: int, limit: int, data: bytes, texts: bytes, lowered: LowerNames) -> None:
+        words = array("Q", data)
+        self.text = text
+        self.base = base
+        self.limit = limit
+        self.texts = texts
+        self.kinds = data[0 if sys.byteorder == "little" else 3 :: RECORD.size]
+        self.is_whole = data[4 :: RECORD.size]
+        self.starts, self.ends = words[START::WORDS], words[END_PLACE::WORDS]
+        self.name_len, self.text_at, self.text_len = words[NAME_LEN::WORDS], words[TEXT_AT::WORDS], words[TEXT_LEN::WORDS]
+        self.names = [lowered[texts[at : at + length]] for at, length in zip(words[NAME_AT::WORDS], self.name_len)]
+        if base:
+            self.starts, self.ends = array("Q", [it + base for it in self.starts]), array("Q", [it + base for it in self.ends])
+        self.may_lack: Optional[bytes] = None
+
+    def items(self) -> List[Tuple[int, int]]:
+        """The numbers of the first and of the last record of each item."""
+        return [(found.start(), found.end() - 1) for found in ITEM.finditer(self.kinds)]
+
+    def value(self, number: int) -> bytes:
+        """The text of a record."""
+        at = self.text_at[number]
+        return self.texts[at : at + self.text_len[number]]
+
+    def lacks_string(self, first: int, last: int) -> bool:
+        """Whether one of these values may use a string that isn't defined. Then it is empty, or has a `#`."""
+        if self.may_lack is None:
+            self.may_lack = self.which_may_lack()
+        return self.may_lack.find(1, first, last) >= 0
+
+    def lacking(self, first: int, last: int) -> Iterator[int]:
+        """Those of these values that may use a string that isn't defined."""
+        while self.lacks_string(first, last):
+            first = self.may_lack.index(1, first, last) + 1  # type: ignore[union-attr]
+            yield first - 1
+
+    def which_may_lack(self) -> bytes:
+        """For each record whether its value is empty or has a `#`, as a byte."""
+        marks = bytearray(map(not_, self.text_len))
+        find, starts, ends, limit = self.text.find, self.starts, self.ends, self.limit
+        place = find(b"#", self.base, limit)
+        while place >= 0:
+            number = bisect.bisect_right(starts, place) - 1
+            if number >= 0 and place < ends[number]:
+                marks[number] = 1
+                place = find(b"#", ends[number], limit)
+            else:
+                # (it is between records)
+                place = find(b"#", starts[number + 1], limit) if number + 1 < len(starts) else -1
+        return bytes(marks)
