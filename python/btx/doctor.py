@@ -90,7 +90,7 @@ ET_AL = re.compile(rb"(?<![A-Za-z])et\.?[ ~]*al(?![a-z])", re.IGNORECASE)
 # Words that no person's name has; front/src/unsaid.rs has the same.
 ORGANIZATIONS = (
     "academy association bureau collaboration college commission committee consortium corporation council department federation foundation group institut institute institution laboratories laboratory"
-    " ministerium ministry ministère organisation organization society universidad universidade universiteit universitet university universität université universitat verein"
+    " ministerium ministry ministère organisation organization society universidad universidade universiteit universitet university università universität université universitat verein"
 ).split()
 OF_ORGANIZATIONS = re.compile(rb"(?<![^ \t\r\n~])(?:%s),?(?![^ \t\r\n~])" % "|".join(ORGANIZATIONS).encode(), re.IGNORECASE)
 # A dollar sign, and what has none of its own: what has a backslash before it, and an address.
