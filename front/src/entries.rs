@@ -2,6 +2,7 @@
 
 use crate::database::{Folded, Item, Items, key_at};
 use crate::job::{File, Files};
+use crate::mistakes::field_for_key;
 use crate::nearest::nearest;
 use crate::text::{Text, find, split_first};
 use std::cell::{Cell, OnceCell};
@@ -232,6 +233,17 @@ impl<'a> Entries<'a> {
         unread.get(&Folded(key)).map(|(index, start)| (&self.databases[*index], *start))
     }
 
+    /// The first entry that has no key, and the field that stands in the key's place, if one does.
+    pub fn keyless(&self) -> Option<(Stored<'_, 'a>, Option<&'a [u8]>)> {
+        let field = |item: &Item<'a>| {
+            let key = item.entry_key()?.name;
+            if key.is_empty() { Some(None) } else { field_for_key(key).map(Some) }
+        };
+        let ((index, number), field) = self.all().find_map(|(found, item)| Some((found, field(item)?)))?;
+        let database = &self.databases[index];
+        Some((Stored { database, item: &database.items[number] }, field))
+    }
+
     /// Whether no database has an entry.
     pub fn is_empty(&self) -> bool {
         self.by_key().is_empty()
@@ -308,6 +320,18 @@ mod tests {
         assert_eq!([line(b"A"), line(b"b"), line(b"c"), line(b"s")], [Some(1), None, Some(3), None]);
         assert_eq!(entries.string(b"s").map(|stored| stored.item.start), Some(54));
         assert!(!entries.is_empty());
+    }
+
+    #[test]
+    fn an_entry_without_a_key_is_found() {
+        let keyless = |text: &[u8]| {
+            let files = files(text);
+            let entries = Entries::new(&files);
+            entries.keyless().map(|(stored, field)| (stored.item.start, field.map(<[u8]>::to_vec)))
+        };
+        assert_eq!(keyless(b"@misc{k} @misc{, x = 1}"), Some((9, None)));
+        assert_eq!(keyless(b"@string{a = 1}\n@misc{\n author={A},\n x = 1}"), Some((15, Some(b"author".to_vec()))));
+        assert_eq!(keyless(b"@misc{k, author = {A}}"), None);
     }
 
     #[test]

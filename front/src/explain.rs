@@ -9,7 +9,7 @@ use crate::hints::functions_above_read;
 use crate::job::{File, Files};
 use crate::log::{Content, Ended, Line, Log, Message, Place, Severity};
 use crate::missing_entry::{self, lost_fields, meant_field, meant_string};
-use crate::mistakes::{begun_value, what_hides, what_to_do};
+use crate::mistakes::{begun_value, field_for_key, what_hides, what_to_do};
 use crate::nearest::nearest;
 use crate::operands::{TEST_LEAVES, advice_at, is_of_test_in};
 use crate::origins::{MissingField, missing_field_of};
@@ -946,7 +946,8 @@ fn named(command: &Command<'_>) -> String {
 
 /// An item of a database, and where it begins.
 pub fn begins_item(file: &File, text: &Text<'_>, item: &Item<'_>) -> String {
-    let key = item.key.map(|key| format!("{{{}}}", plain(key.name))).unwrap_or_default();
+    let key = item.key.filter(|key| field_for_key(key.name).is_none());
+    let key = key.map(|key| format!("{{{}}}", plain(key.name))).unwrap_or_default();
     let (path, line) = (plain(shown_path(file)), text.line_of(item.start));
     format!("@{}{key}, which begins at {path}:{line}", plain(item.kind))
 }

@@ -8,7 +8,7 @@ use crate::entries::{Entries, Skipped, Stored};
 use crate::explain::{begins_item, shown_path};
 use crate::hints::names_of_fields;
 use crate::job::{File, Files};
-use crate::mistakes::line_of;
+use crate::mistakes::{line_of, without_key};
 use crate::nearest::nearest;
 use crate::terminal::plain;
 
@@ -44,10 +44,18 @@ fn told_of_nearest(entries: &Entries<'_>, key: &[u8]) -> Told {
     if let Some((key, stored)) = entries.meant(key).and_then(|stored| Some((stored.item.key?, stored))) {
         return Told { place: Some(format!("is it `{}`, {}?", plain(key.name), begins(stored))), advice: None };
     }
-    let keyless =
-        entries.entry(b"").map(|stored| begins_item(stored.database.file, &stored.database.text, stored.item));
-    let advice = keyless.as_ref().map(|item| Seen::EntryWithoutKey.with(&[item]));
-    Told { place: keyless.map(|item| format!("{item}, has no key: is it that one?")), advice }
+    told_of_keyless(entries).unwrap_or_default()
+}
+
+/// What is said of an entry that has no key, which may be the one that is looked for.
+fn told_of_keyless(entries: &Entries<'_>) -> Option<Told> {
+    let (stored, field) = entries.keyless()?;
+    let item = begins_item(stored.database.file, &stored.database.text, stored.item);
+    let advice = match field {
+        Some(field) => without_key(stored.item, field),
+        None => Seen::EntryWithoutKey.with(&[&item]),
+    };
+    Some(Told { place: Some(format!("{item}, has no key: is it that one?")), advice: Some(advice) })
 }
 
 /// What is said of every entry that no database has, where a database isn't there or none has an entry.
@@ -243,6 +251,9 @@ mod tests {
         let (place, advice) = told_of("@misc{k}\n@misc{, x = 1}\n", "other");
         assert_eq!(place, "@misc{}, which begins at d.bib:2, has no key: is it that one?");
         assert_eq!(advice, "write the key into @misc{}, which begins at d.bib:2");
+        let (place, advice) = told_of("@misc{k}\n@misc{\n author={Smith},\n x = 1}\n", "smith");
+        assert_eq!(place, "@misc, which begins at d.bib:2, has no key: is it that one?");
+        assert_eq!(advice, "write the entry's key first: `@misc{KEY, author = ..`");
     }
 
     #[test]

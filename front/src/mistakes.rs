@@ -59,6 +59,18 @@ pub fn begun_value(file: &File, text: &Text<'_>, item: &Item<'_>) -> Option<Stri
     })
 }
 
+/// The name of the field that stands in the place of a key: `author` of `author={Smith`.
+pub fn field_for_key(key: &[u8]) -> Option<&[u8]> {
+    let (name, value) = key.split_at(key.iter().position(|byte| *byte == b'=')?);
+    let begins_value = matches!(value.get(1), None | Some(b'{' | b'"' | b'0'..=b'9'));
+    (!name.is_empty() && name.iter().all(u8::is_ascii_alphabetic) && begins_value).then_some(name)
+}
+
+/// What to do about an entry that begins with this field, and not with a key.
+pub fn without_key(item: &Item<'_>, field: &[u8]) -> String {
+    Seen::NoKey.with(&[&plain(item.kind), &plain(field)])
+}
+
 /// A line of a file, for people.
 pub fn line_of(file: &File, text: &Text<'_>, place: usize) -> String {
     format!("{}:{}", plain(shown_path(file)), text.line_of(place))
@@ -99,6 +111,7 @@ impl<'a> Place<'_, 'a> {
         let key = self.item.key?;
         match self.inside.values.last() {
             None if self.byte() == Some(b'=') => Some(Seen::NoKey.with(&[&plain(self.item.kind), &plain(key.name)])),
+            None if let Some(field) = field_for_key(key.name) => Some(without_key(self.item, field)),
             None => self.not_closed().or_else(|| self.other_brace()).or_else(|| Some(self.after_key())),
             Some(value) => self
                 .quote(value)
@@ -265,11 +278,23 @@ mod tests {
     #[test]
     fn keys_are_whole_words() {
         assert_eq!(advice("@misc{author = {A}}"), "write the entry's key first: `@misc{KEY, author = ..`");
+        assert_eq!(advice("@misc{author={A. B}, x = 1}"), "write the entry's key first: `@misc{KEY, author = ..`");
         assert_eq!(advice("@misc{a b, x = 1}"), "write the key without whitespace: `ab`");
         assert_eq!(advice("@misc{a x = 1}"), "put a comma after the key `a`");
         assert_eq!(advice("@misc{a\n x = 1}"), "put a comma after the key `a`");
         assert_eq!(advice("@{a, x = 1}"), "write the type after the `@`, as in `@article{KEY, ..`");
         assert_eq!(advice("@misc{a,, x = 1}"), "take out one of the two commas");
+    }
+
+    #[test]
+    fn a_field_is_no_key() {
+        let field = |key: &str| field_for_key(key.as_bytes()).map(|name| String::from_utf8_lossy(name).into_owned());
+        for key in ["author={Smith", "author=\"Smith\"", "author=", "author=2000"] {
+            assert_eq!(field(key).as_deref(), Some("author"), "{key}");
+        }
+        for key in ["smith2010", "", "=", "={", "doi:10=x", "a=b", "x1={"] {
+            assert_eq!(field(key), None, "{key}");
+        }
     }
 
     #[test]

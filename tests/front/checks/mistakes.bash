@@ -40,6 +40,8 @@ mistake no_comma '@misc{k,\n author = {A. B}\n title = {T}}\n' 'd.bib:3:' 'put a
 mistake no_comma_after_key '@misc{k\n author = {A. B}}\n' 'd.bib:2:' 'put a comma after the key `k`'
 mistake key_of_words '@misc{k 2010,\n author = {A. B}}\n' 'd.bib:1:' 'write the key without whitespace: `k2010`'
 mistake no_key_at_all '@misc{, author = {A. B}}\n' '@misc{}, which begins at d.bib:1, has no key: is it that one?' 'write the key into @misc{}, which begins at d.bib:1'
+mistake field_for_a_key '@misc{\n author={Smith},\n title = {T}}\n' '@misc, which begins at d.bib:1, has no key: is it that one?' 'write the entry'"'"'s key first: `@misc{KEY, author = ..`'
+mistake field_of_words_for_a_key '@misc{author={A. B}, title = {T}}\n' 'in @misc, which begins at d.bib:1' 'write the entry'"'"'s key first: `@misc{KEY, author = ..`'
 mistake comma_twice '@misc{k,, author = {A. B}}\n' 'take out one of the two commas'
 mistake no_type '@{k, author = {A. B}}\n' 'write the type after the `@`, as in `@article{KEY, ..`'
 mistake no_at 'misc{k, author = {A. B}}\n@misc{m}' '`k` stands at d.bib:1, in text that isn'"'"'t read' 'write `@` and the entry'"'"'s type before it'
