@@ -36,7 +36,17 @@ pub fn told(entries: &Entries<'_>, files: &Files, key: &[u8]) -> Told {
         let place = format!("`{}` stands at {at}, in text that isn't read", plain(key));
         return Told { place: Some(place), advice: Some(Seen::NoAtSign.with(&[])) };
     }
-    lost(entries, files).unwrap_or_else(|| told_of_nearest(entries, key))
+    told_of_unreached(entries, key)
+        .or_else(|| lost(entries, files))
+        .unwrap_or_else(|| told_of_nearest(entries, key))
+}
+
+/// What is said of a key that stands in an entry whose beginning can't be read.
+fn told_of_unreached(entries: &Entries<'_>, key: &[u8]) -> Option<Told> {
+    let (database, start) = entries.unreached(key)?;
+    let at = line_of(database.file, &database.text, start);
+    let place = format!("`{}` stands at {at}, in an entry that can't be read", plain(key));
+    Some(Told { place: Some(place), advice: Some(format!("mend the error at {at}: the entry is skipped after it")) })
 }
 
 /// What is said of the entry whose key differs least, or of one that has no key.
@@ -80,7 +90,12 @@ pub fn lost(entries: &Entries<'_>, files: &Files) -> Option<Told> {
 
 /// Whether nothing more can be said of an entry that wasn't found than what [`lost`] says.
 pub fn is_lost(entries: &Entries<'_>, files: &Files, key: &[u8]) -> bool {
-    let is_nowhere = || entries.entry(key).is_none() && entries.skipped(key).is_none() && entries.unread(key).is_none();
+    let is_nowhere = || {
+        entries.entry(key).is_none()
+            && entries.skipped(key).is_none()
+            && entries.unread(key).is_none()
+            && entries.unreached(key).is_none()
+    };
     !key.is_empty() && is_nowhere() && lost(entries, files).is_some()
 }
 
@@ -216,6 +231,17 @@ mod tests {
         assert_eq!(advice, "mend that item: a `}` or a quote is missing above `two`");
         let (place, _) = told_of("@misc{one, note = {x\n@misc{two, note = 1}}}\n", "two");
         assert_eq!(place, "`two` stands at d.bib:2, in a value of @misc{one}, which begins at d.bib:1");
+    }
+
+    #[test]
+    fn an_entry_is_found_where_it_cannot_be_read() {
+        for text in ["@article smith,\n x = 1}", "@{smith, x = 1}", "@article[smith, x = 1]", "@misc{smith; x = 1}"] {
+            let (place, advice) = told_of(text, "Smith");
+            assert_eq!(place, "`Smith` stands at d.bib:1, in an entry that can't be read", "{text}");
+            assert_eq!(advice, "mend the error at d.bib:1: the entry is skipped after it");
+            let files = files(text);
+            assert!(!is_lost(&Entries::new(&files), &files, b"smith"));
+        }
     }
 
     #[test]

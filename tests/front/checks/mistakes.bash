@@ -44,6 +44,9 @@ mistake field_for_a_key '@misc{\n author={Smith},\n title = {T}}\n' '@misc, whic
 mistake field_of_words_for_a_key '@misc{author={A. B}, title = {T}}\n' 'in @misc, which begins at d.bib:1' 'write the entry'"'"'s key first: `@misc{KEY, author = ..`'
 mistake comma_twice '@misc{k,, author = {A. B}}\n' 'take out one of the two commas'
 mistake no_type '@{k, author = {A. B}}\n' 'write the type after the `@`, as in `@article{KEY, ..`'
+for beginning in 'no_brace:@misc k,' 'no_type:@{k,' 'bracket:@misc[k,' 'semicolon:@misc{k;'; do
+    mistake "unread_${beginning%%:*}" "${beginning#*:} author = {A. B}, title = {T}}\n" '`k` stands at d.bib:1, in an entry that can'"'"'t be read' 'mend the error at d.bib:1: the entry is skipped after it'
+done
 mistake no_at 'misc{k, author = {A. B}}\n@misc{m}' '`k` stands at d.bib:1, in text that isn'"'"'t read' 'write `@` and the entry'"'"'s type before it'
 mistake in_a_comment '@comment{k, author = {A. B}}\n@misc{m}' '`k` stands at d.bib:1, in text that isn'"'"'t read'
 # values
