@@ -193,16 +193,21 @@ impl<'a> Place<'_, 'a> {
         Some(Seen::RunsOn.with(&[&plain(name), &self.line(start), &taken_in.0, &taken_in.1]))
     }
 
-    /// Where a line of a value begins as a field does: `name = {`.
+    /// Where a value looks like a field, `name = {`: where one of its lines begins, or else after a comma.
     fn field_in(&self, value: &Range<usize>) -> Option<usize> {
+        self.field_after(value, b'\n', true).or_else(|| self.field_after(value, b',', false))
+    }
+
+    /// Where a field seems to begin after such a byte of a value: its own value begins with a brace, a quote or, where it may be a number, a digit.
+    fn field_after(&self, value: &Range<usize>, byte: u8, may_be_number: bool) -> Option<usize> {
         let bytes = &self.text.bytes[..value.end];
-        let ends = bytes[value.start..].iter().enumerate().filter(|(_, byte)| **byte == b'\n');
-        let lines = ends.map(|(end, _)| value.start + end + 1);
+        let ends = bytes[value.start..].iter().enumerate().filter(|(_, found)| **found == byte);
+        let begins = ends.map(|(end, _)| value.start + end + 1);
         let is_blank = |byte: &&u8| matches!(byte, b' ' | b'\t');
-        lines.map(|line| line + bytes[line..].iter().take_while(is_blank).count()).find(|at| {
+        begins.map(|begin| begin + bytes[begin..].iter().take_while(is_blank).count()).find(|at| {
             let name = name_at(bytes, *at);
             let after = bytes[at + name.len()..].trim_ascii_start().strip_prefix(b"=").map(<[u8]>::trim_ascii_start);
-            let begins_value = |byte: &u8| matches!(byte, b'{' | b'"' | b'0'..=b'9');
+            let begins_value = |byte: &u8| matches!(byte, b'{' | b'"') || may_be_number && byte.is_ascii_digit();
             name.first().is_some_and(u8::is_ascii_alphabetic) && after.and_then(<[u8]>::first).is_some_and(begins_value)
         })
     }
@@ -328,6 +333,16 @@ mod tests {
         assert_eq!(advice("@misc{a,\n x = {T {U},\n y = 1\n}\n@misc{b}"), runs_on);
         assert_eq!(advice("@misc{a,\n x = \"T,\n y = {1}\n}\n"), runs_on);
         assert_eq!(advice("@misc{a,\n x = {T,\n y = 2\n}\n"), runs_on);
+        let on_one_line = |name: &str| {
+            format!("close the value of `{name}`, which begins at d.bib:1: it has taken in what looks like the field `zz` (d.bib:1)")
+        };
+        assert_eq!(advice("@misc{a, x = {A}, y = {10% of {T}, zz={B}, year=2000}"), on_one_line("y"));
+        assert_eq!(advice("@misc{a, x = \"T, zz={B}, year=2000}"), on_one_line("x"));
+        assert_eq!(advice("@misc{a, x = {A {B}, zz = {T}}\n@misc{b, y = 1}"), on_one_line("x"));
+        assert_eq!(
+            advice("@misc{a, x = {for all a, b=3}"),
+            "close @misc{a}, which begins at d.bib:1: its last `}` is missing"
+        );
         assert_eq!(advice("@misc{a, x = {T"), "");
     }
 

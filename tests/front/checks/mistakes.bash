@@ -68,6 +68,10 @@ mistake brace_too_many '@misc{k,\n title = {A {T}} more},\n year = 2000}\n' 'cou
 mistake value_runs_on '@misc{k,\n author = {A. B},\n title = {A {T},\n year = 2000\n}\n\n@misc{l}\n' \
     'close the value of `title`, which begins at d.bib:3: it has taken in what looks like the field `year` (d.bib:4)'
 mistake quote_runs_on '@misc{k,\n author = "A. B,\n title = {T}\n}\n' 'close the value of `author`, which begins at d.bib:2: it has taken in what looks like the field `title` (d.bib:3)'
+for value in 'braces:{100% of {T}' 'quote:"T' 'two:{T {X}'; do
+    mistake "value_runs_on_in_a_line_${value%%:*}" "@misc{k, author={A. B}, title=${value#*:}, journal={J}, year=2000}\n" \
+        'close the value of `title`, which begins at d.bib:1: it has taken in what looks like the field `journal` (d.bib:1)'
+done
 mistake value_runs_to_the_end '@misc{k,\n author = {A. B,\n title = {T}\n}\n' 'close the value of `author`, which begins at d.bib:2'
 mistake not_closed_at_end '@misc{k, author = {A. B},\n title = {T}\n' 'close @misc{k}, which begins at d.bib:1: its last `}` is missing'
 mistake other_brace '@misc(k, author = {A. B},\n title = {T}\n}\n' 'close @misc{k}, which begins at d.bib:1 by `)`, since it is opened by `(`'
