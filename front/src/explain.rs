@@ -338,6 +338,9 @@ impl<'a, W: Write> Explainer<'a, W> {
                 Some(key) => self.missing_entry(key, message.text),
                 None => {
                     self.unplaced(message)?;
+                    if let Some(advice) = self.parent_elsewhere(message.text)? {
+                        return self.put_advice_once(&advice);
+                    }
                     let is_of_biblatex = message.text.starts_with(b"I found no ") && self.is_of_biblatex();
                     let sections: &[Section] =
                         if is_of_biblatex { &[] } else { &[Section::Aux, Section::Run, Section::Entries] };
@@ -578,8 +581,9 @@ impl<'a, W: Write> Explainer<'a, W> {
             return Ok(Some(seen));
         }
         let meant = self.meant_by(message.text, &item);
+        let below = meant.as_ref().and_then(|name| self.seen_below(name, message.text, spot.file, &item));
         meant.map_or(Ok(()), |name| self.put_place(&format!("is it `{}`?", plain(&name))))?;
-        Ok(None)
+        Ok(below)
     }
 
     /// What to do about a message of a database, where its text shows what was meant.
@@ -608,25 +612,52 @@ impl<'a, W: Write> Explainer<'a, W> {
         if let Some(quote) = QUOTES.iter().find(|quote| name.starts_with(quote.as_bytes())) {
             return Some(Seen::NoQuote.with(&[quote]));
         }
+        if name.starts_with(b"\\") {
+            return Some(Seen::BareCommand.with(&[&plain(name)]));
+        }
         if let Some(at) = name.iter().position(|byte| matches!(byte, b'-' | b'/')) {
             let known = self.known_strings();
             let is_known = |name: &[u8]| known.iter().any(|known| known.eq_ignore_ascii_case(name));
             let (left, right) = (&name[..at], &name[at + 1..]);
             return (is_known(left) && is_known(right)).then(|| Seen::MonthsInOne.with(&[&plain(left), &plain(right)]));
         }
+        self.defined_below(name, file, item)
+    }
+
+    /// What to do about a string that is defined below its use.
+    fn defined_below(&mut self, name: &[u8], file: &File, item: &Item<'a>) -> Option<String> {
+        let files = self.files;
         let Stored { database, item: defined } = self.entries().string(name)?;
-        let is_below = database.file.name != file.name || defined.start > item.start;
+        let place = |name: &[u8]| files.with_ending(".bib").position(|file| file.name == name);
+        let is_below = (place(&database.file.name), defined.start) > (place(&file.name), item.start);
         let at = crate::mistakes::line_of(database.file, &database.text, defined.start);
         is_below.then(|| Seen::DefinedBelow.with(&[&plain(name), &at]))
+    }
+
+    /// What to do besides where a string of another name is meant that is defined below its use.
+    fn seen_below(&mut self, meant: &[u8], message: &[u8], file: &File, item: &Item<'a>) -> Option<String> {
+        let name = between(message, b"string name \"", b"\" is undefined")?;
+        let advice = self.defined_below(meant, file, item).filter(|_| !self.is_macro(meant))?;
+        Some(format!("write `{}` for `{}`, and {advice}", plain(meant), plain(name)))
     }
 
     /// The names of all strings that the databases and the style define.
     fn known_strings(&mut self) -> Vec<&'a [u8]> {
         let mut known: Vec<&[u8]> = self.entries().strings().collect();
+        known.extend(self.macros());
+        known
+    }
+
+    /// The names of the strings that the style defines.
+    fn macros(&mut self) -> Vec<&'a [u8]> {
         let style = self.sources.style().map_or(&b""[..], |file| &file.name);
         let commands = self.sources.commands(style);
-        known.extend(commands.iter().filter(|command| command.is("macro")).filter_map(|command| command.name));
-        known
+        commands.iter().filter(|command| command.is("macro")).filter_map(|command| command.name).collect()
+    }
+
+    /// Whether the style defines a string of this name.
+    fn is_macro(&mut self, name: &[u8]) -> bool {
+        self.macros().iter().any(|known| known.eq_ignore_ascii_case(name))
     }
 
     /// The name that may be meant by a type or a string that isn't known.
@@ -823,7 +854,7 @@ impl<'a, W: Write> Explainer<'a, W> {
             let meant = beside::meant(text, self.files);
             return meant.map_or(Ok(()), |meant| self.put_place(&meant));
         }
-        let child = between(text, b"A bad cross reference--entry \"", b"\" refers to entry \"");
+        let child = bad_reference(text).map(|(child, _)| child);
         let child =
             child.or_else(|| between(text, b"you've nested cross references--entry \"", b"\" refers to entry \""));
         if let Some(key) = child {
@@ -884,6 +915,18 @@ impl<'a, W: Write> Explainer<'a, W> {
         }
     }
 
+    /// Says where the parent is that an entry refers to in vain; what to do about that.
+    fn parent_elsewhere(&mut self, error: &[u8]) -> io::Result<Option<String>> {
+        let Some((_, parent)) = bad_reference(error) else { return Ok(None) };
+        let files = self.files;
+        if missing_entry::is_lost(self.entries(), files, parent) {
+            return Ok(None);
+        }
+        let told = missing_entry::told(self.entries(), files, parent);
+        told.place.map_or(Ok(()), |place| self.put_place(&place))?;
+        Ok(told.advice)
+    }
+
     /// Where a key is cited, or named as a parent.
     fn cited(&mut self, key: &'a [u8]) -> io::Result<()> {
         if let Some(named) = self.sources.names().key(key) {
@@ -925,6 +968,13 @@ fn unknown(error: &[u8]) -> Option<&[u8]> {
 /// The key of the message on an entry that wasn't found.
 fn missing_key(text: &[u8]) -> Option<&[u8]> {
     text.strip_prefix(b"I didn't find a database entry for \"").and_then(|rest| rest.strip_suffix(b"\""))
+}
+
+/// The child and the parent of the message on a parent that isn't there.
+fn bad_reference(text: &[u8]) -> Option<(&[u8], &[u8])> {
+    let rest = text.strip_prefix(b"A bad cross reference--entry \"")?;
+    let (child, rest) = split_first(rest, b"\" refers to entry \"")?;
+    Some((child, rest.strip_suffix(b"\", which doesn't exist")?))
 }
 
 /// What stands between these two in a text that begins with the first.

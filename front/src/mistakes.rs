@@ -111,8 +111,11 @@ impl<'a> Place<'_, 'a> {
         let key = self.item.key?;
         match self.inside.values.last() {
             None if self.byte() == Some(b'=') => Some(Seen::NoKey.with(&[&plain(self.item.kind), &plain(key.name)])),
-            None if let Some(field) = field_for_key(key.name) => Some(without_key(self.item, field)),
-            None => self.not_closed().or_else(|| self.other_brace()).or_else(|| Some(self.after_key())),
+            None => self
+                .field_for_key(key.name)
+                .or_else(|| self.not_closed())
+                .or_else(|| self.other_brace())
+                .or_else(|| Some(self.after_key())),
             Some(value) => self
                 .quote(value)
                 .or_else(|| self.runs_on())
@@ -122,8 +125,15 @@ impl<'a> Place<'_, 'a> {
         }
     }
 
+    fn field_for_key(&self, key: &[u8]) -> Option<String> {
+        field_for_key(key).map(|field| without_key(self.item, field))
+    }
+
     fn after_key(&self) -> String {
         let key = self.item.key.map_or(&b""[..], |key| key.name);
+        if let Some(key) = key.strip_suffix(b";") {
+            return Seen::SemicolonForComma.with(&[&format!("key `{}`", plain(key))]);
+        }
         let (word, after) = self.name();
         let is_key = self.item.key.is_some_and(|key| self.is_on_one_line(key.end)) && after == Some(b',');
         if is_key {
@@ -135,6 +145,9 @@ impl<'a> Place<'_, 'a> {
 
     fn after_value(&self, value: &Range<usize>) -> Option<String> {
         let (owner, first) = (self.owner()?, self.text.bytes[value.start]);
+        if self.byte() == Some(b';') {
+            return Some(Seen::SemicolonForComma.with(&[&format!("value of `{owner}`")]));
+        }
         let (word, after) = self.name();
         let is_field = !word.is_empty() && after == Some(b'=');
         if is_field || !self.is_on_one_line(value.end) {
@@ -143,6 +156,7 @@ impl<'a> Place<'_, 'a> {
         Some(match (first, self.byte()) {
             (b'{', Some(b'{' | b'"')) | (b'"', _) => Seen::NoHash.with(&[&owner]),
             (b'{', _) => Seen::BraceTooMany.with(&[&owner]),
+            (b'\\', _) => Seen::BareValue.with(&[&owner]),
             (_, Some(b'{' | b'"')) => Seen::NoHash.with(&[&owner]),
             _ => Seen::BareValue.with(&[&owner]),
         })
@@ -289,6 +303,7 @@ mod tests {
         assert_eq!(advice("@misc{a\n x = 1}"), "put a comma after the key `a`");
         assert_eq!(advice("@{a, x = 1}"), "write the type after the `@`, as in `@article{KEY, ..`");
         assert_eq!(advice("@misc{a,, x = 1}"), "take out one of the two commas");
+        assert_eq!(advice("@misc{a; x = 1}"), "write a comma after the key `a`, in the place of the `;`");
     }
 
     #[test]
@@ -311,6 +326,10 @@ mod tests {
         assert_eq!(advice("@misc{a, x = {A {T}} S}, y = 1}"), Seen::BraceTooMany.with(&["x"]));
         for bare in ["1-2", "12A", "A title", "in press"] {
             assert_eq!(advice(&format!("@misc{{a, x = {bare}, y = 1}}")), Seen::BareValue.with(&["x"]), "{bare}");
+        }
+        assert_eq!(advice("@misc{a, x = \\url{u}, y = 1}"), Seen::BareValue.with(&["x"]));
+        for text in ["@misc{a, x = 1 ;}", "@misc{a, x = {T}; y = 1}"] {
+            assert_eq!(advice(text), "write a comma after the value of `x`, in the place of the `;`", "{text}");
         }
         let quoted = "close the value of `x`, which begins at d.bib:2: the quote before this place ends it";
         assert_eq!(advice("@misc{a,\n x = \"T,\n y = \"B\", z = 1}"), quoted);

@@ -43,6 +43,8 @@ mistake no_key_at_all '@misc{, author = {A. B}}\n' '@misc{}, which begins at d.b
 mistake field_for_a_key '@misc{\n author={Smith},\n title = {T}}\n' '@misc, which begins at d.bib:1, has no key: is it that one?' 'write the entry'"'"'s key first: `@misc{KEY, author = ..`'
 mistake field_of_words_for_a_key '@misc{author={A. B}, title = {T}}\n' 'in @misc, which begins at d.bib:1' 'write the entry'"'"'s key first: `@misc{KEY, author = ..`'
 mistake comma_twice '@misc{k,, author = {A. B}}\n' 'take out one of the two commas'
+mistake semicolon_after_key '@misc{k; author = {A. B}}\n' 'write a comma after the key `k`, in the place of the `;`'
+mistake semicolon_after_value '@misc{k, author = {A. B}, year=2000 ;}\n' 'write a comma after the value of `year`, in the place of the `;`'
 mistake no_type '@{k, author = {A. B}}\n' 'write the type after the `@`, as in `@article{KEY, ..`'
 for beginning in 'no_brace:@misc k,' 'no_type:@{k,' 'bracket:@misc[k,' 'semicolon:@misc{k;'; do
     mistake "unread_${beginning%%:*}" "${beginning#*:} author = {A. B}, title = {T}}\n" '`k` stands at d.bib:1, in an entry that can'"'"'t be read' 'mend the error at d.bib:1: the entry is skipped after it'
@@ -58,9 +60,11 @@ mistake bare_pages '@misc{k,\n pages = 1-10}\n' 'put the value of `pages` into b
 mistake no_brace '@misc{k,\n author = A. B},\n title = {T}}\n' 'put the value of `author` into braces'
 mistake no_value '@misc{k,\n title = ,\n year = 2000}\n' 'write the value of `title` after the `=`, or take the field out'
 mistake curly_quotes '@misc{k,\n title = “Title”}\n' 'put the value into braces: `“` isn'"'"'t the quote `"`'
+mistake bare_command '@misc{k, author = {A. B}, title=\\url{http://x}}\n' 'put the value into braces: `{\url..}`' 'put the value of `title` into braces'
 mistake no_hash '@misc{k,\n month = "10~" jan}\n' 'join the parts of the value of `month` by `#`'
 mistake months_in_one '@misc{k,\n author = {A. B}, month = jan-feb}\n' 'join two names by `#`: `jan # "--" # feb`'
 mistake string_below '@misc{k, author = {A. B}, title = s}\n\n@string{s = {T}}\n' 'move the `@string` of `s` (d.bib:3) above its first use'
+mistake near_string_below '@misc{k, author = {A. B}, title = acmm}\n\n@string{acm = {T}}\n' 'is it `acm`?' 'write `acm` for `acmm`, and move the `@string` of `acm` (d.bib:3) above its first use'
 mistake bare_string '@string{s = A title}\n@misc{k, author = {A. B}}' 'put the value of `s` into braces'
 mistake bare_preamble '@preamble{\\\\newcommand{\\\\x}{y}}\n@misc{k, author = {A. B}}' 'put the text of the `@preamble` into braces or quotes'
 # braces and quotes
@@ -82,6 +86,8 @@ mistake entry_in_comment '@comment{@misc{k, title = {T}}}\n@misc{k, author = {A.
 # fields
 mistake of_biblatex '@article{k, journaltitle = {J}}\n' 'it has `journaltitle`: is it `journal`?'
 mistake lacked_field '@misc{k, title = {T}}\n' 'give the entry a field `author`: this style takes it without asking whether it is there'
+# parents
+mistake parent_above '@misc{p, author = {A. B}}\n@misc{k, author = {A. B}, crossref = {p}}\n' '`p` stands at d.bib:1, above an entry that names it as its parent (d.bib:2)' 'what to do: move `p` below all entries that name it, or cite it'
 # files
 mistake utf16 '\xff\xfe@\0m\0i\0s\0c\0{\0k\0,\0' 'save d.bib as UTF-8: it is in UTF-16'
 mistake html '<!DOCTYPE html>\n<style>@media print { }</style>\n' 'download d.bib once more: what stands in it is a page of the web (HTML)' '(1 more key has no entry: no entry stands in d.bib)'
