@@ -23,7 +23,7 @@ use crate::style_text::{
 };
 use crate::terminal::{ERROR_COLOUR, PLACE_COLOUR, Terminal, WARNING_COLOUR, in_lines, plain};
 use crate::text::{Text, find, split_first};
-use crate::unsaid::Unsaid;
+use crate::unsaid::{Unsaid, after_ends};
 use std::collections::HashSet;
 use std::io::{self, BufWriter, Write};
 
@@ -217,6 +217,23 @@ impl<'a, W: Write> Explainer<'a, W> {
         }
     }
 
+    /// The fields after the end of an entry, of which the run logs nothing.
+    fn after_ends(&mut self) -> io::Result<()> {
+        let (files, terminal) = (self.files, self.terminal);
+        let (shown, more) = after_ends(self.entries(), files);
+        let shown: Vec<(Vec<String>, String)> =
+            shown.into_iter().map(|shown| (shown.lines(terminal), shown.advice)).collect();
+        if !shown.is_empty() {
+            writeln!(self.out, "No message is about these fields, which stand after the end of their entry:")?;
+        }
+        for (lines, advice) in shown {
+            lines.iter().try_for_each(|line| self.coloured(PLACE_COLOUR, &format!("{INDENT}{line}")))?;
+            self.put_advice(&advice)?;
+        }
+        let entries = if more == 1 { "1 more entry has" } else { &format!("{more} more entries have") };
+        if more > 0 { self.put_place(&format!("({entries} fields after the end)")) } else { Ok(()) }
+    }
+
     /// What the run doesn't log of the entries that are cited.
     fn unsaid(&mut self) -> io::Result<()> {
         let style = self.sources.style().and_then(|file| file.bytes.as_deref()).unwrap_or(b"");
@@ -268,6 +285,7 @@ impl<'a, W: Write> Explainer<'a, W> {
         let has_errors = !self.repeats.is_empty();
         self.end_repeats()?;
         if end.is_finished() && self.part == Part::Whole {
+            self.after_ends()?;
             self.unsaid()?;
         }
         self.put_line(if end.is_finished() { "" } else { ERROR_COLOUR }, line)?;

@@ -3,7 +3,7 @@
 
 use crate::advice::Seen;
 use crate::beside::what_is_odd;
-use crate::database::Inside;
+use crate::database::{Inside, name_at};
 use crate::entries::{Entries, Skipped, Stored};
 use crate::explain::{begins_item, shown_path};
 use crate::hints::names_of_fields;
@@ -177,12 +177,32 @@ pub fn meant_field(style: &[u8], stored: Stored<'_, '_>, warning: &[u8]) -> Opti
 
 /// Text after an entry's end that looks like a field of it.
 pub fn lost_fields(stored: Stored<'_, '_>) -> Option<String> {
-    let (bytes, end) = (stored.database.text.bytes, stored.item.end);
-    let rest = bytes.get(end..)?.trim_ascii_start().strip_prefix(b",")?.trim_ascii_start();
-    let length = rest.iter().position(|byte| !byte.is_ascii_alphanumeric() && !b"-_".contains(byte))?;
-    let is_field = length > 0 && rest[length..].trim_ascii_start().starts_with(b"=");
-    let at = line_of(stored.database.file, &stored.database.text, end.saturating_sub(1));
-    is_field.then(|| format!("the entry ends at {at}; `{}` stands after its end", plain(&rest[..length])))
+    let lost = LostField::after(stored)?;
+    let at = line_of(stored.database.file, &stored.database.text, stored.item.end.saturating_sub(1));
+    Some(format!("the entry ends at {at}; `{}` stands after its end", plain(lost.name)))
+}
+
+/// What looks like a field, and stands after the end of its entry.
+#[derive(Debug, Clone, Copy, PartialEq, Eq)]
+pub struct LostField<'a> {
+    /// Its name.
+    pub name: &'a [u8],
+    /// Where that begins.
+    pub start: usize,
+}
+
+impl<'a> LostField<'a> {
+    /// The first one after an entry: between them are whitespace, commas and braces alone, and at least one of these two or the end of a line.
+    pub fn after(stored: Stored<'_, 'a>) -> Option<LostField<'a>> {
+        let (bytes, end) = (stored.database.text.bytes, stored.item.end);
+        let between =
+            bytes.get(end..)?.iter().take_while(|byte| byte.is_ascii_whitespace() || b",}".contains(byte)).count();
+        let (start, is_parted) = (end + between, bytes[end..end + between].iter().any(|byte| b",}\n".contains(byte)));
+        let name = name_at(bytes, start);
+        let value = bytes[start + name.len()..].trim_ascii_start().strip_prefix(b"=")?.trim_ascii_start();
+        let is_field = stored.item.fault.is_none() && is_parted && name.first()?.is_ascii_alphabetic();
+        (is_field && value.first().is_some_and(|byte| !b"=,}".contains(byte))).then_some(LostField { name, start })
+    }
 }
 
 /// The months, of which styles define the first three letters as strings.
@@ -304,6 +324,16 @@ mod tests {
         let meant = meant_field(b"ENTRY {journal}{}{}", of_biblatex.entry(b"k").unwrap(), b"empty journal in k");
         assert_eq!(meant.as_deref(), Some("it has `journaltitle`: is it `journal`?"));
         assert_eq!(lost_fields(stored).as_deref(), Some("the entry ends at d.bib:1; `year` stands after its end"));
+        for text in ["@misc{k}},\n year = 2000}", "@misc{k}\n year = {2000}\n}", "@misc{k}\n,\nyear=y}"] {
+            let files = files(text);
+            let entries = Entries::new(&files);
+            let lost = LostField::after(entries.entry(b"k").unwrap()).map(|lost| lost.name.to_vec());
+            assert_eq!(lost.as_deref(), Some(&b"year"[..]), "{text}");
+        }
+        for text in ["@misc{k}\n% year = 2000", "@misc{k} year = 2000", "@misc{k}\nyear == x", "@misc{k} @misc{year}"] {
+            let files = files(text);
+            assert_eq!(LostField::after(Entries::new(&files).entry(b"k").unwrap()), None, "{text}");
+        }
     }
 
     #[test]

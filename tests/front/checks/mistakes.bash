@@ -126,6 +126,21 @@ wants_status 3
 wants_error_like 'is it `job`\?'
 end
 
+# Fields after an entry's end, of which the run logs nothing.
+begin mistake_fields_after_the_end
+write_author_style
+cite k,l
+printf '@misc{k, author = {A. B}, year=2000}},\n month=3,\n title={Important}}\n@misc{l, author = {A. B}}\n' >d.bib
+run_search -explain job
+wants_status 0
+for words in 'No message is about these fields, which stand after the end of their entry:' 'd.bib:2:  month=3,' 'take out what ends @misc{k}, which begins at d.bib:1, before the field `month`'; do
+    wants_words "$folder/stdout" "$words"
+done
+sed -i 's/}},$/},/' d.bib
+run_search -explain job
+! grep -q 'after the end' "$folder/stdout" || complaints+=("what is right is shown: $(cat "$folder/stdout")")
+end
+
 # What no message is about, though an author may not have meant it so.
 begin mistakes_without_a_message
 write_author_style
