@@ -13,7 +13,7 @@ use crate::mistakes::{begun_value, field_for_key, what_hides, what_to_do};
 use crate::nearest::nearest;
 use crate::operands::{TEST_LEAVES, advice_at, is_of_test_in};
 use crate::origins::{MissingField, missing_field_of};
-use crate::repeats::{Repeats, Strings};
+use crate::repeats::{OfData, Repeats, Strings, Warnings};
 use crate::scene::{Call, End, Scene};
 use crate::shapes::{Part, counted, went_well};
 use crate::shown_line::{ShownLine, first_columns};
@@ -27,8 +27,12 @@ use crate::unsaid::{Unsaid, after_ends};
 use std::collections::HashSet;
 use std::io::{self, BufWriter, Write};
 
-/// How many messages are explained; the others aren't printed.
+/// How many errors, and how many warnings, are explained; of the others the first of each kind.
 const MOST_EXPLAINED: u64 = 1_000;
+/// How many texts of a style's warnings are kinds of their own.
+const MOST_TEXTS: usize = 200;
+/// Of how many warnings of a style it is looked for whether their entry shows what was meant.
+const MOST_HINTS: u64 = 1_000;
 /// How many calls, and how many literals of a stack, are shown.
 const MOST_OF_SCENE: usize = 8;
 /// How many errors of a style are kept from which others may follow; that of a missing brace always is.
@@ -49,15 +53,8 @@ const CONTINUED: &str = "      ";
 pub fn write(log: &Log<'_>, files: &Files, part: Part, terminal: &Terminal, out: &mut impl Write) -> io::Result<()> {
     let out = BufWriter::with_capacity(1 << 16, out);
     let mut explainer = Explainer::new(log, files, part, terminal, out);
-    let mut lines = log.lines();
-    while let Some(line) = lines.next() {
-        if part == Part::Whole || !went_well(&line) {
-            explainer.line(&line)?;
-        }
-        if explainer.explained >= MOST_EXPLAINED {
-            explainer.last_line(lines.last())?;
-            break;
-        }
+    for line in log.lines().filter(|line| part == Part::Whole || !went_well(line)) {
+        explainer.line(&line)?;
     }
     explainer.end_lines()?;
     explainer.end_repeats()?;
@@ -83,6 +80,33 @@ struct Cause<'a> {
     unprinted: u64,
 }
 
+/// The messages that were explained.
+#[derive(Debug, Default)]
+struct Explained {
+    errors: u64,
+    warnings: u64,
+    /// The kinds of messages that were met: whether they are errors, and their rows of the advice.
+    kinds: HashSet<(bool, Option<usize>)>,
+    /// How many weren't explained.
+    left_out: u64,
+}
+
+impl Explained {
+    /// Whether a message needn't be explained, since many were, and some of its kind; then it is counted. `is_new` says that it is of a new kind in any case.
+    fn is_enough(&mut self, message: &Message<'_>, is_new: bool) -> bool {
+        const ALL: [Section; 6] =
+            [Section::Aux, Section::Run, Section::Style, Section::Execution, Section::Database, Section::Entries];
+        let is_error = message.severity == Severity::Error;
+        let kind = (is_error, advice::find(&ALL, message.text).map(|advice| advice.number));
+        let is_new = self.kinds.insert(kind) || is_new;
+        let count = if is_error { &mut self.errors } else { &mut self.warnings };
+        let is_enough = *count >= MOST_EXPLAINED && !is_new;
+        *count += u64::from(!is_enough);
+        self.left_out += u64::from(is_enough);
+        is_enough
+    }
+}
+
 /// Explains the lines of a log.
 struct Explainer<'a, W: Write> {
     files: &'a Files,
@@ -103,6 +127,12 @@ struct Explainer<'a, W: Write> {
     causes: Vec<Cause<'a>>,
     repeats: Repeats<'a>,
     strings: Strings<'a>,
+    warnings: Warnings<'a>,
+    data: OfData<'a>,
+    /// Which messages were explained, and how many weren't.
+    explained: Explained,
+    /// Of how many more warnings it is looked for what was meant.
+    hints: u64,
     /// Whether the last error wasn't printed since it repeats: then the literals that the log lists below it aren't either.
     is_repeated: bool,
     /// The code of the style, once an error of its execution was met, and where the first mistake of its text is.
@@ -112,7 +142,6 @@ struct Explainer<'a, W: Write> {
     last_of_style: usize,
     /// What was said last of a brace that is missing, or of one too many.
     said_of_braces: Option<String>,
-    explained: u64,
     /// How many lines that are no messages stand directly above.
     others: u64,
     out: W,
@@ -135,12 +164,15 @@ impl<'a, W: Write> Explainer<'a, W> {
             causes: Vec::new(),
             repeats: Repeats::default(),
             strings: Strings::default(),
+            warnings: Warnings::default(),
+            data: OfData::default(),
+            explained: Explained::default(),
+            hints: MOST_HINTS,
             is_repeated: false,
             code: None,
             first_of_style: None,
             last_of_style: 0,
             said_of_braces: None,
-            explained: 0,
             others: 0,
             out,
         }
@@ -186,8 +218,15 @@ impl<'a, W: Write> Explainer<'a, W> {
             {
                 Ok(())
             }
+            Content::Message(message) if self.is_of_known_data(message) => {
+                self.is_repeated = true;
+                Ok(())
+            }
             Content::Message(message) if self.repeats.has(line.bytes, message, self.first_of_style.is_some()) => {
-                self.explained += 1;
+                self.is_repeated = true;
+                Ok(())
+            }
+            Content::Message(message) if self.is_counted(line.bytes, message) => {
                 self.is_repeated = true;
                 Ok(())
             }
@@ -261,23 +300,58 @@ impl<'a, W: Write> Explainer<'a, W> {
         if others > 0 {
             self.put_place(&format!("({others} more lines stand in the .blg)"))?;
         }
+        if let Some(text) = self.data.text() {
+            self.put_place(&text)?;
+        }
         self.end_causes()
     }
 
-    /// The last line of a log of which enough was explained.
-    fn last_line(&mut self, line: Option<Line<'a>>) -> io::Result<()> {
-        let Some(line) = line else { return Ok(()) };
-        self.end_lines()?;
-        let Content::Ended(end) = &line.content else {
-            return writeln!(self.out, "(The messages after these are in the .blg.)");
-        };
-        let counted = self.strings.count() + self.lost_keys.saturating_sub(1);
-        match (end.errors + end.warnings).saturating_sub(self.explained + counted) {
-            0 => {}
-            1 => writeln!(self.out, "(1 more message stands in the .blg.)")?,
-            more => writeln!(self.out, "({more} more messages stand in the .blg.)")?,
+    /// Whether an error is about a field that an entry lacks, or a name of it, of which one was explained.
+    fn is_of_known_data(&mut self, message: &Message<'a>) -> bool {
+        let Place::Execution { function, entry: Some(key) } = message.place else { return false };
+        let lacked = self.lacked_field(message, function, key);
+        self.data.has(message, lacked)
+    }
+
+    /// Whether a message isn't explained: it is a warning of a style that only differs from others by a key, or enough were explained, and some of its kind.
+    fn is_counted(&mut self, line: &'a [u8], message: &Message<'a>) -> bool {
+        let texts = self.warnings.count();
+        if self.is_equal(line, message) {
+            return true;
         }
-        self.ended(line.bytes, end)
+        let is_new = texts < MOST_TEXTS && self.warnings.count() > texts;
+        self.explained.is_enough(message, is_new)
+    }
+
+    /// Whether a warning of a style only differs from others by the key of an entry, which doesn't show what was meant.
+    fn is_equal(&mut self, line: &'a [u8], message: &Message<'a>) -> bool {
+        let is_of_style = message.severity == Severity::Warning && message.place == Place::Nowhere;
+        if !is_of_style || advice::find(&[Section::Aux, Section::Run, Section::Entries], message.text).is_some() {
+            return false;
+        }
+        let Some(key) = self.key_in(message.text) else { return false };
+        self.hints = self.hints.saturating_sub(1);
+        if self.hints > 0 && self.lost_of(key, message.text).iter().any(|text| !self.said.contains(text)) {
+            return false;
+        }
+        self.warnings.has(line, message.text, key)
+    }
+
+    /// The key of an entry at the end of a warning, or at its beginning.
+    fn key_in(&mut self, text: &'a [u8]) -> Option<&'a [u8]> {
+        let mut words = text.split(u8::is_ascii_whitespace).filter(|word| !word.is_empty());
+        let first = words.next()?;
+        let last = words.next_back().unwrap_or(first);
+        [last, first].into_iter().find(|word| self.entries().entry(word).is_some())
+    }
+
+    /// Says how many messages weren't explained.
+    fn end_explained(&mut self) -> io::Result<()> {
+        match std::mem::take(&mut self.explained.left_out) {
+            0 => Ok(()),
+            1 => writeln!(self.out, "(1 more message stands in the .blg.)"),
+            more => writeln!(self.out, "({more} more messages stand in the .blg.)"),
+        }
     }
 
     fn ended(&mut self, line: &'a [u8], end: &Ended<'a>) -> io::Result<()> {
@@ -309,8 +383,9 @@ impl<'a, W: Write> Explainer<'a, W> {
 
     /// Says of errors of the execution how often they repeat.
     fn end_repeats(&mut self) -> io::Result<()> {
-        let texts = [self.texts_of_lost(), self.strings.texts(), self.repeats.texts()].concat();
-        texts.iter().try_for_each(|text| writeln!(self.out, "{text}"))
+        let texts = [self.texts_of_lost(), self.strings.texts(), self.warnings.texts(), self.repeats.texts()].concat();
+        texts.iter().try_for_each(|text| writeln!(self.out, "{text}"))?;
+        self.end_explained()
     }
 
     /// Whether a message is about a key without an entry of which no more can be said than of one before. Then it is counted.
@@ -336,7 +411,6 @@ impl<'a, W: Write> Explainer<'a, W> {
 
     fn message(&mut self, line: &[u8], message: &Message<'a>) -> io::Result<()> {
         self.end_lines()?;
-        self.explained += 1;
         if self.part == Part::Mistakes && self.missing_brace(line, message)? {
             return Ok(());
         }
@@ -564,7 +638,6 @@ impl<'a, W: Write> Explainer<'a, W> {
         let unprinted = |cause: &mut Cause<'a>| (cause.number, std::mem::take(&mut cause.unprinted));
         let counts: Vec<(usize, u64)> = self.causes.iter_mut().map(unprinted).collect();
         for (number, count) in counts.into_iter().filter(|(_, count)| *count > 0) {
-            self.explained += count;
             let errors = if count == 1 { "1 more error follows" } else { &format!("{count} more errors follow") };
             let place = if number == self.last_of_style { String::new() } else { format!(" in line {number}") };
             self.put_place(&format!("({errors} from that{place})"))?;
@@ -727,28 +800,51 @@ impl<'a, W: Write> Explainer<'a, W> {
 
     fn executed(&mut self, message: &Message<'a>, function: &'a [u8], entry: Option<&[u8]>) -> io::Result<()> {
         let shown = entry.and_then(|key| self.line_of_names(message.text, key));
-        let is_of_database = shown.is_some();
-        shown.iter().flatten().try_for_each(|line| self.coloured(PLACE_COLOUR, &format!("{INDENT}{line}")))?;
-        match message.scene {
-            // (the way through the style has nothing to do with a name)
-            Some(scene) if is_of_database => self.put_place(&format!("in {}", self.call(&scene.at)))?,
-            Some(scene) => self.scene(scene)?,
-            None => {}
+        let lacked = entry.and_then(|key| self.lacked_field(message, function, key));
+        if shown.is_some() || lacked.is_some() {
+            return self.of_data(message, function, entry, shown, lacked);
         }
+        message.scene.map_or(Ok(()), |scene| self.scene(scene))?;
         if let Some(key) = entry {
             self.show_entry("for", key)?;
         }
-        let lacked = entry.and_then(|key| self.lacked_field(message, function, key));
         if let Some(missing) = self.missing_field(message, function) {
             self.put_place(&missing)?;
         }
         self.teach(message, function)?;
         match self.advice_at(message, function) {
             Some(advice) => self.put_advice(&advice),
-            None if lacked.is_some() => {
-                self.put_advice_once(&Seen::FieldIsMissing.with(&[&lacked.unwrap_or_default()]))
-            }
             None => self.advise(&[Section::Execution], message.text),
+        }
+    }
+
+    /// Explains an error that a name in a database makes, or a field that an entry lacks: the entry stands first, and the style last.
+    fn of_data(
+        &mut self,
+        message: &Message<'a>,
+        function: &'a [u8],
+        entry: Option<&[u8]>,
+        names: Option<Vec<String>>,
+        lacked: Option<String>,
+    ) -> io::Result<()> {
+        names.iter().flatten().try_for_each(|line| self.coloured(PLACE_COLOUR, &format!("{INDENT}{line}")))?;
+        if let Some(key) = entry {
+            self.show_entry("for", key)?;
+        }
+        if let Some(missing) = self.missing_field(message, function) {
+            self.put_place(&missing)?;
+        }
+        self.teach(message, function)?;
+        match (self.advice_at(message, function), lacked) {
+            (Some(advice), _) => self.put_advice(&advice)?,
+            (None, Some(lacked)) => self.put_advice_once(&Seen::FieldIsMissing.with(&[&lacked]))?,
+            (None, None) => self.advise(&[Section::Execution], message.text)?,
+        }
+        match message.scene {
+            // (the way through the style has nothing to do with a name)
+            Some(scene) if names.is_some() => self.put_place(&format!("in {}", self.call(&scene.at))),
+            Some(scene) => self.calls(scene),
+            None => Ok(()),
         }
     }
 
@@ -803,7 +899,7 @@ impl<'a, W: Write> Explainer<'a, W> {
     /// Which field is missing where a function takes one that is, or which may be.
     fn missing_field(&mut self, message: &Message<'a>, function: &[u8]) -> Option<String> {
         let scene = message.scene?;
-        let path = plain(self.sources.file(&scene.at.file).map_or(&scene.at.file[..], shown_path));
+        let path = plain(last_part(self.sources.file(&scene.at.file).map_or(&scene.at.file[..], shown_path)));
         let found = missing_field_of(self.code_of(scene)?, scene, message.text, function)?;
         Some(match found {
             MissingField::Is(field, line) => {
@@ -819,16 +915,24 @@ impl<'a, W: Write> Explainer<'a, W> {
         })
     }
 
-    /// Where in the style something happened.
-    fn scene(&mut self, scene: &Scene) -> io::Result<()> {
-        let mut calls: Vec<String> = scene.callers.iter().map(|call| self.call(call)).collect();
+    /// Where in the style something happened, and who called it; the path of the style stands once.
+    fn calls(&mut self, scene: &Scene) -> io::Result<()> {
+        let (at, file) = (self.call(&scene.at), &scene.at.file);
+        let named = |call: &Call| if call.file == *file { self.call_in_short(call) } else { self.call(call) };
+        let mut calls: Vec<String> = scene.callers.iter().map(named).collect();
         if calls.len() > MOST_OF_SCENE {
             calls.splice(MOST_OF_SCENE - 1..calls.len() - 1, ["..".to_string()]);
         }
         let called = if calls.is_empty() { String::new() } else { format!("; called from {}", calls.join("; ")) };
+        let is_left = scene.stack.iter().any(|held| held.since.is_some());
+        self.put_place(&format!("{} {at}{called}", if is_left { "left by" } else { "in" }))
+    }
+
+    /// Where in the style something happened, and what stood on the stack.
+    fn scene(&mut self, scene: &Scene) -> io::Result<()> {
+        self.calls(scene)?;
         // What a command left is listed in the log itself.
         let is_left = scene.stack.iter().any(|held| held.since.is_some());
-        self.put_place(&format!("{} {}{called}", if is_left { "left by" } else { "in" }, self.call(&scene.at)))?;
         if !scene.stack.is_empty() && !is_left {
             let literals: Vec<String> =
                 scene.stack.iter().take(MOST_OF_SCENE).map(|held| plain(&held.literal)).collect();
@@ -856,7 +960,16 @@ impl<'a, W: Write> Explainer<'a, W> {
     }
 
     fn call(&self, call: &Call) -> String {
-        let name = plain(self.sources.file(&call.file).map_or(&call.file[..], shown_path));
+        Self::called(call, self.sources.file(&call.file).map_or(&call.file[..], shown_path))
+    }
+
+    /// The same without the folder of the style.
+    fn call_in_short(&self, call: &Call) -> String {
+        Self::called(call, last_part(self.sources.file(&call.file).map_or(&call.file[..], shown_path)))
+    }
+
+    fn called(call: &Call, path: &[u8]) -> String {
+        let name = plain(path);
         match call.line {
             0 => format!("{}, {name}", plain(&call.function)),
             line => format!("{}, {name}:{line}", plain(&call.function)),
@@ -900,25 +1013,17 @@ impl<'a, W: Write> Explainer<'a, W> {
     }
 
     /// A style's own warning often ends with the entry's key, or begins with it.
-    fn of_style(&mut self, text: &[u8]) -> io::Result<()> {
-        let mut words = text.split(u8::is_ascii_whitespace).filter(|word| !word.is_empty());
-        let first = words.next().unwrap_or(b"");
-        let last = words.next_back().unwrap_or(first);
-        if self.show_entry("for", last)? {
-            self.lost_in(last, text)
-        } else if first != last && self.show_entry("for", first)? {
-            self.lost_in(first, text)
-        } else {
-            Ok(())
-        }
+    fn of_style(&mut self, text: &'a [u8]) -> io::Result<()> {
+        let Some(key) = self.key_in(text) else { return Ok(()) };
+        self.show_entry("for", key)?;
+        self.lost_of(key, text).iter().try_for_each(|text| self.put_place_once(text))
     }
 
-    /// Says what of an entry is lost, where a style's warning may come from that: a field of another name, or text after its end.
-    fn lost_in(&mut self, key: &[u8], warning: &[u8]) -> io::Result<()> {
+    /// What of an entry is lost, where a style's warning may come from that: a field of another name, or text after its end.
+    fn lost_of(&mut self, key: &[u8], warning: &[u8]) -> Vec<String> {
         let style = self.sources.style().and_then(|file| file.bytes.as_deref()).unwrap_or(b"");
-        let Some(stored) = self.entries().entry(key) else { return Ok(()) };
-        let said = [meant_field(style, stored, warning), lost_fields(stored)];
-        said.into_iter().flatten().try_for_each(|text| self.put_place_once(&text))
+        let Some(stored) = self.entries().entry(key) else { return Vec::new() };
+        [meant_field(style, stored, warning), lost_fields(stored)].into_iter().flatten().collect()
     }
 
     /// Says of an entry that wasn't found where its key is named, where the entry may be, and what to do.
@@ -1018,6 +1123,11 @@ pub fn begins_item(file: &File, text: &Text<'_>, item: &Item<'_>) -> String {
     let key = key.map(|key| format!("{{{}}}", plain(key.name))).unwrap_or_default();
     let (path, line) = (plain(shown_path(file)), text.line_of(item.start));
     format!("@{}{key}, which begins at {path}:{line}", plain(item.kind))
+}
+
+/// The name of a file without its folder.
+fn last_part(path: &[u8]) -> &[u8] {
+    path.rsplit(|byte| *byte == b'/').next().unwrap_or(path)
 }
 
 /// Where a file was found, as its user knows it.
@@ -1184,10 +1294,24 @@ Error--x is an unknown function--line 5 of file s.bst\n";
     }
 
     #[test]
+    fn equal_warnings_of_a_style_are_counted() {
+        let log = "Warning--x in k\n".repeat(5000) + "Error--Integer overflow while executing + for entry k\n" + "Warning--y in k\n";
+        let told = explain(&(log + "Ended: finished, warnings 5001, errors 1, steps 9\n"), "", "@misc{k}");
+        assert_eq!(told.matches("Warning--x in k\n    for @misc{k}").count(), 8, "{told}");
+        assert!(told.contains("Error--Integer overflow while executing + for entry k\n") && told.contains("Warning--y in k\n"));
+        let end = "(4992 more warnings are like `Warning--x in k`; for k)\nEnded: finished";
+        assert!(told.contains(end), "{told}");
+        let hinted = explain(&"Warning--empty title in k\n".repeat(20), "ENTRY {title}{}{}", "@misc{k, tilte = {T}}");
+        assert!(hinted.contains("it has `tilte`: is it `title`?") && hinted.contains("(11 more warnings are"), "{hinted}");
+    }
+
+    #[test]
     fn only_so_many_messages_are_explained() {
-        let log = "Warning--x in k\n".repeat(5000) + "Ended: finished, warnings 5000, errors 0, steps 9\n";
+        let log = "Warning--x of no entry\n".repeat(5000) + "Warning--I didn't find a database entry for \"nosuch\"\n";
+        let log = log + "Error--Integer overflow while executing + for entry k\nEnded: finished, warnings 5000, errors 0, steps 9\n";
         let told = explain(&log, "", "@misc{k}");
-        assert_eq!(told.matches("for @misc{k}").count(), 1000);
+        assert_eq!(told.matches("Warning--x of no entry").count(), 1000);
+        assert!(told.contains("for \"nosuch\"\n") && told.contains("Error--Integer overflow"), "{told}");
         let end = "(4000 more messages stand in the .blg.)\nEnded: finished, warnings 5000, errors 0, steps 9\n";
         assert!(told.ends_with(&format!("{end}(There were 5000 warnings)\n")), "{}", &told[told.len() - 200..]);
     }
