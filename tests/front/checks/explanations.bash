@@ -41,7 +41,7 @@ Warning--I didn't find a database entry for \"nosuch\"
     it may stand in e.bib, which wasn't found
     what to do: look for e.bib first
 Error--\"A\" is not an integer while executing + for entry k
-    in {..} of FUNCTION {misc}, $2s.bst:3; called from misc, $2s.bst:3; ITERATE {call.type\$}, $2s.bst:7
+    in {..} of FUNCTION {misc}, $2s.bst:3; called from misc, s.bst:3; ITERATE {call.type\$}, s.bst:7
     on the stack: 1, \"A\"
     for @misc{k}, which begins at $2d.bib:1
     \`+\` takes NUMBER NUMBER, pushed in this order
@@ -490,7 +490,7 @@ rm s.bst
 cite 'k,l'
 printf '@misc{k, title = {T}}\n@misc{l, author = {B}, title = {A, B, C, D}}\n' >d.bib
 BSTINPUTS=styles: run_search -explain -terse job
-for line in '    the missing field is `author`, pushed at s.bst:4' '    (1 more error follows from that)' '    in misc, styles/s.bst:7'; do
+for line in '    the missing field is `author`, pushed at s.bst:4' '    (2 more errors follow from that)' '    in FUNCTION {misc}, styles/s.bst:7'; do
     wants_line "$folder/stdout" "$line"
 done
 [ "$(grep -c '^Error--missing field' "$folder/stdout")" -eq 1 ] || complaints+=('the missing field is said again')

@@ -136,9 +136,17 @@ wants_status 0
 for words in 'No message is about these fields, which stand after the end of their entry:' 'd.bib:2:  month=3,' 'take out what ends @misc{k}, which begins at d.bib:1, before the field `month`'; do
     wants_words "$folder/stdout" "$words"
 done
-sed -i 's/}},$/},/' d.bib
+sed -i 's/}},$/,/' d.bib
 run_search -explain job
 ! grep -q 'after the end' "$folder/stdout" || complaints+=("what is right is shown: $(cat "$folder/stdout")")
+end
+
+begin mistake_database_as_a_job
+run_search -explain d.bib
+wants_status 3
+wants_error_like '\(JOB is the name of a document, without an ending\).*job'
+run_search paper.pdf
+wants_error_like '\(JOB is a name without an ending: paper\)'
 end
 
 # What no message is about, though an author may not have meant it so.
