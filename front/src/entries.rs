@@ -366,7 +366,8 @@ mod tests {
 
     #[test]
     fn a_key_is_found_where_its_entry_cannot_be_read() {
-        let files = files(b"@article one,\n x = 1}\n@{two, x = 1}\n@article[three, x = 1]\n@misc{four; x = 1}\n@misc{five}");
+        let files =
+            files(b"@article one,\n x = 1}\n@{two, x = 1}\n@article[three, x = 1]\n@misc{four; x = 1}\n@misc{five}");
         let entries = Entries::new(&files);
         let line = |key: &[u8]| entries.unreached(key).map(|(database, start)| database.text.line_of(start));
         assert_eq!([line(b"one"), line(b"TWO"), line(b"three"), line(b"four")], [Some(1), Some(3), Some(4), Some(5)]);

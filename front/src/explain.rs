@@ -1295,20 +1295,29 @@ Error--x is an unknown function--line 5 of file s.bst\n";
 
     #[test]
     fn equal_warnings_of_a_style_are_counted() {
-        let log = "Warning--x in k\n".repeat(5000) + "Error--Integer overflow while executing + for entry k\n" + "Warning--y in k\n";
+        let log = "Warning--x in k\n".repeat(5000)
+            + "Error--Integer overflow while executing + for entry k\n"
+            + "Warning--y in k\n";
         let told = explain(&(log + "Ended: finished, warnings 5001, errors 1, steps 9\n"), "", "@misc{k}");
         assert_eq!(told.matches("Warning--x in k\n    for @misc{k}").count(), 8, "{told}");
-        assert!(told.contains("Error--Integer overflow while executing + for entry k\n") && told.contains("Warning--y in k\n"));
+        assert!(
+            told.contains("Error--Integer overflow while executing + for entry k\n")
+                && told.contains("Warning--y in k\n")
+        );
         let end = "(4992 more warnings are like `Warning--x in k`; for k)\nEnded: finished";
         assert!(told.contains(end), "{told}");
         let hinted = explain(&"Warning--empty title in k\n".repeat(20), "ENTRY {title}{}{}", "@misc{k, tilte = {T}}");
-        assert!(hinted.contains("it has `tilte`: is it `title`?") && hinted.contains("(11 more warnings are"), "{hinted}");
+        assert!(
+            hinted.contains("it has `tilte`: is it `title`?") && hinted.contains("(11 more warnings are"),
+            "{hinted}"
+        );
     }
 
     #[test]
     fn only_so_many_messages_are_explained() {
         let log = "Warning--x of no entry\n".repeat(5000) + "Warning--I didn't find a database entry for \"nosuch\"\n";
-        let log = log + "Error--Integer overflow while executing + for entry k\nEnded: finished, warnings 5000, errors 0, steps 9\n";
+        let log = log
+            + "Error--Integer overflow while executing + for entry k\nEnded: finished, warnings 5000, errors 0, steps 9\n";
         let told = explain(&log, "", "@misc{k}");
         assert_eq!(told.matches("Warning--x of no entry").count(), 1000);
         assert!(told.contains("for \"nosuch\"\n") && told.contains("Error--Integer overflow"), "{told}");

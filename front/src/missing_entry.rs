@@ -36,9 +36,7 @@ pub fn told(entries: &Entries<'_>, files: &Files, key: &[u8]) -> Told {
         let place = format!("`{}` stands at {at}, in text that isn't read", plain(key));
         return Told { place: Some(place), advice: Some(Seen::NoAtSign.with(&[])) };
     }
-    told_of_unreached(entries, key)
-        .or_else(|| lost(entries, files))
-        .unwrap_or_else(|| told_of_nearest(entries, key))
+    told_of_unreached(entries, key).or_else(|| lost(entries, files)).unwrap_or_else(|| told_of_nearest(entries, key))
 }
 
 /// What is said of a key that stands in an entry whose beginning can't be read.

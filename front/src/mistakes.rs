@@ -353,7 +353,9 @@ mod tests {
         assert_eq!(advice("@misc{a,\n x = \"T,\n y = {1}\n}\n"), runs_on);
         assert_eq!(advice("@misc{a,\n x = {T,\n y = 2\n}\n"), runs_on);
         let on_one_line = |name: &str| {
-            format!("close the value of `{name}`, which begins at d.bib:1: it has taken in what looks like the field `zz` (d.bib:1)")
+            format!(
+                "close the value of `{name}`, which begins at d.bib:1: it has taken in what looks like the field `zz` (d.bib:1)"
+            )
         };
         assert_eq!(advice("@misc{a, x = {A}, y = {10% of {T}, zz={B}, year=2000}"), on_one_line("y"));
         assert_eq!(advice("@misc{a, x = \"T, zz={B}, year=2000}"), on_one_line("x"));

@@ -87,7 +87,9 @@ impl RunLog<'_> {
                 (true, true) => {
                     let entry = key_above(&self.ran.list, line)
                         .map_or(String::new(), |key| format!(" of the entry `{}`", plain(key)));
-                    format!("the style cuts text by bytes. Write the letter{entry} as a command of TeX, such as {{\\'e}}, or take another style")
+                    format!(
+                        "the style cuts text by bytes. Write the letter{entry} as a command of TeX, such as {{\\'e}}, or take another style"
+                    )
                 }
                 (false, true) => "try -text=utf8".into(),
             };
