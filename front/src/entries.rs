@@ -2,6 +2,7 @@
 
 use crate::database::{Folded, Item, Items, key_at};
 use crate::job::{File, Files};
+use crate::mistakes::field_for_key;
 use crate::nearest::nearest;
 use crate::text::{Text, find, split_first};
 use std::cell::{Cell, OnceCell};
@@ -59,6 +60,19 @@ impl<'a> Database<'a> {
         let braces =
             gaps.flat_map(move |(end, begin)| (end..begin).filter(move |at| matches!(bytes[*at], b'{' | b'(')));
         braces.filter_map(move |brace| Some((Folded(key_at_brace(bytes, brace)?), brace)))
+    }
+
+    /// The words before the first comma of each entry that has an error: an author may mean one of them as the key. And where each begins.
+    fn unreached(&self) -> impl Iterator<Item = (Folded<'a>, usize)> {
+        let bytes = self.text.bytes;
+        let faulty = self.items.iter().filter(|item| item.fault.is_some() && item.is_entry());
+        faulty.flat_map(move |item| {
+            let (_, line_end) = self.text.span(self.text.line_of(item.start));
+            let (start, end) = (item.start + 1, item.key.map_or(line_end, |key| key.end));
+            let beginning = &bytes[start..end.clamp(start, start + LONGEST_UNREAD).min(bytes.len())];
+            let beginning = beginning.split(|byte| *byte == b',').next().unwrap_or(b"");
+            words(beginning, start).filter(|(word, _)| word.0 != item.kind)
+        })
     }
 
     /// The items that have something in this line; of very many the first ones.
@@ -119,6 +133,19 @@ fn between<'a>(text: &'a [u8], before: &[u8], behind: &[u8]) -> Option<&'a [u8]>
 /// How long a key may be that is looked for between items.
 const LONGEST_UNREAD: usize = 200;
 
+/// The words of a text that may be keys, each with its place; the text begins at `from`.
+fn words(text: &[u8], from: usize) -> impl Iterator<Item = (Folded<'_>, usize)> {
+    const BETWEEN: &[u8] = b";={}()[]\"";
+    let is_between = |byte: &u8| *byte <= b' ' || BETWEEN.contains(byte);
+    let mut at = from;
+    let words = text.split(is_between).map(move |word| {
+        let start = at;
+        at += word.len() + 1;
+        (Folded(word), start)
+    });
+    words.filter(|(word, _)| !word.0.is_empty())
+}
+
 /// What looks like an entry's beginning in a text at a brace, as `article{key,`: the key.
 fn key_at_brace(text: &[u8], brace: usize) -> Option<&[u8]> {
     let rest = &text[brace + 1..text.len().min(brace + LONGEST_UNREAD)];
@@ -147,6 +174,7 @@ pub struct Entries<'a> {
     by_parent: OnceCell<HashMap<Folded<'a>, Found>>,
     skipped: OnceCell<HashMap<Folded<'a>, Found>>,
     unread: OnceCell<HashMap<Folded<'a>, Found>>,
+    unreached: OnceCell<HashMap<Folded<'a>, Found>>,
     /// For how many more keys one that may be meant is looked for.
     left: Cell<usize>,
 }
@@ -164,6 +192,7 @@ impl<'a> Entries<'a> {
             by_parent: OnceCell::new(),
             skipped: OnceCell::new(),
             unread: OnceCell::new(),
+            unreached: OnceCell::new(),
             left: Cell::new(MOST_MEANT),
         }
     }
@@ -230,6 +259,31 @@ impl<'a> Entries<'a> {
             unread
         });
         unread.get(&Folded(key)).map(|(index, start)| (&self.databases[*index], *start))
+    }
+
+    /// Where this key stands as a word in an entry that can't be read so far.
+    pub fn unreached(&self, key: &[u8]) -> Option<(&Database<'a>, usize)> {
+        let unreached = self.unreached.get_or_init(|| {
+            let mut unreached = HashMap::new();
+            for (index, database) in self.databases.iter().enumerate() {
+                database.unreached().for_each(|(key, start)| {
+                    unreached.entry(key).or_insert((index, start));
+                });
+            }
+            unreached
+        });
+        unreached.get(&Folded(key)).map(|(index, start)| (&self.databases[*index], *start))
+    }
+
+    /// The first entry that has no key, and the field that stands in the key's place, if one does.
+    pub fn keyless(&self) -> Option<(Stored<'_, 'a>, Option<&'a [u8]>)> {
+        let field = |item: &Item<'a>| {
+            let key = item.entry_key()?.name;
+            if key.is_empty() { Some(None) } else { field_for_key(key).map(Some) }
+        };
+        let ((index, number), field) = self.all().find_map(|(found, item)| Some((found, field(item)?)))?;
+        let database = &self.databases[index];
+        Some((Stored { database, item: &database.items[number] }, field))
     }
 
     /// Whether no database has an entry.
@@ -308,6 +362,28 @@ mod tests {
         assert_eq!([line(b"A"), line(b"b"), line(b"c"), line(b"s")], [Some(1), None, Some(3), None]);
         assert_eq!(entries.string(b"s").map(|stored| stored.item.start), Some(54));
         assert!(!entries.is_empty());
+    }
+
+    #[test]
+    fn a_key_is_found_where_its_entry_cannot_be_read() {
+        let files =
+            files(b"@article one,\n x = 1}\n@{two, x = 1}\n@article[three, x = 1]\n@misc{four; x = 1}\n@misc{five}");
+        let entries = Entries::new(&files);
+        let line = |key: &[u8]| entries.unreached(key).map(|(database, start)| database.text.line_of(start));
+        assert_eq!([line(b"one"), line(b"TWO"), line(b"three"), line(b"four")], [Some(1), Some(3), Some(4), Some(5)]);
+        assert_eq!([line(b"five"), line(b"x"), line(b"misc")], [None; 3]);
+    }
+
+    #[test]
+    fn an_entry_without_a_key_is_found() {
+        let keyless = |text: &[u8]| {
+            let files = files(text);
+            let entries = Entries::new(&files);
+            entries.keyless().map(|(stored, field)| (stored.item.start, field.map(<[u8]>::to_vec)))
+        };
+        assert_eq!(keyless(b"@misc{k} @misc{, x = 1}"), Some((9, None)));
+        assert_eq!(keyless(b"@string{a = 1}\n@misc{\n author={A},\n x = 1}"), Some((15, Some(b"author".to_vec()))));
+        assert_eq!(keyless(b"@misc{k, author = {A}}"), None);
     }
 
     #[test]

@@ -83,7 +83,9 @@ impl fmt::Display for Name {
 }
 
 /// The endings of top files that can't be meant.
-const OTHER_ENDINGS: [&str; 4] = [".tex.aux", ".bib.aux", ".bbl.aux", ".blg.aux"];
+const OTHER_ENDINGS: [&str; 4] = [".tex.aux", ".pdf.aux", ".bbl.aux", ".blg.aux"];
+/// Those of files that no job is named by.
+const NO_JOBS: [&str; 2] = [".bib.aux", ".bst.aux"];
 
 /// Why a job isn't run, or what it gave isn't kept.
 #[derive(Debug)]
@@ -151,6 +153,9 @@ impl fmt::Display for Failure {
         match self {
             Failure::NoTop(name, reason) => {
                 write!(out, "I couldn't open file name `{}': {reason}", plain(name))?;
+                if NO_JOBS.iter().any(|ending| name.ends_with(ending.as_bytes())) {
+                    return write!(out, " (JOB is the name of a document, without an ending)");
+                }
                 let stem = OTHER_ENDINGS.iter().find_map(|ending| name.strip_suffix(ending.as_bytes()));
                 stem.map_or(Ok(()), |stem| write!(out, " (JOB is a name without an ending: {})", plain(stem)))
             }
@@ -176,6 +181,8 @@ mod tests {
         assert_eq!(no_top(b"a.aux").status(), Status::Limit);
         assert_eq!(no_top(b"a.aux").to_string(), "I couldn't open file name `a.aux': it is a folder");
         assert!(no_top(b"b/a.tex.aux").to_string().ends_with(" (JOB is a name without an ending: b/a)"));
+        assert!(no_top(b"paper.pdf.aux").to_string().ends_with(" (JOB is a name without an ending: paper)"));
+        assert!(no_top(b"refs.bib.aux").to_string().ends_with(" (JOB is the name of a document, without an ending)"));
         let memory = io::Error::from(io::ErrorKind::OutOfMemory);
         assert_eq!(Failure::unread(b"a", memory).status(), Status::Memory);
     }

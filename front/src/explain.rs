@@ -9,11 +9,11 @@ use crate::hints::functions_above_read;
 use crate::job::{File, Files};
 use crate::log::{Content, Ended, Line, Log, Message, Place, Severity};
 use crate::missing_entry::{self, lost_fields, meant_field, meant_string};
-use crate::mistakes::{begun_value, what_hides, what_to_do};
+use crate::mistakes::{begun_value, field_for_key, what_hides, what_to_do};
 use crate::nearest::nearest;
 use crate::operands::{TEST_LEAVES, advice_at, is_of_test_in};
 use crate::origins::{MissingField, missing_field_of};
-use crate::repeats::{Repeats, Strings};
+use crate::repeats::{OfData, Repeats, Strings, Warnings};
 use crate::scene::{Call, End, Scene};
 use crate::shapes::{Part, counted, went_well};
 use crate::shown_line::{ShownLine, first_columns};
@@ -23,12 +23,16 @@ use crate::style_text::{
 };
 use crate::terminal::{ERROR_COLOUR, PLACE_COLOUR, Terminal, WARNING_COLOUR, in_lines, plain};
 use crate::text::{Text, find, split_first};
-use crate::unsaid::Unsaid;
+use crate::unsaid::{Unsaid, after_ends};
 use std::collections::HashSet;
 use std::io::{self, BufWriter, Write};
 
-/// How many messages are explained; the others aren't printed.
+/// How many errors, and how many warnings, are explained; of the others the first of each kind.
 const MOST_EXPLAINED: u64 = 1_000;
+/// How many texts of a style's warnings are kinds of their own.
+const MOST_TEXTS: usize = 200;
+/// Of how many warnings of a style it is looked for whether their entry shows what was meant.
+const MOST_HINTS: u64 = 1_000;
 /// How many calls, and how many literals of a stack, are shown.
 const MOST_OF_SCENE: usize = 8;
 /// How many errors of a style are kept from which others may follow; that of a missing brace always is.
@@ -49,15 +53,8 @@ const CONTINUED: &str = "      ";
 pub fn write(log: &Log<'_>, files: &Files, part: Part, terminal: &Terminal, out: &mut impl Write) -> io::Result<()> {
     let out = BufWriter::with_capacity(1 << 16, out);
     let mut explainer = Explainer::new(log, files, part, terminal, out);
-    let mut lines = log.lines();
-    while let Some(line) = lines.next() {
-        if part == Part::Whole || !went_well(&line) {
-            explainer.line(&line)?;
-        }
-        if explainer.explained >= MOST_EXPLAINED {
-            explainer.last_line(lines.last())?;
-            break;
-        }
+    for line in log.lines().filter(|line| part == Part::Whole || !went_well(line)) {
+        explainer.line(&line)?;
     }
     explainer.end_lines()?;
     explainer.end_repeats()?;
@@ -83,6 +80,33 @@ struct Cause<'a> {
     unprinted: u64,
 }
 
+/// The messages that were explained.
+#[derive(Debug, Default)]
+struct Explained {
+    errors: u64,
+    warnings: u64,
+    /// The kinds of messages that were met: whether they are errors, and their rows of the advice.
+    kinds: HashSet<(bool, Option<usize>)>,
+    /// How many weren't explained.
+    left_out: u64,
+}
+
+impl Explained {
+    /// Whether a message needn't be explained, since many were, and some of its kind; then it is counted. `is_new` says that it is of a new kind in any case.
+    fn is_enough(&mut self, message: &Message<'_>, is_new: bool) -> bool {
+        const ALL: [Section; 6] =
+            [Section::Aux, Section::Run, Section::Style, Section::Execution, Section::Database, Section::Entries];
+        let is_error = message.severity == Severity::Error;
+        let kind = (is_error, advice::find(&ALL, message.text).map(|advice| advice.number));
+        let is_new = self.kinds.insert(kind) || is_new;
+        let count = if is_error { &mut self.errors } else { &mut self.warnings };
+        let is_enough = *count >= MOST_EXPLAINED && !is_new;
+        *count += u64::from(!is_enough);
+        self.left_out += u64::from(is_enough);
+        is_enough
+    }
+}
+
 /// Explains the lines of a log.
 struct Explainer<'a, W: Write> {
     files: &'a Files,
@@ -103,6 +127,12 @@ struct Explainer<'a, W: Write> {
     causes: Vec<Cause<'a>>,
     repeats: Repeats<'a>,
     strings: Strings<'a>,
+    warnings: Warnings<'a>,
+    data: OfData<'a>,
+    /// Which messages were explained, and how many weren't.
+    explained: Explained,
+    /// Of how many more warnings it is looked for what was meant.
+    hints: u64,
     /// Whether the last error wasn't printed since it repeats: then the literals that the log lists below it aren't either.
     is_repeated: bool,
     /// The code of the style, once an error of its execution was met, and where the first mistake of its text is.
@@ -112,7 +142,6 @@ struct Explainer<'a, W: Write> {
     last_of_style: usize,
     /// What was said last of a brace that is missing, or of one too many.
     said_of_braces: Option<String>,
-    explained: u64,
     /// How many lines that are no messages stand directly above.
     others: u64,
     out: W,
@@ -135,12 +164,15 @@ impl<'a, W: Write> Explainer<'a, W> {
             causes: Vec::new(),
             repeats: Repeats::default(),
             strings: Strings::default(),
+            warnings: Warnings::default(),
+            data: OfData::default(),
+            explained: Explained::default(),
+            hints: MOST_HINTS,
             is_repeated: false,
             code: None,
             first_of_style: None,
             last_of_style: 0,
             said_of_braces: None,
-            explained: 0,
             others: 0,
             out,
         }
@@ -186,8 +218,15 @@ impl<'a, W: Write> Explainer<'a, W> {
             {
                 Ok(())
             }
+            Content::Message(message) if self.is_of_known_data(message) => {
+                self.is_repeated = true;
+                Ok(())
+            }
             Content::Message(message) if self.repeats.has(line.bytes, message, self.first_of_style.is_some()) => {
-                self.explained += 1;
+                self.is_repeated = true;
+                Ok(())
+            }
+            Content::Message(message) if self.is_counted(line.bytes, message) => {
                 self.is_repeated = true;
                 Ok(())
             }
@@ -217,6 +256,23 @@ impl<'a, W: Write> Explainer<'a, W> {
         }
     }
 
+    /// The fields after the end of an entry, of which the run logs nothing.
+    fn after_ends(&mut self) -> io::Result<()> {
+        let (files, terminal) = (self.files, self.terminal);
+        let (shown, more) = after_ends(self.entries(), files);
+        let shown: Vec<(Vec<String>, String)> =
+            shown.into_iter().map(|shown| (shown.lines(terminal), shown.advice)).collect();
+        if !shown.is_empty() {
+            writeln!(self.out, "No message is about these fields, which stand after the end of their entry:")?;
+        }
+        for (lines, advice) in shown {
+            lines.iter().try_for_each(|line| self.coloured(PLACE_COLOUR, &format!("{INDENT}{line}")))?;
+            self.put_advice(&advice)?;
+        }
+        let entries = if more == 1 { "1 more entry has" } else { &format!("{more} more entries have") };
+        if more > 0 { self.put_place(&format!("({entries} fields after the end)")) } else { Ok(()) }
+    }
+
     /// What the run doesn't log of the entries that are cited.
     fn unsaid(&mut self) -> io::Result<()> {
         let style = self.sources.style().and_then(|file| file.bytes.as_deref()).unwrap_or(b"");
@@ -244,23 +300,58 @@ impl<'a, W: Write> Explainer<'a, W> {
         if others > 0 {
             self.put_place(&format!("({others} more lines stand in the .blg)"))?;
         }
+        if let Some(text) = self.data.text() {
+            self.put_place(&text)?;
+        }
         self.end_causes()
     }
 
-    /// The last line of a log of which enough was explained.
-    fn last_line(&mut self, line: Option<Line<'a>>) -> io::Result<()> {
-        let Some(line) = line else { return Ok(()) };
-        self.end_lines()?;
-        let Content::Ended(end) = &line.content else {
-            return writeln!(self.out, "(The messages after these are in the .blg.)");
-        };
-        let counted = self.strings.count() + self.lost_keys.saturating_sub(1);
-        match (end.errors + end.warnings).saturating_sub(self.explained + counted) {
-            0 => {}
-            1 => writeln!(self.out, "(1 more message stands in the .blg.)")?,
-            more => writeln!(self.out, "({more} more messages stand in the .blg.)")?,
+    /// Whether an error is about a field that an entry lacks, or a name of it, of which one was explained.
+    fn is_of_known_data(&mut self, message: &Message<'a>) -> bool {
+        let Place::Execution { function, entry: Some(key) } = message.place else { return false };
+        let lacked = self.lacked_field(message, function, key);
+        self.data.has(message, lacked)
+    }
+
+    /// Whether a message isn't explained: it is a warning of a style that only differs from others by a key, or enough were explained, and some of its kind.
+    fn is_counted(&mut self, line: &'a [u8], message: &Message<'a>) -> bool {
+        let texts = self.warnings.count();
+        if self.is_equal(line, message) {
+            return true;
         }
-        self.ended(line.bytes, end)
+        let is_new = texts < MOST_TEXTS && self.warnings.count() > texts;
+        self.explained.is_enough(message, is_new)
+    }
+
+    /// Whether a warning of a style only differs from others by the key of an entry, which doesn't show what was meant.
+    fn is_equal(&mut self, line: &'a [u8], message: &Message<'a>) -> bool {
+        let is_of_style = message.severity == Severity::Warning && message.place == Place::Nowhere;
+        if !is_of_style || advice::find(&[Section::Aux, Section::Run, Section::Entries], message.text).is_some() {
+            return false;
+        }
+        let Some(key) = self.key_in(message.text) else { return false };
+        self.hints = self.hints.saturating_sub(1);
+        if self.hints > 0 && self.lost_of(key, message.text).iter().any(|text| !self.said.contains(text)) {
+            return false;
+        }
+        self.warnings.has(line, message.text, key)
+    }
+
+    /// The key of an entry at the end of a warning, or at its beginning.
+    fn key_in(&mut self, text: &'a [u8]) -> Option<&'a [u8]> {
+        let mut words = text.split(u8::is_ascii_whitespace).filter(|word| !word.is_empty());
+        let first = words.next()?;
+        let last = words.next_back().unwrap_or(first);
+        [last, first].into_iter().find(|word| self.entries().entry(word).is_some())
+    }
+
+    /// Says how many messages weren't explained.
+    fn end_explained(&mut self) -> io::Result<()> {
+        match std::mem::take(&mut self.explained.left_out) {
+            0 => Ok(()),
+            1 => writeln!(self.out, "(1 more message stands in the .blg.)"),
+            more => writeln!(self.out, "({more} more messages stand in the .blg.)"),
+        }
     }
 
     fn ended(&mut self, line: &'a [u8], end: &Ended<'a>) -> io::Result<()> {
@@ -268,6 +359,7 @@ impl<'a, W: Write> Explainer<'a, W> {
         let has_errors = !self.repeats.is_empty();
         self.end_repeats()?;
         if end.is_finished() && self.part == Part::Whole {
+            self.after_ends()?;
             self.unsaid()?;
         }
         self.put_line(if end.is_finished() { "" } else { ERROR_COLOUR }, line)?;
@@ -291,8 +383,9 @@ impl<'a, W: Write> Explainer<'a, W> {
 
     /// Says of errors of the execution how often they repeat.
     fn end_repeats(&mut self) -> io::Result<()> {
-        let texts = [self.texts_of_lost(), self.strings.texts(), self.repeats.texts()].concat();
-        texts.iter().try_for_each(|text| writeln!(self.out, "{text}"))
+        let texts = [self.texts_of_lost(), self.strings.texts(), self.warnings.texts(), self.repeats.texts()].concat();
+        texts.iter().try_for_each(|text| writeln!(self.out, "{text}"))?;
+        self.end_explained()
     }
 
     /// Whether a message is about a key without an entry of which no more can be said than of one before. Then it is counted.
@@ -318,7 +411,6 @@ impl<'a, W: Write> Explainer<'a, W> {
 
     fn message(&mut self, line: &[u8], message: &Message<'a>) -> io::Result<()> {
         self.end_lines()?;
-        self.explained += 1;
         if self.part == Part::Mistakes && self.missing_brace(line, message)? {
             return Ok(());
         }
@@ -338,6 +430,9 @@ impl<'a, W: Write> Explainer<'a, W> {
                 Some(key) => self.missing_entry(key, message.text),
                 None => {
                     self.unplaced(message)?;
+                    if let Some(advice) = self.parent_elsewhere(message.text)? {
+                        return self.put_advice_once(&advice);
+                    }
                     let is_of_biblatex = message.text.starts_with(b"I found no ") && self.is_of_biblatex();
                     let sections: &[Section] =
                         if is_of_biblatex { &[] } else { &[Section::Aux, Section::Run, Section::Entries] };
@@ -543,7 +638,6 @@ impl<'a, W: Write> Explainer<'a, W> {
         let unprinted = |cause: &mut Cause<'a>| (cause.number, std::mem::take(&mut cause.unprinted));
         let counts: Vec<(usize, u64)> = self.causes.iter_mut().map(unprinted).collect();
         for (number, count) in counts.into_iter().filter(|(_, count)| *count > 0) {
-            self.explained += count;
             let errors = if count == 1 { "1 more error follows" } else { &format!("{count} more errors follow") };
             let place = if number == self.last_of_style { String::new() } else { format!(" in line {number}") };
             self.put_place(&format!("({errors} from that{place})"))?;
@@ -578,8 +672,9 @@ impl<'a, W: Write> Explainer<'a, W> {
             return Ok(Some(seen));
         }
         let meant = self.meant_by(message.text, &item);
+        let below = meant.as_ref().and_then(|name| self.seen_below(name, message.text, spot.file, &item));
         meant.map_or(Ok(()), |name| self.put_place(&format!("is it `{}`?", plain(&name))))?;
-        Ok(None)
+        Ok(below)
     }
 
     /// What to do about a message of a database, where its text shows what was meant.
@@ -608,25 +703,52 @@ impl<'a, W: Write> Explainer<'a, W> {
         if let Some(quote) = QUOTES.iter().find(|quote| name.starts_with(quote.as_bytes())) {
             return Some(Seen::NoQuote.with(&[quote]));
         }
+        if name.starts_with(b"\\") {
+            return Some(Seen::BareCommand.with(&[&plain(name)]));
+        }
         if let Some(at) = name.iter().position(|byte| matches!(byte, b'-' | b'/')) {
             let known = self.known_strings();
             let is_known = |name: &[u8]| known.iter().any(|known| known.eq_ignore_ascii_case(name));
             let (left, right) = (&name[..at], &name[at + 1..]);
             return (is_known(left) && is_known(right)).then(|| Seen::MonthsInOne.with(&[&plain(left), &plain(right)]));
         }
+        self.defined_below(name, file, item)
+    }
+
+    /// What to do about a string that is defined below its use.
+    fn defined_below(&mut self, name: &[u8], file: &File, item: &Item<'a>) -> Option<String> {
+        let files = self.files;
         let Stored { database, item: defined } = self.entries().string(name)?;
-        let is_below = database.file.name != file.name || defined.start > item.start;
+        let place = |name: &[u8]| files.with_ending(".bib").position(|file| file.name == name);
+        let is_below = (place(&database.file.name), defined.start) > (place(&file.name), item.start);
         let at = crate::mistakes::line_of(database.file, &database.text, defined.start);
         is_below.then(|| Seen::DefinedBelow.with(&[&plain(name), &at]))
+    }
+
+    /// What to do besides where a string of another name is meant that is defined below its use.
+    fn seen_below(&mut self, meant: &[u8], message: &[u8], file: &File, item: &Item<'a>) -> Option<String> {
+        let name = between(message, b"string name \"", b"\" is undefined")?;
+        let advice = self.defined_below(meant, file, item).filter(|_| !self.is_macro(meant))?;
+        Some(format!("write `{}` for `{}`, and {advice}", plain(meant), plain(name)))
     }
 
     /// The names of all strings that the databases and the style define.
     fn known_strings(&mut self) -> Vec<&'a [u8]> {
         let mut known: Vec<&[u8]> = self.entries().strings().collect();
+        known.extend(self.macros());
+        known
+    }
+
+    /// The names of the strings that the style defines.
+    fn macros(&mut self) -> Vec<&'a [u8]> {
         let style = self.sources.style().map_or(&b""[..], |file| &file.name);
         let commands = self.sources.commands(style);
-        known.extend(commands.iter().filter(|command| command.is("macro")).filter_map(|command| command.name));
-        known
+        commands.iter().filter(|command| command.is("macro")).filter_map(|command| command.name).collect()
+    }
+
+    /// Whether the style defines a string of this name.
+    fn is_macro(&mut self, name: &[u8]) -> bool {
+        self.macros().iter().any(|known| known.eq_ignore_ascii_case(name))
     }
 
     /// The name that may be meant by a type or a string that isn't known.
@@ -678,28 +800,51 @@ impl<'a, W: Write> Explainer<'a, W> {
 
     fn executed(&mut self, message: &Message<'a>, function: &'a [u8], entry: Option<&[u8]>) -> io::Result<()> {
         let shown = entry.and_then(|key| self.line_of_names(message.text, key));
-        let is_of_database = shown.is_some();
-        shown.iter().flatten().try_for_each(|line| self.coloured(PLACE_COLOUR, &format!("{INDENT}{line}")))?;
-        match message.scene {
-            // (the way through the style has nothing to do with a name)
-            Some(scene) if is_of_database => self.put_place(&format!("in {}", self.call(&scene.at)))?,
-            Some(scene) => self.scene(scene)?,
-            None => {}
+        let lacked = entry.and_then(|key| self.lacked_field(message, function, key));
+        if shown.is_some() || lacked.is_some() {
+            return self.of_data(message, function, entry, shown, lacked);
         }
+        message.scene.map_or(Ok(()), |scene| self.scene(scene))?;
         if let Some(key) = entry {
             self.show_entry("for", key)?;
         }
-        let lacked = entry.and_then(|key| self.lacked_field(message, function, key));
         if let Some(missing) = self.missing_field(message, function) {
             self.put_place(&missing)?;
         }
         self.teach(message, function)?;
         match self.advice_at(message, function) {
             Some(advice) => self.put_advice(&advice),
-            None if lacked.is_some() => {
-                self.put_advice_once(&Seen::FieldIsMissing.with(&[&lacked.unwrap_or_default()]))
-            }
             None => self.advise(&[Section::Execution], message.text),
+        }
+    }
+
+    /// Explains an error that a name in a database makes, or a field that an entry lacks: the entry stands first, and the style last.
+    fn of_data(
+        &mut self,
+        message: &Message<'a>,
+        function: &'a [u8],
+        entry: Option<&[u8]>,
+        names: Option<Vec<String>>,
+        lacked: Option<String>,
+    ) -> io::Result<()> {
+        names.iter().flatten().try_for_each(|line| self.coloured(PLACE_COLOUR, &format!("{INDENT}{line}")))?;
+        if let Some(key) = entry {
+            self.show_entry("for", key)?;
+        }
+        if let Some(missing) = self.missing_field(message, function) {
+            self.put_place(&missing)?;
+        }
+        self.teach(message, function)?;
+        match (self.advice_at(message, function), lacked) {
+            (Some(advice), _) => self.put_advice(&advice)?,
+            (None, Some(lacked)) => self.put_advice_once(&Seen::FieldIsMissing.with(&[&lacked]))?,
+            (None, None) => self.advise(&[Section::Execution], message.text)?,
+        }
+        match message.scene {
+            // (the way through the style has nothing to do with a name)
+            Some(scene) if names.is_some() => self.put_place(&format!("in {}", self.call(&scene.at))),
+            Some(scene) => self.calls(scene),
+            None => Ok(()),
         }
     }
 
@@ -754,7 +899,7 @@ impl<'a, W: Write> Explainer<'a, W> {
     /// Which field is missing where a function takes one that is, or which may be.
     fn missing_field(&mut self, message: &Message<'a>, function: &[u8]) -> Option<String> {
         let scene = message.scene?;
-        let path = plain(self.sources.file(&scene.at.file).map_or(&scene.at.file[..], shown_path));
+        let path = plain(last_part(self.sources.file(&scene.at.file).map_or(&scene.at.file[..], shown_path)));
         let found = missing_field_of(self.code_of(scene)?, scene, message.text, function)?;
         Some(match found {
             MissingField::Is(field, line) => {
@@ -770,16 +915,24 @@ impl<'a, W: Write> Explainer<'a, W> {
         })
     }
 
-    /// Where in the style something happened.
-    fn scene(&mut self, scene: &Scene) -> io::Result<()> {
-        let mut calls: Vec<String> = scene.callers.iter().map(|call| self.call(call)).collect();
+    /// Where in the style something happened, and who called it; the path of the style stands once.
+    fn calls(&mut self, scene: &Scene) -> io::Result<()> {
+        let (at, file) = (self.call(&scene.at), &scene.at.file);
+        let named = |call: &Call| if call.file == *file { self.call_in_short(call) } else { self.call(call) };
+        let mut calls: Vec<String> = scene.callers.iter().map(named).collect();
         if calls.len() > MOST_OF_SCENE {
             calls.splice(MOST_OF_SCENE - 1..calls.len() - 1, ["..".to_string()]);
         }
         let called = if calls.is_empty() { String::new() } else { format!("; called from {}", calls.join("; ")) };
+        let is_left = scene.stack.iter().any(|held| held.since.is_some());
+        self.put_place(&format!("{} {at}{called}", if is_left { "left by" } else { "in" }))
+    }
+
+    /// Where in the style something happened, and what stood on the stack.
+    fn scene(&mut self, scene: &Scene) -> io::Result<()> {
+        self.calls(scene)?;
         // What a command left is listed in the log itself.
         let is_left = scene.stack.iter().any(|held| held.since.is_some());
-        self.put_place(&format!("{} {}{called}", if is_left { "left by" } else { "in" }, self.call(&scene.at)))?;
         if !scene.stack.is_empty() && !is_left {
             let literals: Vec<String> =
                 scene.stack.iter().take(MOST_OF_SCENE).map(|held| plain(&held.literal)).collect();
@@ -807,7 +960,16 @@ impl<'a, W: Write> Explainer<'a, W> {
     }
 
     fn call(&self, call: &Call) -> String {
-        let name = plain(self.sources.file(&call.file).map_or(&call.file[..], shown_path));
+        Self::called(call, self.sources.file(&call.file).map_or(&call.file[..], shown_path))
+    }
+
+    /// The same without the folder of the style.
+    fn call_in_short(&self, call: &Call) -> String {
+        Self::called(call, last_part(self.sources.file(&call.file).map_or(&call.file[..], shown_path)))
+    }
+
+    fn called(call: &Call, path: &[u8]) -> String {
+        let name = plain(path);
         match call.line {
             0 => format!("{}, {name}", plain(&call.function)),
             line => format!("{}, {name}:{line}", plain(&call.function)),
@@ -823,7 +985,7 @@ impl<'a, W: Write> Explainer<'a, W> {
             let meant = beside::meant(text, self.files);
             return meant.map_or(Ok(()), |meant| self.put_place(&meant));
         }
-        let child = between(text, b"A bad cross reference--entry \"", b"\" refers to entry \"");
+        let child = bad_reference(text).map(|(child, _)| child);
         let child =
             child.or_else(|| between(text, b"you've nested cross references--entry \"", b"\" refers to entry \""));
         if let Some(key) = child {
@@ -851,25 +1013,17 @@ impl<'a, W: Write> Explainer<'a, W> {
     }
 
     /// A style's own warning often ends with the entry's key, or begins with it.
-    fn of_style(&mut self, text: &[u8]) -> io::Result<()> {
-        let mut words = text.split(u8::is_ascii_whitespace).filter(|word| !word.is_empty());
-        let first = words.next().unwrap_or(b"");
-        let last = words.next_back().unwrap_or(first);
-        if self.show_entry("for", last)? {
-            self.lost_in(last, text)
-        } else if first != last && self.show_entry("for", first)? {
-            self.lost_in(first, text)
-        } else {
-            Ok(())
-        }
+    fn of_style(&mut self, text: &'a [u8]) -> io::Result<()> {
+        let Some(key) = self.key_in(text) else { return Ok(()) };
+        self.show_entry("for", key)?;
+        self.lost_of(key, text).iter().try_for_each(|text| self.put_place_once(text))
     }
 
-    /// Says what of an entry is lost, where a style's warning may come from that: a field of another name, or text after its end.
-    fn lost_in(&mut self, key: &[u8], warning: &[u8]) -> io::Result<()> {
+    /// What of an entry is lost, where a style's warning may come from that: a field of another name, or text after its end.
+    fn lost_of(&mut self, key: &[u8], warning: &[u8]) -> Vec<String> {
         let style = self.sources.style().and_then(|file| file.bytes.as_deref()).unwrap_or(b"");
-        let Some(stored) = self.entries().entry(key) else { return Ok(()) };
-        let said = [meant_field(style, stored, warning), lost_fields(stored)];
-        said.into_iter().flatten().try_for_each(|text| self.put_place_once(&text))
+        let Some(stored) = self.entries().entry(key) else { return Vec::new() };
+        [meant_field(style, stored, warning), lost_fields(stored)].into_iter().flatten().collect()
     }
 
     /// Says of an entry that wasn't found where its key is named, where the entry may be, and what to do.
@@ -882,6 +1036,18 @@ impl<'a, W: Write> Explainer<'a, W> {
             Some(advice) => self.put_advice_once(&advice),
             None => self.advise(&[Section::Entries], text),
         }
+    }
+
+    /// Says where the parent is that an entry refers to in vain; what to do about that.
+    fn parent_elsewhere(&mut self, error: &[u8]) -> io::Result<Option<String>> {
+        let Some((_, parent)) = bad_reference(error) else { return Ok(None) };
+        let files = self.files;
+        if missing_entry::is_lost(self.entries(), files, parent) {
+            return Ok(None);
+        }
+        let told = missing_entry::told(self.entries(), files, parent);
+        told.place.map_or(Ok(()), |place| self.put_place(&place))?;
+        Ok(told.advice)
     }
 
     /// Where a key is cited, or named as a parent.
@@ -927,6 +1093,13 @@ fn missing_key(text: &[u8]) -> Option<&[u8]> {
     text.strip_prefix(b"I didn't find a database entry for \"").and_then(|rest| rest.strip_suffix(b"\""))
 }
 
+/// The child and the parent of the message on a parent that isn't there.
+fn bad_reference(text: &[u8]) -> Option<(&[u8], &[u8])> {
+    let rest = text.strip_prefix(b"A bad cross reference--entry \"")?;
+    let (child, rest) = split_first(rest, b"\" refers to entry \"")?;
+    Some((child, rest.strip_suffix(b"\", which doesn't exist")?))
+}
+
 /// What stands between these two in a text that begins with the first.
 fn between<'a>(text: &'a [u8], before: &[u8], behind: &[u8]) -> Option<&'a [u8]> {
     split_first(text.strip_prefix(before)?, behind).map(|(name, _)| name)
@@ -946,9 +1119,15 @@ fn named(command: &Command<'_>) -> String {
 
 /// An item of a database, and where it begins.
 pub fn begins_item(file: &File, text: &Text<'_>, item: &Item<'_>) -> String {
-    let key = item.key.map(|key| format!("{{{}}}", plain(key.name))).unwrap_or_default();
+    let key = item.key.filter(|key| field_for_key(key.name).is_none());
+    let key = key.map(|key| format!("{{{}}}", plain(key.name))).unwrap_or_default();
     let (path, line) = (plain(shown_path(file)), text.line_of(item.start));
     format!("@{}{key}, which begins at {path}:{line}", plain(item.kind))
+}
+
+/// The name of a file without its folder.
+fn last_part(path: &[u8]) -> &[u8] {
+    path.rsplit(|byte| *byte == b'/').next().unwrap_or(path)
 }
 
 /// Where a file was found, as its user knows it.
@@ -1115,10 +1294,33 @@ Error--x is an unknown function--line 5 of file s.bst\n";
     }
 
     #[test]
+    fn equal_warnings_of_a_style_are_counted() {
+        let log = "Warning--x in k\n".repeat(5000)
+            + "Error--Integer overflow while executing + for entry k\n"
+            + "Warning--y in k\n";
+        let told = explain(&(log + "Ended: finished, warnings 5001, errors 1, steps 9\n"), "", "@misc{k}");
+        assert_eq!(told.matches("Warning--x in k\n    for @misc{k}").count(), 8, "{told}");
+        assert!(
+            told.contains("Error--Integer overflow while executing + for entry k\n")
+                && told.contains("Warning--y in k\n")
+        );
+        let end = "(4992 more warnings are like `Warning--x in k`; for k)\nEnded: finished";
+        assert!(told.contains(end), "{told}");
+        let hinted = explain(&"Warning--empty title in k\n".repeat(20), "ENTRY {title}{}{}", "@misc{k, tilte = {T}}");
+        assert!(
+            hinted.contains("it has `tilte`: is it `title`?") && hinted.contains("(11 more warnings are"),
+            "{hinted}"
+        );
+    }
+
+    #[test]
     fn only_so_many_messages_are_explained() {
-        let log = "Warning--x in k\n".repeat(5000) + "Ended: finished, warnings 5000, errors 0, steps 9\n";
+        let log = "Warning--x of no entry\n".repeat(5000) + "Warning--I didn't find a database entry for \"nosuch\"\n";
+        let log = log
+            + "Error--Integer overflow while executing + for entry k\nEnded: finished, warnings 5000, errors 0, steps 9\n";
         let told = explain(&log, "", "@misc{k}");
-        assert_eq!(told.matches("for @misc{k}").count(), 1000);
+        assert_eq!(told.matches("Warning--x of no entry").count(), 1000);
+        assert!(told.contains("for \"nosuch\"\n") && told.contains("Error--Integer overflow"), "{told}");
         let end = "(4000 more messages stand in the .blg.)\nEnded: finished, warnings 5000, errors 0, steps 9\n";
         assert!(told.ends_with(&format!("{end}(There were 5000 warnings)\n")), "{}", &told[told.len() - 200..]);
     }

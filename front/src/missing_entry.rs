@@ -3,12 +3,12 @@
 
 use crate::advice::Seen;
 use crate::beside::what_is_odd;
-use crate::database::Inside;
+use crate::database::{Inside, name_at};
 use crate::entries::{Entries, Skipped, Stored};
 use crate::explain::{begins_item, shown_path};
 use crate::hints::names_of_fields;
 use crate::job::{File, Files};
-use crate::mistakes::line_of;
+use crate::mistakes::{line_of, without_key};
 use crate::nearest::nearest;
 use crate::terminal::plain;
 
@@ -36,7 +36,15 @@ pub fn told(entries: &Entries<'_>, files: &Files, key: &[u8]) -> Told {
         let place = format!("`{}` stands at {at}, in text that isn't read", plain(key));
         return Told { place: Some(place), advice: Some(Seen::NoAtSign.with(&[])) };
     }
-    lost(entries, files).unwrap_or_else(|| told_of_nearest(entries, key))
+    told_of_unreached(entries, key).or_else(|| lost(entries, files)).unwrap_or_else(|| told_of_nearest(entries, key))
+}
+
+/// What is said of a key that stands in an entry whose beginning can't be read.
+fn told_of_unreached(entries: &Entries<'_>, key: &[u8]) -> Option<Told> {
+    let (database, start) = entries.unreached(key)?;
+    let at = line_of(database.file, &database.text, start);
+    let place = format!("`{}` stands at {at}, in an entry that can't be read", plain(key));
+    Some(Told { place: Some(place), advice: Some(format!("mend the error at {at}: the entry is skipped after it")) })
 }
 
 /// What is said of the entry whose key differs least, or of one that has no key.
@@ -44,10 +52,18 @@ fn told_of_nearest(entries: &Entries<'_>, key: &[u8]) -> Told {
     if let Some((key, stored)) = entries.meant(key).and_then(|stored| Some((stored.item.key?, stored))) {
         return Told { place: Some(format!("is it `{}`, {}?", plain(key.name), begins(stored))), advice: None };
     }
-    let keyless =
-        entries.entry(b"").map(|stored| begins_item(stored.database.file, &stored.database.text, stored.item));
-    let advice = keyless.as_ref().map(|item| Seen::EntryWithoutKey.with(&[item]));
-    Told { place: keyless.map(|item| format!("{item}, has no key: is it that one?")), advice }
+    told_of_keyless(entries).unwrap_or_default()
+}
+
+/// What is said of an entry that has no key, which may be the one that is looked for.
+fn told_of_keyless(entries: &Entries<'_>) -> Option<Told> {
+    let (stored, field) = entries.keyless()?;
+    let item = begins_item(stored.database.file, &stored.database.text, stored.item);
+    let advice = match field {
+        Some(field) => without_key(stored.item, field),
+        None => Seen::EntryWithoutKey.with(&[&item]),
+    };
+    Some(Told { place: Some(format!("{item}, has no key: is it that one?")), advice: Some(advice) })
 }
 
 /// What is said of every entry that no database has, where a database isn't there or none has an entry.
@@ -72,7 +88,12 @@ pub fn lost(entries: &Entries<'_>, files: &Files) -> Option<Told> {
 
 /// Whether nothing more can be said of an entry that wasn't found than what [`lost`] says.
 pub fn is_lost(entries: &Entries<'_>, files: &Files, key: &[u8]) -> bool {
-    let is_nowhere = || entries.entry(key).is_none() && entries.skipped(key).is_none() && entries.unread(key).is_none();
+    let is_nowhere = || {
+        entries.entry(key).is_none()
+            && entries.skipped(key).is_none()
+            && entries.unread(key).is_none()
+            && entries.unreached(key).is_none()
+    };
     !key.is_empty() && is_nowhere() && lost(entries, files).is_some()
 }
 
@@ -154,12 +175,32 @@ pub fn meant_field(style: &[u8], stored: Stored<'_, '_>, warning: &[u8]) -> Opti
 
 /// Text after an entry's end that looks like a field of it.
 pub fn lost_fields(stored: Stored<'_, '_>) -> Option<String> {
-    let (bytes, end) = (stored.database.text.bytes, stored.item.end);
-    let rest = bytes.get(end..)?.trim_ascii_start().strip_prefix(b",")?.trim_ascii_start();
-    let length = rest.iter().position(|byte| !byte.is_ascii_alphanumeric() && !b"-_".contains(byte))?;
-    let is_field = length > 0 && rest[length..].trim_ascii_start().starts_with(b"=");
-    let at = line_of(stored.database.file, &stored.database.text, end.saturating_sub(1));
-    is_field.then(|| format!("the entry ends at {at}; `{}` stands after its end", plain(&rest[..length])))
+    let lost = LostField::after(stored)?;
+    let at = line_of(stored.database.file, &stored.database.text, stored.item.end.saturating_sub(1));
+    Some(format!("the entry ends at {at}; `{}` stands after its end", plain(lost.name)))
+}
+
+/// What looks like a field, and stands after the end of its entry.
+#[derive(Debug, Clone, Copy, PartialEq, Eq)]
+pub struct LostField<'a> {
+    /// Its name.
+    pub name: &'a [u8],
+    /// Where that begins.
+    pub start: usize,
+}
+
+impl<'a> LostField<'a> {
+    /// The first one after an entry: between them are whitespace, commas and braces alone, and at least one of these two or the end of a line.
+    pub fn after(stored: Stored<'_, 'a>) -> Option<LostField<'a>> {
+        let (bytes, end) = (stored.database.text.bytes, stored.item.end);
+        let between =
+            bytes.get(end..)?.iter().take_while(|byte| byte.is_ascii_whitespace() || b",}".contains(byte)).count();
+        let (start, is_parted) = (end + between, bytes[end..end + between].iter().any(|byte| b",}\n".contains(byte)));
+        let name = name_at(bytes, start);
+        let value = bytes[start + name.len()..].trim_ascii_start().strip_prefix(b"=")?.trim_ascii_start();
+        let is_field = stored.item.fault.is_none() && is_parted && name.first()?.is_ascii_alphabetic();
+        (is_field && value.first().is_some_and(|byte| !b"=,}".contains(byte))).then_some(LostField { name, start })
+    }
 }
 
 /// The months, of which styles define the first three letters as strings.
@@ -211,6 +252,17 @@ mod tests {
     }
 
     #[test]
+    fn an_entry_is_found_where_it_cannot_be_read() {
+        for text in ["@article smith,\n x = 1}", "@{smith, x = 1}", "@article[smith, x = 1]", "@misc{smith; x = 1}"] {
+            let (place, advice) = told_of(text, "Smith");
+            assert_eq!(place, "`Smith` stands at d.bib:1, in an entry that can't be read", "{text}");
+            assert_eq!(advice, "mend the error at d.bib:1: the entry is skipped after it");
+            let files = files(text);
+            assert!(!is_lost(&Entries::new(&files), &files, b"smith"));
+        }
+    }
+
+    #[test]
     fn a_parent_stands_above_its_child() {
         let (place, advice) = told_of("@misc{p}\n@misc{a,\n crossref = {p}}\n", "p");
         assert_eq!(place, "`p` stands at d.bib:1, above an entry that names it as its parent (d.bib:3)");
@@ -243,6 +295,9 @@ mod tests {
         let (place, advice) = told_of("@misc{k}\n@misc{, x = 1}\n", "other");
         assert_eq!(place, "@misc{}, which begins at d.bib:2, has no key: is it that one?");
         assert_eq!(advice, "write the key into @misc{}, which begins at d.bib:2");
+        let (place, advice) = told_of("@misc{k}\n@misc{\n author={Smith},\n x = 1}\n", "smith");
+        assert_eq!(place, "@misc, which begins at d.bib:2, has no key: is it that one?");
+        assert_eq!(advice, "write the entry's key first: `@misc{KEY, author = ..`");
     }
 
     #[test]
@@ -267,6 +322,16 @@ mod tests {
         let meant = meant_field(b"ENTRY {journal}{}{}", of_biblatex.entry(b"k").unwrap(), b"empty journal in k");
         assert_eq!(meant.as_deref(), Some("it has `journaltitle`: is it `journal`?"));
         assert_eq!(lost_fields(stored).as_deref(), Some("the entry ends at d.bib:1; `year` stands after its end"));
+        for text in ["@misc{k}},\n year = 2000}", "@misc{k}\n year = {2000}\n}", "@misc{k}\n,\nyear=y}"] {
+            let files = files(text);
+            let entries = Entries::new(&files);
+            let lost = LostField::after(entries.entry(b"k").unwrap()).map(|lost| lost.name.to_vec());
+            assert_eq!(lost.as_deref(), Some(&b"year"[..]), "{text}");
+        }
+        for text in ["@misc{k}\n% year = 2000", "@misc{k} year = 2000", "@misc{k}\nyear == x", "@misc{k} @misc{year}"] {
+            let files = files(text);
+            assert_eq!(LostField::after(Entries::new(&files).entry(b"k").unwrap()), None, "{text}");
+        }
     }
 
     #[test]

@@ -59,6 +59,18 @@ pub fn begun_value(file: &File, text: &Text<'_>, item: &Item<'_>) -> Option<Stri
     })
 }
 
+/// The name of the field that stands in the place of a key: `author` of `author={Smith`.
+pub fn field_for_key(key: &[u8]) -> Option<&[u8]> {
+    let (name, value) = key.split_at(key.iter().position(|byte| *byte == b'=')?);
+    let begins_value = matches!(value.get(1), None | Some(b'{' | b'"' | b'0'..=b'9'));
+    (!name.is_empty() && name.iter().all(u8::is_ascii_alphabetic) && begins_value).then_some(name)
+}
+
+/// What to do about an entry that begins with this field, and not with a key.
+pub fn without_key(item: &Item<'_>, field: &[u8]) -> String {
+    Seen::NoKey.with(&[&plain(item.kind), &plain(field)])
+}
+
 /// A line of a file, for people.
 pub fn line_of(file: &File, text: &Text<'_>, place: usize) -> String {
     format!("{}:{}", plain(shown_path(file)), text.line_of(place))
@@ -99,7 +111,11 @@ impl<'a> Place<'_, 'a> {
         let key = self.item.key?;
         match self.inside.values.last() {
             None if self.byte() == Some(b'=') => Some(Seen::NoKey.with(&[&plain(self.item.kind), &plain(key.name)])),
-            None => self.not_closed().or_else(|| self.other_brace()).or_else(|| Some(self.after_key())),
+            None => self
+                .field_for_key(key.name)
+                .or_else(|| self.not_closed())
+                .or_else(|| self.other_brace())
+                .or_else(|| Some(self.after_key())),
             Some(value) => self
                 .quote(value)
                 .or_else(|| self.runs_on())
@@ -109,8 +125,15 @@ impl<'a> Place<'_, 'a> {
         }
     }
 
+    fn field_for_key(&self, key: &[u8]) -> Option<String> {
+        field_for_key(key).map(|field| without_key(self.item, field))
+    }
+
     fn after_key(&self) -> String {
         let key = self.item.key.map_or(&b""[..], |key| key.name);
+        if let Some(key) = key.strip_suffix(b";") {
+            return Seen::SemicolonForComma.with(&[&format!("key `{}`", plain(key))]);
+        }
         let (word, after) = self.name();
         let is_key = self.item.key.is_some_and(|key| self.is_on_one_line(key.end)) && after == Some(b',');
         if is_key {
@@ -122,6 +145,9 @@ impl<'a> Place<'_, 'a> {
 
     fn after_value(&self, value: &Range<usize>) -> Option<String> {
         let (owner, first) = (self.owner()?, self.text.bytes[value.start]);
+        if self.byte() == Some(b';') {
+            return Some(Seen::SemicolonForComma.with(&[&format!("value of `{owner}`")]));
+        }
         let (word, after) = self.name();
         let is_field = !word.is_empty() && after == Some(b'=');
         if is_field || !self.is_on_one_line(value.end) {
@@ -130,6 +156,7 @@ impl<'a> Place<'_, 'a> {
         Some(match (first, self.byte()) {
             (b'{', Some(b'{' | b'"')) | (b'"', _) => Seen::NoHash.with(&[&owner]),
             (b'{', _) => Seen::BraceTooMany.with(&[&owner]),
+            (b'\\', _) => Seen::BareValue.with(&[&owner]),
             (_, Some(b'{' | b'"')) => Seen::NoHash.with(&[&owner]),
             _ => Seen::BareValue.with(&[&owner]),
         })
@@ -180,16 +207,21 @@ impl<'a> Place<'_, 'a> {
         Some(Seen::RunsOn.with(&[&plain(name), &self.line(start), &taken_in.0, &taken_in.1]))
     }
 
-    /// Where a line of a value begins as a field does: `name = {`.
+    /// Where a value looks like a field, `name = {`: where one of its lines begins, or else after a comma.
     fn field_in(&self, value: &Range<usize>) -> Option<usize> {
+        self.field_after(value, b'\n', true).or_else(|| self.field_after(value, b',', false))
+    }
+
+    /// Where a field seems to begin after such a byte of a value: its own value begins with a brace, a quote or, where it may be a number, a digit.
+    fn field_after(&self, value: &Range<usize>, byte: u8, may_be_number: bool) -> Option<usize> {
         let bytes = &self.text.bytes[..value.end];
-        let ends = bytes[value.start..].iter().enumerate().filter(|(_, byte)| **byte == b'\n');
-        let lines = ends.map(|(end, _)| value.start + end + 1);
+        let ends = bytes[value.start..].iter().enumerate().filter(|(_, found)| **found == byte);
+        let begins = ends.map(|(end, _)| value.start + end + 1);
         let is_blank = |byte: &&u8| matches!(byte, b' ' | b'\t');
-        lines.map(|line| line + bytes[line..].iter().take_while(is_blank).count()).find(|at| {
+        begins.map(|begin| begin + bytes[begin..].iter().take_while(is_blank).count()).find(|at| {
             let name = name_at(bytes, *at);
             let after = bytes[at + name.len()..].trim_ascii_start().strip_prefix(b"=").map(<[u8]>::trim_ascii_start);
-            let begins_value = |byte: &u8| matches!(byte, b'{' | b'"' | b'0'..=b'9');
+            let begins_value = |byte: &u8| matches!(byte, b'{' | b'"') || may_be_number && byte.is_ascii_digit();
             name.first().is_some_and(u8::is_ascii_alphabetic) && after.and_then(<[u8]>::first).is_some_and(begins_value)
         })
     }
@@ -265,11 +297,24 @@ mod tests {
     #[test]
     fn keys_are_whole_words() {
         assert_eq!(advice("@misc{author = {A}}"), "write the entry's key first: `@misc{KEY, author = ..`");
+        assert_eq!(advice("@misc{author={A. B}, x = 1}"), "write the entry's key first: `@misc{KEY, author = ..`");
         assert_eq!(advice("@misc{a b, x = 1}"), "write the key without whitespace: `ab`");
         assert_eq!(advice("@misc{a x = 1}"), "put a comma after the key `a`");
         assert_eq!(advice("@misc{a\n x = 1}"), "put a comma after the key `a`");
         assert_eq!(advice("@{a, x = 1}"), "write the type after the `@`, as in `@article{KEY, ..`");
         assert_eq!(advice("@misc{a,, x = 1}"), "take out one of the two commas");
+        assert_eq!(advice("@misc{a; x = 1}"), "write a comma after the key `a`, in the place of the `;`");
+    }
+
+    #[test]
+    fn a_field_is_no_key() {
+        let field = |key: &str| field_for_key(key.as_bytes()).map(|name| String::from_utf8_lossy(name).into_owned());
+        for key in ["author={Smith", "author=\"Smith\"", "author=", "author=2000"] {
+            assert_eq!(field(key).as_deref(), Some("author"), "{key}");
+        }
+        for key in ["smith2010", "", "=", "={", "doi:10=x", "a=b", "x1={"] {
+            assert_eq!(field(key), None, "{key}");
+        }
     }
 
     #[test]
@@ -281,6 +326,10 @@ mod tests {
         assert_eq!(advice("@misc{a, x = {A {T}} S}, y = 1}"), Seen::BraceTooMany.with(&["x"]));
         for bare in ["1-2", "12A", "A title", "in press"] {
             assert_eq!(advice(&format!("@misc{{a, x = {bare}, y = 1}}")), Seen::BareValue.with(&["x"]), "{bare}");
+        }
+        assert_eq!(advice("@misc{a, x = \\url{u}, y = 1}"), Seen::BareValue.with(&["x"]));
+        for text in ["@misc{a, x = 1 ;}", "@misc{a, x = {T}; y = 1}"] {
+            assert_eq!(advice(text), "write a comma after the value of `x`, in the place of the `;`", "{text}");
         }
         let quoted = "close the value of `x`, which begins at d.bib:2: the quote before this place ends it";
         assert_eq!(advice("@misc{a,\n x = \"T,\n y = \"B\", z = 1}"), quoted);
@@ -303,6 +352,18 @@ mod tests {
         assert_eq!(advice("@misc{a,\n x = {T {U},\n y = 1\n}\n@misc{b}"), runs_on);
         assert_eq!(advice("@misc{a,\n x = \"T,\n y = {1}\n}\n"), runs_on);
         assert_eq!(advice("@misc{a,\n x = {T,\n y = 2\n}\n"), runs_on);
+        let on_one_line = |name: &str| {
+            format!(
+                "close the value of `{name}`, which begins at d.bib:1: it has taken in what looks like the field `zz` (d.bib:1)"
+            )
+        };
+        assert_eq!(advice("@misc{a, x = {A}, y = {10% of {T}, zz={B}, year=2000}"), on_one_line("y"));
+        assert_eq!(advice("@misc{a, x = \"T, zz={B}, year=2000}"), on_one_line("x"));
+        assert_eq!(advice("@misc{a, x = {A {B}, zz = {T}}\n@misc{b, y = 1}"), on_one_line("x"));
+        assert_eq!(
+            advice("@misc{a, x = {for all a, b=3}"),
+            "close @misc{a}, which begins at d.bib:1: its last `}` is missing"
+        );
         assert_eq!(advice("@misc{a, x = {T"), "");
     }
 

@@ -1,11 +1,12 @@
-//! Errors of an execution that repeat: of one kind, at one place of the style. The first is explained, and the others are counted.
+//! Errors of an execution that repeat, of one kind, at one place of the style, and a style's warnings that differ by the key of an entry alone. The first is explained, and the
+//! others are counted.
 
 use crate::advice::{self, Section};
 use crate::log::{Message, Place, Severity};
 use crate::notes::Token;
 use crate::scene::{Call, Scene};
 use crate::terminal::plain;
-use std::collections::HashMap;
+use std::collections::{HashMap, HashSet};
 
 /// For how many entries it is said that an error repeats for them.
 const MOST_ENTRIES: usize = 8;
@@ -103,11 +104,6 @@ impl<'a> Strings<'a> {
         known.0 > 1
     }
 
-    /// How many messages weren't printed.
-    pub fn count(&self) -> u64 {
-        self.by_name.values().map(|(count, _)| count - 1).sum()
-    }
-
     /// What is said of those that weren't printed, for each name; once.
     pub fn texts(&mut self) -> Vec<String> {
         let text = |name: &&[u8]| {
@@ -120,6 +116,126 @@ impl<'a> Strings<'a> {
             (count > 1).then(|| format!("The string `{}` isn't defined {times}{last}.", plain(name)))
         };
         std::mem::take(&mut self.names).iter().filter_map(text).collect()
+    }
+}
+
+/// How many equal warnings of a style are shown.
+const MOST_EQUAL: u64 = 8;
+
+/// Warnings of a style that differ by an entry's key alone: the first few are shown, and the others are counted.
+#[derive(Debug, Clone, Default)]
+pub struct Warnings<'a> {
+    /// Which of all of them it is, for the text before the key and the one after it.
+    by_text: HashMap<(&'a [u8], &'a [u8]), usize>,
+    all: Vec<Equal<'a>>,
+}
+
+/// Equal warnings: the first one, how many there are, and some keys of those that aren't shown.
+#[derive(Debug, Clone)]
+struct Equal<'a> {
+    first: &'a [u8],
+    count: u64,
+    keys: Vec<&'a [u8]>,
+}
+
+impl<'a> Warnings<'a> {
+    /// How many texts there are.
+    pub fn count(&self) -> usize {
+        self.all.len()
+    }
+
+    /// Whether a warning is one of those that aren't shown, since some of this text were. Its line of the log, and the key in it.
+    pub fn has(&mut self, line: &'a [u8], text: &'a [u8], key: &'a [u8]) -> bool {
+        let around = text.strip_suffix(key).map(|before| (before, &b""[..]));
+        let around = around.or_else(|| text.strip_prefix(key).map(|after| (&b""[..], after)));
+        let Some(around) = around else { return false };
+        let next = self.all.len();
+        let at = *self.by_text.entry(around).or_insert(next);
+        if at == next {
+            self.all.push(Equal { first: line, count: 0, keys: Vec::new() });
+        }
+        let Some(equal) = self.all.get_mut(at) else { return false };
+        equal.count += 1;
+        if equal.count <= MOST_EQUAL {
+            return false;
+        }
+        if equal.keys.len() <= MOST_ENTRIES && !equal.keys.contains(&key) {
+            equal.keys.push(key);
+        }
+        true
+    }
+
+    /// What is said of those that weren't shown, for each text; once.
+    pub fn texts(&mut self) -> Vec<String> {
+        let all = std::mem::take(&mut self.all);
+        self.by_text.clear();
+        all.iter().filter(|equal| equal.count > MOST_EQUAL).map(Equal::text).collect()
+    }
+}
+
+impl Equal<'_> {
+    fn text(&self) -> String {
+        let count = self.count - MOST_EQUAL;
+        let warnings = if count == 1 { "1 more warning is".into() } else { format!("{count} more warnings are") };
+        format!("({warnings} like `{}`; for {})", plain(self.first), in_a_row(&self.keys))
+    }
+}
+
+/// Keys in a row; of many the first ones.
+fn in_a_row(keys: &[&[u8]]) -> String {
+    let mut names: Vec<String> = keys.iter().take(MOST_ENTRIES).map(|key| plain(key)).collect();
+    if keys.len() > MOST_ENTRIES {
+        names.push("..".to_string());
+    }
+    names.join(", ")
+}
+
+/// Errors that values of a database make in the execution of a style: of each field that an entry lacks, and of each list of names, the first is explained.
+#[derive(Debug, Clone, Default)]
+pub struct OfData<'a> {
+    /// The fields that each entry lacks, and the command that met the last one.
+    lacks: HashMap<&'a [u8], (&'a Call, Vec<String>)>,
+    names: HashSet<(&'a [u8], &'a [u8])>,
+    /// How many errors weren't explained.
+    count: u64,
+}
+
+impl<'a> OfData<'a> {
+    /// Whether an error is about a field or a name of which one was explained, or follows from that; then it is counted. The field is the one that it shows to be `lacked`.
+    pub fn has(&mut self, message: &Message<'a>, lacked: Option<String>) -> bool {
+        const OF_STACK: [&[u8]; 2] = [b"You can't pop an empty literal stack", b"The literal stack isn't empty"];
+        let Place::Execution { entry: Some(key), .. } = message.place else { return false };
+        let Some(advice) = advice::find(&[Section::Execution], message.text) else { return false };
+        let is_known = if advice.is_of_name() {
+            !self.names.insert((key, message.text))
+        } else {
+            let Some(command) = message.scene.map(Scene::command) else { return false };
+            match (self.lacks.get_mut(key), lacked) {
+                (Some((_, fields)), Some(field)) if fields.contains(&field) => true,
+                (Some((last, _)), None) => *last == command && OF_STACK.contains(&message.text),
+                (Some((last, fields)), Some(field)) => {
+                    *last = command;
+                    fields.push(field);
+                    false
+                }
+                (None, Some(field)) => {
+                    self.lacks.insert(key, (command, vec![field]));
+                    false
+                }
+                (None, None) => false,
+            }
+        };
+        self.count += u64::from(is_known);
+        is_known
+    }
+
+    /// What is said of those that weren't explained since this was asked last.
+    pub fn text(&mut self) -> Option<String> {
+        match std::mem::take(&mut self.count) {
+            0 => None,
+            1 => Some("(1 more error follows from that)".into()),
+            count => Some(format!("({count} more errors follow from that)")),
+        }
     }
 }
 
@@ -144,11 +260,8 @@ impl<'a> Repeated<'a> {
             .filter(|call| call.line > 0)
             .map_or(String::new(), |call| format!(" in line {} of the style", call.line));
         let first = format!("`{}`{line}", plain(self.first));
-        let mut names: Vec<String> = self.entries.iter().take(MOST_ENTRIES).map(|entry| plain(entry)).collect();
-        if self.entries.len() > MOST_ENTRIES {
-            names.push("..".to_string());
-        }
-        let names = if names.is_empty() { String::new() } else { format!("; for {}", names.join(", ")) };
+        let names = in_a_row(&self.entries);
+        let names = if names.is_empty() { String::new() } else { format!("; for {names}") };
         let like = count(self.count, "is", "are").map(|text| format!("({text} like {first}{names})"));
         let follows = count(self.following, "follows", "follow").map(|text| format!("({text} from {first})"));
         like.into_iter().chain(follows).collect()
@@ -159,6 +272,59 @@ impl<'a> Repeated<'a> {
 mod tests {
     use super::*;
     use crate::log::{Content, Log};
+
+    #[test]
+    fn warnings_are_counted_by_their_text() {
+        let keys: Vec<String> = (1..=20).map(|number| format!("e{number}")).collect();
+        let texts: Vec<String> = keys.iter().map(|key| format!("empty journal in {key}")).collect();
+        let mut warnings = Warnings::default();
+        let had = texts.iter().zip(&keys).filter(|(text, key)| warnings.has(b"first", text.as_bytes(), key.as_bytes()));
+        assert_eq!(had.count(), 12);
+        assert!(warnings.has(b"first", b"empty journal in e9", b"e9"));
+        assert!(!warnings.has(b"other", b"empty year in e1", b"e1"));
+        assert!(!warnings.has(b"other", b"nothing", b"e1"));
+        let wanted = "(13 more warnings are like `first`; for e9, e10, e11, e12, e13, e14, e15, e16, ..)";
+        assert_eq!(warnings.texts(), [wanted]);
+        assert!(warnings.texts().is_empty());
+    }
+
+    #[test]
+    fn errors_of_one_name_are_counted() {
+        let log = b"Error--Too many commas in name 1 of \"x\" while executing format.name$ for entry a\n\
+            Error--Too many commas in name 2 of \"x\" while executing format.name$ for entry a\n\
+            Error--Too many commas in name 1 of \"x\" while executing format.name$ for entry a\n\
+            Error--Too many commas in name 1 of \"x\" while executing format.name$ for entry b\n";
+        let mut data = OfData::default();
+        let mut had = Vec::new();
+        for line in Log::new(log).lines() {
+            let Content::Message(message) = line.content else { panic!() };
+            had.push(data.has(&message, None));
+        }
+        assert_eq!(had, [false, false, true, false]);
+        assert_eq!(data.text().as_deref(), Some("(1 more error follows from that)"));
+        assert_eq!(data.text(), None);
+    }
+
+    #[test]
+    fn errors_of_one_field_are_counted() {
+        let at = |line| Call { function: b"ITERATE {call.type$}".to_vec(), file: b"s.bst".to_vec(), line };
+        let scenes = [1, 1, 1, 2, 1].map(|line| Scene {
+            at: at(line),
+            token: None,
+            callers: Vec::new(),
+            caller_tokens: Vec::new(),
+            stack: Vec::new(),
+        });
+        let texts = ["missing field is not a string", "x is not a string", "You can't pop an empty literal stack"];
+        let lacked = |number: usize| [Some("author"), Some("author"), None, None, None][number].map(String::from);
+        let mut data = OfData::default();
+        let mut has = |number: usize, text: usize| {
+            let place = Place::Execution { function: b"write$", entry: Some(b"k") };
+            let scene = Some(&scenes[number]);
+            data.has(&Message { severity: Severity::Error, text: texts[text].as_bytes(), place, scene }, lacked(number))
+        };
+        assert_eq!([has(0, 0), has(1, 0), has(2, 2), has(3, 2), has(4, 1)], [false, true, true, false, false]);
+    }
 
     #[test]
     fn errors_of_code_are_counted() {

@@ -74,16 +74,24 @@ impl RunLog<'_> {
             notes.push_str(&format!("The list is made without -letters: {}.\n", why.reason()));
         }
         let is_coded = matches!(self.ran.letters, Letters::Coded(_));
-        if self.ran.utf8 && self.words.text == TextMode::Auto && !is_coded {
+        let half = self.ran.line_of_half_letter().filter(|_| databases_are_whole(self.files));
+        // (a list that has half a letter is no better for that)
+        if self.ran.utf8 && self.words.text == TextMode::Auto && !is_coded && half.is_none() {
             notes.push_str(
                 "The list is made with -text=utf8: read by bytes, it would have half a letter, which LaTeX refuses.\n",
             );
         }
-        if let Some(line) = self.ran.line_of_half_letter().filter(|_| databases_are_whole(self.files)) {
+        if let Some(line) = half {
             let remedy = match (self.ran.utf8, style_is_whole(self.files)) {
-                (_, false) => "the style isn't UTF-8",
-                (true, true) => "the style cuts text by bytes",
-                (false, true) => "try -text=utf8",
+                (_, false) => "the style isn't UTF-8".into(),
+                (true, true) => {
+                    let entry = key_above(&self.ran.list, line)
+                        .map_or(String::new(), |key| format!(" of the entry `{}`", plain(key)));
+                    format!(
+                        "the style cuts text by bytes. Write the letter{entry} as a command of TeX, such as {{\\'e}}, or take another style"
+                    )
+                }
+                (false, true) => "try -text=utf8".into(),
             };
             notes.push_str(&format!("Line {line} of the list has half a letter, which LaTeX refuses: {remedy}.\n"));
         }
@@ -165,6 +173,17 @@ impl RunLog<'_> {
     }
 }
 
+/// The key of the last `\\bibitem` in the first so many lines of a list; None where it isn't plain.
+fn key_above(list: &[u8], lines: usize) -> Option<&[u8]> {
+    const ITEM: &[u8] = b"\\bibitem";
+    let end = list.iter().enumerate().filter(|(_, byte)| **byte == b'\n').nth(lines.checked_sub(1)?);
+    let above = &list[..end.map_or(list.len(), |(at, _)| at)];
+    let item = &above[above.windows(ITEM.len()).rposition(|bytes| bytes == ITEM)? + ITEM.len()..];
+    let start = if item.starts_with(b"{") { 0 } else { item.windows(2).position(|bytes| bytes == b"]{")? + 1 };
+    let key = &item[start + 1..];
+    Some(&key[..key.iter().position(|byte| *byte == b'}')?]).filter(|key| !key.is_empty())
+}
+
 /// The first lines of a text.
 fn first_lines(text: &[u8], most: usize) -> &[u8] {
     let mut ends = text.iter().enumerate().filter(|(_, byte)| **byte == b'\n');
@@ -182,4 +201,18 @@ fn shown<'a>(text: &'a [u8], terminal: &Terminal) -> Cow<'a, [u8]> {
         None => plain(line),
     });
     lines.collect::<String>().into_bytes().into()
+}
+
+#[cfg(test)]
+mod tests {
+    use super::*;
+
+    #[test]
+    fn the_entry_of_a_line_is_known() {
+        let list = b"\\begin{thebibliography}{1}\n\n\\bibitem{a}\nA.\n\n\\bibitem[{B(2000)}]{b}\nB.\n";
+        let key = |line| key_above(list, line).map(|key| String::from_utf8_lossy(key).into_owned());
+        assert_eq!([key(1), key(2)], [None, None]);
+        assert_eq!([key(3), key(4)], [Some("a".into()), Some("a".into())]);
+        assert_eq!([key(6), key(7), key(99)], [Some("b".into()), Some("b".into()), Some("b".into())]);
+    }
 }

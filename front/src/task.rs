@@ -196,7 +196,10 @@ impl Task {
     /// The status of a run whose outputs are written.
     fn status(&self, ran: &Ran, printed: io::Result<()>) -> Status {
         let status = match ran.answer {
-            Answer::Done(_) if self.words.is_strict && ran.misses_an_entry() => Status::Errors,
+            Answer::Done(_) if self.words.is_strict && ran.misses_an_entry() => {
+                self.name.say("-strict: an entry that is cited wasn't found, so the exit status is 2");
+                Status::Errors
+            }
             Answer::Done(report) => Status::of_report(report.status),
             Answer::ListFull | Answer::LogFull => Status::Limit,
             Answer::Memory => Status::Memory,

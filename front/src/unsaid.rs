@@ -5,10 +5,11 @@ use crate::advice::Seen;
 use crate::aux_text::cited_keys;
 use crate::database::{Folded, Inside};
 use crate::entries::{Entries, Stored};
-use crate::explain::shown_path;
+use crate::explain::{begins_item, shown_path};
 use crate::hints::names_of_fields;
 use crate::job::Files;
 use crate::letter_values::parts;
+use crate::missing_entry::LostField;
 use crate::nearest::nearest;
 use crate::shown_line::ShownLine;
 use crate::terminal::{Terminal, plain};
@@ -163,6 +164,21 @@ impl<'b, 'a> Unsaid<'b, 'a> {
         (!shown.is_empty())
             .then(|| format!("(Of the cited entries the style doesn't read: {}{dots})", shown.join("; ")))
     }
+}
+
+/// The fields that stand after the end of an entry that a job cites, and how many further entries have one.
+pub fn after_ends<'b, 'a>(entries: &'b Entries<'a>, files: &'a Files) -> (Vec<Shown<'b, 'a>>, usize) {
+    let mut cited = HashSet::new();
+    let keys = cited_keys(files).filter(|key| cited.insert(Folded(key))).take(MOST_ENTRIES);
+    let lost = |stored: Stored<'b, 'a>| {
+        let LostField { name, start } = LostField::after(stored)?;
+        let item = begins_item(stored.database.file, &stored.database.text, stored.item);
+        Some(Shown { stored, place: start, advice: Seen::FieldAfterEnd.with(&[&item, &plain(name)]) })
+    };
+    let mut shown: Vec<Shown<'_, '_>> = keys.filter_map(|key| entries.entry(key)).filter_map(lost).collect();
+    let more = shown.len().saturating_sub(MOST_SHOWN);
+    shown.truncate(MOST_SHOWN);
+    (shown, more)
 }
 
 fn is_one_of(name: &[u8], names: &[&str]) -> bool {
@@ -356,6 +372,18 @@ mod tests {
             with_unsaid(&format!("@misc{{k, {field} = {{$}}}}"), |unsaid| unsaid.found.first().map(|found| found.seen))
         };
         assert_eq!([seen("title"), seen("note"), seen("url")], [Some(Seen::OddDollars), None, None]);
+    }
+
+    #[test]
+    fn fields_after_an_end_are_found() {
+        let top = file("a.aux", "\\citation{k,l,L,m}\n\\bibdata{d}\n\\bibstyle{s}\n");
+        let database = "@misc{k, x = 1}},\n note = {N}}\n@misc{l, x = 1}\n,y=2}\n@misc{m}\n@misc{n}, z = 1}\n";
+        let files = Files { top: b"a.aux".to_vec(), all: vec![top, file("d.bib", database)] };
+        let entries = Entries::new(&files);
+        let (shown, more) = after_ends(&entries, &files);
+        assert_eq!((shown.len(), more), (2, 0));
+        assert_eq!(&database[shown[0].place..shown[0].place + 4], "note");
+        assert!(shown[0].advice.starts_with("take out what ends @misc{k}"), "{}", shown[0].advice);
     }
 
     #[test]

@@ -79,7 +79,7 @@ MONTHS = b"jan feb mar apr may jun jul aug sep oct nov dec".split()
 # What plain, abbrv, alpha and unsrt define beside the months.
 JOURNALS = b"acmcs acta cacm ibmjrd ibmsj ieeese ieeetc ieeetcad ipl jacm jcss scp sicomp tocs tods tog toms toois toplas tcs".split()
 
-LOOKS_LIKE_FIELD = re.compile(rb"(?m)^[ \t,]*([A-Za-z][A-Za-z_-]*)[ \t]*=[ \t]*[{\"0-9]")
+LOOKS_LIKE_FIELD = re.compile(rb"(?m)(?:^|(?<=}))[ \t,}]*([A-Za-z][A-Za-z_-]*)[ \t]*=[ \t]*[{\"0-9]")
 RESOLVER = re.compile(rb"^(?:https?://(?:dx\.)?doi\.org/|doi:)[ \t]*")
 TEX_COMMAND = re.compile(rb"\\[A-Za-z]+")
 # What doesn't tell titles: all but letters and digits.

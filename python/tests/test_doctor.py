@@ -29,6 +29,7 @@ ROWS = [
     ("undefined-string", b"@misc{k, note = {A} # <zz>}", b"@string{ZZ = {z}} @misc{k, note = zz # jan # jacm}"),
     ("undefined-string", b"@string{s = <s> # {a}}", b"@string{s = {a}} @string{t = s}"),
     ("fields-in-text", b"@misc{k}\n  <note> = {A}\n", b"@misc{k}\n see note, or a = b\n"),
+    ("fields-in-text", b"@misc{k, title = {Q}}}, <year> = 2001}\n", b"@misc{k, title = {Q}} a = b\n"),
     ("repeated-doi", b"@misc{a, doi = {10.1/X}} @misc{<b>, doi = {https://doi.org/10.1/x}}", b"@misc{a, doi = {10.1/x}} @misc{b, doi = {10.1/y}}"),
     ("repeated-title", b"@misc{a, " + TITLE + b"} @misc{<b>, title = \"{A} title -- that is \\bf Long\", year = {2000}}", b"@misc{a, " + TITLE + b"} @misc{b, " + TITLE + b"1}"),
     ("et-al", b"@misc{k, author = {A. Bee <et al>.}}", b"@misc{k, author = {A. Bee and Pet Albers and others}}"),

@@ -41,7 +41,7 @@ Warning--I didn't find a database entry for \"nosuch\"
     it may stand in e.bib, which wasn't found
     what to do: look for e.bib first
 Error--\"A\" is not an integer while executing + for entry k
-    in {..} of FUNCTION {misc}, $2s.bst:3; called from misc, $2s.bst:3; ITERATE {call.type\$}, $2s.bst:7
+    in {..} of FUNCTION {misc}, $2s.bst:3; called from misc, s.bst:3; ITERATE {call.type\$}, s.bst:7
     on the stack: 1, \"A\"
     for @misc{k}, which begins at $2d.bib:1
     \`+\` takes NUMBER NUMBER, pushed in this order
@@ -452,4 +452,49 @@ wants_line "$folder/stdout" 'Warning--I didn'"'"'t find a database entry for "go
 cite 'k1,k2'
 run_search -explain job
 wants_line "$folder/stdout" 'The string `jn` isn'"'"'t defined once more, the last in line 2 of d.bib.'
+end
+
+# A style's equal warnings are counted by their text, and hide no other message: each error is shown, and a warning of another text.
+begin equal_warnings_are_counted
+cat >s.bst <<'END'
+ENTRY {author journal} {} {}
+FUNCTION {misc} {journal empty$ {"empty journal in " cite$ * warning$} 'skip$ if$ author empty$ 'skip$ {author #1 "{ll}" format.name$ write$ newline$} if$}
+READ
+ITERATE {call.type$}
+END
+cite "$(seq -s , -f 'e%g' 1100),zz"
+{ seq -f '@misc{e%g}' 1100; echo '@misc{zz, journal = {J}, author = {A, B, C, D}}'; } >d.bib
+run_search -explain -terse job
+[ "$(grep -c '^Warning--empty journal in e' "$folder/stdout")" -eq 8 ] || complaints+=('not 8 of the warnings are shown')
+wants_line "$folder/stdout" '(1092 more warnings are like `Warning--empty journal in e1`; for e9, e10, e11, e12, e13, e14, e15, e16, ..)'
+wants_line "$folder/stdout" 'Error--Too many commas in name 1 of "A, B, C, D" while executing format.name$ for entry zz'
+! grep -q 'more messages\?' "$folder/stdout" || complaints+=("printed is $(tail -n 5 "$folder/stdout")")
+end
+
+# Of a field that an entry lacks, and of a name, the first error is shown: the entry first and the style's path last, once. The others are counted.
+begin style_last_and_once
+mkdir styles
+cat >styles/s.bst <<'END'
+ENTRY {author title} {} {}
+STRINGS {s}
+FUNCTION {f} {'s := s pop$}
+FUNCTION {misc} {author num.names$ pop$
+author f
+author f
+title #1 "{ll}" format.name$ pop$
+title #1 "{ll}" format.name$ pop$}
+READ
+ITERATE {call.type$}
+END
+rm s.bst
+cite 'k,l'
+printf '@misc{k, title = {T}}\n@misc{l, author = {B}, title = {A, B, C, D}}\n' >d.bib
+BSTINPUTS=styles: run_search -explain -terse job
+for line in '    the missing field is `author`, pushed at s.bst:4' '    (2 more errors follow from that)' '    in FUNCTION {misc}, styles/s.bst:7'; do
+    wants_line "$folder/stdout" "$line"
+done
+[ "$(grep -c '^Error--missing field' "$folder/stdout")" -eq 1 ] || complaints+=('the missing field is said again')
+[ "$(grep -c '^Error--Too many commas' "$folder/stdout")" -eq 1 ] || complaints+=('the name is said again')
+[ "$(grep -n '^    for @misc{k}' "$folder/stdout" | cut -d: -f1)" -lt "$(grep -n 'styles/s.bst' "$folder/stdout" | head -n 1 | cut -d: -f1)" ] || complaints+=('the style stands first')
+! grep -q 'styles/s.bst.*styles/s.bst' "$folder/stdout" || complaints+=('the path of the style stands twice in a line')
 end

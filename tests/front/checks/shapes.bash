@@ -241,9 +241,23 @@ if there_is vim "what vim's :make finds"; then
     printf '%s\n' '@misc{b, title = {T}, crossref = {nope}}' '@misc{c,' '  note' '= 1, }' '@misc{d, crossref = {e}}' '@misc{x, note' '1}' >d.bib
     made_by_compiler 'my paper.aux'
     wants_text quickfix "1 d.bib:7:E:I was expecting an =
-1 my paper.aux:0:E:entry \"b\"| to entry \"nope\", which doesn't exist
+1 my paper.aux:0:E:entry \"b\"|refers to entry \"nope\", which doesn't exist
 1 my paper.aux:0:W:I didn't find a database entry for \"nope\"
 "
+    # Of a faultless job with letters nothing is listed; of names and fields, not the style's place.
+    printf '\\citation{k}\n\\bibdata{d}\n\\bibstyle{s}\n' >'my paper.aux'
+    printf '%s\n' 'ENTRY {author title} {} {}' 'FUNCTION {misc} {author #1 "{f.}" format.name$ write$ newline$}' 'READ' 'ITERATE {call.type$}' >s.bst
+    echo '@misc{k, author = {Émile Zola and Zoe, Émile}, title = {T}}' >d.bib
+    sed -i 's/author #1/author #2/' s.bst
+    made_by_compiler 'my paper.aux'
+    wants_text quickfix ''
+    grep -q 'The list is made' 'my paper.blg' || complaints+=('the list is not read by letters')
+    printf '%s\n' 'ENTRY {author title} {} {}' 'FUNCTION {misc} {author #1 "{f.}" format.name$ write$ title #1 + pop$ newline$}' 'READ' 'ITERATE {call.type$}' >s.bst
+    printf '%s\n' '@misc{k,' ' author = {A, B, C, D}, title = {T}}' >d.bib
+    made_by_compiler 'my paper.aux'
+    wants_text quickfix '1 my paper.aux:0:E:Too many commas in name 1 of "A, B, C, D" (format.name$) for entry k
+1 s.bst:2:E:"T" is not an integer (+) for entry k
+'
     echo '\relax' >'my paper.aux'
     made_by_compiler 'my paper.aux'
     wants_text quickfix "1 my paper.aux:0:E:I found no \citation commands
