@@ -1,5 +1,6 @@
 //! The items of a job's databases: by their lines, and the entries by their keys.
 
+use crate::alike::{Alike, alike};
 use crate::database::{Folded, Item, Items, key_at};
 use crate::job::{File, Files};
 use crate::nearest::nearest;
@@ -147,6 +148,7 @@ pub struct Entries<'a> {
     by_parent: OnceCell<HashMap<Folded<'a>, Found>>,
     skipped: OnceCell<HashMap<Folded<'a>, Found>>,
     unread: OnceCell<HashMap<Folded<'a>, Found>>,
+    without_key: OnceCell<Option<Found>>,
     /// For how many more keys one that may be meant is looked for.
     left: Cell<usize>,
 }
@@ -164,6 +166,7 @@ impl<'a> Entries<'a> {
             by_parent: OnceCell::new(),
             skipped: OnceCell::new(),
             unread: OnceCell::new(),
+            without_key: OnceCell::new(),
             left: Cell::new(MOST_MEANT),
         }
     }
@@ -199,6 +202,36 @@ impl<'a> Entries<'a> {
         self.left.set(self.left.get().checked_sub(1)?);
         let known = nearest(key, self.by_key().keys().map(|known| known.0))?;
         self.entry(known)
+    }
+
+    /// The entry whose key looks like this one, which no entry has; and whether it is this one that has other characters than those of the keyboard.
+    pub fn alike(&self, key: &[u8]) -> Option<(Stored<'_, 'a>, Alike, bool)> {
+        if let Some(alike) = alike(key) {
+            return self.entry(&alike.name).map(|stored| (stored, alike, true));
+        }
+        let known = self.by_key().keys().filter(|known| self.left.get() > 0 && !known.0.is_ascii());
+        let mut found = known.filter_map(|known| Some((known.0, alike(known.0)?)));
+        let (known, alike) = found.find(|(_, alike)| Folded(&alike.name) == Folded(key))?;
+        self.entry(known).map(|stored| (stored, alike, false))
+    }
+
+    /// The first entry without a key, whose first field was taken for one.
+    pub fn without_key(&self) -> Option<Stored<'_, 'a>> {
+        let (index, number) = *self
+            .without_key
+            .get_or_init(|| {
+                let is_it = |(found, item): &(Found, &Item<'a>)| {
+                    let bytes = self.databases[found.0].text.bytes;
+                    item.fault.is_some() && item.entry_key().is_some() && bytes.get(item.end) == Some(&b'=')
+                };
+                self.all().filter(is_it).map(|(found, _)| found).find(|(index, number)| {
+                    let (database, item) = (&self.databases[*index], &self.databases[*index].items[*number]);
+                    item.key.is_some_and(|key| database.text.bytes[key.end..item.end].trim_ascii().is_empty())
+                })
+            })
+            .as_ref()?;
+        let database = &self.databases[index];
+        Some(Stored { database, item: &database.items[number] })
     }
 
     /// The first entry of this key that stands in the text of another item.

@@ -1,11 +1,11 @@
 //! Errors of an execution that repeat: of one kind, at one place of the style. The first is explained, and the others are counted.
 
-use crate::advice::{self, Section};
+use crate::advice::{self, Advice, Section};
 use crate::log::{Message, Place, Severity};
 use crate::notes::Token;
 use crate::scene::{Call, Scene};
 use crate::terminal::plain;
-use std::collections::HashMap;
+use std::collections::{HashMap, HashSet};
 
 /// For how many entries it is said that an error repeats for them.
 const MOST_ENTRIES: usize = 8;
@@ -33,14 +33,21 @@ pub struct Repeats<'a> {
     /// The commands that met an error since they have no entry, with that error.
     by_command: HashMap<&'a Call, usize>,
     all: Vec<Repeated<'a>>,
+    /// Errors of names, which a style takes more than once: each text with its entry, how many repeat, and of which entries.
+    of_names: HashSet<(&'a [u8], Option<&'a [u8]>)>,
+    repeated_names: u64,
+    entries_of_names: Vec<&'a [u8]>,
 }
 
 impl<'a> Repeats<'a> {
-    /// Whether an error of a style's code was met before at the same place, or follows from one; then it is counted. Those that a value of a database makes never are. Where the style's text
+    /// Whether an error of a style's code was met before at the same place, or follows from one; then it is counted. Of those that a value of a database makes only the same ones are. Where the style's text
     /// `has_mistakes`, its places don't matter.
     pub fn has(&mut self, line: &'a [u8], message: &Message<'a>, has_mistakes: bool) -> bool {
         let Place::Execution { function, entry } = message.place else { return false };
         let advice = advice::find(&[Section::Execution], message.text);
+        if advice.as_ref().is_some_and(Advice::is_of_name) {
+            return self.has_of_name(message.text, entry);
+        }
         let Some(advice) = advice.filter(|advice| message.severity == Severity::Error && advice.is_of_code()) else {
             return false;
         };
@@ -67,6 +74,29 @@ impl<'a> Repeats<'a> {
         false
     }
 
+    /// Whether the same error of a name of this entry was met before; then it is counted.
+    fn has_of_name(&mut self, text: &'a [u8], entry: Option<&'a [u8]>) -> bool {
+        let is_known = !self.of_names.insert((text, entry));
+        self.repeated_names += u64::from(is_known);
+        let is_new = |entry: &&'a [u8]| {
+            is_known && self.entries_of_names.len() <= MOST_ENTRIES && !self.entries_of_names.contains(entry)
+        };
+        let new = entry.filter(is_new);
+        self.entries_of_names.extend(new);
+        is_known
+    }
+
+    /// What is said of the repeated errors of names; once.
+    fn text_of_names(&mut self) -> Option<String> {
+        let (count, entries) = (std::mem::take(&mut self.repeated_names), std::mem::take(&mut self.entries_of_names));
+        let names: Vec<String> = entries.iter().take(MOST_ENTRIES).map(|entry| plain(entry)).collect();
+        let dots = if entries.len() > MOST_ENTRIES { ", .." } else { "" };
+        let errors = if count == 1 { "1 more error is" } else { &format!("{count} more errors are") };
+        (count > 0).then(|| {
+            format!("({errors} the same, for {}{dots}: the style takes these names more than once)", names.join(", "))
+        })
+    }
+
     /// Whether no error of a style's code was met.
     pub fn is_empty(&self) -> bool {
         self.all.is_empty()
@@ -74,7 +104,8 @@ impl<'a> Repeats<'a> {
 
     /// What is said of those that weren't printed, for each kind; once.
     pub fn texts(&mut self) -> Vec<String> {
-        std::mem::take(&mut self.all).iter().flat_map(Repeated::texts).collect()
+        let of_names = self.text_of_names();
+        std::mem::take(&mut self.all).iter().flat_map(Repeated::texts).chain(of_names).collect()
     }
 }
 
@@ -101,6 +132,11 @@ impl<'a> Strings<'a> {
             self.names.push(name);
         }
         known.0 > 1
+    }
+
+    /// Whether a string of this name was said not to be defined.
+    pub fn is_undefined(&self, name: &[u8]) -> bool {
+        self.by_name.contains_key(name)
     }
 
     /// How many messages weren't printed.
@@ -175,5 +211,20 @@ mod tests {
         let wanted = "(2 more errors are like `Error--1 is not a string while executing := for entry a`; for b)";
         assert_eq!(repeats.texts(), [wanted]);
         assert!(repeats.texts().is_empty());
+    }
+
+    #[test]
+    fn the_same_error_of_names_is_counted() {
+        let error = "Error--Too many commas in name 1 of \"a,b,c,d\" while executing format.name$ for entry k\n";
+        let log = error.repeat(3) + &error.replace("entry k", "entry l");
+        let mut repeats = Repeats::default();
+        let mut had = Vec::new();
+        for line in Log::new(log.as_bytes()).lines() {
+            let Content::Message(message) = line.content else { panic!() };
+            had.push(repeats.has(line.bytes, &message, false));
+        }
+        assert_eq!(had, [false, true, true, false]);
+        let wanted = "(2 more errors are the same, for k: the style takes these names more than once)";
+        assert_eq!(repeats.texts(), [wanted]);
     }
 }
