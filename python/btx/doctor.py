@@ -45,6 +45,8 @@ CHECKS = {
         Check("one-hyphen", "info", "A guess: a range of pages is written with two hyphens."),
         Check("month-text", "info", "A guess: a month that is written out can't be shortened by a style; `jan` can."),
         Check("unread-field", "info", "Exact, with --style: its ENTRY list doesn't have the field, so a run ignores it."),
+        Check("logged-error", "error", "Exact, with --job: a run of the job logs it."),
+        Check("logged-warning", "warning", "Exact, with --job: a run of the job logs it."),
         Check("uncited", "info", "Exact, with --job: no citation of its .aux files, and no crossref of a cited entry, names the entry."),
     )
 }
