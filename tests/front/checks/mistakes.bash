@@ -173,7 +173,7 @@ end
 
 begin mistake_names_with_commas
 write_author_style
-sed -i 's/author num.names$ pop$/author #1 "{ll}" format.name$ pop$ author #1 "{ff}" format.name$ pop$/' s.bst
+sed -i 's/author num.names[$] pop[$]/author #1 "{ll}" format.name$ pop$ author #1 "{ff}" format.name$ pop$/' s.bst
 cite k
 printf '@misc{k, author = {Lee, A., Ray, B., Dunn, C.}}\n' >d.bib
 run_search -explain -terse job
