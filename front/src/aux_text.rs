@@ -3,7 +3,7 @@
 use crate::database::Folded;
 use crate::job::{File, Files};
 use crate::text::{find, is_white, split_first};
-use std::collections::HashMap;
+use std::collections::{HashMap, HashSet};
 
 /// A line that counts: a command and its argument.
 #[derive(Debug, Clone, Copy, PartialEq, Eq)]
@@ -154,6 +154,38 @@ impl<'a> Names<'a> {
     }
 }
 
+/// A database that the `.aux` files name and that the run didn't look for, since its line has an error; its name has its ending.
+pub fn unread_database(files: &Files) -> Option<(Vec<u8>, Named<'_>)> {
+    let asked: HashSet<&[u8]> = files.all.iter().map(|file| &file.name[..]).collect();
+    files.with_ending(".aux").find_map(|file| {
+        let lines = file.bytes.as_deref().unwrap_or(b"").split(|byte| *byte == b'\n').enumerate();
+        let of_data = lines.filter(|(_, line)| line.starts_with(b"\\bibdata{"));
+        of_data.filter_map(|(index, line)| Some((index + 1, Command::new(line)?))).find_map(|(number, command)| {
+            let named = command.pieces(0).map(|(piece, end)| (with_ending(piece.trim_ascii(), b".bib"), end));
+            let mut unread = named.filter(|(name, _)| name.len() > b".bib".len() && !asked.contains(&name[..]));
+            unread.next().map(|(name, end)| (name, Named { file, number, end }))
+        })
+    })
+}
+
+/// The names in the line of an error that aren't taken: those from the first one with whitespace on.
+pub fn not_taken(line: &[u8]) -> Vec<&[u8]> {
+    let Some(command) = Command::new(line) else { return Vec::new() };
+    let pieces =
+        command.pieces(0).map(|(piece, _)| piece).skip_while(|piece| !piece.iter().any(|byte| is_white(*byte)));
+    pieces.map(<[u8]>::trim_ascii).filter(|piece| !piece.is_empty()).collect()
+}
+
+/// An `.aux` file that ends in the middle of a line, in the argument of a command.
+pub fn broken_off(files: &Files) -> Option<&File> {
+    files.with_ending(".aux").find(|file| {
+        let bytes = file.bytes.as_deref().unwrap_or(b"");
+        let last = &bytes[bytes.iter().rposition(|byte| *byte == b'\n').map_or(0, |at| at + 1)..];
+        let count = |wanted: u8| last.iter().filter(|byte| **byte == wanted).count();
+        last.starts_with(b"\\") && count(b'{') > count(b'}')
+    })
+}
+
 /// The keys that the `.aux` files of a job cite.
 pub fn cited_keys(files: &Files) -> impl Iterator<Item = &[u8]> {
     let lines =
@@ -197,6 +229,33 @@ mod tests {
         assert_eq!(place_of_error(b"\\bibdata{d,d.bib,d}", repeated, 16), Some(18));
         assert_eq!(place_of_error(b"\\bibdata{d,d.bib,d}", repeated, 18), None);
         assert_eq!(place_of_error(b"\\citation{*,*}", b"Multiple inclusions of entire database", 11), Some(13));
+    }
+
+    #[test]
+    fn what_is_not_read_is_named() {
+        let unread = |aux: &str| {
+            let file =
+                |name: &str, bytes: &str| File { name: name.into(), bytes: Some(bytes.into()), path: Vec::new() };
+            let files = Files { top: b"a.aux".to_vec(), all: vec![file("a.aux", aux), file("d.bib", "")] };
+            unread_database(&files).map(|(name, named)| (name, named.number))
+        };
+        assert_eq!(unread("\\bibdata{d, e}"), Some((b"e.bib".to_vec(), 1)));
+        assert_eq!(unread("\\bibdata{d}\n\\bibdata{f}"), Some((b"f.bib".to_vec(), 2)));
+        assert_eq!(unread("\\bibdata{d}"), None);
+        assert_eq!(not_taken(b"\\citation{a,b ,c}"), [b"b", b"c"]);
+        assert_eq!(not_taken(b"\\relax"), Vec::<&[u8]>::new());
+    }
+
+    #[test]
+    fn a_file_may_break_off() {
+        let is_broken = |bytes: &str| {
+            let file = File { name: b"a.aux".to_vec(), bytes: Some(bytes.into()), path: Vec::new() };
+            broken_off(&Files { top: b"a.aux".to_vec(), all: vec![file] }).is_some()
+        };
+        assert_eq!(
+            [is_broken("\\relax\n\\citation{a"), is_broken("\\citation{a}"), is_broken("\\cit\n")],
+            [true, false, false]
+        );
     }
 
     #[test]

@@ -1,7 +1,9 @@
 //! The items of a job's databases: by their lines, and the entries by their keys.
 
+use crate::alike::{Alike, alike};
 use crate::database::{Folded, Item, Items, key_at};
 use crate::job::{File, Files};
+use crate::missing_entry::Told;
 use crate::mistakes::field_for_key;
 use crate::nearest::nearest;
 use crate::text::{Text, find, split_first};
@@ -37,6 +39,15 @@ impl<'a> Database<'a> {
     fn new(file: &'a File) -> Database<'a> {
         let bytes = file.bytes.as_deref().unwrap_or(b"");
         Database { file, text: Text::new(bytes), items: Items::new(bytes).collect() }
+    }
+
+    /// Whether an item is an entry that has no key: none stands there, or its first field was taken for one.
+    fn is_keyless(&self, item: &Item<'a>) -> bool {
+        let Some(key) = item.entry_key() else { return false };
+        let bytes = self.text.bytes;
+        let is_before_sign = item.fault.is_some() && bytes.get(item.end) == Some(&b'=');
+        let has_nothing_between = || bytes.get(key.end..item.end).is_some_and(|text| text.trim_ascii().is_empty());
+        key.name.is_empty() || field_for_key(key.name).is_some() || is_before_sign && has_nothing_between()
     }
 
     /// The keys of entries that stand in the text of other items, and where each begins.
@@ -175,6 +186,8 @@ pub struct Entries<'a> {
     skipped: OnceCell<HashMap<Folded<'a>, Found>>,
     unread: OnceCell<HashMap<Folded<'a>, Found>>,
     unreached: OnceCell<HashMap<Folded<'a>, Found>>,
+    keyless: OnceCell<Option<Found>>,
+    lost: OnceCell<Option<Told>>,
     /// For how many more keys one that may be meant is looked for.
     left: Cell<usize>,
 }
@@ -193,6 +206,8 @@ impl<'a> Entries<'a> {
             skipped: OnceCell::new(),
             unread: OnceCell::new(),
             unreached: OnceCell::new(),
+            keyless: OnceCell::new(),
+            lost: OnceCell::new(),
             left: Cell::new(MOST_MEANT),
         }
     }
@@ -228,6 +243,17 @@ impl<'a> Entries<'a> {
         self.left.set(self.left.get().checked_sub(1)?);
         let known = nearest(key, self.by_key().keys().map(|known| known.0))?;
         self.entry(known)
+    }
+
+    /// The entry whose key looks like this one, which no entry has; and whether it is this one that has other characters than those of the keyboard.
+    pub fn alike(&self, key: &[u8]) -> Option<(Stored<'_, 'a>, Alike, bool)> {
+        if let Some(alike) = alike(key) {
+            return self.entry(&alike.name).map(|stored| (stored, alike, true));
+        }
+        let known = self.by_key().keys().filter(|known| self.left.get() > 0 && !known.0.is_ascii());
+        let mut found = known.filter_map(|known| Some((known.0, alike(known.0)?)));
+        let (known, alike) = found.find(|(_, alike)| Folded(&alike.name) == Folded(key))?;
+        self.entry(known).map(|stored| (stored, alike, false))
     }
 
     /// The first entry of this key that stands in the text of another item.
@@ -275,15 +301,18 @@ impl<'a> Entries<'a> {
         unreached.get(&Folded(key)).map(|(index, start)| (&self.databases[*index], *start))
     }
 
-    /// The first entry that has no key, and the field that stands in the key's place, if one does.
-    pub fn keyless(&self) -> Option<(Stored<'_, 'a>, Option<&'a [u8]>)> {
-        let field = |item: &Item<'a>| {
-            let key = item.entry_key()?.name;
-            if key.is_empty() { Some(None) } else { field_for_key(key).map(Some) }
-        };
-        let ((index, number), field) = self.all().find_map(|(found, item)| Some((found, field(item)?)))?;
+    /// The first entry that has no key: none stands there, or its first field was taken for one.
+    pub fn keyless(&self) -> Option<Stored<'_, 'a>> {
+        let is_it = |((index, _), item): &(Found, &Item<'a>)| self.databases[*index].is_keyless(item);
+        let first = || self.all().find(is_it).map(|(found, _)| found);
+        let (index, number) = (*self.keyless.get_or_init(first))?;
         let database = &self.databases[index];
-        Some((Stored { database, item: &database.items[number] }, field))
+        Some(Stored { database, item: &database.items[number] })
+    }
+
+    /// What is said of every entry that no database has: it is looked for once.
+    pub fn lost(&self, find: impl FnOnce() -> Option<Told>) -> Option<&Told> {
+        self.lost.get_or_init(find).as_ref()
     }
 
     /// Whether no database has an entry.
@@ -379,10 +408,11 @@ mod tests {
         let keyless = |text: &[u8]| {
             let files = files(text);
             let entries = Entries::new(&files);
-            entries.keyless().map(|(stored, field)| (stored.item.start, field.map(<[u8]>::to_vec)))
+            entries.keyless().map(|stored| stored.item.start)
         };
-        assert_eq!(keyless(b"@misc{k} @misc{, x = 1}"), Some((9, None)));
-        assert_eq!(keyless(b"@string{a = 1}\n@misc{\n author={A},\n x = 1}"), Some((15, Some(b"author".to_vec()))));
+        assert_eq!(keyless(b"@misc{k} @misc{, x = 1}"), Some(9));
+        assert_eq!(keyless(b"@string{a = 1}\n@misc{\n author={A},\n x = 1}"), Some(15));
+        assert_eq!(keyless(b"@string{a = 1}\n@misc{\n author = {A},\n x = 1}"), Some(15));
         assert_eq!(keyless(b"@misc{k, author = {A}}"), None);
     }
 

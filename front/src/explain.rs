@@ -1,9 +1,11 @@
 //! A log for its reader: each message, the line and the entry that it is about, and what to do.
 
 use crate::advice::{self, Advice, Section, Seen};
+use crate::aux_text::{broken_off, cited_keys, not_taken};
 use crate::beside;
 use crate::code_places::{Code, DEFAULT_TYPE};
-use crate::database::Item;
+use crate::database::{Folded, Inside, Item};
+use crate::document::Document;
 use crate::entries::{Entries, Stored};
 use crate::hints::functions_above_read;
 use crate::job::{File, Files};
@@ -26,6 +28,7 @@ use crate::text::{Text, find, split_first};
 use crate::unsaid::{Unsaid, after_ends};
 use std::collections::HashSet;
 use std::io::{self, BufWriter, Write};
+use std::rc::Rc;
 
 /// How many errors, and how many warnings, are explained; of the others the first of each kind.
 const MOST_EXPLAINED: u64 = 1_000;
@@ -113,6 +116,8 @@ struct Explainer<'a, W: Write> {
     part: Part,
     sources: Sources<'a>,
     entries: Option<Entries<'a>>,
+    /// The document beside the `.aux` file, once it was looked for.
+    document: Option<Rc<Option<Document>>>,
     terminal: &'a Terminal,
     scene_of_end: Option<&'a End>,
     /// Whether a signal ended the run: then no budget is to be raised.
@@ -125,6 +130,9 @@ struct Explainer<'a, W: Write> {
     /// How many keys have no entry since a database isn't there or has none.
     lost_keys: u64,
     causes: Vec<Cause<'a>>,
+    /// A database, or one line of it, whose other errors follow from one that was explained; and how many weren't printed yet.
+    odd: Option<(&'a [u8], Option<usize>)>,
+    of_odd: u64,
     repeats: Repeats<'a>,
     strings: Strings<'a>,
     warnings: Warnings<'a>,
@@ -154,6 +162,7 @@ impl<'a, W: Write> Explainer<'a, W> {
             part,
             sources: Sources::new(files),
             entries: None,
+            document: None,
             terminal,
             scene_of_end: log.scene_of_end(),
             is_interrupted: log.is_interrupted,
@@ -162,6 +171,8 @@ impl<'a, W: Write> Explainer<'a, W> {
             said: HashSet::new(),
             lost_keys: 0,
             causes: Vec::new(),
+            odd: None,
+            of_odd: 0,
             repeats: Repeats::default(),
             strings: Strings::default(),
             warnings: Warnings::default(),
@@ -214,7 +225,10 @@ impl<'a, W: Write> Explainer<'a, W> {
         let was_repeated = std::mem::take(&mut self.is_repeated);
         match &line.content {
             Content::Message(message)
-                if self.follows(message) || self.strings.has(message) || self.is_lost(message) =>
+                if self.follows(message)
+                    || self.is_of_odd(message)
+                    || self.strings.has(message)
+                    || self.is_lost(message) =>
             {
                 Ok(())
             }
@@ -277,7 +291,8 @@ impl<'a, W: Write> Explainer<'a, W> {
     fn unsaid(&mut self) -> io::Result<()> {
         let style = self.sources.style().and_then(|file| file.bytes.as_deref()).unwrap_or(b"");
         let (strings, files, terminal) = (self.known_strings(), self.files, self.terminal);
-        let unsaid = Unsaid::new(self.entries(), files, style, &strings);
+        let document = self.document();
+        let unsaid = Unsaid::new(self.entries(), files, style, &strings, document.as_ref().as_ref());
         let (more, unread) = (unsaid.more(), unsaid.unread());
         let shown: Vec<(Vec<String>, String)> =
             unsaid.shown().into_iter().map(|shown| (shown.lines(terminal), shown.advice)).collect();
@@ -291,7 +306,56 @@ impl<'a, W: Write> Explainer<'a, W> {
         if more > 0 {
             self.put_place(&format!("({more} more {} like these)", if more == 1 { "is" } else { "are" }))?;
         }
-        unread.map_or(Ok(()), |unread| writeln!(self.out, "{unread}"))
+        unread.map_or(Ok(()), |unread| writeln!(self.out, "{unread}"))?;
+        document.as_ref().as_ref().map_or(Ok(()), |document| self.unsaid_of_document(document))
+    }
+
+    /// What no message is about in the document: a style that doesn't fit its package, and keys that aren't in it any more.
+    fn unsaid_of_document(&mut self, document: &Document) -> io::Result<()> {
+        let style = self.sources.style().and_then(|file| file.name.strip_suffix(b".bst")).unwrap_or(b"");
+        let name = plain(shown_path(&document.file));
+        if let Some(number) = document.line_of_unfit_style(style) {
+            let line = Text::new(document.file.bytes.as_deref().unwrap_or(b"")).line(number);
+            writeln!(self.out, "No message is about this, and LaTeX stops at it or prints `?`:")?;
+            let lines = ShownLine { name: &name, number, line, mark: None }.lines(self.terminal);
+            lines.iter().try_for_each(|line| self.coloured(PLACE_COLOUR, &format!("{INDENT}{line}")))?;
+            let style = plain(style);
+            let fit = if ["plain", "unsrt", "abbrv"].contains(&&style[..]) {
+                format!("{style}nat")
+            } else {
+                "plainnat".into()
+            };
+            self.put_advice_once(&Seen::NatbibStyle.with(&[&fit, &style]))?;
+        }
+        let (mut seen, files) = (HashSet::new(), self.files);
+        let new = cited_keys(files).filter(|key| *key != b"*" && seen.insert(Folded(key)));
+        let lacked: Vec<&[u8]> = new.filter(|key| document.lacks(key)).collect();
+        let entries = self.entries();
+        let lacked: Vec<String> =
+            lacked.iter().filter(|key| entries.entry(key).is_some()).map(|key| format!("`{}`", plain(key))).collect();
+        if lacked.is_empty() {
+            return Ok(());
+        }
+        let dots = if lacked.len() > MOST_OF_SCENE { ", .." } else { "" };
+        let shown = lacked[..lacked.len().min(MOST_OF_SCENE)].join(", ");
+        writeln!(
+            self.out,
+            "(The `.aux` file cites what isn't in {name}: {shown}{dots}. Run LaTeX again, if they aren't cited any more.)"
+        )
+    }
+
+    /// The document beside the `.aux` file, if it is there.
+    fn document(&mut self) -> Rc<Option<Document>> {
+        let files = self.files;
+        Rc::clone(self.document.get_or_insert_with(|| Rc::new(Document::of(files))))
+    }
+
+    /// Whether an error follows from one that was explained, of its file or of its line. Then it is counted.
+    fn is_of_odd(&mut self, message: &Message<'a>) -> bool {
+        let Place::Line { file, number } = message.place else { return false };
+        let is_it = self.odd.is_some_and(|(odd, line)| odd == file && line.is_none_or(|line| line == number));
+        self.of_odd += u64::from(is_it);
+        is_it
     }
 
     /// What is to be said of lines that weren't printed, before the next one is.
@@ -300,9 +364,7 @@ impl<'a, W: Write> Explainer<'a, W> {
         if others > 0 {
             self.put_place(&format!("({others} more lines stand in the .blg)"))?;
         }
-        if let Some(text) = self.data.text() {
-            self.put_place(&text)?;
-        }
+        self.data.texts().iter().try_for_each(|text| self.put_place(text))?;
         self.end_causes()
     }
 
@@ -331,7 +393,7 @@ impl<'a, W: Write> Explainer<'a, W> {
         }
         let Some(key) = self.key_in(message.text) else { return false };
         self.hints = self.hints.saturating_sub(1);
-        if self.hints > 0 && self.lost_of(key, message.text).iter().any(|text| !self.said.contains(text)) {
+        if self.hints > 0 && self.origins_of(key, message.text).iter().any(|text| !self.said.contains(text)) {
             return false;
         }
         self.warnings.has(line, message.text, key)
@@ -400,7 +462,8 @@ impl<'a, W: Write> Explainer<'a, W> {
     /// What is said of the keys that were counted; once.
     fn texts_of_lost(&mut self) -> Vec<String> {
         let (count, files) = (std::mem::take(&mut self.lost_keys), self.files);
-        let place = missing_entry::lost(self.entries(), files).and_then(|told| told.place).filter(|_| count > 1);
+        let lost = missing_entry::lost(self.entries(), files);
+        let place = lost.and_then(|told| told.place.clone()).filter(|_| count > 1);
         let keys =
             if count == 2 { "1 more key has".into() } else { format!("{} more keys have", count.saturating_sub(1)) };
         let place = place.map(|place| if count == 2 { place } else { place.replacen("it may", "they may", 1) });
@@ -416,28 +479,18 @@ impl<'a, W: Write> Explainer<'a, W> {
         }
         self.put_line(if message.severity == Severity::Error { ERROR_COLOUR } else { WARNING_COLOUR }, line)?;
         match message.place {
-            Place::Line { file, .. } if file.ends_with(b".aux") => {
-                self.in_aux_file(message)?;
-                self.advise(&[Section::Aux], message.text)
-            }
+            Place::Line { file, .. } if file.ends_with(b".aux") => self.in_aux_file(message),
             Place::Line { file, .. } if file.ends_with(b".bst") => self.in_style(message, file),
             Place::Line { number, file } => match self.in_database(message, number, file)? {
+                Some(advice) if advice.starts_with("write `\\bibliography{") => self.put_advice_once(&advice),
                 Some(advice) => self.put_advice(&advice),
                 None => self.advise(&[Section::Database, Section::Entries], message.text),
             },
             Place::Execution { function, entry } => self.executed(message, function, entry),
             Place::Nowhere => match missing_key(message.text) {
                 Some(key) => self.missing_entry(key, message.text),
-                None => {
-                    self.unplaced(message)?;
-                    if let Some(advice) = self.parent_elsewhere(message.text)? {
-                        return self.put_advice_once(&advice);
-                    }
-                    let is_of_biblatex = message.text.starts_with(b"I found no ") && self.is_of_biblatex();
-                    let sections: &[Section] =
-                        if is_of_biblatex { &[] } else { &[Section::Aux, Section::Run, Section::Entries] };
-                    self.advise(sections, message.text)
-                }
+                None if self.unplaced(message)? => Ok(()),
+                None => self.advise(&[Section::Aux, Section::Run, Section::Entries], message.text),
             },
         }
     }
@@ -472,7 +525,20 @@ impl<'a, W: Write> Explainer<'a, W> {
     // ---- .aux files ----
 
     fn in_aux_file(&mut self, message: &Message<'a>) -> io::Result<()> {
-        self.sources.spot(message).map_or(Ok(()), |spot| self.show_line(&spot))
+        let Some(spot) = self.sources.spot(message) else { return self.advise(&[Section::Aux], message.text) };
+        self.show_line(&spot)?;
+        let end = self.sources.text(&spot.file.name).map(|text| text.bytes.len() - text.span(spot.number).1);
+        let is_last = end == Some(0) && message.text == b"No \"}\"";
+        if let Some(broken) = broken_off(self.files).filter(|file| is_last && file.name == spot.file.name) {
+            return self.put_advice_once(&Seen::AuxBreaksOff.with(&[&plain(shown_path(broken))]));
+        }
+        if message.text == b"White space in argument" {
+            let lost: Vec<String> = not_taken(spot.line).iter().map(|name| format!("`{}`", plain(name))).collect();
+            let dots = if lost.len() > MOST_OF_SCENE { ", .." } else { "" };
+            let shown = lost[..lost.len().min(MOST_OF_SCENE)].join(", ");
+            self.put_place(&format!("not taken from this line: {shown}{dots}"))?;
+        }
+        self.advise(&[Section::Aux], message.text)
     }
 
     // ---- styles ----
@@ -635,6 +701,11 @@ impl<'a, W: Write> Explainer<'a, W> {
 
     /// Says how many errors weren't printed since they follow from others.
     fn end_causes(&mut self) -> io::Result<()> {
+        let of_odd = std::mem::take(&mut self.of_odd);
+        if of_odd > 0 {
+            let errors = if of_odd == 1 { "1 more message follows" } else { &format!("{of_odd} more messages follow") };
+            self.put_place(&format!("({errors} from that)"))?;
+        }
         let unprinted = |cause: &mut Cause<'a>| (cause.number, std::mem::take(&mut cause.unprinted));
         let counts: Vec<(usize, u64)> = self.causes.iter_mut().map(unprinted).collect();
         for (number, count) in counts.into_iter().filter(|(_, count)| *count > 0) {
@@ -671,20 +742,23 @@ impl<'a, W: Write> Explainer<'a, W> {
         if let Some(seen) = self.seen_in(message, &spot, &text, &item) {
             return Ok(Some(seen));
         }
-        let meant = self.meant_by(message.text, &item);
-        let below = meant.as_ref().and_then(|name| self.seen_below(name, message.text, spot.file, &item));
-        meant.map_or(Ok(()), |name| self.put_place(&format!("is it `{}`?", plain(&name))))?;
-        Ok(below)
+        let Some(meant) = self.meant_by(message.text, &item) else { return Ok(None) };
+        let below = self.seen_below(&meant, message.text, spot.file, &item);
+        let meant = plain(&meant);
+        self.put_place(&format!("is it `{meant}`?"))?;
+        let string = between(message.text, b"string name \"", b"\" is undefined");
+        Ok(below.or_else(|| string.map(|name| Seen::NearString.with(&[&meant, &plain(name)]))))
     }
 
     /// What to do about a message of a database, where its text shows what was meant.
     fn seen_in(&mut self, message: &Message<'a>, spot: &Spot<'a>, text: &Text<'a>, item: &Item<'a>) -> Option<String> {
         let odd = beside::what_is_odd(spot.file).filter(|odd| self.said.insert(odd.clone()));
         if odd.is_some() {
+            self.odd = Some((&spot.file.name, None));
             return odd;
         }
         if let Some(name) = between(message.text, b"string name \"", b"\" is undefined") {
-            return self.seen_of_string(name, spot.file, item);
+            return self.seen_of_string(name, spot, item);
         }
         let first = item.key.filter(|_| message.text == b"Repeated entry");
         let hidden = first.and_then(|key| {
@@ -693,14 +767,29 @@ impl<'a, W: Write> Explainer<'a, W> {
         });
         let is_fault = item.fault.is_some_and(|fault| fault.as_bytes() == message.text);
         let hidden = hidden.or_else(|| what_hides(spot.file, text, item).filter(|_| is_fault || first.is_some()));
+        let hidden = hidden.or_else(|| self.of_other_case(first?.name));
         let fault = Some(item.end).filter(|_| is_fault);
         hidden.or_else(|| what_to_do(spot.file, text, item, fault?, message.text))
     }
 
+    /// Which of two entries to remove whose keys differ in their case alone: the one that isn't cited so.
+    fn of_other_case(&mut self, second: &'a [u8]) -> Option<String> {
+        let first = self.entries().entry(second)?.item.key?.name;
+        let named = self.sources.names().key(second)?;
+        let spot = self.sources.spot_of_name(named, second.len())?;
+        let (start, end) = spot.part?;
+        let cited = spot.line.get(start..end)?;
+        let other = [first, second].into_iter().find(|key| *key != cited && first != second)?;
+        let is_cited = cited == first || cited == second;
+        is_cited.then(|| Seen::RemoveOther.with(&[&plain(other), &plain(cited)]))
+    }
+
     /// What to do about a string that isn't defined, where it is below, or where its name isn't one.
-    fn seen_of_string(&mut self, name: &[u8], file: &File, item: &Item<'a>) -> Option<String> {
+    fn seen_of_string(&mut self, name: &[u8], spot: &Spot<'a>, item: &Item<'a>) -> Option<String> {
+        let file = spot.file;
         const QUOTES: [&str; 8] = ["\u{201C}", "\u{201D}", "\u{201E}", "\u{2018}", "\u{2019}", "\u{AB}", "\u{BB}", "`"];
         if let Some(quote) = QUOTES.iter().find(|quote| name.starts_with(quote.as_bytes())) {
+            self.odd = Some((&file.name, Some(spot.number)));
             return Some(Seen::NoQuote.with(&[quote]));
         }
         if name.starts_with(b"\\") {
@@ -715,12 +804,16 @@ impl<'a, W: Write> Explainer<'a, W> {
         self.defined_below(name, file, item)
     }
 
-    /// What to do about a string that is defined below its use.
+    /// What to do about a string that is defined below its use, or in a database that is read later.
     fn defined_below(&mut self, name: &[u8], file: &File, item: &Item<'a>) -> Option<String> {
         let files = self.files;
         let Stored { database, item: defined } = self.entries().string(name)?;
         let place = |name: &[u8]| files.with_ending(".bib").position(|file| file.name == name);
         let is_below = (place(&database.file.name), defined.start) > (place(&file.name), item.start);
+        if is_below && database.file.name != file.name {
+            let first = plain(shown_path(database.file));
+            return Some(Seen::DefinedInLater.with(&[&in_order(files, database.file, file), &first]));
+        }
         let at = crate::mistakes::line_of(database.file, &database.text, defined.start);
         is_below.then(|| Seen::DefinedBelow.with(&[&plain(name), &at]))
     }
@@ -838,7 +931,10 @@ impl<'a, W: Write> Explainer<'a, W> {
         match (self.advice_at(message, function), lacked) {
             (Some(advice), _) => self.put_advice(&advice)?,
             (None, Some(lacked)) => self.put_advice_once(&Seen::FieldIsMissing.with(&[&lacked]))?,
-            (None, None) => self.advise(&[Section::Execution], message.text)?,
+            (None, None) => match names_by_commas(message.text) {
+                Some(names) => self.put_advice(&Seen::NamesByCommas.with(&[&names]))?,
+                None => self.advise(&[Section::Execution], message.text)?,
+            },
         }
         match message.scene {
             // (the way through the style has nothing to do with a name)
@@ -978,32 +1074,55 @@ impl<'a, W: Write> Explainer<'a, W> {
 
     // ---- messages without a place ----
 
-    fn unplaced(&mut self, message: &Message<'a>) -> io::Result<()> {
+    /// Says more of a message without a place; whether it was said what to do.
+    fn unplaced(&mut self, message: &Message<'a>) -> io::Result<bool> {
         let text = message.text;
         if let Some(spot) = self.sources.spot(message) {
             self.show_line(&spot)?;
             let meant = beside::meant(text, self.files);
-            return meant.map_or(Ok(()), |meant| self.put_place(&meant));
+            return meant.map_or(Ok(false), |meant| self.put_place(&meant).map(|()| false));
         }
-        let child = bad_reference(text).map(|(child, _)| child);
-        let child =
-            child.or_else(|| between(text, b"you've nested cross references--entry \"", b"\" refers to entry \""));
+        if let Some(child) = between(text, b"A bad cross reference--entry \"", b"\" refers to entry \"") {
+            return self.bad_parent(child, text);
+        }
+        let child = between(text, b"you've nested cross references--entry \"", b"\" refers to entry \"");
         if let Some(key) = child {
-            return self.show_entry("for", key).map(|_| ());
+            return self.show_entry("for", key).map(|_| false);
         }
         if text.starts_with(b"I found no ") {
-            return self.found_no_command();
+            return self.found_no_command(text);
         }
-        self.of_style(text)
+        self.of_style(text).map(|()| false)
     }
 
-    /// Which file was looked through for a command, and whether it is of another program.
-    fn found_no_command(&mut self) -> io::Result<()> {
-        let Some(top) = self.files.with_ending(".aux").next() else { return Ok(()) };
+    /// Says of a parent that wasn't found where it may be. The run logs a second message about it, of which nothing more is said then.
+    fn bad_parent(&mut self, child: &'a [u8], text: &'a [u8]) -> io::Result<bool> {
+        self.show_entry("for", child)?;
+        self.said.insert(lost_parent(child));
+        let Some((_, parent)) = bad_reference(text) else { return Ok(false) };
+        let (files, document) = (self.files, self.document());
+        let told = missing_entry::told(self.entries(), files, document.as_ref().as_ref(), parent);
+        self.said.insert(told_parent(parent));
+        told.place.map_or(Ok(()), |place| self.put_place(&place))?;
+        let Some(advice) = told.advice else { return Ok(false) };
+        self.put_advice_once(&advice).map(|()| true)
+    }
+
+    /// Which file was looked through for a command, whether it is of another program, and whether it is older than the document; whether it was said what to do.
+    fn found_no_command(&mut self, text: &[u8]) -> io::Result<bool> {
+        let Some(top) = self.files.with_ending(".aux").next() else { return Ok(false) };
         let name = plain(shown_path(top));
         self.put_place_once(&format!("{name}: the whole file was read, and those that it includes"))?;
         let stem = name.strip_suffix(".aux").unwrap_or(&name);
-        if self.is_of_biblatex() { self.put_advice_once(&Seen::OfBiblatex.with(&[stem])) } else { Ok(()) }
+        let advice = if let Some(broken) = broken_off(self.files) {
+            Some(Seen::AuxBreaksOff.with(&[&plain(shown_path(broken))]))
+        } else if self.is_of_biblatex() {
+            Some(Seen::OfBiblatex.with(&[stem]))
+        } else {
+            let document = self.document();
+            document.as_ref().as_ref().and_then(|document| advice_of_document(document, text))
+        };
+        advice.map_or(Ok(false), |advice| self.put_advice_once(&advice).map(|()| true))
     }
 
     /// Whether the job is of a document with `biblatex` whose bibliography another program makes.
@@ -1016,38 +1135,61 @@ impl<'a, W: Write> Explainer<'a, W> {
     fn of_style(&mut self, text: &'a [u8]) -> io::Result<()> {
         let Some(key) = self.key_in(text) else { return Ok(()) };
         self.show_entry("for", key)?;
-        self.lost_of(key, text).iter().try_for_each(|text| self.put_place_once(text))
+        if let Some(cause) = self.cause_of(key, text) {
+            self.said.insert(cause.clone());
+            return self.put_place(&cause);
+        }
+        let (places, advice) = self.lost_of(key, text);
+        places.iter().try_for_each(|text| self.put_place_once(text))?;
+        advice.map_or(Ok(()), |advice| self.put_advice_once(&advice))
     }
 
-    /// What of an entry is lost, where a style's warning may come from that: a field of another name, or text after its end.
-    fn lost_of(&mut self, key: &[u8], warning: &[u8]) -> Vec<String> {
+    /// What is said of a style's warning: the error above from which it follows, or what of its entry is lost.
+    fn origins_of(&mut self, key: &[u8], warning: &[u8]) -> Vec<String> {
+        let cause = self.cause_of(key, warning);
+        cause.map_or_else(|| self.lost_of(key, warning).0, |cause| vec![cause])
+    }
+
+    /// What of an entry is lost, where a style's warning may come from that, and what to do: a field of another name, or text after its end.
+    fn lost_of(&mut self, key: &[u8], warning: &[u8]) -> (Vec<String>, Option<String>) {
         let style = self.sources.style().and_then(|file| file.bytes.as_deref()).unwrap_or(b"");
-        let Some(stored) = self.entries().entry(key) else { return Vec::new() };
-        [meant_field(style, stored, warning), lost_fields(stored)].into_iter().flatten().collect()
+        let Some(stored) = self.entries().entry(key) else { return (Vec::new(), None) };
+        let (meant, lost) = (meant_field(style, stored, warning).unwrap_or_default(), lost_fields(stored));
+        ([meant.place, lost].into_iter().flatten().collect(), meant.advice)
+    }
+
+    /// The error above from which a style's warning of this entry follows: the entry wasn't read to its end, or a string of it isn't defined.
+    fn cause_of(&mut self, key: &[u8], warning: &[u8]) -> Option<String> {
+        let Stored { database, item } = self.entries().entry(key)?;
+        if item.fault.is_some() {
+            let at = crate::mistakes::line_of(database.file, &database.text, item.end);
+            return Some(format!("this may follow from the error above: nothing of the entry after {at} is read"));
+        }
+        let (bytes, inside) = (database.text.bytes, Inside::of(database.text.bytes, item));
+        if self.said.contains(&lost_parent(key)) {
+            return Some("this may follow from the error above: the entry's parent wasn't found".into());
+        }
+        let of_fields = inside.fields.iter().zip(&inside.values);
+        let words = || warning.split(|byte| !byte.is_ascii_alphanumeric() && !b"-_.".contains(byte));
+        let named = of_fields.filter(|(field, _)| words().any(|word| field.eq_ignore_ascii_case(word)));
+        let values: Vec<&[u8]> = named.map(|(_, value)| &bytes[value.clone()]).collect();
+        let name = values.into_iter().find(|value| self.strings.is_undefined(value))?;
+        Some(format!("this follows from above: the string `{}` isn't defined", plain(name)))
     }
 
     /// Says of an entry that wasn't found where its key is named, where the entry may be, and what to do.
     fn missing_entry(&mut self, key: &'a [u8], text: &[u8]) -> io::Result<()> {
         self.cited(key)?;
-        let files = self.files;
-        let told = missing_entry::told(self.entries(), files, key);
+        if self.said.contains(&told_parent(key)) {
+            return Ok(());
+        }
+        let (files, document) = (self.files, self.document());
+        let told = missing_entry::told(self.entries(), files, document.as_ref().as_ref(), key);
         told.place.map_or(Ok(()), |place| self.put_place(&place))?;
         match told.advice {
             Some(advice) => self.put_advice_once(&advice),
             None => self.advise(&[Section::Entries], text),
         }
-    }
-
-    /// Says where the parent is that an entry refers to in vain; what to do about that.
-    fn parent_elsewhere(&mut self, error: &[u8]) -> io::Result<Option<String>> {
-        let Some((_, parent)) = bad_reference(error) else { return Ok(None) };
-        let files = self.files;
-        if missing_entry::is_lost(self.entries(), files, parent) {
-            return Ok(None);
-        }
-        let told = missing_entry::told(self.entries(), files, parent);
-        told.place.map_or(Ok(()), |place| self.put_place(&place))?;
-        Ok(told.advice)
     }
 
     /// Where a key is cited, or named as a parent.
@@ -1063,12 +1205,45 @@ impl<'a, W: Write> Explainer<'a, W> {
     }
 }
 
+/// The names of a job's databases as `\bibliography` has them, with one of them moved before another.
+fn in_order(files: &Files, moved: &File, before: &File) -> String {
+    let all = files.with_ending(".bib").filter(|file| file.name != moved.name);
+    let all = all.flat_map(|file| if file.name == before.name { vec![moved, file] } else { vec![file] });
+    let names: Vec<String> = all.map(|file| plain(file.name.strip_suffix(b".bib").unwrap_or(&file.name))).collect();
+    names.join(",")
+}
+
+/// What is kept of an entry whose parent wasn't found; no text that is said is like it.
+fn lost_parent(child: &[u8]) -> String {
+    format!("\0{}", plain(child).to_lowercase())
+}
+
+/// What is kept of a parent that wasn't found, once it was said where it may be.
+fn told_parent(key: &[u8]) -> String {
+    format!("\0\0{}", plain(key).to_lowercase())
+}
+
 /// Names of fields in a row; of many the first ones.
 fn fields_in_words(fields: &[&[u8]]) -> String {
     let names: Vec<String> = fields.iter().take(MOST_OF_SCENE).map(|field| format!("`{}`", plain(field))).collect();
     let more = fields.len().saturating_sub(MOST_OF_SCENE);
     let rest = if more > 0 { format!(", and {more} more") } else { String::new() };
     format!("{}{rest}", names.join(", "))
+}
+
+/// What to do about a command that the `.aux` file lacks, by the document: it has the command, or has its neighbour.
+fn advice_of_document(document: &Document, error: &[u8]) -> Option<String> {
+    let name = plain(shown_path(&document.file));
+    let command = match error {
+        b"I found no \\bibdata command" => "\\bibliography",
+        b"I found no \\bibstyle command" => "\\bibliographystyle",
+        _ => return None,
+    };
+    if let Some(line) = document.line_of(command.as_bytes()) {
+        return Some(Seen::OlderAux.with(&[&format!("{name}:{line}"), command]));
+    }
+    let line = document.line_of(b"\\bibliography").filter(|_| command == "\\bibliographystyle")?;
+    Some(Seen::NoStyleInDocument.with(&[&format!("{name}:{line}")]))
 }
 
 /// What to do about an entry of a type that the style doesn't know, where it is known whether it has a function for these.
@@ -1086,6 +1261,27 @@ const AT_END: &[u8] = b"Illegal end of style file";
 /// The name in the error of a function that isn't known.
 fn unknown(error: &[u8]) -> Option<&[u8]> {
     error.strip_suffix(b" is an unknown function")
+}
+
+/// Names that are parted by commas, with `and` between them; None where it isn't seen which parts are one name.
+fn names_by_commas(error: &[u8]) -> Option<String> {
+    let (_, quoted) = split_first(error.strip_prefix(b"Too many commas in name ")?, b"\"")?;
+    let parts: Vec<&[u8]> = quoted.strip_suffix(b"\"")?.split(|byte| *byte == b',').map(<[u8]>::trim_ascii).collect();
+    let is_in_words = |part: &&[u8]| part.contains(&b' ');
+    let has_other = parts.iter().any(|part| part.is_empty() || part.contains(&b'{') || part.contains(&b'}'));
+    let has_and = quoted.windows(5).any(|word| word.eq_ignore_ascii_case(b" and "));
+    if has_other || has_and || parts.len() < 4 || parts.len() > MOST_OF_SCENE {
+        return None;
+    }
+    let is_one_each = parts.iter().all(is_in_words);
+    let names: Vec<String> = match is_one_each {
+        true => parts.iter().map(|part| plain(part)).collect(),
+        false if parts.len() % 2 == 0 => {
+            parts.chunks(2).map(|pair| format!("{}, {}", plain(pair[0]), plain(pair[1]))).collect()
+        }
+        false => return None,
+    };
+    Some(names.join(" and "))
 }
 
 /// The key of the message on an entry that wasn't found.
@@ -1181,7 +1377,7 @@ Error--Repeated entry--line 3 of file d.bib
                     ^
     in @misc{K}, which begins at d.bib:3
     the first is @misc{k}, which begins at d.bib:1
-    what to do: remove one of the two
+    what to do: remove the entry `K`: the document cites `k`, and case doesn't tell keys apart
 ";
         assert_eq!(explain(log, "", "@misc{k,\n note 1}\n@misc{K}\n"), wanted);
     }

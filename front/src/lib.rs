@@ -24,7 +24,8 @@
 //! | [`explain`], [`entries`], [`shown_line`], [`advice`] | what follows a message for its reader: where it stands, and what to do |
 //! | [`mistakes`] | what an author did where a database can't be read on |
 //! | [`beside`] | which file may be meant by one that isn't there, and what a file is that isn't what its name says |
-//! | [`unsaid`] | what no run logs of the cited entries |
+//! | [`unsaid`], [`doubts`] | what no run logs of the cited entries |
+//! | [`document`], [`alike`] | the document beside the `.aux` file; characters that look like one of the keyboard |
 //! | [`missing_entry`], [`nearest`] | where an entry may be that wasn't found, and which name may be meant by one that isn't known |
 //! | [`letters`], [`languages`], [`letter_codes`], [`letter_values`], [`style_keys`], [`letter_run`] | letters outside ASCII: half letters in a list, and the order of a language |
 //! | [`run_log`] | the log of a run as it is written and printed |
@@ -42,6 +43,7 @@
 //! `unsafe` stands in [`btx`] and [`system`] alone.
 
 pub mod advice;
+pub mod alike;
 pub mod aux_text;
 pub mod beside;
 #[allow(unsafe_code)]
@@ -50,6 +52,8 @@ pub mod code_places;
 pub mod confined_program;
 pub mod database;
 pub mod databases;
+pub mod document;
+pub mod doubts;
 pub mod entries;
 pub mod exit;
 pub mod explain;

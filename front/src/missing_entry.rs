@@ -2,15 +2,19 @@
 //! is spelled another way. And which fields, types and strings may be meant by names that a style or a database doesn't know.
 
 use crate::advice::Seen;
+use crate::alike::alike;
+use crate::aux_text::unread_database;
 use crate::beside::what_is_odd;
 use crate::database::{Inside, name_at};
+use crate::document::Document;
 use crate::entries::{Entries, Skipped, Stored};
 use crate::explain::{begins_item, shown_path};
 use crate::hints::names_of_fields;
 use crate::job::{File, Files};
-use crate::mistakes::{line_of, without_key};
+use crate::mistakes::line_of;
 use crate::nearest::nearest;
 use crate::terminal::plain;
+use crate::unsaid::place_in;
 
 /// What is said of something that is missing: where it may be, and what to do. What isn't known is None.
 #[derive(Debug, Clone, Default, PartialEq, Eq)]
@@ -20,7 +24,7 @@ pub struct Told {
 }
 
 /// What is said of an entry that wasn't found.
-pub fn told(entries: &Entries<'_>, files: &Files, key: &[u8]) -> Told {
+pub fn told(entries: &Entries<'_>, files: &Files, document: Option<&Document>, key: &[u8]) -> Told {
     if key.is_empty() {
         let advice = "write a key in the empty `\\cite{}`, or take it out".into();
         return Told { place: None, advice: Some(advice) };
@@ -36,7 +40,10 @@ pub fn told(entries: &Entries<'_>, files: &Files, key: &[u8]) -> Told {
         let place = format!("`{}` stands at {at}, in text that isn't read", plain(key));
         return Told { place: Some(place), advice: Some(Seen::NoAtSign.with(&[])) };
     }
-    told_of_unreached(entries, key).or_else(|| lost(entries, files)).unwrap_or_else(|| told_of_nearest(entries, key))
+    told_of_unreached(entries, key).or_else(|| lost(entries, files).cloned()).unwrap_or_else(|| {
+        let alike = told_of_alike(entries, key);
+        alike.or_else(|| told_of_older(entries, document, key)).unwrap_or_else(|| told_of_nearest(entries, key))
+    })
 }
 
 /// What is said of a key that stands in an entry whose beginning can't be read.
@@ -47,31 +54,63 @@ fn told_of_unreached(entries: &Entries<'_>, key: &[u8]) -> Option<Told> {
     Some(Told { place: Some(place), advice: Some(format!("mend the error at {at}: the entry is skipped after it")) })
 }
 
+/// What is said of a key that looks like an entry's, but for characters that aren't those of the keyboard.
+fn told_of_alike(entries: &Entries<'_>, key: &[u8]) -> Option<Told> {
+    let (stored, alike, is_cited_so) = entries.alike(key)?;
+    let name = plain(stored.item.key?.name);
+    let sign = alike.meant.to_string();
+    let (place, seen) = if is_cited_so {
+        (format!("`{}` has {}: is it `{name}`, {}?", plain(key), alike.what, begins(stored)), Seen::AlikeKey)
+    } else {
+        (format!("`{name}`, {}, has {}: is it that one?", begins(stored), alike.what), Seen::AlikeName)
+    };
+    Some(Told { place: Some(place), advice: Some(seen.with(&[&sign, &plain(&alike.name)])) })
+}
+
+/// What is said of a key that the document doesn't have any more, and that no entry names as its parent.
+fn told_of_older(entries: &Entries<'_>, document: Option<&Document>, key: &[u8]) -> Option<Told> {
+    let document = document.filter(|document| document.lacks(key) && entries.parent(key).is_none())?;
+    let advice = Seen::KeyNotInDocument.with(&[&plain(key), &plain(shown_path(&document.file))]);
+    Some(Told { place: None, advice: Some(advice) })
+}
+
 /// What is said of the entry whose key differs least, or of one that has no key.
 fn told_of_nearest(entries: &Entries<'_>, key: &[u8]) -> Told {
-    if let Some((key, stored)) = entries.meant(key).and_then(|stored| Some((stored.item.key?, stored))) {
-        return Told { place: Some(format!("is it `{}`, {}?", plain(key.name), begins(stored))), advice: None };
+    if let Some((near, stored)) = entries.meant(key).and_then(|stored| Some((stored.item.key?, stored))) {
+        let (near, written) = (plain(near.name), plain(key));
+        let is_parent = entries.parent(key).is_some();
+        let advice = if is_parent { Seen::NearParent.with(&[&near]) } else { Seen::NearKey.with(&[&written, &near]) };
+        return Told { place: Some(format!("is it `{near}`, {}?", begins(stored))), advice: Some(advice) };
     }
-    told_of_keyless(entries).unwrap_or_default()
+    told_of_keyless(entries, key).unwrap_or_default()
 }
 
 /// What is said of an entry that has no key, which may be the one that is looked for.
-fn told_of_keyless(entries: &Entries<'_>) -> Option<Told> {
-    let (stored, field) = entries.keyless()?;
-    let item = begins_item(stored.database.file, &stored.database.text, stored.item);
-    let advice = match field {
-        Some(field) => without_key(stored.item, field),
-        None => Seen::EntryWithoutKey.with(&[&item]),
-    };
-    Some(Told { place: Some(format!("{item}, has no key: is it that one?")), advice: Some(advice) })
+fn told_of_keyless(entries: &Entries<'_>, key: &[u8]) -> Option<Told> {
+    let stored = entries.keyless()?;
+    let (kind, at) = (plain(stored.item.kind), line_of(stored.database.file, &stored.database.text, stored.item.start));
+    Some(Told {
+        place: Some(format!("the @{kind} that begins at {at} has no key: is it that one?")),
+        advice: Some(Seen::EntryOfNoKey.with(&[&kind, &plain(key)])),
+    })
 }
 
 /// What is said of every entry that no database has, where a database isn't there or none has an entry.
-pub fn lost(entries: &Entries<'_>, files: &Files) -> Option<Told> {
+pub fn lost<'b>(entries: &'b Entries<'_>, files: &Files) -> Option<&'b Told> {
+    entries.lost(|| lost_in(entries, files))
+}
+
+/// The same, looked for in the files.
+fn lost_in(entries: &Entries<'_>, files: &Files) -> Option<Told> {
     if let Some(lost) = lost_database(files) {
         let name = plain(&lost.name);
         let place = format!("it may stand in {name}, which wasn't found");
         return Some(Told { place: Some(place), advice: Some(format!("look for {name} first")) });
+    }
+    if let Some((name, named)) = unread_database(files) {
+        let at = format!("{}:{}", plain(shown_path(named.file)), named.number);
+        let place = format!("it may stand in {}, which wasn't read ({at})", plain(&name));
+        return Some(Told { place: Some(place), advice: Some(Seen::MendFirst.with(&[&at])) });
     }
     if !entries.is_empty() {
         return None;
@@ -139,38 +178,81 @@ fn told_of_skipped(key: &[u8], skipped: Skipped<'_, '_>) -> Told {
 }
 
 /// Names that `biblatex` has for fields, and those that styles read.
-const OF_BIBLATEX: [(&str, &str); 6] = [
+const OF_BIBLATEX: [(&str, &str); 5] = [
     ("journaltitle", "journal"),
     ("date", "year"),
     ("location", "address"),
-    ("institution", "school"),
     ("maintitle", "booktitle"),
     ("issue", "number"),
 ];
 
-/// The name that `biblatex` has for a field.
-fn of_biblatex<'a>(word: &[u8], mut unread: impl Iterator<Item = &'a [u8]>) -> Option<&'a [u8]> {
-    let is_its = |field: &&[u8]| {
-        OF_BIBLATEX
+/// Fields that entries of one type have in the place of others.
+const OF_OTHER_TYPES: [(&str, &str); 6] = [
+    ("journal", "booktitle"),
+    ("booktitle", "journal"),
+    ("institution", "school"),
+    ("school", "institution"),
+    ("organization", "publisher"),
+    ("institution", "publisher"),
+];
+
+/// A field of an entry, and the value's text where the value is whole.
+type Field<'a> = (&'a [u8], &'a [u8]);
+
+/// The field that is meant to be another by one of these tables.
+fn by_table<'a>(word: &[u8], table: &[(&str, &str)], fields: &[Field<'a>]) -> Option<Field<'a>> {
+    let is_its = |(field, _): &&Field<'a>| {
+        table
             .iter()
             .any(|(its, ours)| field.eq_ignore_ascii_case(its.as_bytes()) && word.eq_ignore_ascii_case(ours.as_bytes()))
     };
-    unread.find(is_its)
+    fields.iter().find(is_its).copied()
 }
 
-/// A field of an entry that may be meant by one that a style's warning names: the entry doesn't have that one, and the style doesn't know this one.
-pub fn meant_field(style: &[u8], stored: Stored<'_, '_>, warning: &[u8]) -> Option<String> {
+/// A field of an entry that may be meant by one that a style's warning names: the entry doesn't have that one, and the style doesn't know this one, or takes it in entries of other types.
+pub fn meant_field(style: &[u8], stored: Stored<'_, '_>, warning: &[u8]) -> Option<Told> {
     let declared = names_of_fields(style);
     let knows = |name: &[u8]| declared.iter().any(|known| known.eq_ignore_ascii_case(name));
-    let fields = Inside::of(stored.database.text.bytes, stored.item).fields;
+    let text = stored.database.text.bytes;
+    let inside = Inside::of(text, stored.item);
+    let value = |at: usize| inside.values.get(at).map_or(&b""[..], |value| &text[value.clone()]);
+    let fields: Vec<Field<'_>> = inside.fields.iter().enumerate().map(|(at, field)| (*field, value(at))).collect();
     let words =
         warning.split(|byte| !byte.is_ascii_alphanumeric() && !b"-_.".contains(byte)).filter(|word| knows(word));
-    let missing = words.filter(|word| !fields.iter().any(|field| field.eq_ignore_ascii_case(word)));
-    let unread: Vec<&[u8]> = fields.iter().copied().filter(|field| !knows(field)).collect();
-    let near =
-        |word: &[u8]| nearest(word, unread.iter().copied()).or_else(|| of_biblatex(word, unread.iter().copied()));
-    let found = missing.filter_map(|word| Some((near(word)?, word))).next();
-    found.map(|(field, word)| format!("it has `{}`: is it `{}`?", plain(field), plain(word)))
+    let mut missing = words.filter(|word| !fields.iter().any(|(field, _)| field.eq_ignore_ascii_case(word)));
+    let unread: Vec<Field<'_>> = fields.iter().copied().filter(|(field, _)| !knows(field)).collect();
+    missing.find_map(|word| meant_by(word, stored, &fields, &unread))
+}
+
+/// What is said of a field that a style misses, where one of these may be meant by it; the style doesn't know the last ones.
+fn meant_by(word: &[u8], stored: Stored<'_, '_>, fields: &[Field<'_>], unread: &[Field<'_>]) -> Option<Told> {
+    let (file, text) = (stored.database.file, &stored.database.text);
+    let at = |field: &[u8]| line_of(file, text, place_in(text.bytes, field));
+    let missed = plain(word);
+    let looks_so = |(field, _): &Field<'_>| {
+        let alike = alike(field).filter(|alike| alike.name.eq_ignore_ascii_case(word))?;
+        Some(Told {
+            place: Some(format!("the name of its field `{}` has {} ({})", plain(field), alike.what, at(field))),
+            advice: Some(match alike.meant {
+                ' ' => Seen::SpaceInName.with(&[&missed]),
+                meant => Seen::AlikeName.with(&[&meant.to_string(), &missed]),
+            }),
+        })
+    };
+    if let Some(told) = unread.iter().find_map(looks_so) {
+        return Some(told);
+    }
+    let of_biblatex = by_table(word, &OF_BIBLATEX, unread);
+    let near = nearest(word, unread.iter().map(|(field, _)| *field)).map(|field| (field, &b""[..]));
+    let (field, value) = near.or(of_biblatex).or_else(|| by_table(word, &OF_OTHER_TYPES, fields))?;
+    let year = value.windows(4).find(|digits| digits.iter().all(u8::is_ascii_digit)).map(plain);
+    let advice = match year.filter(|_| field.eq_ignore_ascii_case(b"date")) {
+        Some(year) => Seen::OfBiblatexDate.with(&[&year]),
+        None if near.is_none() && of_biblatex.is_some() => Seen::OfBiblatexField.with(&[&plain(field), &missed]),
+        None => Seen::OtherField.with(&[&plain(field), &missed]),
+    };
+    let place = format!("it has `{}`: is it `{missed}`? ({})", plain(field), at(field));
+    Some(Told { place: Some(place), advice: Some(advice) })
 }
 
 /// Text after an entry's end that looks like a field of it.
@@ -238,7 +320,7 @@ mod tests {
 
     fn told_of(text: &str, key: &str) -> (String, String) {
         let files = files(text);
-        let told = told(&Entries::new(&files), &files, key.as_bytes());
+        let told = told(&Entries::new(&files), &files, None, key.as_bytes());
         (told.place.unwrap_or_default(), told.advice.unwrap_or_default())
     }
 
@@ -272,7 +354,14 @@ mod tests {
     #[test]
     fn a_key_is_spelled_another_way() {
         let (place, advice) = told_of("\n@misc{smith2010}", "smith210");
-        assert_eq!((&place[..], &advice[..]), ("is it `smith2010`, which begins at d.bib:2?", ""));
+        assert_eq!(place, "is it `smith2010`, which begins at d.bib:2?");
+        assert_eq!(advice, "write `smith2010` in the place of `smith210` in the `\\cite`, and run LaTeX");
+        let (place, advice) = told_of("@misc{smith-2010}", "smith\u{2013}2010");
+        assert_eq!(place, "`smith\u{2013}2010` has an en dash (U+2013): is it `smith-2010`, which begins at d.bib:1?");
+        assert_eq!(advice, "write `smith-2010` in the `\\cite`, with the `-` of the keyboard, and run LaTeX");
+        let (place, _) = told_of("@misc{smith\u{2013}2010}", "smith-2010");
+        assert_eq!(place, "`smith\u{2013}2010`, which begins at d.bib:1, has an en dash (U+2013): is it that one?");
+        assert_eq!(told_of("@misc{a, crossref = {pra08}} @misc{pra2008}", "pra08").1, "write `crossref = {pra2008}`");
         assert_eq!(told_of("@misc{k}", "nothing"), (String::new(), String::new()));
         assert_eq!(told_of("@misc{k}", "").1, "write a key in the empty `\\cite{}`, or take it out");
     }
@@ -281,7 +370,7 @@ mod tests {
     fn a_database_that_is_not_there_is_named() {
         let mut files = files("@misc{k}");
         files.all.push(File { name: b"gone.bib".to_vec(), bytes: None, path: Vec::new() });
-        let told = told(&Entries::new(&files), &files, b"kk");
+        let told = told(&Entries::new(&files), &files, None, b"kk");
         assert_eq!(told.place.as_deref(), Some("it may stand in gone.bib, which wasn't found"));
     }
 
@@ -293,11 +382,13 @@ mod tests {
             ("`a` stands at d.bib:2, in text that isn't read".into(), Seen::NoAtSign.with(&[]))
         );
         let (place, advice) = told_of("@misc{k}\n@misc{, x = 1}\n", "other");
-        assert_eq!(place, "@misc{}, which begins at d.bib:2, has no key: is it that one?");
-        assert_eq!(advice, "write the key into @misc{}, which begins at d.bib:2");
-        let (place, advice) = told_of("@misc{k}\n@misc{\n author={Smith},\n x = 1}\n", "smith");
-        assert_eq!(place, "@misc, which begins at d.bib:2, has no key: is it that one?");
-        assert_eq!(advice, "write the entry's key first: `@misc{KEY, author = ..`");
+        assert_eq!(place, "the @misc that begins at d.bib:2 has no key: is it that one?");
+        assert_eq!(advice, "write the key into it: `@misc{other,`");
+        for field in ["author={Smith}", "author = {Smith}"] {
+            let (place, advice) = told_of(&format!("@misc{{k}}\n@misc{{\n {field},\n x = 1}}\n"), "smith");
+            assert_eq!(place, "the @misc that begins at d.bib:2 has no key: is it that one?");
+            assert_eq!(advice, "write the key into it: `@misc{smith,`");
+        }
     }
 
     #[test]
@@ -305,7 +396,7 @@ mod tests {
         assert_eq!(told_of("", "a"), ("no entry stands in d.bib".into(), String::new()));
         assert_eq!(told_of("TY  - JOUR\n", "a").1, Seen::FileIsRis.with(&["d.bib"]));
         let none = Files { top: b"job.aux".to_vec(), all: Vec::new() };
-        assert_eq!(told(&Entries::new(&none), &none, b"a").place.as_deref(), Some("no database is named"));
+        assert_eq!(told(&Entries::new(&none), &none, None, b"a").place.as_deref(), Some("no database is named"));
         assert!(is_lost(&Entries::new(&none), &none, b"a") && !is_lost(&Entries::new(&none), &none, b""));
     }
 
@@ -315,12 +406,12 @@ mod tests {
         let entries = Entries::new(&whole);
         let stored = entries.entry(b"white").unwrap();
         let meant = meant_field(b"ENTRY {journal title year}{}{}", stored, b"empty journal in white");
-        assert_eq!(meant.as_deref(), Some("it has `jounral`: is it `journal`?"));
+        assert_eq!(place_of(meant), Some("it has `jounral`: is it `journal`? (d.bib:1)".into()));
         assert_eq!(meant_field(b"ENTRY {journal title}{}{}", stored, b"empty title in white"), None);
         let of_biblatex = files("@misc{k, journaltitle = {J}}");
         let of_biblatex = Entries::new(&of_biblatex);
         let meant = meant_field(b"ENTRY {journal}{}{}", of_biblatex.entry(b"k").unwrap(), b"empty journal in k");
-        assert_eq!(meant.as_deref(), Some("it has `journaltitle`: is it `journal`?"));
+        assert_eq!(place_of(meant), Some("it has `journaltitle`: is it `journal`? (d.bib:1)".into()));
         assert_eq!(lost_fields(stored).as_deref(), Some("the entry ends at d.bib:1; `year` stands after its end"));
         for text in ["@misc{k}},\n year = 2000}", "@misc{k}\n year = {2000}\n}", "@misc{k}\n,\nyear=y}"] {
             let files = files(text);
@@ -332,6 +423,29 @@ mod tests {
             let files = files(text);
             assert_eq!(LostField::after(Entries::new(&files).entry(b"k").unwrap()), None, "{text}");
         }
+    }
+
+    fn place_of(told: Option<Told>) -> Option<String> {
+        told.and_then(|told| told.place)
+    }
+
+    #[test]
+    fn fields_are_meant_in_other_ways() {
+        let meant = |database: &str, style: &str, warning: &str| {
+            let files = files(database);
+            let entries = Entries::new(&files);
+            meant_field(style.as_bytes(), entries.entry(b"k").unwrap(), warning.as_bytes()).unwrap()
+        };
+        let style = "ENTRY {journal booktitle year}{}{}";
+        let told = meant("@misc{k,\n journal\u{A0} = {J}}", style, "empty journal in k");
+        assert_eq!(
+            told.place.as_deref(),
+            Some("the name of its field `journal\u{A0}` has a no-break space (U+00A0) (d.bib:2)")
+        );
+        let told = meant("@misc{k, date = {2016-01-28}}", style, "empty year in k");
+        assert_eq!(told.advice, Some(Seen::OfBiblatexDate.with(&["2016"])));
+        let told = meant("@misc{k,\n journal = {J}}", style, "empty booktitle in k");
+        assert_eq!(told.place.as_deref(), Some("it has `journal`: is it `booktitle`? (d.bib:2)"));
     }
 
     #[test]

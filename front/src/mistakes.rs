@@ -11,6 +11,9 @@ use std::ops::Range;
 /// How many bytes of an item's line are looked at for what an author takes for a comment.
 const MOST_BEFORE: usize = 200;
 
+/// How many lines an entry may have in which a file breaks off.
+const MOST_LINES: usize = 60;
+
 /// An item of a database, and the place of its error.
 struct Place<'b, 'a> {
     file: &'b File,
@@ -67,7 +70,7 @@ pub fn field_for_key(key: &[u8]) -> Option<&[u8]> {
 }
 
 /// What to do about an entry that begins with this field, and not with a key.
-pub fn without_key(item: &Item<'_>, field: &[u8]) -> String {
+fn without_key(item: &Item<'_>, field: &[u8]) -> String {
     Seen::NoKey.with(&[&plain(item.kind), &plain(field)])
 }
 
@@ -166,8 +169,10 @@ impl<'a> Place<'_, 'a> {
     fn quote(&self, value: &Range<usize>) -> Option<String> {
         let is_quoted = value.end == self.place && self.text.bytes[value.start] == b'"';
         let owner = self.owner().filter(|_| is_quoted)?;
+        let is_accent = self.place.checked_sub(2).is_some_and(|before| self.text.bytes[before] == b'\\');
         Some(match self.is_on_one_line(value.start) {
-            true => Seen::QuoteInText.with(&[&owner]),
+            true if is_accent => Seen::QuoteInText.with(&[&owner]),
+            true => Seen::QuotesInText.with(&[&owner]),
             false => Seen::QuoteTooEarly.with(&[&owner, &self.line(value.start)]),
         })
     }
@@ -278,7 +283,18 @@ impl<'a> Place<'_, 'a> {
         let is_in_value = self.inside.last_value != self.inside.values.last().map(|value| value.start);
         let is_braced =
             self.text.bytes[self.item.start..].iter().find(|byte| matches!(byte, b'{' | b'(')) == Some(&b'{');
-        (!is_in_value).then(|| Seen::NotClosedAtEnd.with(&[&self.begins_item(), if is_braced { "}" } else { ")" }]))
+        let (item, closing) = (self.begins_item(), if is_braced { "}" } else { ")" });
+        match is_in_value {
+            true => self.is_last_item().then(|| Seen::BreaksOff.with(&[&item, closing])),
+            false => Some(Seen::NotClosedAtEnd.with(&[&item, closing])),
+        }
+    }
+
+    /// Whether no other item begins after this one in a line of its own, and it begins near the end of the file.
+    fn is_last_item(&self) -> bool {
+        let rest = &self.text.bytes[self.item.start + 1..];
+        let is_near = self.text.line_of(self.text.bytes.len()) < self.text.line_of(self.item.start) + MOST_LINES;
+        is_near && !rest.split(|byte| *byte == b'\n').skip(1).any(|line| line.trim_ascii_start().starts_with(b"@"))
     }
 }
 
@@ -334,6 +350,7 @@ mod tests {
         let quoted = "close the value of `x`, which begins at d.bib:2: the quote before this place ends it";
         assert_eq!(advice("@misc{a,\n x = \"T,\n y = \"B\", z = 1}"), quoted);
         assert_eq!(advice("@misc{a,\n x = \"G\\\"odel\"}"), Seen::QuoteInText.with(&["x"]));
+        assert_eq!(advice("@misc{a,\n x = \"The \"Room\" of\"}"), Seen::QuotesInText.with(&["x"]));
     }
 
     #[test]
@@ -364,7 +381,9 @@ mod tests {
             advice("@misc{a, x = {for all a, b=3}"),
             "close @misc{a}, which begins at d.bib:1: its last `}` is missing"
         );
-        assert_eq!(advice("@misc{a, x = {T"), "");
+        let item = "@misc{a}, which begins at d.bib:1";
+        assert_eq!(advice("@misc{a, x = {T"), Seen::BreaksOff.with(&[item, "}"]));
+        assert_eq!(advice("@misc{a, x = {T\n@misc{b}\n"), "");
     }
 
     #[test]

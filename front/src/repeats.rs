@@ -37,7 +37,7 @@ pub struct Repeats<'a> {
 }
 
 impl<'a> Repeats<'a> {
-    /// Whether an error of a style's code was met before at the same place, or follows from one; then it is counted. Those that a value of a database makes never are. Where the style's text
+    /// Whether an error of a style's code was met before at the same place, or follows from one; then it is counted. Of those that a value of a database makes only the same ones are. Where the style's text
     /// `has_mistakes`, its places don't matter.
     pub fn has(&mut self, line: &'a [u8], message: &Message<'a>, has_mistakes: bool) -> bool {
         let Place::Execution { function, entry } = message.place else { return false };
@@ -102,6 +102,11 @@ impl<'a> Strings<'a> {
             self.names.push(name);
         }
         known.0 > 1
+    }
+
+    /// Whether a string of this name was said not to be defined.
+    pub fn is_undefined(&self, name: &[u8]) -> bool {
+        self.by_name.contains_key(name)
     }
 
     /// What is said of those that weren't printed, for each name; once.
@@ -196,8 +201,10 @@ pub struct OfData<'a> {
     /// The fields that each entry lacks, and the command that met the last one.
     lacks: HashMap<&'a [u8], (&'a Call, Vec<String>)>,
     names: HashSet<(&'a [u8], &'a [u8])>,
-    /// How many errors weren't explained.
-    count: u64,
+    /// How many errors weren't explained since they follow from another, or since they are the same of a name; and for which entries the latter are.
+    follow: u64,
+    same: u64,
+    keys: Vec<&'a [u8]>,
 }
 
 impl<'a> OfData<'a> {
@@ -206,36 +213,51 @@ impl<'a> OfData<'a> {
         const OF_STACK: [&[u8]; 2] = [b"You can't pop an empty literal stack", b"The literal stack isn't empty"];
         let Place::Execution { entry: Some(key), .. } = message.place else { return false };
         let Some(advice) = advice::find(&[Section::Execution], message.text) else { return false };
-        let is_known = if advice.is_of_name() {
-            !self.names.insert((key, message.text))
-        } else {
-            let Some(command) = message.scene.map(Scene::command) else { return false };
-            match (self.lacks.get_mut(key), lacked) {
-                (Some((_, fields)), Some(field)) if fields.contains(&field) => true,
-                (Some((last, _)), None) => *last == command && OF_STACK.contains(&message.text),
-                (Some((last, fields)), Some(field)) => {
-                    *last = command;
-                    fields.push(field);
-                    false
-                }
-                (None, Some(field)) => {
-                    self.lacks.insert(key, (command, vec![field]));
-                    false
-                }
-                (None, None) => false,
+        if advice.is_of_name() {
+            return self.has_name(key, message.text);
+        }
+        let Some(command) = message.scene.map(Scene::command) else { return false };
+        let is_known = match (self.lacks.get_mut(key), lacked) {
+            (Some((_, fields)), Some(field)) if fields.contains(&field) => true,
+            (Some((last, _)), None) => *last == command && OF_STACK.contains(&message.text),
+            (Some((last, fields)), Some(field)) => {
+                *last = command;
+                fields.push(field);
+                false
             }
+            (None, Some(field)) => {
+                self.lacks.insert(key, (command, vec![field]));
+                false
+            }
+            (None, None) => false,
         };
-        self.count += u64::from(is_known);
+        self.follow += u64::from(is_known);
+        is_known
+    }
+
+    /// Whether this error of a name of an entry was explained; then it is counted.
+    fn has_name(&mut self, key: &'a [u8], text: &'a [u8]) -> bool {
+        let is_known = !self.names.insert((key, text));
+        self.same += u64::from(is_known);
+        if is_known && self.keys.len() <= MOST_ENTRIES && !self.keys.contains(&key) {
+            self.keys.push(key);
+        }
         is_known
     }
 
     /// What is said of those that weren't explained since this was asked last.
-    pub fn text(&mut self) -> Option<String> {
-        match std::mem::take(&mut self.count) {
+    pub fn texts(&mut self) -> Vec<String> {
+        let (follow, same, keys) =
+            (std::mem::take(&mut self.follow), std::mem::take(&mut self.same), std::mem::take(&mut self.keys));
+        let errors = |count: u64, one: &str, more: &str| match count {
             0 => None,
-            1 => Some("(1 more error follows from that)".into()),
-            count => Some(format!("({count} more errors follow from that)")),
-        }
+            1 => Some(format!("(1 more error {one}")),
+            count => Some(format!("({count} more errors {more}")),
+        };
+        let follow = errors(follow, "follows", "follow").map(|text| format!("{text} from that)"));
+        let names = || format!("the same, for {}: the style takes these names more than once)", in_a_row(&keys));
+        let same = errors(same, "is", "are").map(|text| format!("{text} {}", names()));
+        follow.into_iter().chain(same).collect()
     }
 }
 
@@ -301,8 +323,9 @@ mod tests {
             had.push(data.has(&message, None));
         }
         assert_eq!(had, [false, false, true, false]);
-        assert_eq!(data.text().as_deref(), Some("(1 more error follows from that)"));
-        assert_eq!(data.text(), None);
+        let wanted = "(1 more error is the same, for a: the style takes these names more than once)";
+        assert_eq!(data.texts(), [wanted]);
+        assert!(data.texts().is_empty());
     }
 
     #[test]

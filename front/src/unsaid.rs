@@ -1,25 +1,31 @@
 //! What no run logs although an author may have meant something else: the name of a string as a text, names that aren't parted by ` and `, an organization that is read as a person, a `$` without
-//! another one, and fields that the style doesn't read. It is said of the entries that a job cites, after its messages.
+//! another one, what [`crate::doubts`] sees in a text, and fields that the style doesn't read. It is said of the entries that a job cites, after its messages.
 
 use crate::advice::Seen;
 use crate::aux_text::cited_keys;
 use crate::database::{Folded, Inside};
+use crate::document::Document;
+use crate::doubts::{doubt, has_label_of_year};
 use crate::entries::{Entries, Stored};
 use crate::explain::{begins_item, shown_path};
 use crate::hints::names_of_fields;
-use crate::job::Files;
+use crate::job::{File, Files};
 use crate::letter_values::parts;
 use crate::missing_entry::LostField;
 use crate::nearest::nearest;
 use crate::shown_line::ShownLine;
 use crate::terminal::{Terminal, plain};
+use crate::text::find;
 use std::collections::{HashMap, HashSet};
 use std::ops::Range;
 
 /// Of how many entries that is looked for, and how much of it is shown.
 const MOST_ENTRIES: usize = 5_000;
-const MOST_SHOWN: usize = 5;
+const MOST_SHOWN: usize = 8;
 const MOST_FIELDS: usize = 8;
+
+/// Fields that an author looks for in the list.
+const ADDRESSES: [&str; 2] = ["url", "doi"];
 
 /// Fields in which the name of a string is meant to be one.
 const OF_STRINGS: [&str; 4] = ["journal", "month", "publisher", "series"];
@@ -67,12 +73,22 @@ struct Found<'b, 'a> {
     text: Range<usize>,
     place: usize,
     seen: Seen,
+    /// The names for what is said; none where they are the field and its text.
+    names: Vec<String>,
 }
 
 impl<'b, 'a> Found<'b, 'a> {
+    /// The field, where it is said of each that the style doesn't print it.
+    fn field_of_address(&self) -> Option<Folded<'a>> {
+        Some(Folded(self.field)).filter(|_| self.seen == Seen::UnprintedAddress)
+    }
+
     fn shown(&self) -> Shown<'b, 'a> {
         let text = &self.stored.database.text.bytes[self.text.clone()];
-        let advice = self.seen.with(&[&plain(self.field), &plain(text.trim_ascii())]);
+        let advice = match &self.names[..] {
+            [] => self.seen.with(&[&plain(self.field), &plain(text.trim_ascii())]),
+            names => self.seen.with(&names.iter().map(String::as_str).collect::<Vec<_>>()),
+        };
         Shown { stored: self.stored, place: self.place, advice }
     }
 }
@@ -83,6 +99,19 @@ pub struct Unsaid<'b, 'a> {
     found: Vec<Found<'b, 'a>>,
     /// For each field that the style doesn't read how many entries have it, and one of a near name that it reads.
     unread: HashMap<Folded<'a>, (usize, Option<String>)>,
+    /// The databases in which a byte was found that isn't UTF-8.
+    of_bytes: HashSet<*const u8>,
+}
+
+/// What is known of a style and of the document.
+struct Known<'k> {
+    /// The fields that the style reads.
+    read: Vec<Vec<u8>>,
+    strings: HashSet<Folded<'k>>,
+    /// Whether it takes a label from the end of the year.
+    has_label: bool,
+    /// Whether the document is likely to be in UTF-8.
+    is_utf8: bool,
 }
 
 /// A place that is shown, and what to do about it.
@@ -104,44 +133,82 @@ impl Shown<'_, '_> {
 
 impl<'b, 'a> Unsaid<'b, 'a> {
     /// What is found in the entries that a job cites. `strings` are the names of strings that it knows.
-    pub fn new(entries: &'b Entries<'a>, files: &'a Files, style: &[u8], strings: &[&[u8]]) -> Unsaid<'b, 'a> {
+    pub fn new(
+        entries: &'b Entries<'a>,
+        files: &'a Files,
+        style: &[u8],
+        strings: &[&[u8]],
+        document: Option<&Document>,
+    ) -> Unsaid<'b, 'a> {
         let mut unsaid = Unsaid::default();
-        let fields = names_of_fields(style);
-        let strings: HashSet<Folded<'_>> = strings.iter().map(|name| Folded(name)).collect();
+        let known = Known {
+            read: names_of_fields(style),
+            strings: strings.iter().map(|name| Folded(name)).collect(),
+            has_label: has_label_of_year(style),
+            is_utf8: is_in_utf8(files, document),
+        };
         let mut cited = HashSet::new();
         let keys = cited_keys(files).filter(|key| cited.insert(Folded(key))).take(MOST_ENTRIES);
         for stored in keys.filter_map(|key| entries.entry(key)) {
-            unsaid.look_at(stored, &fields, &strings);
+            unsaid.look_at(stored, &known);
         }
         unsaid
     }
 
-    fn look_at(&mut self, stored: Stored<'b, 'a>, read: &[Vec<u8>], strings: &HashSet<Folded<'_>>) {
+    fn look_at(&mut self, stored: Stored<'b, 'a>, known: &Known<'_>) {
         let bytes = stored.database.text.bytes;
         let inside = Inside::of(bytes, stored.item);
         let has = |name: &[u8]| inside.fields.iter().any(|field| field.eq_ignore_ascii_case(name));
         for (name, value) in inside.fields.iter().zip(&inside.values) {
-            let is_read = read.iter().any(|known| known.eq_ignore_ascii_case(name));
-            if is_read && let Some(text) = whole_text(bytes, value) {
-                let seen = seen_in(name, bytes, &text, strings);
-                self.found.extend(seen.map(|(place, seen)| Found {
-                    stored,
-                    field: name,
-                    text: text.clone(),
-                    place,
-                    seen,
-                }));
-            } else if !is_read && !read.is_empty() && !is_one_of(name, &KEPT) {
-                let lacked = read.iter().map(Vec::as_slice).filter(|known| !has(known));
-                let known = self.unread.entry(Folded(name)).or_insert_with(|| (0, nearest(name, lacked).map(plain)));
-                known.0 += 1;
+            let is_read = known.read.iter().any(|known| known.eq_ignore_ascii_case(name));
+            let text = whole_text(bytes, value);
+            if is_read && let Some(text) = text {
+                self.look_at_text(stored, name, text, known);
+            } else if !is_read && !known.read.is_empty() && !is_one_of(name, &KEPT) {
+                let lacked = known.read.iter().map(Vec::as_slice).filter(|known| !has(known));
+                let unread = self.unread.entry(Folded(name)).or_insert_with(|| (0, nearest(name, lacked).map(plain)));
+                unread.0 += 1;
+                if unread.0 == 1 && is_one_of(name, &ADDRESSES) {
+                    let (text, place) = (value.clone(), place_in(bytes, name));
+                    let names = vec![plain(name)];
+                    let seen = Seen::UnprintedAddress;
+                    self.found.push(Found { stored, field: name, text, place, seen, names });
+                }
             }
         }
     }
 
-    /// The first of the places, with what to do about each.
+    /// Looks at the text of a field that the style reads.
+    fn look_at_text(&mut self, stored: Stored<'b, 'a>, field: &'a [u8], text: Range<usize>, known: &Known<'_>) {
+        let bytes = stored.database.text.bytes;
+        let inside = &bytes[text.clone()];
+        let start = text.start;
+        let mut found =
+            |place, seen, names| self.found.push(Found { stored, field, text: text.clone(), place, seen, names });
+        if let Some((place, seen)) = seen_in(field, bytes, &text, &known.strings) {
+            found(place, seen, Vec::new());
+        }
+        if let Some(doubt) = doubt(field, inside, known.has_label) {
+            found(start + doubt.place, doubt.seen, doubt.names);
+        }
+        if known.is_utf8
+            && let Err(fault) = std::str::from_utf8(inside)
+            && self.of_bytes.insert(bytes.as_ptr())
+        {
+            let at = fault.valid_up_to();
+            let names = vec![plain(shown_path(stored.database.file)), format!("{:02X}", inside[at])];
+            let place = start + at;
+            self.found.push(Found { stored, field, text, place, seen: Seen::NotUtf8, names });
+        }
+    }
+
+    /// The first place of each kind and then others, with what to do about each.
     pub fn shown(&self) -> Vec<Shown<'b, 'a>> {
-        self.found.iter().take(MOST_SHOWN).map(Found::shown).collect()
+        let mut kinds = HashSet::new();
+        let (first, more): (Vec<_>, Vec<_>) =
+            self.found.iter().partition(|found| kinds.insert((found.seen, found.field_of_address())));
+        let (last, first): (Vec<_>, Vec<_>) = first.into_iter().partition(|found| found.seen == Seen::UnprintedAddress);
+        first.into_iter().chain(more).chain(last).take(MOST_SHOWN).map(Found::shown).collect()
     }
 
     /// How many places aren't shown.
@@ -179,6 +246,20 @@ pub fn after_ends<'b, 'a>(entries: &'b Entries<'a>, files: &'a Files) -> (Vec<Sh
     let more = shown.len().saturating_sub(MOST_SHOWN);
     shown.truncate(MOST_SHOWN);
     (shown, more)
+}
+
+/// Whether LaTeX is likely to read the list as UTF-8: neither the `.aux` files nor the document have another encoding.
+fn is_in_utf8(files: &Files, document: Option<&Document>) -> bool {
+    let has_other = |file: &File| {
+        let bytes = file.bytes.as_deref().unwrap_or(b"");
+        find(bytes, b"\\inputencoding{").is_some_and(|at| !bytes[at..].starts_with(b"\\inputencoding{utf8"))
+    };
+    !files.with_ending(".aux").any(has_other) && !document.is_some_and(Document::has_other_encoding)
+}
+
+/// Where a part of a text begins.
+pub fn place_in(text: &[u8], part: &[u8]) -> usize {
+    (part.as_ptr() as usize).saturating_sub(text.as_ptr() as usize).min(text.len())
 }
 
 fn is_one_of(name: &[u8], names: &[&str]) -> bool {
@@ -298,8 +379,6 @@ fn commas_for_and(name: &[(usize, &[u8])]) -> Option<(usize, Seen)> {
 #[cfg(test)]
 mod tests {
     use super::*;
-    use crate::job::File;
-
     fn file(name: &str, bytes: &str) -> File {
         File { name: name.into(), bytes: Some(bytes.into()), path: Vec::new() }
     }
@@ -308,7 +387,7 @@ mod tests {
         let top = file("a.aux", "\\citation{k,l}\n\\bibdata{d}\n\\bibstyle{s}\n");
         let files = Files { top: b"a.aux".to_vec(), all: vec![top, file("d.bib", database)] };
         let entries = Entries::new(&files);
-        look(&Unsaid::new(&entries, &files, b"ENTRY {author month pages title}{}{}", &[b"jan", b"cacm"]))
+        look(&Unsaid::new(&entries, &files, b"ENTRY {author month pages title}{}{}", &[b"jan", b"cacm"], None))
     }
 
     #[test]
@@ -369,7 +448,9 @@ mod tests {
             assert_eq!(place(whole), None, "{whole}");
         }
         let seen = |field: &str| {
-            with_unsaid(&format!("@misc{{k, {field} = {{$}}}}"), |unsaid| unsaid.found.first().map(|found| found.seen))
+            with_unsaid(&format!("@misc{{k, {field} = {{$}}}}"), |unsaid| {
+                unsaid.found.iter().map(|found| found.seen).find(|seen| *seen == Seen::OddDollars)
+            })
         };
         assert_eq!([seen("title"), seen("note"), seen("url")], [Some(Seen::OddDollars), None, None]);
     }
@@ -395,5 +476,22 @@ mod tests {
             Some("(Of the cited entries the style doesn't read: `pagse`, is it `pages`?; `url` (2 times))")
         );
         assert_eq!(unread("@misc{k, title = {T}}"), None);
+        let found =
+            with_unsaid(two, |unsaid| unsaid.found.iter().map(|found| (found.place, found.seen)).collect::<Vec<_>>());
+        assert_eq!(found, [(20, Seen::UnprintedAddress)]);
+    }
+
+    #[test]
+    fn bytes_that_are_not_utf8_are_seen_once_in_a_file() {
+        let file = |name: &str, bytes: &[u8]| File { name: name.into(), bytes: Some(bytes.into()), path: Vec::new() };
+        let found = |aux: &[u8]| {
+            let database = file("d.bib", b"@misc{k, title = {Einf\xFChrung}} @misc{l, title = {\xE4}}");
+            let files = Files { top: b"a.aux".to_vec(), all: vec![file("a.aux", aux), database] };
+            let entries = Entries::new(&files);
+            let unsaid = Unsaid::new(&entries, &files, b"ENTRY {title}{}{}", &[], None);
+            unsaid.found.iter().map(|found| (found.place, found.seen, found.names[1].clone())).collect::<Vec<_>>()
+        };
+        assert_eq!(found(b"\\citation{k,l}\n"), [(22, Seen::NotUtf8, "FC".to_string())]);
+        assert_eq!(found(b"\\citation{k,l}\n\\inputencoding{latin1}\n"), []);
     }
 }

@@ -1,4 +1,4 @@
-"""`python3 -m btx doctor [--style S] [--job J] [--json] [--off NAME,..] [BIB..]`: what can be said of databases without a run. It changes no file."""
+"""`python3 -m btx doctor [--style S] [--job J] [--json] [--each] [--off NAME,..] [BIB..]`: what can be said of databases, and of a job what its run logs. It changes no file."""
 
 from __future__ import annotations
 
@@ -7,11 +7,13 @@ import json
 import os
 import re
 import sys
-from typing import Dict, FrozenSet, Iterator, List, Optional, Set
+from typing import Dict, FrozenSet, Iterator, List, Optional, Set, Tuple
 
-from .bibtext import Lines
+from .bibtext import Item, Lines, read
 from .commands import STATUS_REFUSED, Words, broken_pipe
-from .doctor import CHECKS, Citation, Finding, Source, Style, examine, lines_of
+from .doctor import CHECKS, JOURNALS, MONTHS, Citation, Finding, Source, Style, examine, lines_of
+from .doctor_run import findings_of_run, in_order_of_job, stem_of
+from .remedies import SEEN, missed_field, of_items, remedy_of, said
 from .reports import shown
 from .searching import MOST_BYTES, Search, content_of, found_search
 
@@ -23,6 +25,18 @@ STATUS_DEVICE = 6
 COMMAND = re.compile(rb"(?m)^\\(citation|@input)\{([^}\r\n \t]*)\}\r?$")
 BIBDATA = re.compile(rb"(?m)^\\bibdata\{([^}\r\n \t]*)\}\r?$")
 MOST_AUX = 1000
+# How many entries that nothing cites are named in the line for all.
+MOST_NAMED = 5
+# What to do about the findings of checks whose texts don't say it.
+OF_CHECKS = {
+    "fields-in-text": "count the braces of the entry above: it may end too early",
+    "repeated-doi": "keep one of the two entries, and cite that one",
+    "repeated-title": "keep one of the two entries, if they are one work",
+    "empty-field": "fill it in, or take it out",
+    "unknown-type": "take a type that the style has, such as `misc`",
+    "unread-field": "leave it, or take a style that reads it",
+    "others-inside": SEEN["OthersInside"],
+}
 
 
 class Refused(Exception):
@@ -53,6 +67,7 @@ def parser() -> argparse.ArgumentParser:
     result.add_argument("--style", metavar="S", help="the style: which fields, types and strings it has")
     result.add_argument("--job", metavar="J", help="the .aux file of a document: which entries it cites")
     result.add_argument("--json", action="store_true", help="print a line of JSON for each finding")
+    result.add_argument("--each", action="store_true", help="print a line for each entry that nothing cites, and not one for all")
     result.add_argument("--off", metavar="NAME,..", default="", help="checks that are left out")
     result.add_argument("--list", action="store_true", help="print the checks, and how exact each is")
     return result
@@ -75,13 +90,117 @@ def check_up(given: argparse.Namespace) -> int:
     search = found_search()
     sources = [Source(path, content_of(os.fsencode(path), MOST_BYTES)) for path in given.databases or databases_of(given.job, search)]
     style = None if given.style is None else Style(named_style(given.style, search))
-    citations = None if given.job is None else list(citations_of(given.job))
-    found = examine(sources, style, citations, off)
-    lines: Dict[int, Lines] = {}
-    for finding in found:
-        print_finding(finding, lines_of(finding.source, lines), given.json)
+    found, sources = findings_of(given.job, sources, style, search)
+    found = [finding for finding in found if finding.check not in off]
+    print_findings(found, Remedies(sources), given)
     sys.stdout.flush()
     return STATUS_MISTAKES if any(finding.severity == "error" for finding in found) else 0
+
+
+def findings_of(job: Optional[str], sources: List[Source], style: Optional[Style], search: Search) -> Tuple[List[Finding], List[Source]]:
+    """All findings, and the databases in the order in which they are read. Of a job the run says more; where its citations aren't all known, nothing is said to be uncited."""
+    if job is None:
+        return examine(sources, style), sources
+    auxes = list(aux_files(job))
+    citations = [citation for aux in auxes for citation in citations_of_file(aux)]
+    sources = in_order_of_job(sources, auxes)
+    found = examine(sources, style, citations)
+    logged = findings_of_run(job, sources, auxes, citations, search)
+    found = without_consequences(found + logged.findings, logged.is_whole)
+    order = {id(source): number for number, source in enumerate(sources)}
+    return sorted(found, key=lambda finding: (order.get(id(finding.source), -1), finding.start, finding.end)), sources
+
+
+def without_consequences(found: List[Finding], is_whole: bool) -> List[Finding]:
+    """The findings without those that follow from others: warnings of an entry with a mistake, and entries that aren't cited where the citations aren't all known."""
+    causes = {finding.key for finding in found if finding.check in ("mistake", "undefined-string", "logged-error")}
+    follow = {"uncited"} if not is_whole else set()
+    slipped = {finding.key for finding in found if finding.check == "mistake"}
+    kept = (it for it in found if it.check not in follow and not (it.check == "uncited" and it.key in slipped))
+    return [it for it in kept if it.check != "logged-warning" or it.key not in causes]
+
+
+class Remedies:
+    """What to do about findings. Databases are read once more where a finding asks for it."""
+
+    def __init__(self, sources: List[Source]) -> None:
+        self.sources = sources
+        self.items: Dict[int, List[Item]] = {}
+        self.of_places: Dict[int, Dict[int, str]] = {}
+
+    def items_of(self, source: Source) -> List[Item]:
+        number = id(source)
+        if number not in self.items:
+            self.items[number] = read(source.text).items
+        return self.items[number]
+
+    def all(self, of_strings: bool) -> Iterator[Tuple[Source, Item]]:
+        """All entries, or all definitions of strings."""
+        for source in self.sources:
+            wanted = (item for item in self.items_of(source) if item.key and (item.kind == b"string") == of_strings)
+            yield from ((source, item) for item in wanted)
+
+    def names(self, of_strings: bool) -> List[str]:
+        """The keys of all entries, or the names of all strings."""
+        own = [*MONTHS, *JOURNALS] if of_strings else []
+        return [name.decode("utf8", "replace") for name in (*(item.key for _, item in self.all(of_strings) if item.key), *own)]
+
+    def of(self, finding: Finding, lines: Lines) -> Optional[str]:
+        """What to do about a finding; None where its text says so."""
+        if finding.check in OF_CHECKS:
+            return OF_CHECKS[finding.check]
+        if finding.check == "mistake":
+            number = id(finding.source)
+            if number not in self.of_places:
+                self.of_places[number] = of_items(finding.source.name, finding.source.text, lines, self.items_of(finding.source))
+            return self.of_places[number].get(finding.start)
+        if finding.check == "undefined-string":
+            return self.of_string(finding) or remedy_of(finding.text, strings=self.names(True))
+        if finding.check == "logged-warning":
+            return self.of_warning(finding)
+        if finding.check == "no-entry":
+            return self.of_entry(finding)
+        return of_aux(finding) or remedy_of(finding.text, self.names(False) if finding.key else [])
+
+    def of_string(self, finding: Finding) -> Optional[str]:
+        """What to do about a string that is defined after its use."""
+        name = finding.source.text[finding.start : finding.end].lower()
+        for source, item in self.all(True):
+            if (item.key or b"").lower() == name and source is not finding.source:
+                order = [it for it in self.sources if it is not source]
+                order.insert(next(at for at, it in enumerate(order) if it is finding.source), source)
+                return said(SEEN["DefinedInLater"], ",".join(stem_of(it.name) for it in order), source.name)
+            if (item.key or b"").lower() == name:
+                line = Lines(source.text).line_of(item.start) + 1
+                return said(SEEN["DefinedBelow"], name.decode("utf8", "replace"), f"{source.name}:{line}")
+        return None
+
+    def of_warning(self, finding: Finding) -> Optional[str]:
+        """What to do about a style's warning of an entry."""
+        found = (item for item in self.items_of(finding.source) if item.key_end == finding.end)
+        return next((missed_field(finding.source.text, item, finding.text) for item in found), None)
+
+    def of_entry(self, finding: Finding) -> Optional[str]:
+        """What to do about a citation without an entry: one without a key may be meant."""
+        general = remedy_of(finding.text, self.names(False))
+        if general != remedy_of(finding.text):
+            return general
+        for source, item in self.all(False):
+            is_it = item.slip is not None and not item.fields and source.text[item.slip.place : item.slip.place + 1] == b"="
+            if is_it:
+                return said(SEEN["EntryOfNoKey"], item.kind.decode("utf8", "replace"), finding.key)
+        return general
+
+
+def of_aux(finding: Finding) -> Optional[str]:
+    """What to do about an .aux file that breaks off, or that is biblatex's."""
+    if not finding.text.startswith(("I found no ", 'No "}"')):
+        return None
+    last = finding.source.text.rsplit(b"\n", 1)[-1]
+    if last.startswith(b"\\") and last.count(b"{") > last.count(b"}"):
+        return said(SEEN["AuxBreaksOff"], finding.source.name)
+    is_of_biblatex = b"\\abx@aux@" in finding.source.text
+    return said(SEEN["OfBiblatex"], re.sub(r"\.aux$", "", finding.source.name)) if is_of_biblatex else None
 
 
 def named_style(name: str, search: Search) -> bytes:
@@ -149,13 +268,29 @@ def existing(name: str, folder: str) -> Optional[str]:
     return next((path for path in (name, os.path.join(folder, name)) if os.path.isfile(path)), None)
 
 
-def print_finding(finding: Finding, lines: Lines, as_json: bool) -> None:
+def print_findings(found: List[Finding], remedies: Remedies, given: argparse.Namespace) -> None:
+    """Prints all findings. For people those of entries that nothing cites are one line, which comes last."""
+    lines: Dict[int, Lines] = {}
+    summed = [] if given.json or given.each else [finding for finding in found if finding.check == "uncited"]
+    for finding in found:
+        if not summed or finding.check != "uncited":
+            print_finding(finding, lines_of(finding.source, lines), remedies, given.json)
+    if summed:
+        names = ", ".join(finding.key for finding in summed[:MOST_NAMED]) + (", .." if len(summed) > MOST_NAMED else "")
+        entries = "1 entry is" if len(summed) == 1 else f"{len(summed)} entries are"
+        print(f"{entries} cited by nothing: {shown(names)} (--each prints a line for each) [uncited]")
+
+
+def print_finding(finding: Finding, lines: Lines, remedies: Remedies, as_json: bool) -> None:
     """Prints a finding: its line and columns are counted from 1, in characters; `end` is where it ends, on the line `end_line`."""
     line, column = lines.at(finding.start)
     end_line, end = lines.at(finding.end)
+    remedy = remedies.of(finding, lines)
     if not as_json:
         key = f" ({finding.key})" if finding.key else ""
         print(f"{shown(finding.source.name)}:{line + 1}:{column + 1}: {finding.severity}: {shown(finding.text)}{shown(key)} [{finding.check}]")
+        if remedy is not None:
+            print(f"    what to do: {shown(remedy)}")
         return
     record = {
         "file": finding.source.name,
@@ -167,5 +302,6 @@ def print_finding(finding: Finding, lines: Lines, as_json: bool) -> None:
         "severity": finding.severity,
         "text": finding.text,
         "key": finding.key,
+        "remedy": remedy,
     }
     print(json.dumps(record))

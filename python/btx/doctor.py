@@ -48,6 +48,8 @@ CHECKS = {
         Check("one-hyphen", "info", "A guess: a range of pages is written with two hyphens."),
         Check("month-text", "info", "A guess: a month that is written out can't be shortened by a style; `jan` can."),
         Check("unread-field", "info", "Exact, with --style: its ENTRY list doesn't have the field, so a run ignores it."),
+        Check("logged-error", "error", "Exact, with --job: a run of the job logs it."),
+        Check("logged-warning", "warning", "Exact, with --job: a run of the job logs it."),
         Check("uncited", "info", "Exact, with --job: no citation of its .aux files, and no crossref of a cited entry, names the entry."),
     )
 }
@@ -72,6 +74,8 @@ SAID = {
     "one-hyphen": "a range of pages with one hyphen: write `--`",
     "month-text": "the month as text: write `{}`, without braces",
     "unread-field": "the style doesn't read the field {}",
+    "logged-error": "{}",
+    "logged-warning": "{}",
     "uncited": "nothing cites it",
 }
 

@@ -12,9 +12,11 @@ import unittest
 import unittest.mock
 
 import btx
+from btx.checkup import Remedies
 from btx.diagnosing import diagnose
 from btx.doctor import CHECKS, NO_TEXTS, ORGANIZATIONS, SAID, Citation, Source, Style, examine, hide_braces
 from btx.documents import Document
+from btx.remedies import GENERAL, SEEN
 from btx.workspace import Workspace
 from tests.jobs import SOURCES
 from tests.spoilt import SEEDS, SIGNS, logged, run_module, spoilt
@@ -101,7 +103,7 @@ class Checks(unittest.TestCase):
         self.assertEqual([it.check for it in found], ["no-entry"])
 
     def test_all_checks_have_a_row(self):
-        rows = {name for name, *_ in (*ROWS, *OF_STYLE)} | {"no-entry", "uncited"}
+        rows = {name for name, *_ in (*ROWS, *OF_STYLE)} | {"no-entry", "logged-error", "logged-warning", "uncited"}
         self.assertEqual(rows, set(CHECKS))
         self.assertEqual(set(SAID), set(CHECKS))
         self.assertEqual({check.severity for check in CHECKS.values()}, {"error", "warning", "info"})
@@ -178,14 +180,18 @@ class Command(unittest.TestCase):
         status, out, errors = self.run_doctor("d.bib")
         self.assertEqual((status, errors), (2, ""))
         self.assertEqual(out.splitlines()[0], 'd.bib:1:23: warning: string name "zz" is undefined (k) [undefined-string]')
-        self.assertEqual(out.splitlines()[1], "d.bib:1:32: error: I was expecting an = (k) [mistake]")
+        self.assertEqual(out.splitlines()[1], "    what to do: define `zz` by `@string` above its use, or put braces or quotes round a text")
+        self.assertEqual(out.splitlines()[2], "d.bib:1:32: error: I was expecting an = (k) [mistake]")
         self.assertEqual(self.run_doctor("ok.bib"), (0, "", ""))
 
     def test_lines_of_json(self):
         status, out, _ = self.run_doctor("--json", "--job", "j", "--style", "s", "d.bib")
         rows = [json.loads(line) for line in out.splitlines()]
+        self.assertEqual({row["text"] for row in rows if row["name"] == "logged-error"},
+                         {"Already encountered file j.aux", "I found no \\bibdata command", "I found no \\bibstyle command"})
+        rows = [row for row in rows if row["name"] != "logged-error"]
         self.assertEqual(rows[0], {"file": "j.aux", "line": 2, "column": 13, "end_line": 2, "end": 15, "name": "no-entry", "severity": "warning",
-                                   "text": 'I didn\'t find a database entry for "no"', "key": "no"})
+                                   "text": 'I didn\'t find a database entry for "no"', "key": "no", "remedy": GENERAL['I didn\'t find a database entry for "~"']})
         self.assertEqual([row["name"] for row in rows], ["no-entry", "unread-field", "mistake"])
         self.assertEqual(status, 2)
 
@@ -194,7 +200,7 @@ class Command(unittest.TestCase):
         (self.folder / "c.aux").write_text("\\citation{no}\n")
         status, out, errors = self.run_doctor("--job", "p", "--off", "uncited")
         self.assertEqual((status, errors), (2, "btx: there is no database nosuch.bib\n"))
-        self.assertEqual({line.split(":")[0] for line in out.splitlines()}, {"c.aux", "d.bib"})
+        self.assertEqual({line.split(":")[0] for line in out.splitlines() if not line.startswith(" ")}, {"p.aux", "c.aux", "d.bib"})
         self.assertEqual(self.run_doctor("--job", "p", "d.bib")[2], "")
         (self.folder / "p.aux").write_text("\\bibdata{nosuch}\n")
         self.assertEqual(self.run_doctor("--job", "p")[:2], (1, ""))
@@ -220,6 +226,123 @@ class Command(unittest.TestCase):
         readme = (pathlib.Path(__file__).resolve().parent.parent / "README.md").read_text()
         for check in CHECKS.values():
             self.assertIn(f"| `{check.name}` | {check.severity} | {check.exact} |", readme)
+
+
+class OfJobs(unittest.TestCase):
+    """What is said with --job: the databases in the job's order, what its run logs, and entries that nothing cites in one line."""
+
+    STYLE = b"""ENTRY {author title journal booktitle year} {} {}
+FUNCTION {misc} {author #1 "{ll}" format.name$ pop$ author #1 "{ff}" format.name$ pop$}
+FUNCTION {article} {journal empty$ {"empty journal in " cite$ * warning$} {skip$} if$}
+READ
+ITERATE {call.type$}
+"""
+
+    def said(self, databases, aux=b"\\citation{k}\n\\bibdata{d}\n\\bibstyle{s}\n", words=()):
+        with tempfile.TemporaryDirectory() as room:
+            folder = pathlib.Path(room)
+            (folder / "j.aux").write_bytes(aux)
+            (folder / "s.bst").write_bytes(self.STYLE)
+            for name, text in databases.items():
+                (folder / name).write_bytes(text)
+            done = run_module("doctor", "--job", "j", *words, *sorted(databases), cwd=folder)
+            self.assertEqual(done.stderr, b"")
+            return done.returncode, done.stdout.decode().splitlines()
+
+    def test_names_that_a_run_logs(self):
+        status, lines = self.said({"d.bib": b"@misc{k, author = {Lee, A., Ray, B., Dunn, C.}}\n"})
+        self.assertEqual(status, 2)
+        self.assertEqual(lines, ['d.bib:1:10: error: Too many commas in name 1 of "Lee, A., Ray, B., Dunn, C." (k) [logged-error]',
+                                 "    what to do: write ` and ` between two names: `Lee, A. and Ray, B. and Dunn, C.`"])
+
+    def test_databases_in_the_order_of_the_job(self):
+        databases = {"d.bib": b"@string{s = {A J}}\n", "e.bib": b"@article{k, journal = s}\n"}
+        status, lines = self.said(databases, b"\\citation{k}\n\\bibdata{e,d}\n\\bibstyle{s}\n")
+        self.assertEqual((status, lines), (0, ['e.bib:1:23: warning: string name "s" is undefined (k) [undefined-string]',
+                                               "    what to do: write `\\bibliography{d,e}` and run LaTeX: d.bib defines the string and is read too late"]))
+        self.assertEqual(self.said(databases, b"\\citation{k}\n\\bibdata{d,e}\n\\bibstyle{s}\n"), (0, []))
+
+    def test_entries_that_nothing_cites(self):
+        database = {"d.bib": b"@misc{k, author = {A. B}} @misc{one, author = {A. B}} @misc{two, author = {C. D}}\n"}
+        self.assertEqual(self.said(database), (0, ["2 entries are cited by nothing: one, two (--each prints a line for each) [uncited]"]))
+        self.assertEqual(len(self.said(database, words=["--each"])[1]), 2)
+        for aux in (b"\\citation{k }\n\\bibdata{d}\n\\bibstyle{s}\n", b"\\abx@aux@cite{0}{k}\n", b"\\citation{k}\n\\citation{on"):
+            with self.subTest(aux=aux):
+                status, lines = self.said(database, aux)
+                self.assertEqual((status, [line for line in lines if "uncited" in line]), (2, []))
+
+    def test_files_that_are_not_there(self):
+        status, lines = self.said({"d.bib": b"@misc{k, author = {A. B}}"}, b"\\citation{k}\n\\bibdata{texts/d}\n\\bibstyle{s}\n")
+        self.assertEqual((status, lines[0]), (2, "j.aux:2:10: error: I couldn't open database file texts/d.bib [logged-error]"))
+        status, lines = self.said({"d.bib": b"@misc{k, author = {A. B}}"}, b"\\citation{k}\n\\bibdata{d}\n\\bibdata{e}\n\\bibstyle{s}\n")
+        self.assertEqual((status, lines[0]), (2, "j.aux:3:1: error: Illegal, another \\bibdata command [logged-error]"))
+
+    def test_aux_files_that_break_off_and_those_of_biblatex(self):
+        database = {"d.bib": b"@misc{k, author = {A. B}}"}
+        for aux, remedy in ((b"\\citation{k}\n\\citation{on", "AuxBreaksOff"), (b"\\abx@aux@cite{0}{k}\n", "OfBiblatex")):
+            _, lines = self.said(database, aux)
+            self.assertEqual([line for line in lines if "what to do" in line], ["    what to do: " + SEEN[remedy].replace("$1", "j.aux" if remedy == "AuxBreaksOff" else "j")])
+
+    def test_parents_and_fields(self):
+        rows = [
+            (b"@article{k, author = {A. B}, crossref = {vol95}} @book{vol1995}", "write `crossref = {vol1995}`"),
+            (b"@book{vol} @misc{k, author = {A. B}, crossref = {vol}} @misc{l}", "move `vol` below all entries that name it, or cite it"),
+            ("@article{k, journal\xa0 = {J}}".encode(), "write the name once more, without that space: `journal`"),
+            (b"@article{k, journaltitle = {J}}", SEEN["OfBiblatexField"].replace("$2", "journal").replace("$1", "journaltitle")),
+            (b"@article{k, booktitle = {J}}", SEEN["OtherField"].replace("$2", "journal").replace("$1", "booktitle")),
+            (b"@misc{kk, author = {A. B}}", "the key is cited, or is a parent, and no database has it: look for its spelling"),
+            (b"@misc{\n author = {A. B}}", "write the key into it: `@misc{k,`"),
+        ]
+        for database, remedy in rows:
+            with self.subTest(database=database):
+                self.assertIn(f"    what to do: {remedy}", self.said({"d.bib": database + b"\n"})[1])
+
+
+def unescaped(said):
+    """A text of Rust's without its backslashes."""
+    return re.sub(r"\\(.)", r"\1", said)
+
+
+class WhatToDo(unittest.TestCase):
+    ROWS = [
+        (b"@misc{k,\n author = {A}\n note = {B}}", "put a comma after the value of `author`, which ends at d.bib:2"),
+        (b"@misc{k\n author = {A}}", "put a comma after the key `k`"),
+        (b"@misc{author = {A}}", "write the entry's key first: `@misc{KEY, author = ..`"),
+        (b"@misc{k, note = 1\n@misc{j}", "close @misc{k}, which begins at d.bib:1: a `}` is missing above this line"),
+        (b"@misc{k, note = {1}", "close @misc{k}, which begins at d.bib:1: its last `}` is missing"),
+        (b"@misc{k, note = {1", SEEN["BreaksOff"].replace("$1", "@misc{k}, which begins at d.bib:1").replace("$2", "}")),
+        (b'@misc{k, note = "A "b" c"}', SEEN["QuotesInText"].replace("$1", "note")),
+        (b'@misc{k, note = "G\\"odel"}', SEEN["QuoteInText"].replace("$1", "note")),
+        (b"@misc(k, note = 1}", "close @misc{k}, which begins at d.bib:1 by `)`, since it is opened by `(`"),
+        (b"@misc{k,\n % old\n note = 1}", SEEN["CommentSign"]),
+        (b"@misc{k,, note = 1}", SEEN["CommaTwice"]),
+        (b"@misc{k, note = in press}", SEEN["BareValue"].replace("$1", "note")),
+        (b"\xff\xfe@\0m\0", "save d.bib as UTF-8: it is in UTF-16"),
+        (b"@misc{k, month = sept}", "is it `sep`?"),
+        (b"@misc{k, note = s}\n\n@string{s = {A}}", "move the `@string` of `s` (d.bib:3) above its first use"),
+        (b"@misc{k} @misc{k}", "remove one of the two"),
+    ]
+
+    def test_each(self):
+        for text, remedy in self.ROWS:
+            with self.subTest(text=text):
+                source = Source("d.bib", text)
+                said = [Remedies([source]).of(finding, btx.bibtext.Lines(text)) for finding in examine([source])]
+                self.assertIn(remedy, said)
+
+    def test_the_words_are_those_of_the_program(self):
+        table = pathlib.Path(__file__).resolve().parents[2] / "front" / "src" / "advice.rs"
+        if not table.exists():
+            self.skipTest("the sources of the program aren't there")
+        text = table.read_text()
+        words = {name: said for name, said in re.findall(r'Seen::(\w+) => "((?:[^"\\]|\\.)*)"', text)}
+        of_rows = {}
+        for row, said in re.findall(r'\(Section::\w+, "((?:[^"\\]|\\.)*)", "((?:[^"\\]|\\.)*)"\)', text):
+            of_rows.setdefault(unescaped(row), set()).add(unescaped(said))
+        for name, said in SEEN.items():
+            self.assertEqual(unescaped(words[name]), said, name)
+        for row, said in GENERAL.items():
+            self.assertIn(said, of_rows[row], row)
 
 
 class Cost(unittest.TestCase):

@@ -251,7 +251,7 @@ class Databases(WithEditor):
         self.assertEqual(self.said("d.bib", text), [("World Bank Group", "bare-organization", 2)])
         place = self.editor.at("d.bib", *spot(text, "World"))
         (found,) = self.editor.result("textDocument/codeAction", textDocument=place["textDocument"], range={"start": place["position"], "end": place["position"]}, context={"diagnostics": []})
-        self.assertEqual(found["title"], "Write {World Bank Group}")
+        self.assertEqual(found["title"], "Change to `{World Bank Group}`")
 
 
 class Documents(WithEditor):

@@ -6,6 +6,7 @@ wants_explained() {
     wants_text "$1" "Error--White space in argument--line 1 of file job.aux
     job.aux:1: \\citation{k, j}
                            ^
+    not taken from this line: \`j\`
     what to do: write no space in \`\\cite{..}\`, \`\\bibliography{..}\` or the name of a file
 Error--I couldn't open database file e.bib
     job.aux:3: \\bibdata{d,e}
@@ -31,15 +32,15 @@ Error--Repeated entry--line 4 of file d.bib
     ${3-}                ^
     in @misc{K}, which begins at $2d.bib:4
     the first is @misc{k}, which begins at $2d.bib:1
-    what to do: remove one of the two
+    what to do: remove the entry \`K\`: the document cites \`k\`, and case doesn't tell keys apart
 Error--A bad cross reference--entry \"two\" refers to entry \"p\", which doesn't exist
     for @misc{two}, which begins at $2d.bib:5
-    what to do: add \`p\`, or move it after \`two\`, or cite it
+    it may stand in e.bib, which wasn't found
+    what to do: look for e.bib first
 Warning--I didn't find a database entry for \"nosuch\"
     job.aux:2: \\citation{two,nosuch,bare}
                              ^
     it may stand in e.bib, which wasn't found
-    what to do: look for e.bib first
 Error--\"A\" is not an integer while executing + for entry k
     in {..} of FUNCTION {misc}, $2s.bst:3; called from misc, s.bst:3; ITERATE {call.type\$}, s.bst:7
     on the stack: 1, \"A\"

@@ -26,7 +26,7 @@ mistake_of_job() {
     begin "mistake_$1"
     write_author_style
     printf '\\citation{%s}\n\\bibdata{%s}\n\\bibstyle{%s}\n' "$2" "$3" "$4" | grep -v '{}$' >job.aux
-    printf '@misc{k, author = {A. B}, title = {T}, year = 2000}\n' >d.bib
+    printf '@misc{k, author = {A. B}, title = {T}, year = 2000}\n@misc{on-sets, author = {A. B}}\n' >d.bib
     run_search -explain -terse job
     local words
     for words in "${@:5}"; do
@@ -39,8 +39,8 @@ mistake_of_job() {
 mistake no_comma '@misc{k,\n author = {A. B}\n title = {T}}\n' 'd.bib:3:' 'put a comma after the value of `author`, which ends at d.bib:2'
 mistake no_comma_after_key '@misc{k\n author = {A. B}}\n' 'd.bib:2:' 'put a comma after the key `k`'
 mistake key_of_words '@misc{k 2010,\n author = {A. B}}\n' 'd.bib:1:' 'write the key without whitespace: `k2010`'
-mistake no_key_at_all '@misc{, author = {A. B}}\n' '@misc{}, which begins at d.bib:1, has no key: is it that one?' 'write the key into @misc{}, which begins at d.bib:1'
-mistake field_for_a_key '@misc{\n author={Smith},\n title = {T}}\n' '@misc, which begins at d.bib:1, has no key: is it that one?' 'write the entry'"'"'s key first: `@misc{KEY, author = ..`'
+mistake no_key_at_all '@misc{, author = {A. B}}\n' 'the @misc that begins at d.bib:1 has no key: is it that one?' 'write the key into it: `@misc{k,`'
+mistake field_for_a_key '@misc{\n author={Smith},\n title = {T}}\n' 'the @misc that begins at d.bib:1 has no key: is it that one?' 'write the key into it: `@misc{k,`'
 mistake field_of_words_for_a_key '@misc{author={A. B}, title = {T}}\n' 'in @misc, which begins at d.bib:1' 'write the entry'"'"'s key first: `@misc{KEY, author = ..`'
 mistake comma_twice '@misc{k,, author = {A. B}}\n' 'take out one of the two commas'
 mistake semicolon_after_key '@misc{k; author = {A. B}}\n' 'write a comma after the key `k`, in the place of the `;`'
@@ -59,6 +59,8 @@ mistake bare_text '@misc{k,\n title = A title,\n year = 2000}\n' 'put the value 
 mistake bare_pages '@misc{k,\n pages = 1-10}\n' 'put the value of `pages` into braces'
 mistake no_brace '@misc{k,\n author = A. B},\n title = {T}}\n' 'put the value of `author` into braces'
 mistake no_value '@misc{k,\n title = ,\n year = 2000}\n' 'write the value of `title` after the `=`, or take the field out'
+mistake near_string '@misc{k, author = {A. B}, month = janu}\n' 'write `jan`, or define `janu` by `@string` above its use'
+mistake key_of_first_field '@misc{\n author = {A. B}}\n' 'the @misc that begins at d.bib:1 has no key: is it that one?' 'write the key into it: `@misc{k,`'
 mistake curly_quotes '@misc{k,\n title = “Title”}\n' 'put the value into braces: `“` isn'"'"'t the quote `"`'
 mistake bare_command '@misc{k, author = {A. B}, title=\\url{http://x}}\n' 'put the value into braces: `{\url..}`' 'put the value of `title` into braces'
 mistake no_hash '@misc{k,\n month = "10~" jan}\n' 'join the parts of the value of `month` by `#`'
@@ -71,6 +73,9 @@ mistake bare_preamble '@preamble{\\\\newcommand{\\\\x}{y}}\n@misc{k, author = {A
 mistake brace_too_many '@misc{k,\n title = {A {T}} more},\n year = 2000}\n' 'count the braces in the value of `title`: a `}` too many ends it before this place'
 mistake value_runs_on '@misc{k,\n author = {A. B},\n title = {A {T},\n year = 2000\n}\n\n@misc{l}\n' \
     'close the value of `title`, which begins at d.bib:3: it has taken in what looks like the field `year` (d.bib:4)'
+mistake quotes_in_quotes '@misc{k, author = {A. B},\n title = "On "Sense" and so on"}\n' 'put the whole value of `title` into braces, and write ``..'"''"' within it'
+mistake accent_in_quotes '@misc{k, author = "K. G\\"odel"}\n' 'put the quote in the value of `author` into braces, as in `{\"o}`'
+mistake breaks_off '@misc{l}\n\n@misc{k, author = {A. B},\n title = {The T\n' 'it breaks off in @misc{k}, which begins at d.bib:3. Or write what is missing there, and close it by `}`'
 mistake quote_runs_on '@misc{k,\n author = "A. B,\n title = {T}\n}\n' 'close the value of `author`, which begins at d.bib:2: it has taken in what looks like the field `title` (d.bib:3)'
 for value in 'braces:{100% of {T}' 'quote:"T' 'two:{T {X}'; do
     mistake "value_runs_on_in_a_line_${value%%:*}" "@misc{k, author={A. B}, title=${value#*:}, journal={J}, year=2000}\n" \
@@ -84,10 +89,18 @@ mistake comment_in_entry '@misc{k,\n % old\n author = {A. B}}\n' 'take this line
 mistake comment_before_entry '% @misc{old, title = {T}\n@misc{k, author = {A. B}}\n' 'take out the `@` of @misc{old}, which begins at d.bib:1: neither `%` nor `@comment` hides an entry'
 mistake entry_in_comment '@comment{@misc{k, title = {T}}}\n@misc{k, author = {A. B}}\n' 'take out the `@` of @misc{k}, which begins at d.bib:1'
 # fields
-mistake of_biblatex '@article{k, journaltitle = {J}}\n' 'it has `journaltitle`: is it `journal`?'
+mistake of_biblatex '@article{k, journaltitle = {J}}\n' 'it has `journaltitle`: is it `journal`? (d.bib:1)' 'call it `journal`: `journaltitle` is a field of `biblatex`'
+mistake field_of_another_type '@article{k,\n booktitle = {J}}\n' 'it has `booktitle`: is it `journal`? (d.bib:2)' 'call it `journal`, as entries of this type have it'
+mistake space_of_no_break '@article{k,\n author = {A. B},\n journal\xc2\xa0 = {J}}\n' 'has a no-break space (U+00A0) (d.bib:3)' 'write the name once more, without that space: `journal`'
+mistake follows_from_an_error '@article{k,\n author = {A. B}\n journal = {J}}\n' 'this may follow from the error above: nothing of the entry after d.bib:3 is read'
+mistake follows_from_a_string '@article{k, author = {A. B}, journal = zz}\n' "this follows from above: the string \`zz\` isn't defined"
+# keys
+mistake near_parent '@article{k, author = {A. B}, crossref = {vol95}}\n@book{vol1995}\n' 'is it `vol1995`, which begins at d.bib:2?' 'write `crossref = {vol1995}`' "the entry's parent wasn't found"
+mistake parent_above '@book{vol}\n@misc{k, author = {A. B}, crossref = {vol}}\n@misc{l, author = {C. D}}\n' 'move `vol` below all entries that name it, or cite it'
+mistake other_case '@misc{K, author = {A. B}}\n@misc{k, author = {C. D}}\n@misc{l, author = {E. F}}\n' "remove the entry \`K\`: the document cites \`k\`, and case doesn't tell keys apart"
 mistake lacked_field '@misc{k, title = {T}}\n' 'give the entry a field `author`: this style takes it without asking whether it is there'
 # parents
-mistake parent_above '@misc{p, author = {A. B}}\n@misc{k, author = {A. B}, crossref = {p}}\n' '`p` stands at d.bib:1, above an entry that names it as its parent (d.bib:2)' 'what to do: move `p` below all entries that name it, or cite it'
+mistake parent_of_the_only_child '@misc{p, author = {A. B}}\n@misc{k, author = {A. B}, crossref = {p}}\n' '`p` stands at d.bib:1, above an entry that names it as its parent (d.bib:2)' 'what to do: move `p` below all entries that name it, or cite it'
 # files
 mistake utf16 '\xff\xfe@\0m\0i\0s\0c\0{\0k\0,\0' 'save d.bib as UTF-8: it is in UTF-16'
 mistake html '<!DOCTYPE html>\n<style>@media print { }</style>\n' 'download d.bib once more: what stands in it is a page of the web (HTML)' '(1 more key has no entry: no entry stands in d.bib)'
@@ -95,6 +108,8 @@ mistake ris 'TY  - JOUR\nAU  - B, A\n' 'export d.bib as BibTeX: what stands in i
 mistake one_line '@misc{k,\r author {A. B}}\r' 'save d.bib with the line ends of Unix or Windows'
 mistake empty '' 'no entry stands in d.bib' '(1 more key has no entry: no entry stands in d.bib)'
 mistake_of_job other_database k,l,m refs s 'this folder has d.bib' 'it may stand in refs.bib, which wasn'"'"'t found' '(2 more keys have no entry: they may stand in refs.bib, which wasn'"'"'t found)'
+mistake_of_job dash 'on–sets,k' d s '`on–sets` has an en dash (U+2013): is it `on-sets`, which begins at d.bib:2?' 'write `on-sets` in the `\cite`, with the `-` of the keyboard'
+mistake_of_job space_between_databases k,l 'd, e' s 'not taken from this line: `e`' "it may stand in e.bib, which wasn't read (job.aux:2)" 'mend the error at job.aux:2 first'
 mistake_of_job folder k bib/d s 'is it `d`?'
 mistake_of_job no_database k '' s 'write `\bibliography{refs}` with the name of your database, and run LaTeX' 'no database is named'
 mistake_of_job no_style k d '' 'write `\bibliographystyle{plain}`, or another style, and run LaTeX'
@@ -118,6 +133,92 @@ printf '\\relax\n\\abx@aux@cite{0}{k}\n' >job.aux
 run_search -explain -terse job
 wants_words "$folder/stdout" 'run `biber job` in the place of BibTeX, or give `biblatex` the option `backend=bibtex` and run LaTeX'
 [ "$(grep -c 'what to do' "$folder/stdout")" -eq 1 ] || complaints+=("it is said more than once: $(cat "$folder/stdout")")
+end
+
+# What the document beside the .aux file says.
+begin mistake_aux_breaks_off
+printf '\\relax\n\\citation{k}\n\\citation{abc' >job.aux
+run_search -explain -terse job
+wants_words "$folder/stdout" 'run LaTeX again to its end, then BibTeX: job.aux ends in the middle of a line'
+[ "$(grep -c 'what to do' "$folder/stdout")" -eq 1 ] || complaints+=("it is said more than once: $(cat "$folder/stdout")")
+end
+
+begin mistake_older_aux
+write_author_style
+cite k,gone
+printf '@misc{k, author = {A. B}}\n' >d.bib
+printf '%s\n' '\cite{k}' '\bibliography{d}' >job.tex
+run_search -explain -terse job
+wants_words "$folder/stdout" 'run LaTeX again, then BibTeX: `gone` isn'"'"'t in job.tex, so the `.aux` file is older'
+printf '\\input{more}\n' >>job.tex
+run_search -explain -terse job
+! grep -q 'is older' "$folder/stdout" || complaints+=("a document that reads others is taken for whole: $(cat "$folder/stdout")")
+printf '%s\n' '\citation{k}' '\bibdata{d}' >job.aux
+run_search -explain -terse job
+wants_words "$folder/stdout" 'write `\bibliographystyle{plain}`, or another style, above job.tex:2, and run LaTeX'
+printf '\\bibliographystyle{s}\n' >>job.tex
+run_search -explain -terse job
+wants_words "$folder/stdout" 'run LaTeX again: job.tex:4 has `\bibliographystyle`, so the `.aux` file is older'
+end
+
+begin mistake_natbib_with_plain
+write_author_style
+mv s.bst plain.bst
+printf '%s\n' '\citation{k,l}' '\bibdata{d}' '\bibstyle{plain}' >job.aux
+printf '@misc{k, author = {A. B}} @misc{l, author = {C. D}}\n' >d.bib
+printf '%s\n' '\usepackage{natbib}' '\citet{k}' '\bibliographystyle{plain}' >job.tex
+run_search -explain job
+wants_words "$folder/stdout" 'job.tex:3: \bibliographystyle{plain}' 
+wants_words "$folder/stdout" 'write `\bibliographystyle{plainnat}`, or `\usepackage[numbers]{natbib}`'
+wants_words "$folder/stdout" '(The `.aux` file cites what isn'"'"'t in job.tex: `l`. Run LaTeX again, if they aren'"'"'t cited any more.)'
+sed -i 's/usepackage/usepackage[numbers]/' job.tex
+run_search -explain job
+! grep -q 'plainnat' "$folder/stdout" || complaints+=("numbers fit: $(cat "$folder/stdout")")
+end
+
+begin mistake_strings_in_a_later_database
+write_author_style
+printf '%s\n' '\citation{k,l}' '\bibdata{e,d,names}' '\bibstyle{s}' >job.aux
+printf '@article{k, author = {A. B}, journal = aj}\n' >d.bib
+printf '@article{l, author = {A. B}, journal = {J}}\n' >e.bib
+printf '@string{aj = {A J}}\n' >names.bib
+run_search -explain -terse job
+wants_words "$folder/stdout" 'write `\bibliography{e,names,d}` and run LaTeX: names.bib defines the string and is read too late'
+end
+
+# A near string of a later database has to be read earlier, and one of an earlier database doesn't.
+begin mistake_near_string_of_another_database
+write_author_style
+printf '%s\n' '\citation{k}' '\bibdata{d,names}' '\bibstyle{s}' >job.aux
+printf '@article{k, author = {A. B}, journal = acmm}\n' >d.bib
+printf '@string{acm = {A J}}\n' >names.bib
+run_search -explain -terse job
+wants_words "$folder/stdout" 'write `acm` for `acmm`, and write `\bibliography{names,d}` and run LaTeX: names.bib defines the string and is read too late'
+sed -i 's/d,names/names,d/' job.aux
+run_search -explain -terse job
+wants_words "$folder/stdout" 'write `acm`, or define `acmm` by `@string` above its use'
+! grep -q 'too late' "$folder/stdout" || complaints+=("it is read too late: $(cat "$folder/stdout")")
+end
+
+# Warnings that follow from one error above say so: the first, and eight more. The others are counted.
+begin mistake_warnings_that_follow_are_counted
+write_author_style
+cite "$(seq -s , -f 'e%g' 20)"
+seq -f '@article{e%g, author = {A. B}, journal = zz}' 20 >d.bib
+run_search -explain -terse job
+[ "$(grep -c 'this follows from above: the string `zz` isn' "$folder/stdout")" -eq 9 ] || complaints+=("not 9 follow: $(cat "$folder/stdout")")
+wants_words "$folder/stdout" '(11 more warnings are like '
+end
+
+begin mistake_names_with_commas
+write_author_style
+sed -i 's/author num.names[$] pop[$]/author #1 "{ll}" format.name$ pop$ author #1 "{ff}" format.name$ pop$/' s.bst
+cite k
+printf '@misc{k, author = {Lee, A., Ray, B., Dunn, C.}}\n' >d.bib
+run_search -explain -terse job
+wants_words "$folder/stdout" 'write ` and ` between two names: `Lee, A. and Ray, B. and Dunn, C.`'
+wants_words "$folder/stdout" '(1 more error is the same, for k: the style takes these names more than once)'
+[ "$(grep -c '^Error' "$folder/stdout")" -eq 1 ] || complaints+=("the same error is shown twice: $(cat "$folder/stdout")")
 end
 
 begin mistake_other_job
@@ -159,7 +260,7 @@ printf '%s\n' '@misc{a, author = {A. B}, month = {jan}, url = {u}, abstract = {x
 run_search -explain job
 wants_status 0
 for words in 'No message is about these, and they may not be meant so:' 'd.bib:1: @misc{a, author = {A. B}, month = {jan}' 'write `month = jan`, without braces or quotes: then it is the string of this name' 'take out this `and`' \
-    'write `and others`, of which the style makes et al.' 'write ` and ` between two names' 'with two commas this is one' '(1 more is like these)' \
+    'write `and others`, of which the style makes et al.' 'write ` and ` between two names' 'with two commas this is one' 'put `and others` after the last name' 'this style never prints `url`' \
     "(Of the cited entries the style doesn't read: \`tilte\`, is it \`title\`?; \`url\` (2 times))"; do
     wants_words "$folder/stdout" "$words"
 done
@@ -178,4 +279,40 @@ for words in "put the organization's whole name into braces of its own" 'd.bib:1
     wants_words "$folder/stdout" "$words"
 done
 ! grep -q 'd.bib:3' "$folder/stdout" || complaints+=("what is right is shown: $(cat "$folder/stdout")")
+end
+
+# doubt NAME FIELD WORDS..: of an entry with this field, whose style reads it, these words are said, and of the run nothing.
+doubt() {
+    begin "doubt_$1"
+    write_author_style
+    sed -i '1s/year/year note url booktitle/; 1s/$/ FUNCTION {label} {year purify$ #-1 #2 substring$}/' s.bst
+    cite k
+    printf '@misc{k,\n author = {A. B},\n %b\n}\n' "$2" >d.bib
+    run_search -explain job
+    wants_status 0
+    local words
+    for words in "${@:3}"; do
+        wants_words "$folder/stdout" "$words"
+    done
+    end
+}
+
+doubt html 'title = {War &lt; Peace},' 'd.bib:3:' 'write `$<$` in the place of `&lt;`, which is a letter of HTML'
+doubt formula 'title = {Of H_2O},' 'put the formula into `$..$`, as in `{CO$_2$}`, or write `\_`: LaTeX stops at a `_` outside of a formula'
+doubt table 'note = {Sturm & Drang},' 'write `\&`: LaTeX stops at a bare `&`'
+doubt comment 'note = {9% of all},' 'write `\%`: LaTeX takes the rest of the line after a bare `%` for a comment'
+doubt address 'note = {see http://a.org/b_c},' 'put the address into `\url{..}`: LaTeX stops at its `_`'
+doubt backslash 'url = {http://a.org/b\\_c},' 'write `_` in the place of `\_`: an address has no backslash, and `\url` prints it'
+doubt year 'year = {1999, to appear},' 'as in `year = {1999}`, and the words in `note`: the label ends with the year'"'"'s last two letters, `ar`'
+doubt letter_of_latin1 'title = {Gr\xfcn},' 'save d.bib as UTF-8: its byte FC isn'"'"'t UTF-8'
+doubt address_not_read 'doi = {10.1/x},' 'd.bib:3:  doi = {10.1/x}' 'this style never prints `doi`'
+doubt nothing 'title = {$a_1$ \\& \\url{b_c}}, url = {http://a_b&c%d}, year = {(1999)}, note = {gr\xc3\xbcn}' 'Ended: finished, warnings 0, errors 0'
+
+begin doubts_of_names
+write_author_style
+printf '%s\n' '\citation{k,l}' '\bibdata{d}' '\bibstyle{s}' >job.aux
+printf '%s\n' '@misc{k, author = {Ann Lee and Sammy Davis, Jr.}}' '@misc{l, author = {Lee A and Ray BC}}' >d.bib
+run_search -explain job
+wants_words "$folder/stdout" 'write `Davis, Jr., Sammy`, as in `von Last, Jr, First`: `Jr.` stands in the place of the first name'
+wants_words "$folder/stdout" 'write `Lee, A.` and so on, with a comma: the last word, here `A`, is taken as the last name'
 end

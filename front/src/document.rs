@@ -1,0 +1,133 @@
+//! The document whose citations a job has, where it stands beside the `.aux` file: `paper.tex` beside `paper.aux`. It is read for hints alone.
+
+use crate::job::{File, Files};
+use crate::search::path_of;
+use crate::text::find;
+use std::collections::HashSet;
+use std::fs;
+use std::io::Read;
+
+/// A longer document isn't looked at.
+const MOST_READ: u64 = 1 << 24;
+
+/// Commands that read other files, in which more is cited.
+const READ_OTHERS: [&[u8]; 5] = [b"\\input{", b"\\include{", b"\\subfile", b"\\import", b"\\subimport"];
+
+/// Encodings that aren't UTF-8, as `inputenc` names them.
+const OTHER_ENCODINGS: [&[u8]; 8] =
+    [b"latin", b"ansinew", b"cp125", b"cp850", b"cp437", b"applemac", b"macce", b"koi8"];
+
+/// Styles whose labels don't fit citations by author and year.
+const PLAIN_STYLES: [&str; 7] = ["plain", "unsrt", "alpha", "abbrv", "ieeetr", "acm", "siam"];
+
+/// A document.
+#[derive(Debug, Clone)]
+pub struct Document {
+    /// The file.
+    pub file: File,
+    /// Its words, where all that it cites stands in it.
+    words: Option<HashSet<Vec<u8>>>,
+}
+
+impl Document {
+    /// The document of a job; None where none stands beside its `.aux` file.
+    pub fn of(files: &Files) -> Option<Document> {
+        let name = [files.top.strip_suffix(b".aux")?, b".tex"].concat();
+        let found = fs::metadata(path_of(&name)).ok().filter(|data| data.is_file() && data.len() <= MOST_READ)?;
+        let mut bytes = Vec::with_capacity(found.len() as usize);
+        fs::File::open(path_of(&name)).ok()?.take(MOST_READ).read_to_end(&mut bytes).ok()?;
+        Some(Document::new(File { path: name.clone(), name, bytes: Some(bytes) }))
+    }
+
+    fn new(file: File) -> Document {
+        let bytes = file.bytes.as_deref().unwrap_or(b"");
+        let parts = |byte: &u8| byte.is_ascii_whitespace() || matches!(byte, b'{' | b'}' | b',' | b'[' | b']');
+        let is_whole = !READ_OTHERS.iter().any(|command| find(bytes, command).is_some());
+        let words = || bytes.split(parts).filter(|word| !word.is_empty()).map(<[u8]>::to_vec).collect();
+        let words = is_whole.then(words);
+        Document { file, words }
+    }
+
+    fn bytes(&self) -> &[u8] {
+        self.file.bytes.as_deref().unwrap_or(b"")
+    }
+
+    /// Its lines without their comments, with their numbers.
+    fn lines(&self) -> impl Iterator<Item = (usize, &[u8])> {
+        let lines = self.bytes().split(|byte| *byte == b'\n').enumerate();
+        lines.map(|(index, line)| (index + 1, without_comment(line)))
+    }
+
+    /// Whether a key is neither cited in it nor named in another way. It may be in a file that it reads, or be one by which a class steers its style: then it isn't said to be missing.
+    pub fn lacks(&self, key: &[u8]) -> bool {
+        self.words.as_ref().is_some_and(|words| !words.contains(key)) && find(key, b"ontrol").is_none()
+    }
+
+    /// The line of a command with an argument, such as `\bibliography`.
+    pub fn line_of(&self, command: &[u8]) -> Option<usize> {
+        let whole = [command, b"{"].concat();
+        self.lines().find(|(_, line)| find(line, &whole).is_some()).map(|(number, _)| number)
+    }
+
+    /// Whether it says that its letters are written in another way than UTF-8.
+    pub fn has_other_encoding(&self) -> bool {
+        let of_encoding =
+            |line: &[u8]| [&b"inputenc"[..], b"inputencoding"].iter().any(|word| find(line, word).is_some());
+        let is_other = |line: &[u8]| OTHER_ENCODINGS.iter().any(|name| find(line, name).is_some());
+        self.lines().any(|(_, line)| of_encoding(line) && is_other(line))
+    }
+
+    /// The line of `\bibliographystyle`, where the package `natbib` cites by author and year and this style gives it neither.
+    pub fn line_of_unfit_style(&self, style: &[u8]) -> Option<usize> {
+        let is_plain = PLAIN_STYLES.iter().any(|name| style == name.as_bytes());
+        let has = |line: &[u8], words: &[&[u8]]| words.iter().any(|word| find(line, word).is_some());
+        let of_natbib = |line: &[u8]| has(line, &[b"natbib"]) && has(line, &[b"\\usepackage", b"\\RequirePackage"]);
+        let is_natbib = is_plain && self.lines().any(|(_, line)| of_natbib(line));
+        let sets = [&b"natbib"[..], b"\\setcitestyle", b"\\bibpunct", b"\\citestyle"];
+        let by_number = |line: &[u8]| has(line, &sets[2..]) || has(line, &sets) && has(line, &[b"numbers", b"super"]);
+        let is_other = is_natbib && self.lines().any(|(_, line)| by_number(line));
+        self.line_of(b"\\bibliographystyle").filter(|_| is_natbib && !is_other)
+    }
+}
+
+/// A line of TeX without its comment.
+fn without_comment(line: &[u8]) -> &[u8] {
+    let is_comment = |at: &usize| line[*at] == b'%' && at.checked_sub(1).is_none_or(|before| line[before] != b'\\');
+    &line[..(0..line.len()).find(is_comment).unwrap_or(line.len())]
+}
+
+#[cfg(test)]
+mod tests {
+    use super::*;
+
+    fn document(text: &str) -> Document {
+        Document::new(File { name: b"a.tex".to_vec(), bytes: Some(text.into()), path: Vec::new() })
+    }
+
+    #[test]
+    fn keys_are_looked_for() {
+        let whole = document("\\cite{one,two} \\citep[see][p. 3]{three}");
+        assert_eq!([&b"one"[..], b"two", b"three", b"four"].map(|key| whole.lacks(key)), [false, false, false, true]);
+        assert!(!document("\\input{chapter}").lacks(b"four") && !whole.lacks(b"REV41Control"));
+    }
+
+    #[test]
+    fn natbib_needs_its_styles() {
+        let line = |head: &str, style: &str| {
+            document(&format!("{head}\n\\bibliographystyle{{s}}\n")).line_of_unfit_style(style.as_bytes())
+        };
+        assert_eq!(line("\\usepackage[round]{natbib}", "plain"), Some(2));
+        assert_eq!(line("\\usepackage[round]{natbib}", "plainnat"), None);
+        for other in
+            ["\\usepackage[numbers]{natbib}", "% \\usepackage{natbib}", "\\usepackage{natbib}\\setcitestyle{numbers}"]
+        {
+            assert_eq!(line(other, "plain"), None, "{other}");
+        }
+    }
+
+    #[test]
+    fn encodings_are_named() {
+        assert!(document("\\usepackage[latin1]{inputenc}").has_other_encoding());
+        assert!(!document("\\usepackage[utf8]{inputenc}").has_other_encoding());
+    }
+}

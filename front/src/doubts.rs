@@ -1,0 +1,352 @@
+//! What may be meant otherwise in the text of one field: signs that LaTeX stops at, letters of HTML, names in another order than BibTeX's, a year that no label fits.
+
+use crate::advice::Seen;
+use crate::terminal::plain;
+use crate::text::find;
+
+/// What is seen in a text: where, and the names for what is said of it.
+#[derive(Debug, Clone, PartialEq, Eq)]
+pub struct Doubt {
+    pub place: usize,
+    pub seen: Seen,
+    pub names: Vec<String>,
+}
+
+/// Fields whose text LaTeX sets as text.
+const TEXTS: [&[u8]; 13] = [
+    b"title",
+    b"booktitle",
+    b"journal",
+    b"publisher",
+    b"series",
+    b"note",
+    b"organization",
+    b"institution",
+    b"school",
+    b"address",
+    b"edition",
+    b"howpublished",
+    b"type",
+];
+
+/// Fields that are addresses.
+const ADDRESSES: [&[u8]; 3] = [b"url", b"doi", b"eprint"];
+
+/// Commands whose argument is no text.
+const OF_ADDRESSES: [&[u8]; 11] =
+    [b"url", b"href", b"path", b"doi", b"nolinkurl", b"lstinline", b"verb", b"cite", b"ref", b"ce", b"ensuremath"];
+
+/// Whether two names of fields are the same.
+fn is_in(name: &[u8], names: &[&[u8]]) -> bool {
+    names.iter().any(|known| name.eq_ignore_ascii_case(known))
+}
+
+/// What is seen in the text of a field that the style reads. `has_label` says that the style takes a label from the end of the year.
+pub fn doubt(name: &[u8], text: &[u8], has_label: bool) -> Option<Doubt> {
+    let is_address = is_in(name, &ADDRESSES);
+    if is_address || is_in(name, &TEXTS) {
+        let signs = |text| if is_address { backslash(text) } else { sign(text) };
+        return entity(text, is_address).or_else(|| signs(text));
+    }
+    if is_in(name, &[b"author", b"editor"]) {
+        return entity(text, false).or_else(|| suffix(text)).or_else(|| initials(text));
+    }
+    (has_label && is_in(name, &[b"year"])).then(|| year(text)).flatten()
+}
+
+/// Whether a style takes a label from the end of the year, as `alpha` does.
+pub fn has_label_of_year(style: &[u8]) -> bool {
+    find(style, b"purify$ #-1 #2 substring$").is_some()
+}
+
+// ---- signs ----
+
+/// Letters of HTML and what stands for them in TeX.
+const ENTITIES: [(&[u8], &str); 12] = [
+    (b"amp", "`\\&`"),
+    (b"lt", "`$<$`"),
+    (b"gt", "`$>$`"),
+    (b"quot", "a quote of TeX, ``..''"),
+    (b"apos", "`'`"),
+    (b"nbsp", "`~`"),
+    (b"ndash", "`--`"),
+    (b"mdash", "`---`"),
+    (b"lsquo", "a quote of TeX, `..'"),
+    (b"rsquo", "`'`"),
+    (b"ldquo", "a quote of TeX, ``..''"),
+    (b"rdquo", "a quote of TeX, ``..''"),
+];
+
+/// The end of the names that HTML has for letters with an accent.
+const ACCENTS: [&[u8]; 9] = [b"uml", b"acute", b"grave", b"circ", b"tilde", b"cedil", b"ring", b"slash", b"zlig"];
+
+/// The longest name of a letter of HTML.
+const LONGEST_ENTITY: usize = 8;
+
+/// A letter that is written as in HTML, as `&amp;`.
+fn entity(text: &[u8], is_address: bool) -> Option<Doubt> {
+    (0..text.len()).filter(|at| text[*at] == b'&').find_map(|at| {
+        let rest = &text[at + 1..text.len().min(at + 2 + LONGEST_ENTITY)];
+        let name = &rest[..rest.iter().position(|byte| *byte == b';')?];
+        let meant = meant_by_entity(name, is_address)?;
+        let place = at.checked_sub(1).filter(|before| text[*before] == b'\\').unwrap_or(at);
+        let names = vec![plain(&text[place..at + name.len() + 2]), meant];
+        Some(Doubt { place, seen: Seen::HtmlEntity, names })
+    })
+}
+
+/// What stands for a letter of HTML; None where it isn't one.
+fn meant_by_entity(name: &[u8], is_address: bool) -> Option<String> {
+    if let Some((_, meant)) = ENTITIES.iter().find(|(known, _)| *known == name) {
+        return Some(if is_address && name == b"amp" { "`&`".into() } else { (*meant).to_string() });
+    }
+    let number = name.strip_prefix(b"#");
+    if number == Some(b"39") || number == Some(b"x27") {
+        return Some("`'`".into());
+    }
+    let is_number = number.is_some_and(|rest| !rest.is_empty() && rest.iter().all(u8::is_ascii_alphanumeric));
+    let is_letter = name.first().is_some_and(u8::is_ascii_alphabetic) && ACCENTS.iter().any(|end| name.ends_with(end));
+    (is_number || is_letter).then(|| "the letter itself".into())
+}
+
+/// A backslash that an address doesn't need: `\_`, also as `{\_}`.
+fn backslash(text: &[u8]) -> Option<Doubt> {
+    let pairs = text.windows(2).position(|pair| pair[0] == b'\\' && matches!(pair[1], b'_' | b'%' | b'&' | b'#'))?;
+    let sign = plain(&text[pairs + 1..pairs + 2]);
+    let before = pairs.checked_sub(1).filter(|before| text[*before] == b'{' && text.get(pairs + 2) == Some(&b'}'));
+    let (place, written) = before.map_or((pairs, format!("\\{sign}")), |before| (before, format!("{{\\{sign}}}")));
+    Some(Doubt { place, seen: Seen::BackslashInUrl, names: vec![sign, written] })
+}
+
+/// A sign at which LaTeX stops where it stands in text. A text whose `$` aren't paired is left alone.
+fn sign(text: &[u8]) -> Option<Doubt> {
+    if !text.iter().any(|byte| matches!(byte, b'_' | b'^' | b'&' | b'%' | b'#')) || has_odd_formula(text) {
+        return None;
+    }
+    let (mut at, mut is_formula) = (0, false);
+    while let Some(byte) = text.get(at) {
+        match byte {
+            b'\\' => {
+                let word = command_at(text, at + 1);
+                is_formula = match text.get(at + 1) {
+                    Some(b'(') => true,
+                    Some(b')') => false,
+                    _ => is_formula,
+                };
+                let is_skipped = is_in(word, &OF_ADDRESSES);
+                at += 1 + word.len().max(1);
+                if is_skipped {
+                    at = after_group(text, at);
+                }
+                continue;
+            }
+            b'$' => is_formula = !is_formula,
+            b'_' | b'^' if !is_formula => return Some(doubt_of_sign(text, at, Seen::SignOfFormula)),
+            b'&' if !is_formula => return Some(doubt_of_sign(text, at, Seen::SignOfTable)),
+            b'%' => return Some(doubt_of_sign(text, at, Seen::SignOfComment)),
+            b'#' if !is_formula => return Some(doubt_of_sign(text, at, Seen::SignOfParameter)),
+            _ => {}
+        }
+        at += 1;
+    }
+    None
+}
+
+fn doubt_of_sign(text: &[u8], place: usize, seen: Seen) -> Doubt {
+    let seen = if find(&text[..place], b"://").is_some() { Seen::AddressInText } else { seen };
+    Doubt { place, seen, names: vec![plain(&text[place..=place])] }
+}
+
+/// Whether a text has an odd number of `$` that begin or end a formula.
+fn has_odd_formula(text: &[u8]) -> bool {
+    let is_it = |at: &usize| text[*at] == b'$' && at.checked_sub(1).is_none_or(|before| text[before] != b'\\');
+    (0..text.len()).filter(is_it).count() % 2 == 1
+}
+
+/// The letters of a command after its backslash.
+fn command_at(text: &[u8], at: usize) -> &[u8] {
+    let rest = text.get(at..).unwrap_or(b"");
+    &rest[..rest.iter().position(|byte| !byte.is_ascii_alphabetic()).unwrap_or(rest.len())]
+}
+
+/// Where the group ends that begins here, after whitespace; the same place where none does.
+fn after_group(text: &[u8], at: usize) -> usize {
+    let Some(open) = text[at..].iter().position(|byte| !byte.is_ascii_whitespace()).map(|white| at + white) else {
+        return text.len();
+    };
+    if text[open] != b'{' {
+        return at;
+    }
+    let mut depth = 0_usize;
+    for (place, byte) in text.iter().enumerate().skip(open) {
+        match byte {
+            b'{' => depth += 1,
+            b'}' if depth == 1 => return place + 1,
+            b'}' => depth -= 1,
+            _ => {}
+        }
+    }
+    text.len()
+}
+
+// ---- names ----
+
+/// What comes after a last name.
+const SUFFIXES: [&[u8]; 7] = [b"jr", b"jr.", b"sr", b"sr.", b"II", b"III", b"IV"];
+
+fn is_suffix(word: &[u8]) -> bool {
+    SUFFIXES.iter().any(|suffix| word == *suffix || suffix[0].is_ascii_lowercase() && word.eq_ignore_ascii_case(suffix))
+}
+
+/// The names of a list, each with its words and their places; only of a list without braces.
+fn names(text: &[u8]) -> Vec<Vec<(usize, &[u8])>> {
+    if text.contains(&b'{') {
+        return Vec::new();
+    }
+    let mut all = vec![Vec::new()];
+    let mut at = 0;
+    for word in text.split(|byte| byte.is_ascii_whitespace() || *byte == b'~') {
+        match word {
+            b"" => {}
+            _ if word.eq_ignore_ascii_case(b"and") => all.push(Vec::new()),
+            _ => all.last_mut().into_iter().for_each(|name| name.push((at, word))),
+        }
+        at += word.len() + 1;
+    }
+    all
+}
+
+/// `Martin King, Jr.` and `King, Martin, Jr.`: the suffix is taken as the first name, or the first name as the suffix.
+fn suffix(text: &[u8]) -> Option<Doubt> {
+    let has_one = text.contains(&b',') && text.split(|byte| byte.is_ascii_whitespace() || *byte == b',').any(is_suffix);
+    if !has_one {
+        return None;
+    }
+    names(text).iter().find_map(|name| {
+        let (last, others) = name.split_last().filter(|(last, _)| is_suffix(last.1))?;
+        let parts: Vec<&[(usize, &[u8])]> = others.split_inclusive(|(_, word)| word.ends_with(b",")).collect();
+        let joined = |words: &[(usize, &[u8])]| {
+            let words: Vec<String> = words.iter().map(|(_, word)| plain(word)).collect();
+            words.join(" ").trim_end_matches(',').to_string()
+        };
+        let (given, family) = match parts[..] {
+            [one] if one.len() > 1 && one.last()?.1.ends_with(b",") => {
+                let is_von = |(_, word): &(usize, &[u8])| word.first().is_some_and(u8::is_ascii_lowercase);
+                one.split_at(one.iter().position(is_von).unwrap_or(one.len() - 1))
+            }
+            [family, given] if given.last()?.1.ends_with(b",") => (given, family),
+            _ => return None,
+        };
+        if given.is_empty() {
+            return None;
+        }
+        let (given, family) = (joined(given), joined(family));
+        let names = vec![format!("{family}, {}, {given}", plain(last.1)), plain(last.1)];
+        Some(Doubt { place: last.0, seen: Seen::SuffixLast, names })
+    })
+}
+
+/// `Altschul SF and Gish W`: without commas the initials are taken as the last name.
+fn initials(text: &[u8]) -> Option<Doubt> {
+    if text.contains(&b',') || text.contains(&b'.') {
+        return None;
+    }
+    let mut all = names(text);
+    if all.len() > 1 && all.last().is_some_and(|name| matches!(name[..], [(_, b"others")])) {
+        all.pop();
+    }
+    let is_initials = |word: &[u8]| word.len() <= 3 && word.iter().all(u8::is_ascii_uppercase) && !is_suffix(word);
+    let is_name = |word: &[u8]| word.len() > 1 && word.iter().any(|byte| byte.is_ascii_lowercase() || *byte >= 0x80);
+    let has_form = |name: &Vec<(usize, &[u8])>| {
+        let Some((last, others)) = name.split_last() else { return false };
+        is_initials(last.1) && !others.is_empty() && others.iter().all(|(_, word)| is_name(word))
+    };
+    let (last, others) = all.first()?.split_last()?;
+    if !all.iter().all(has_form) || all.len() == 1 && last.1.len() < 2 {
+        return None;
+    }
+    let family: Vec<String> = others.iter().map(|(_, word)| plain(word)).collect();
+    let given: Vec<String> = last.1.iter().map(|letter| format!("{}.", char::from(*letter))).collect();
+    let names = vec![format!("{}, {}", family.join(" "), given.join(" ")), plain(last.1)];
+    Some(Doubt { place: last.0, seen: Seen::InitialsLast, names })
+}
+
+// ---- years ----
+
+/// A year whose last two letters, of which the style makes a label, are no digits.
+fn year(text: &[u8]) -> Option<Doubt> {
+    let counted: Vec<u8> = text.iter().copied().filter(|byte| byte.is_ascii_alphanumeric() || *byte == b' ').collect();
+    let end = &counted.trim_ascii_end()[counted.trim_ascii_end().len().saturating_sub(2)..];
+    if end.is_empty() || end.iter().all(u8::is_ascii_digit) || text.contains(&b'\\') {
+        return None;
+    }
+    let number = text.windows(4).find(|digits| digits.iter().all(u8::is_ascii_digit)).map_or("2000".into(), plain);
+    Some(Doubt { place: 0, seen: Seen::YearOfWords, names: vec![number, plain(end)] })
+}
+
+#[cfg(test)]
+mod tests {
+    use super::*;
+
+    fn seen(name: &str, text: &str) -> Option<(usize, Seen)> {
+        doubt(name.as_bytes(), text.as_bytes(), true).map(|doubt| (doubt.place, doubt.seen))
+    }
+
+    #[test]
+    fn signs_of_latex_are_seen() {
+        assert_eq!(seen("title", "The {CO_2} law"), Some((7, Seen::SignOfFormula)));
+        assert_eq!(seen("journal", "Law & Order"), Some((4, Seen::SignOfTable)));
+        assert_eq!(seen("note", "50% off"), Some((2, Seen::SignOfComment)));
+        assert_eq!(seen("title", "In C#"), Some((4, Seen::SignOfParameter)));
+        for whole in
+            ["$a_1$ and $b^2$", "a \\& b, 5\\%", "\\url{http://a/b_c%20d}", "\\href{a_b}{c}", "\\(x_1\\)", "5$ a_b"]
+        {
+            assert_eq!(seen("title", whole), None, "{whole}");
+        }
+        assert_eq!([seen("url", "http://a/b_c?d&e%20"), seen("file", "a_b")], [None, None]);
+        assert_eq!(seen("note", "http://a/b_c"), Some((10, Seen::AddressInText)));
+    }
+
+    #[test]
+    fn letters_of_html_and_backslashes_are_seen() {
+        let said = |name: &str, text: &str| doubt(name.as_bytes(), text.as_bytes(), false).map(|doubt| doubt.names);
+        assert_eq!(said("journal", "A &amp; B"), Some(vec!["&amp;".into(), "`\\&`".into()]));
+        assert_eq!(said("journal", "A \\&amp; B"), Some(vec!["\\&amp;".into(), "`\\&`".into()]));
+        assert_eq!(said("url", "a?b&amp;c"), Some(vec!["&amp;".into(), "`&`".into()]));
+        assert_eq!(said("author", "G&ouml;del, K"), Some(vec!["&ouml;".into(), "the letter itself".into()]));
+        assert_eq!(said("title", "O&#39;Hara").map(|names| names[1].clone()), Some("`'`".into()));
+        assert_eq!(said("url", "a{\\_}b"), Some(vec!["_".into(), "{\\_}".into()]));
+        assert_eq!(said("url", "a\\%20b"), Some(vec!["%".into(), "\\%".into()]));
+        assert_eq!([said("url", "a&b;c"), said("author", "A \\& B;")], [None, None]);
+    }
+
+    #[test]
+    fn names_in_another_order_are_seen() {
+        let said = |text: &str| doubt(b"author", text.as_bytes(), false).map(|doubt| doubt.names[0].clone());
+        assert_eq!(said("Martin Luther King, Jr.").as_deref(), Some("King, Jr., Martin Luther"));
+        assert_eq!(said("A. B and King, Martin, Jr").as_deref(), Some("King, Jr, Martin"));
+        assert_eq!(said("Ludwig van Beethoven, III").as_deref(), Some("van Beethoven, III, Ludwig"));
+        assert_eq!(said("Altschul SF and Gish W and others").as_deref(), Some("Altschul, S. F."));
+        for whole in [
+            "King, Jr., Martin",
+            "King, Jr.",
+            "Henry VIII",
+            "de la Cruz, Jr.",
+            "Malcolm X",
+            "Lee AB and Gish, W.",
+            "A. Smith II",
+            "{IBM Group AB}",
+            "Jane Doe and IBM",
+            "",
+        ] {
+            assert_eq!(said(whole), None, "{whole}");
+        }
+    }
+
+    #[test]
+    fn years_of_words_are_seen() {
+        assert_eq!(seen("year", "2021, in press"), Some((0, Seen::YearOfWords)));
+        assert_eq!([seen("year", "2021"), seen("year", "(2021)"), seen("year", "in press 2021")], [None; 3]);
+        assert_eq!(doubt(b"year", b"in press", false), None);
+    }
+}

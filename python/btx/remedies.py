@@ -1,0 +1,258 @@
+"""What to do about a finding of the doctor, in the words of the program's explanations (`front/src/advice.rs` has the same ones; a test compares them)."""
+
+from __future__ import annotations
+
+import difflib
+import re
+from typing import Dict, Iterable, List, Optional
+
+from .bibtext import REPEATED, Item, Lines
+
+__all__ = ["GENERAL", "SEEN", "missed_field", "of_items", "of_mistake", "remedy_of", "said"]
+
+# What a text shows where a mistake was met. $1, $2 and so on are names and places.
+SEEN = {
+    "NoKey": "write the entry's key first: `@$1{KEY, $2 = ..`",
+    "NoCommaAfterKey": "put a comma after the key `$1`",
+    "NoComma": "put a comma after the value of `$1`, which ends at $2",
+    "NoEquals": "put an `=` after `$1`",
+    "QuoteTooEarly": "close the value of `$1`, which begins at $2: the quote before this place ends it",
+    "QuoteInText": 'put the quote in the value of `$1` into braces, as in `{\\"o}`: it ends the value',
+    "QuotesInText": "put the whole value of `$1` into braces, and write ``..'' within it: the quote before this place ends the value",
+    "NotClosed": "close $1: a `}` is missing above this line",
+    "NotClosedAtEnd": "close $1: its last `$2` is missing",
+    "BreaksOff": "export or copy the file once more: it breaks off in $1. Or write what is missing there, and close it by `$2`",
+    "OtherBrace": "close $1 by `$2`, since it is opened by `$3`",
+    "CommentSign": "take this line out, or its `%`: a database has no comments inside an entry",
+    "CommaTwice": "take out one of the two commas",
+    "BareValue": "put the value of `$1` into braces: outside braces and quotes only a number or the name of a `@string` may stand",
+    "FileIsUtf16": "save $1 as UTF-8: it is in UTF-16",
+    "EtAl": "write `and others`, of which the style makes et al.",
+    "OthersInside": "put `and others` after the last name",
+    "NearKey": "write `$2` in the place of `$1` in the `\\cite`, and run LaTeX",
+    "NearParent": "write `crossref = {$1}`",
+    "NamesByCommas": "write ` and ` between two names: `$1`",
+    "AuxBreaksOff": "run LaTeX again to its end, then BibTeX: $1 ends in the middle of a line",
+    "DefinedInLater": "write `\\bibliography{$1}` and run LaTeX: $2 defines the string and is read too late",
+    "DefinedBelow": "move the `@string` of `$1` ($2) above its first use",
+    "EntryOfNoKey": "write the key into it: `@$1{$2,`",
+    "OtherField": "call it `$2`, as entries of this type have it: `$1` doesn't count here",
+    "OfBiblatexDate": "write `year = {$1}`: `date` is a field of `biblatex`. Programs can export as BibTeX, not as BibLaTeX",
+    "OfBiblatexField": "call it `$2`: `$1` is a field of `biblatex`. Programs can export as BibTeX, not as BibLaTeX",
+    "AlikeName": "write the name once more, with the `$1` of the keyboard: `$2`",
+    "SpaceInName": "write the name once more, without that space: `$1`",
+    "OfBiblatex": "run `biber $1` in the place of BibTeX, or give `biblatex` the option `backend=bibtex` and run LaTeX",
+}
+
+# What to do about a message where nothing more is seen: `*` is a name and `~` any other text.
+GENERAL = {
+    "White space in argument": "write no space in `\\cite{..}`, `\\bibliography{..}` or the name of a file",
+    'No "}"': "run LaTeX again: the `.aux` file wasn't written to its end. Else a line end stands in a key",
+    "Illegal, another \\bibdata command": (
+        "name all databases in one `\\bibliography`; for several bibliographies a package as `multibib` or `chapterbib` writes an `.aux` file for each"
+    ),
+    "Illegal, another \\bibstyle command": "keep one `\\bibliographystyle`; some classes and packages (`revtex`, `natbib`'s styles) give one by themselves",
+    "I found no \\citation commands": "write a `\\cite`, or `\\nocite{*}` for all entries, and run LaTeX; with `biblatex`, give it the option `backend=bibtex`",
+    "I found no \\bibdata command": "write `\\bibliography{refs}` with the name of your database, and run LaTeX; with `biblatex`, give it the option `backend=bibtex`",
+    "I found no \\bibstyle command": "write `\\bibliographystyle{plain}`, or another style, and run LaTeX; with `biblatex`, give it the option `backend=bibtex`",
+    "I couldn't open style file ~": (
+        "correct the name in `\\bibliographystyle`, or put the style beside the `.aux` file. It is looked for there, along BSTINPUTS and in TeX's folders; may you read the file?"
+    ),
+    "I couldn't open database file ~": (
+        "correct the name in `\\bibliography`, or put the database beside the `.aux` file. It is looked for there, along BIBINPUTS and in TeX's folders; may you read the file?"
+    ),
+    "I was expecting a name": "write the name; a field's name begins with no digit",
+    "I was expecting a { or a (": "open the item by a brace; an `@` in text between items begins one",
+    "I was expecting a , or a }": "put a comma after the key and between fields, often at the end of the line above; write a key without whitespace",
+    "I was expecting a , or a )": "put a comma after the key and between fields, often at the end of the line above; write a key without whitespace",
+    "I was expecting an =": "write `name = value`; is there a comma too many, or a brace too few above?",
+    "I was expecting a }": "close it; a `@string` defines one name",
+    "I was expecting a )": "close it; a `@string` defines one name",
+    "I was expecting a value": "put braces or quotes round a text",
+    "Unbalanced braces": "count the braces of the value",
+    "Illegal end of database file": 'close the item; often a `{` or `"` far above isn\'t closed',
+    "Repeated entry": "remove one of the two",
+    'A bad cross reference--entry "*" refers to entry "*", which doesn\'t exist': "add `$2`, or move it after `$1`, or cite it",
+    'I didn\'t find a database entry for "~"': "the key is cited, or is a parent, and no database has it: look for its spelling",
+    "I'm ignoring ~'s extra \"~\" field": "delete one of the two",
+    'string name "*" is undefined': "define `$1` by `@string` above its use, or put braces or quotes round a text",
+    'string name "~" is used in its own definition': "a `@string` can't be made longer by itself: give the new one another name",
+    'Too many commas in name ~ of "~"': "a name has at most two commas: `von Last, Jr, First`; names are parted by ` and `, not by commas or semicolons",
+    'Name ~ in "~" has a comma at the end': "remove the comma in the database",
+}
+
+NAME = re.compile(rb"[^\x00-\x20\"#%'(),={}]*")
+# How many lines an entry may have in which a file breaks off.
+MOST_LINES = 60
+# Names that biblatex has for fields, and fields that entries of one type have in the place of others.
+OF_BIBLATEX = {"journal": "journaltitle", "year": "date", "address": "location", "booktitle": "maintitle", "number": "issue"}
+OF_OTHER_TYPES = {"booktitle": ["journal"], "journal": ["booktitle"], "school": ["institution"], "institution": ["school"], "publisher": ["organization", "institution"]}
+# Dashes and spaces that look like those of the keyboard.
+ALIKE = str.maketrans({**dict.fromkeys("\xad\u2010\u2011\u2012\u2013\u2014\u2212", "-"), "\xa0": " "})
+
+
+def said(words: str, *names: str) -> str:
+    for number, name in enumerate(names):
+        words = words.replace(f"${number + 1}", name)
+    return words
+
+
+def general(text: str) -> Optional[str]:
+    """What to do about a message by its text alone."""
+    for pattern, words in GENERAL.items():
+        parts = re.split(r"([*~])", pattern)
+        found = re.fullmatch("".join({"*": "(.*?)", "~": ".*?"}.get(part) or re.escape(part) for part in parts), text, re.DOTALL)
+        if found is not None:
+            return said(words, *found.groups())
+    return None
+
+
+def nearest(key: str, known: Iterable[str]) -> Optional[str]:
+    """The key that is spelled most like this one: first one that only looks another way."""
+    by_fold = {name.lower(): name for name in known}
+    alike = by_fold.get(key.translate(ALIKE).strip().lower())
+    close = difflib.get_close_matches(key.lower(), by_fold, 1, 0.8) if alike is None else []
+    return by_fold[close[0]] if close else alike
+
+
+def remedy_of(text: str, keys: Iterable[str] = (), strings: Iterable[str] = ()) -> Optional[str]:
+    """What to do about a message; the keys and the strings are those that it may have meant."""
+    found = re.fullmatch(r'I didn\'t find a database entry for "(.*)"', text, re.DOTALL)
+    near = nearest(found[1], keys) if found else None
+    if found and near:
+        return said(SEEN["NearKey"], found[1], near)
+    found = re.fullmatch(r'A bad cross reference--entry ".*" refers to entry "(.*)", which doesn\'t exist', text, re.DOTALL)
+    near = nearest(found[1], keys) if found else None
+    if found and near:
+        is_there = near.lower() == found[1].lower()
+        return f"move `{near}` below all entries that name it, or cite it" if is_there else said(SEEN["NearParent"], near)
+    found = re.fullmatch(r'string name "(.*)" is undefined', text, re.DOTALL)
+    near = nearest(found[1], strings) if found else None
+    found = re.fullmatch(r'Too many commas in name [0-9]+ of "(.*)"', text, re.DOTALL)
+    names = names_by_commas(found[1]) if found else None
+    return f"is it `{near}`?" if near else said(SEEN["NamesByCommas"], names) if names else general(text)
+
+
+def names_by_commas(quoted: str) -> Optional[str]:
+    """Names that are parted by commas, with `and` between them; None where it isn't seen which parts are one name."""
+    parts = [part.strip() for part in quoted.split(",")]
+    if re.search(r"[{}]| and ", quoted, re.IGNORECASE) or not all(parts) or not 4 <= len(parts) <= 8:
+        return None
+    if all(" " in part for part in parts):
+        return " and ".join(parts)
+    return " and ".join(map(", ".join, zip(parts[::2], parts[1::2]))) if len(parts) % 2 == 0 else None
+
+
+def missed_field(text: bytes, item: Item, warning: str) -> Optional[str]:
+    """What to do about a field that a style misses, where another one of the entry may be meant by it."""
+    fields = {word(text[field.name_start : field.name_end]).lower(): field for field in item.fields}
+    for missed in re.findall(r"[a-z]+", warning.lower().rsplit(" in ", 1)[0]):
+        for name, field in fields.items():
+            if name != missed and name.translate(ALIKE).strip() == missed:
+                sign = next(sign.translate(ALIKE) for sign in name if sign.translate(ALIKE) != sign)
+                return said(SEEN["SpaceInName"], missed) if sign == " " else said(SEEN["AlikeName"], sign, missed)
+        its = OF_BIBLATEX.get(missed)
+        if its in fields and missed not in fields:
+            year = re.search(rb"[0-9]{4}", fields[its].value) if its == "date" else None
+            return said(SEEN["OfBiblatexDate"], word(year[0])) if year else said(SEEN["OfBiblatexField"], its or "", missed)
+        other = next((name for name in OF_OTHER_TYPES.get(missed, []) if name in fields and missed not in fields), None)
+        if other is not None:
+            return said(SEEN["OtherField"], other, missed)
+    return None
+
+
+class Slipped:
+    """An item that can't go on, with what stands round that place."""
+
+    def __init__(self, name: str, text: bytes, lines: Lines, item: Item) -> None:
+        assert item.slip is not None
+        self.name, self.text, self.lines, self.item = name, text, lines, item
+        self.place = item.slip.place
+        self.line = lines.line_of(self.place)
+
+    def at(self, place: int) -> str:
+        return f"{self.name}:{self.lines.line_of(place) + 1}"
+
+    def begins(self) -> str:
+        return f"@{word(self.text[self.item.start + 1 : self.item.kind_end])}{{{word(self.item.key or b'')}}}, which begins at {self.at(self.item.start)}"
+
+    def before(self) -> bytes:
+        """What stands before the place in its line."""
+        return self.text[self.lines.starts[self.line] : self.place]
+
+    def is_other_item(self) -> bool:
+        """Whether another item begins in this line, below the first line of this one."""
+        rest = self.text[self.lines.starts[self.line] : self.place + 100]
+        return self.line > self.lines.line_of(self.item.start) and rest.lstrip().startswith(b"@")
+
+    def after_part(self) -> Optional[str]:
+        """After a key or a value neither a comma nor the end comes."""
+        item, here = self.item, self.text[self.place : self.place + 1]
+        key = word(item.key or b"")
+        if not item.fields:
+            if here == b"=":
+                return said(SEEN["NoKey"], word(item.kind), key)
+            return said(SEEN["NotClosed"], self.begins()) if self.is_other_item() else said(SEEN["NoCommaAfterKey"], key)
+        field = item.fields[-1]
+        owner, is_in_line = word(self.text[field.name_start : field.name_end]), self.lines.line_of(field.end - 1) == self.line
+        if field.end == self.place and self.text[self.place - 1 : self.place] == b'"':
+            return self.after_quote(owner, field.after)
+        if self.is_other_item():
+            return said(SEEN["NotClosed"], self.begins())
+        if here in b"})" and here:
+            opening = "{" if here == b")" else "("
+            return said(SEEN["OtherBrace"], self.begins(), "}" if opening == "{" else ")", opening)
+        name = NAME.match(self.text, self.place)
+        is_field = name is not None and bool(name[0]) and self.text[name.end() : name.end() + 20].lstrip().startswith(b"=")
+        if is_field or not is_in_line:
+            return said(SEEN["NoComma"], owner, self.at(field.end - 1))
+        return said(SEEN["BareValue"], owner) if self.text[field.after : field.end].lstrip()[:1] not in (b"{", b'"') else None
+
+    def after_quote(self, owner: str, start: int) -> str:
+        """A quote ends the value earlier than it was meant."""
+        if self.lines.line_of(start) != self.line:
+            return said(SEEN["QuoteTooEarly"], owner, self.at(start))
+        return said(SEEN["QuoteInText" if self.text[self.place - 2 : self.place - 1] == b"\\" else "QuotesInText"], owner)
+
+    def at_end(self) -> Optional[str]:
+        """The file ends in the item: in a value, or after one."""
+        closing = "}" if self.text.find(b"{", self.item.start) == self.text.find(b"{", self.item.start, self.item.key_end) >= 0 else ")"
+        if not self.item.is_entry:
+            return None
+        last = self.item.fields[-1].end if self.item.fields else self.item.key_end
+        if not self.text[last:].strip(b" \t\r\n,"):
+            return said(SEEN["NotClosedAtEnd"], self.begins(), closing)
+        is_near = self.lines.line_of(len(self.text)) - self.lines.line_of(self.item.start) < MOST_LINES
+        is_last = re.search(rb"\n[ \t]*@", self.text[self.item.start :]) is None
+        return said(SEEN["BreaksOff"], self.begins(), closing) if is_near and is_last else None
+
+
+def word(text: bytes) -> str:
+    return text.decode("utf8", "surrogateescape")
+
+
+def of_mistake(name: str, text: bytes, lines: Lines, item: Item) -> Optional[str]:
+    """What to do about the mistake that ends an item, by its text."""
+    if item.slip is None or item.slip.text == REPEATED:
+        return GENERAL[REPEATED]
+    if text[:2] in (b"\xff\xfe", b"\xfe\xff"):
+        return said(SEEN["FileIsUtf16"], name)
+    slipped, error = Slipped(name, text, lines, item), item.slip.text
+    here = text[slipped.place : slipped.place + 1]
+    found: Optional[str] = None
+    if error.startswith("I was expecting a , or a"):
+        found = slipped.after_part()
+    elif error == "Illegal end of database file":
+        found = slipped.at_end()
+    elif slipped.is_other_item() and item.is_entry:
+        found = said(SEEN["NotClosed"], slipped.begins())
+    elif error == "I was expecting a name" and item.is_entry:
+        found = SEEN["CommentSign"] if here == b"%" else SEEN["CommaTwice"] if here == b"," else None
+    return found or general(error)
+
+
+def of_items(name: str, text: bytes, lines: Lines, items: List[Item]) -> Dict[int, str]:
+    """What to do about the mistakes of a database, by their places."""
+    slipped = [item for item in items if item.slip is not None and item.slip.text != REPEATED]
+    found = ((item.slip.place, of_mistake(name, text, lines, item)) for item in slipped if item.slip is not None)
+    return {place: remedy for place, remedy in found if remedy is not None}
