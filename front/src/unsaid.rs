@@ -32,8 +32,8 @@ const OF_STRINGS: [&str; 4] = ["journal", "month", "publisher", "series"];
 
 /// Words that no person's name has; `python/btx/doctor.py` has the same.
 #[rustfmt::skip]
-const ORGANIZATIONS: [&str; 35] = [
-    "academy", "association", "bureau", "collaboration", "college", "commission", "committee", "consortium", "corporation", "council", "department", "federation", "foundation", "group",
+const ORGANIZATIONS: [&str; 39] = [
+    "academy", "association", "bureau", "center", "centers", "centre", "centres", "collaboration", "college", "commission", "committee", "consortium", "corporation", "council", "department", "federation", "foundation", "group",
     "institut", "institute", "institution", "laboratories", "laboratory", "ministerium", "ministry", "ministère", "organisation", "organization", "society", "universidad", "universidade",
     "universiteit", "universitet", "university", "università", "universität", "université", "universitat", "verein",
 ];

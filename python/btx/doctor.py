@@ -93,7 +93,7 @@ MONTH_NAME = re.compile(rb"(?:jan|feb|mar|apr|may|jun|jul|aug|sep|oct|nov|dec)[a
 ET_AL = re.compile(rb"(?<![A-Za-z])et\.?[ ~]*al(?![a-z])", re.IGNORECASE)
 # Words that no person's name has; front/src/unsaid.rs has the same.
 ORGANIZATIONS = (
-    "academy association bureau collaboration college commission committee consortium corporation council department federation foundation group institut institute institution laboratories laboratory"
+    "academy association bureau center centers centre centres collaboration college commission committee consortium corporation council department federation foundation group institut institute institution laboratories laboratory"
     " ministerium ministry ministère organisation organization society universidad universidade universiteit universitet university università universität université universitat verein"
 ).split()
 OF_ORGANIZATIONS = re.compile(rb"(?<![^ \t\r\n~])(?:%s),?(?![^ \t\r\n~])" % "|".join(ORGANIZATIONS).encode(), re.IGNORECASE)
