@@ -20,6 +20,16 @@ if [ "$with_tex" != yes ]; then
     export TEXMFCNF=$room/no_tex
 fi
 
+# can_be_loaded KILOBYTES PROGRAM: in so much memory the system can load the program, of which nothing is run here. Else the loader dies, or says what it can't map.
+can_be_loaded() {
+    local status=0
+    (
+        ulimit -v "$1"
+        LD_TRACE_LOADED_OBJECTS=1 LD_LIBRARY_PATH=$libraries exec "$2" </dev/null
+    ) >/dev/null 2>&1 || status=$?
+    [ "$status" -ne 139 ] && [ "$status" -ne 127 ]
+}
+
 # has TOOL: this tool of TeX may be used, and is there.
 has() {
     [ "$with_tex" = yes ] && command -v "$1" >/dev/null

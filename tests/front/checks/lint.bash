@@ -622,6 +622,7 @@ for kilobytes in 5000 5700 6500 8192 10000 13000 16000 20000 24000 32000 48000; 
     case $status in
     2) cmp -s whole "$folder/stdout" || complaints+=("with $kilobytes KB it prints $(head -c 500 "$folder/stdout")") ;;
     5) [ "$(tr -d ' \n' <"$folder/stdout")" = '[]' ] || [ ! -s "$folder/stdout" ] || complaints+=("with $kilobytes KB it prints $(head -c 500 "$folder/stdout")") ;;
+    127) ! can_be_loaded "$kilobytes" "$room/bibtex-lint" || complaints+=("with $kilobytes KB it isn't loaded: $(cat "$folder/stderr")") ;;
     *) complaints+=("with $kilobytes KB the status is $status: $(cat "$folder/stderr")") ;;
     esac
 done

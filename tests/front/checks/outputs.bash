@@ -349,15 +349,6 @@ for kilobytes in 3000 5000 8000 12000 20000 40000 80000; do
 done
 end
 
-# can_be_loaded KILOBYTES PROGRAM: in so much memory the system can load the program, of which nothing is run here.
-can_be_loaded() {
-    (
-        ulimit -v "$1"
-        LD_TRACE_LOADED_OBJECTS=1 LD_LIBRARY_PATH=$libraries exec "$2" </dev/null
-    ) >/dev/null 2>&1
-    [ $? -ne 139 ]
-}
-
 # However little memory there is, one sentence says so, under the name of the program; but before the program begins, where the system can't load it, or the standard library has no memory for its alternative stack or for what a thread leaves.
 # (of bibtex-confined the proved program may be the one that had none. It says so itself at a few sizes alone, which is why those between 2,900 and 3,300 KB are near each other)
 begin least_memory
