@@ -120,7 +120,8 @@ fn functions_of(alloc: Global, text: &[u8]) -> Result<usize, Fault> {
 #[test]
 fn bodies_in_braces_are_functions(rt: HostRuntime) {
     let alone = b"ENTRY {title}{}{} FUNCTION {misc}{} READ".as_slice();
-    let branches = b"ENTRY {title}{}{} FUNCTION {misc}{} READ FUNCTION {f} {#1 {skip$} {} if$}".as_slice();
+    let branches =
+        b"ENTRY {title}{}{} FUNCTION {misc}{} READ FUNCTION {f} {#1 {skip$} {} if$}".as_slice();
     assert!(rt; functions_of(rt.alloc(), alone) == Ok(1));
     assert!(rt; functions_of(rt.alloc(), branches) == Ok(4));
 }
