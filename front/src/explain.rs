@@ -1276,7 +1276,7 @@ fn names_by_commas(error: &[u8]) -> Option<String> {
     let is_one_each = parts.iter().all(is_in_words);
     let names: Vec<String> = match is_one_each {
         true => parts.iter().map(|part| plain(part)).collect(),
-        false if parts.len() % 2 == 0 => {
+        false if parts.len().is_multiple_of(2) => {
             parts.chunks(2).map(|pair| format!("{}, {}", plain(pair[0]), plain(pair[1]))).collect()
         }
         false => return None,
