@@ -1100,6 +1100,10 @@ impl<'a, W: Write> Explainer<'a, W> {
         self.show_entry("for", child)?;
         self.said.insert(lost_parent(child));
         let Some((_, parent)) = bad_reference(text) else { return Ok(false) };
+        // (a run that says so has read the child)
+        if self.entries().is_empty() {
+            return Ok(false);
+        }
         let (files, document) = (self.files, self.document());
         let told = missing_entry::told(self.entries(), files, document.as_ref().as_ref(), parent);
         self.said.insert(told_parent(parent));
