@@ -214,8 +214,8 @@ write_flood
 flooded job
 wants_status 3
 wants_bounded 6 300000
-messages job.blg | head -n 1 | grep -qx "Error--INTEGER isn't a command--line 4 of file s.bst" || complaints+=("the first message is $(messages job.blg | head -n 1)")
-messages "$folder/stdout" | head -n 1 | grep -qx "Error--INTEGER isn't a command--line 4 of file s.bst" || complaints+=("the first message printed is $(messages "$folder/stdout" | head -n 1)")
+[ "$(messages job.blg | head -n 1)" = "Error--INTEGER isn't a command--line 4 of file s.bst" ] || complaints+=("the first message is $(messages job.blg | head -n 1)")
+[ "$(messages "$folder/stdout" | head -n 1)" = "Error--INTEGER isn't a command--line 4 of file s.bst" ] || complaints+=("the first message printed is $(messages "$folder/stdout" | head -n 1)")
 wants_words job.blg -log-room
 wants_words "$folder/stdout" -log-room
 [ "$(grep -c "INTEGER isn't a command" job.blg)" -eq 1 ] || complaints+=("the first message stands there $(grep -c "INTEGER isn't a command" job.blg) times")
