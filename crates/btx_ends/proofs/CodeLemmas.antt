@@ -1,5 +1,5 @@
 -- What the checker's calls cite.
-use Rattle.std.proofs.Common.{◌≡◌, ℕ, zero, suc, ◌+◌, ◌≤◌, ◌<◌, ◌⊎◌, inl, inr, Bool, true, false, ◌||◌, nat_eq, List, [], ◌∷◌, ◌++◌, length, Option, None, Some}
+use Rattle.std.proofs.Common.{◌≡◌, ℕ, zero, suc, ◌+◌, ◌-◌, ◌≤◌, ◌<◌, ◌⊎◌, inl, inr, Bool, true, false, ◌||◌, nat_eq, List, [], ◌∷◌, ◌++◌, length, Option, None, Some}
 use Rattle.std.proofs.Common.{take, drop, drop-cons, add-one, get_or, refl, arith, sym, ap, subst, ◌∙◌, true≢false}
 use Rattle.std.specs.Prelude.{slice_index_or, IfSome}
 use Rattle.std.proofs.lemmas.Bool.{eqb-true}
@@ -16,6 +16,14 @@ use Rattle.btx_ends.specs.Ends.{is_among}
 use Rattle.btx_ends.specs.declared.known.Known.{Known}
 use Rattle.btx_ends.specs.declared.known.Known.TheVariants as known
 use Rattle.btx_ends.specs.Certificates.{Claims, ItemWithin, ItemsWithin, CalleeWithin, DearerWithin, StepWithin, TokensWithin, BodyWithin, BodiesWithin, OwnWithin}
+use Rattle.btx_ends.specs.declared.measures.Measure.{Measure}
+use Rattle.btx_ends.specs.declared.measures.Effect.{Effect}
+use Rattle.btx_ends.specs.declared.measures.Effect.TheVariants as effect
+use Rattle.btx_ends.specs.declared.measures.Kind.{Kind}
+use Rattle.btx_ends.specs.declared.measures.Kind.TheVariants as kind
+use Rattle.btx_ends.specs.declared.measures.Tops.{Tops}
+use Rattle.btx_ends.specs.Shortening.{body_of, nothing_seen, tops_after, StepThrough, TokensThrough, EffectHolds, EffectsHold, KindHolds, KindsHold, kinds_by, effects_by, Tells, TellsBoth}
+use Rattle.btx_ends.specs.Certificates.{EndHolds, EndsHold, LessensBy, ShortenHolds, ShortensHold, FlagsHold, measures_by}
 use Rattle.btx_ends.specs.Certificates.{TestHolds, TestsHold, CountHolds, CountsHold, top_after, below_after}
 use Rattle.btx_ends.specs.Keeping.{TokensKeep, StepKeeps, BodiesKeep, said_by, quoted_after, quoted_below}
 
@@ -241,6 +249,141 @@ five (x ∷ y ∷ xs) d a b c e f l ea eb ec ee ef =
     ∙ ap (λ (ts : List Token). a ∷ b ∷ ts) (three xs d c e f (omega (arith, l)) ec ee ef)
 five [] d a b c e f l ea eb ec ee ef = absurd (omega (arith, l))
 five (x ∷ []) d a b c e f l ea eb ec ee ef = absurd (omega (arith, l))
+
+pub one : (xs : List Token) (d a : Token) → length xs ≡ 1 → get_or xs 0 d ≡ a → xs ≡ a ∷ []
+one (x ∷ []) d a l ea = ap (λ (t : Token). t ∷ []) ea
+one [] d a l ea = absurd (omega (arith, l))
+one (x ∷ y ∷ xs) d a l ea = absurd (omega (arith, l))
+
+pub two : (xs : List Token) (d a b : Token) → length xs ≡ 2 → get_or xs 0 d ≡ a → get_or xs 1 d ≡ b → xs ≡ a ∷ b ∷ []
+two (x ∷ y ∷ []) d a b l ea eb = ap (λ (t : Token). t ∷ y ∷ []) ea ∙ ap (λ (t : Token). a ∷ t ∷ []) eb
+two [] d a b l ea eb = absurd (omega (arith, l))
+two (x ∷ []) d a b l ea eb = absurd (omega (arith, l))
+two (x ∷ y ∷ z ∷ xs) d a b l ea eb = absurd (omega (arith, l))
+
+pub six : (xs : List Token) (d a b c e f g : Token) → length xs ≡ 6 → get_or xs 0 d ≡ a → get_or xs 1 d ≡ b → get_or xs 2 d ≡ c → get_or xs 3 d ≡ e
+    → get_or xs 4 d ≡ f → get_or xs 5 d ≡ g → xs ≡ a ∷ b ∷ c ∷ e ∷ f ∷ g ∷ []
+six (x ∷ y ∷ z ∷ xs) d a b c e f g l ea eb ec ee ef eg =
+    ap (λ (t : Token). t ∷ y ∷ z ∷ xs) ea ∙ ap (λ (t : Token). a ∷ t ∷ z ∷ xs) eb ∙ ap (λ (t : Token). a ∷ b ∷ t ∷ xs) ec
+    ∙ ap (λ (ts : List Token). a ∷ b ∷ c ∷ ts) (three xs d e f g (omega (arith, l)) ee ef eg)
+six [] d a b c e f g l ea eb ec ee ef eg = absurd (omega (arith, l))
+six (x ∷ []) d a b c e f g l ea eb ec ee ef eg = absurd (omega (arith, l))
+six (x ∷ y ∷ []) d a b c e f g l ea eb ec ee ef eg = absurd (omega (arith, l))
+
+-- ---- loops over texts
+
+-- after the first tokens of a body: if the rest of it leads on from there, so does the whole
+pub record LedSoFar (style : Style) (m : Measure) (kinds : ℕ → Kind) (effects : ℕ → Effect) (begun : Bool) (body rest : List Token) (before : Bool) (tops : Tops)
+    : Type 0 where
+  pub so_far : (after : Bool) → TokensThrough style m kinds effects begun before tops rest after
+      → TokensThrough style m kinds effects begun false nothing_seen body after
+
+pub led_init : (style : Style) (m : Measure) (kinds : ℕ → Kind) (effects : ℕ → Effect) (begun : Bool) (body : List Token)
+    → LedSoFar style m kinds effects begun body body false nothing_seen
+led_init style m kinds effects begun body = record { so_far = λ after w. w }
+
+pub led_step : (style : Style) (m : Measure) (kinds : ℕ → Kind) (effects : ℕ → Effect) (begun : Bool) (body : List Token) (k : ℕ) (d : Token) (before between : Bool)
+    (tops tops' : Tops) → k < length body → LedSoFar style m kinds effects begun body (drop k body) before tops
+    → StepThrough style m effects begun before tops (get_or body k d) between → tops' ≡ tops_after style m kinds tops (get_or body k d)
+    → LedSoFar style m kinds effects begun body (drop (k + 1) body) between tops'
+led_step style m kinds effects begun body k d before between tops tops' l h g et =
+    let e2 : drop k body ≡ get_or body k d ∷ drop (k + 1) body = rw add-one (drop-cons body k d l) in
+    let h2 = subst (λ (ts : List Token). LedSoFar style m kinds effects begun body ts before tops) e2 h in
+    let at : LedSoFar style m kinds effects begun body (drop (k + 1) body) between (tops_after style m kinds tops (get_or body k d)) =
+    record { so_far = λ after w. h2.so_far after (between, (g, w)) } in
+    subst (λ (o : Tops). LedSoFar style m kinds effects begun body (drop (k + 1) body) between o) (sym et) at
+
+pub led_end : (style : Style) (m : Measure) (kinds : ℕ → Kind) (effects : ℕ → Effect) (begun : Bool) (body rest : List Token) (before : Bool) (tops : Tops)
+    → rest ≡ [] → LedSoFar style m kinds effects begun body rest before tops → TokensThrough style m kinds effects begun false nothing_seen body before
+led_end style m kinds effects begun body rest before tops e h =
+    (subst (λ (ts : List Token). LedSoFar style m kinds effects begun body ts before tops) e h).so_far before refl
+
+-- .. what is said of functions
+abbrev pub EffectAt : Style → Measure → List Kind → List Effect → ℕ → Type 0
+EffectAt style m kinds effects k = EffectHolds style m (kinds_by kinds) (effects_by effects) (effects_by effects k) (body_of style k)
+
+pub effects_more : (style : Style) (m : Measure) (kinds : List Kind) (effects : List Effect) (n : ℕ) (body : List Token) (said : Effect)
+    → FirstHold (EffectAt style m kinds effects) n → body ≡ body_of style n → said ≡ effects_by effects n
+    → EffectHolds style m (kinds_by kinds) (effects_by effects) said body → FirstHold (EffectAt style m kinds effects) (n + 1)
+effects_more style m kinds effects n body said h eb es w =
+    first_more (EffectAt style m kinds effects) n h
+    (subst (λ (xs : List Token). EffectHolds style m (kinds_by kinds) (effects_by effects) (effects_by effects n) xs) eb
+    (subst (λ (e : Effect). EffectHolds style m (kinds_by kinds) (effects_by effects) e body) es w))
+
+pub effects_all : (style : Style) (m : Measure) (kinds : List Kind) (effects : List Effect) (n : ℕ) → length effects ≤ n
+    → FirstHold (EffectAt style m kinds effects) n → EffectsHold style m (kinds_by kinds) (effects_by effects)
+effects_all style m kinds effects n l h =
+    all_hold (EffectAt style m kinds effects) n h
+    (λ k j. subst (λ (e : Effect). EffectHolds style m (kinds_by kinds) (effects_by effects) e (body_of style k))
+    (sym (get_or_past effects k effect.Other (omega (arith, l, j)))) tt)
+
+-- .. of their kinds
+abbrev pub KindAt : Style → List Kind → ℕ → Type 0
+KindAt style kinds k = KindHolds style (kinds_by kinds k) k
+
+pub kinds_more : (style : Style) (kinds : List Kind) (n number : ℕ) (said : Kind) → FirstHold (KindAt style kinds) n → number ≡ n → said ≡ kinds_by kinds n
+    → KindHolds style said number → FirstHold (KindAt style kinds) (n + 1)
+kinds_more style kinds n number said h en es w =
+    first_more (KindAt style kinds) n h (subst (λ k. KindHolds style (kinds_by kinds n) k) en (subst (λ (e : Kind). KindHolds style e number) es w))
+
+pub kinds_all : (style : Style) (kinds : List Kind) (n : ℕ) → length kinds ≤ n → FirstHold (KindAt style kinds) n → KindsHold style (kinds_by kinds)
+kinds_all style kinds n l h =
+    all_hold (KindAt style kinds) n h
+    (λ k j. subst (λ (e : Kind). KindHolds style e k) (sym (get_or_past kinds k kind.Other (omega (arith, l, j)))) tt)
+
+-- .. the claims on tests and on bodies
+abbrev pub EndAt : Style → (ℕ → Measure) → List ℕ → ℕ → Type 0
+EndAt style measures ends k = EndHolds style measures (slice_index_or ends k 0) k
+
+pub ends_more : (style : Style) (measures : ℕ → Measure) (ends : List ℕ) (n claim : ℕ) → FirstHold (EndAt style measures ends) n
+    → claim ≡ slice_index_or ends n 0 → EndHolds style measures claim n → FirstHold (EndAt style measures ends) (n + 1)
+ends_more style measures ends n claim h e w = first_more (EndAt style measures ends) n h (subst (λ c. EndHolds style measures c n) e w)
+
+pub ends_all : (style : Style) (measures : ℕ → Measure) (ends : List ℕ) (n : ℕ) → length ends ≤ n → FirstHold (EndAt style measures ends) n
+    → EndsHold style measures ends
+ends_all style measures ends n l h =
+    all_hold (EndAt style measures ends) n h
+    (λ k j. subst (λ c. EndHolds style measures c k) (sym (get_or_past ends k 0 (omega (arith, l, j)))) tt)
+
+abbrev pub ShortenAt : Style → (ℕ → Measure) → List ℕ → ℕ → Type 0
+ShortenAt style measures shortens k = ShortenHolds style measures (slice_index_or shortens k 0) k
+
+pub shortens_more : (style : Style) (measures : ℕ → Measure) (shortens : List ℕ) (n claim : ℕ) → FirstHold (ShortenAt style measures shortens) n
+    → claim ≡ slice_index_or shortens n 0 → ShortenHolds style measures claim n → FirstHold (ShortenAt style measures shortens) (n + 1)
+shortens_more style measures shortens n claim h e w =
+    first_more (ShortenAt style measures shortens) n h (subst (λ c. ShortenHolds style measures c n) e w)
+
+pub shortens_all : (style : Style) (measures : ℕ → Measure) (shortens : List ℕ) (n : ℕ) → length shortens ≤ n
+    → FirstHold (ShortenAt style measures shortens) n → ShortensHold style measures shortens
+shortens_all style measures shortens n l h =
+    all_hold (ShortenAt style measures shortens) n h
+    (λ k j. subst (λ c. ShortenHolds style measures c k) (sym (get_or_past shortens k 0 (omega (arith, l, j)))) tt)
+
+-- .. flags
+abbrev pub FlagAt : List Measure → ℕ → ℕ → Type 0
+FlagAt measures integers k = (measures_by measures k).flag ≤ integers
+
+pub flags_more : (measures : List Measure) (integers n : ℕ) (m : Measure) → FirstHold (FlagAt measures integers) n → m ≡ measures_by measures n
+    → m.flag ≤ integers → FirstHold (FlagAt measures integers) (n + 1)
+flags_more measures integers n m h e l = first_more (FlagAt measures integers) n h (subst (λ (a : Measure). a.flag ≤ integers) e l)
+
+pub flags_all : (measures : List Measure) (integers n : ℕ) → length measures ≤ n → FirstHold (FlagAt measures integers) n → FlagsHold (measures_by measures) integers
+flags_all measures integers n l h =
+    all_hold (FlagAt measures integers) n h
+    (λ k j. subst (λ (a : Measure). a.flag ≤ integers) (sym (get_or_past measures k (record { text = 0; flag = 0; word = 0 }) (omega (arith, l, j)))) (omega arith))
+
+-- what bears a claim on a body out
+pub shorten_by : (style : Style) (measures : ℕ → Measure) (kinds : ℕ → Kind) (effects : ℕ → Effect) (claim number : ℕ) (m : Measure) → (claim ≡ 0 → ⊥)
+    → m ≡ measures (claim - 1) → LessensBy style m kinds effects number → ShortenHolds style measures claim number
+shorten_by style measures kinds effects zero number m h e w = absurd (h refl)
+shorten_by style measures kinds effects (suc k) number m h e w =
+    let of_k : suc k - 1 ≡ k = omega arith in
+    (kinds, (effects, subst (λ n. LessensBy style (measures n) kinds effects number) of_k (subst (λ (a : Measure). LessensBy style a kinds effects number) e w)))
+
+-- a test that looks at a flag too
+pub tells_flag : (style : Style) (t flag : ℕ) (body : List Token) → (flag ≡ 0 → ⊥) → TellsBoth style (flag - 1) t body → Tells style t flag body
+tells_flag style t zero body h w = absurd (h refl)
+tells_flag style t (suc v) body h w = let e : suc v - 1 ≡ v = omega arith in subst (λ n. TellsBoth style n t body) e w
 
 -- ---- types
 

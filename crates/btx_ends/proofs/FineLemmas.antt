@@ -32,10 +32,11 @@ value_of xs v = unwrap_or (slice_get xs v) (pos 0)
 abbrev pub text_of : List (List ℕ) → ℕ → List ℕ
 text_of xs i = unwrap_or (slice_get xs i) []
 
--- no variable is greater than is claimed, and no string is longer
+-- no variable is greater than is claimed, and no string is longer; and all variables are there
 abbrev pub FineOf : Claims → List ℤ → List (List ℕ) → Type 0
 FineOf claims integers strings =
-    ((v n : ℕ) → slice_index_or claims.bounds v 0 ≡ suc n → above_zero (value_of integers v) ≤ n) × ((i : ℕ) → length (text_of strings i) ≤ claims.kept)
+    ((v n : ℕ) → slice_index_or claims.bounds v 0 ≡ suc n → above_zero (value_of integers v) ≤ n)
+    × (((i : ℕ) → length (text_of strings i) ≤ claims.kept) × (claims.integers ≤ length integers))
 
 abbrev pub FineIn : Claims → Store → Type 0
 FineIn claims r = FineOf claims r.integers r.strings
@@ -87,6 +88,11 @@ names_few (b ∷ bs) most l = let h = length-pieces_from 0 0 (b ∷ bs) in omega
 
 -- ---- assignments
 
+pub length-slice_set : (xs : List ℤ) (v : ℕ) (n : ℤ) → length (slice_set xs v n) ≡ length xs
+length-slice_set [] v n = refl
+length-slice_set (x ∷ xs) zero n = refl
+length-slice_set (x ∷ xs) (suc v) n = ap suc (length-slice_set xs v n)
+
 pub put_value : (xs : List ℤ) (w v : ℕ) (m : ℤ) (n : ℕ) → above_zero (value_of xs v) ≤ n → (w ≡ v → above_zero m ≤ n) → above_zero (value_of (slice_set xs w m) v) ≤ n
 put_value [] w v m n h k = h
 put_value (x ∷ xs) zero zero m n h k = k refl
@@ -111,14 +117,16 @@ taken_few most kept text l = let e = length-take most text in omega (arith, e, l
 
 integer_fine : (claims : Claims) (v : ℕ) (y : Literal) (s : Store) → IsSmall claims (callee.GlobalInteger v) y → FineIn claims s
     → FineIn claims (variables.stores_integer (variables.with_global_integer v) y s).store
-integer_fine claims v (literal.Integer m) s small h =
-    (λ u n e. put_value s.integers v u m n (h.0 u n e) (λ q. small n (ap (λ i. slice_index_or claims.bounds i 0) q ∙ e)), h.1)
+integer_fine claims v (literal.Integer m) s small h = (
+  λ u n e. put_value s.integers v u m n (h.0 u n e) (λ q. small n (ap (λ i. slice_index_or claims.bounds i 0) q ∙ e)),
+  (h.1.0, subst (λ k. claims.integers ≤ k) (sym (length-slice_set s.integers v m)) h.1.1),
+)
 integer_fine claims v y s small h = h
 
 string_fine : (claims : Claims) (most i : ℕ) (y : Literal) (s : Store) → most ≤ claims.kept → FineIn claims s
     → FineIn claims (variables.stores_string most (variables.with_global_string i) y s).store
 string_fine claims most i (literal.Text text) s l h =
-    (h.0, λ j. put_text s.strings i j (take most text) claims.kept (h.1 j) (taken_few most claims.kept text l))
+    (h.0, (λ j. put_text s.strings i j (take most text) claims.kept (h.1.0 j) (taken_few most claims.kept text l), h.1.1))
 string_fine claims most i y s l h = h
 
 entry_integer_fine : (claims : Claims) (entry i : ℕ) (y : Literal) (s : Store) → FineIn claims s

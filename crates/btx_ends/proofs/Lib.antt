@@ -5,6 +5,10 @@ pub mod CounterLemmas
 pub mod KeepLemmas
 pub mod LowerLemmas
 pub mod FineLemmas
+pub mod DoneLemmas
+pub mod StackLemmas
+pub mod ShorterLemmas
+pub mod TellLemmas
 pub mod RunLemmas
 pub mod StyleLemmas
 pub mod CodeLemmas

@@ -23,7 +23,7 @@ use Rattle.btx_step.specs.language.Steps as on_store
 use Rattle.btx_step.specs.refinement.Entries.{runner_of}
 use Rattle.btx_step.specs.laws.Leaves.{is_assignment}
 use Rattle.btx_step.proofs.LeaveLemmas.{variables_stay}
-use Rattle.btx_machine.specs.language.States.{State, state, Outcome}
+use Rattle.btx_machine.specs.language.States.{State, Outcome}
 use Rattle.btx_machine.specs.language.Steps.{token_effect, turn_of}
 use Rattle.btx_machine.specs.language.Meaning.{most_bodies, most_loops}
 use Rattle.btx_machine.specs.language.MeaningBySteps.{in_turn, turns_if, follow, act}
@@ -31,14 +31,21 @@ use Rattle.btx_ends.specs.declared.known.Known.{Known}
 use Rattle.btx_ends.specs.declared.known.Known.TheVariants as known
 use Rattle.btx_ends.specs.Costs.{Ended, EndsIn}
 use Rattle.btx_ends.specs.Counters.{value_in, above_zero}
-use Rattle.btx_ends.specs.Certificates.{Claims, CalleeWithin, ChoiceWithin, LoopWithin, CountedWithin, AssignsWithin, StepWithin, TokensWithin, BodyWithin}
-use Rattle.btx_ends.specs.Certificates.{TestsHold, CountsHold, TestHolds, CountHolds, top_after, below_after, known_value, known_names, known_difference}
+use Rattle.btx_ends.specs.Certificates.{Claims, CalleeWithin, ChoiceWithin, LoopWithin, CountedWithin, ShortenedWithin, TurnsWithin, AssignsWithin, StepWithin, TokensWithin, BodyWithin}
+use Rattle.btx_ends.specs.declared.measures.Measure.{Measure}
+use Rattle.btx_ends.specs.declared.measures.Effect.{Effect}
+use Rattle.btx_ends.specs.declared.measures.Effect.TheVariants as effect
+use Rattle.btx_ends.specs.declared.measures.Kind.{Kind}
+use Rattle.btx_ends.specs.Shortening.{text_in, flag_in, left_in, Tells, KindsHold, EffectsHold}
+use Rattle.btx_ends.specs.Certificates.{EndHolds, ShortenHolds, TextsHold, TestsHold, CountsHold, TestHolds, CountHolds, top_after, below_after, known_value, known_names, known_difference}
 use Rattle.btx_ends.proofs.EndLemmas.{then_ends, at_most, step_ends, loops_end_in}
 use Rattle.btx_ends.proofs.QuietLemmas.{IsQuiet, IsSingleToken, OneOf, OfType, step_quiet, choice_next, type_next}
 use Rattle.btx_ends.proofs.CounterLemmas.{Pushed, SameVariables, Tested, in_store, weaker, push_ends, test_ends, turn_again, turn_same, above, minus_done, Small, variable_step}
 use Rattle.btx_ends.proofs.CounterLemmas.{quote_step, names_step, string_step, integer_step, at_most_above, opens}
 use Rattle.btx_ends.proofs.KeepLemmas.{LoopOf, loop_next}
 use Rattle.btx_ends.proofs.LowerLemmas.{both_ended, call_lowers, AtMost}
+use Rattle.btx_ends.proofs.ShorterLemmas.{flag_same, text_same, left_same, shortens_done}
+use Rattle.btx_ends.proofs.TellLemmas.{Told, tells_to, left_few}
 use Rattle.btx_ends.proofs.FineLemmas.{Fine, FineIn, IsKnown, Stands, fine_same, fine_assigned, names_few, pushed_on, text_of}
 
 -- what is executed under a name takes as many steps as a token
@@ -101,6 +108,13 @@ some_more : (n : ℕ) → 0 < n → (m : ℕ) × (n ≡ suc m)
 some_more zero h = absurd (omega (arith, h))
 some_more (suc m) h = (m, refl)
 
+turns_some : (m c : ℕ) → 0 < c → suc m ≤ suc m * c
+turns_some zero c l = omega (arith, l)
+turns_some (suc m) c l = let h = turns_some m c l in omega (arith, h, l)
+
+turn_few : (m c : ℕ) → c ≤ suc m * c
+turn_few m c = omega arith
+
 -- a turn takes a step at least
 turns_few : (m c : ℕ) → suc m ≤ suc m * (4 + c)
 turns_few zero c = omega arith
@@ -116,10 +130,16 @@ record Between (claims : Claims) (v k : ℕ) (t : State) : Type 0 where
   tested : Tested v before t
   is : above_zero (in_store v before) ≡ k
 
+-- after the test of a loop that makes a text shorter, where so much was left before it
+record LeftBefore (job : Job) (claims : Claims) (m : Measure) (k : ℕ) (t : State) : Type 0 where
+  turned : Fine claims (turn_of job t).state
+  is : left_in m (turn_of job t).state ≡ k
+  told : (turn_of job t).again ≡ true → 0 < k
+
 module _ (job : Job) (claims : Claims)
     (bodies_hold : (number : ℕ) → BodyWithin claims (slice_index_or job.style.bodies number []) (slice_index_or claims.costs number 0))
     (types_hold : (entry number : ℕ) → runner_of job (entry_type (entry_of job entry)) ≡ Some number → CalleeWithin claims claims.types (callee.User number))
-    (tests_hold : TestsHold claims.tests job.style) (counts_hold : CountsHold claims.counts job.style) (kept_holds : job.global_max ≤ claims.kept) where
+    (tests_hold : TestsHold claims.tests job.style) (counts_hold : CountsHold claims.counts job.style) (texts_hold : TextsHold claims job.style) (kept_holds : job.global_max ≤ claims.kept) where
   -- what is claimed of variables, and what is known of the literals on top of the stack
   abbrev Here : Known → Known → State → Type 0
   Here top below s = Fine claims s × Stands claims top below s.store.literals
@@ -130,7 +150,7 @@ module _ (job : Job) (claims : Claims)
   NextWithin cost (next.End limit) = Unit {0}
   NextWithin cost (next.Run f) = CalleeWithin claims cost f
   NextWithin cost (next.Open number) = TokensWithin claims known.Anything known.Anything (slice_index_or job.style.bodies number []) cost
-  NextWithin cost (next.Loop (callee.User test) (callee.User body)) = CountedWithin claims (suc cost) body test
+  NextWithin cost (next.Loop (callee.User test) (callee.User body)) = TurnsWithin claims (suc cost) body test
   NextWithin cost (next.Loop f g) = ⊥
 
   -- with at most `n` executions inside one another, each token ends within its bound
@@ -221,6 +241,78 @@ module _ (job : Job) (claims : Claims)
       subst (λ k. k * (4 + slice_index_or claims.costs body 0) ≤ cost) m.1 (let q = w.1.1.1.1 in omega (arith, q)) in
       loop_by n p test body v.0 m.0 (slice_index_or claims.costs body 0) cost v.1 (w.1.0 ∙ v.1) eb (w.1.1.1.0, omega arith) le lt more bodies loops left s h l
 
+  -- ---- loops that make a text shorter
+
+  shortened_by : (n : ℕ) → Level n → (test body : ℕ) (m : Measure) (kinds : ℕ → Kind) (effects : ℕ → Effect) → KindsHold job.style kinds
+      → EffectsHold job.style m kinds effects → effects body ≡ effect.Shortens → Tells job.style m.text m.flag (slice_index_or job.style.bodies test [])
+      → m.flag ≤ claims.integers → (of_test of_body cost : ℕ) → CalleeWithin claims of_test (callee.User test) → CalleeWithin claims of_body (callee.User body)
+      → 0 < of_test → suc claims.kept * (of_test + of_body) ≤ cost → cost < n → (yes : Bool) (bodies loops left : ℕ) (s : State) → Fine claims s → cost ≤ left
+      → Ended cost (Fine claims) left (turns_if job yes n (act job n (Run (callee.User test))) (act job n (Run (callee.User body))) bodies loops left s)
+  shortened_by n p test body m kinds effects kh eh es tell flagged ct cb cost wt wb some le lt false bodies loops left s h l = omega arith
+  shortened_by n p test body m kinds effects kh eh es tell flagged ct cb cost wt wb some le lt true bodies loops left s h l =
+      at_most (suc claims.kept * (ct + cb)) cost left (Fine claims) _ le
+      (loops_end_in job (act job n (Run (callee.User test))) (act job n (Run (callee.User body))) (Fine claims) (Fine claims) After (left_in m) ct cb tests again
+      (λ k t b no. b.turned) claims.kept n bodies (loops + 1) left s h few_left few (omega (arith, le, l)))
+    where
+      After : ℕ → State → Type 0
+      After k t = LeftBefore job claims m k t
+
+      few : claims.kept < n
+      few = let q = turns_some claims.kept (ct + cb) (omega (arith, some)) in omega (arith, q, le, lt)
+
+      few_left : left_in m s ≤ claims.kept
+      few_left = let a = left_few (flag_in m.flag s) (text_in m.text s) in let b = h.1.0 m.text in omega (arith, a, b)
+
+      cheap : (ct ≤ cost) × (cb ≤ cost)
+      cheap = let q = turn_few claims.kept (ct + cb) in (omega (arith, q, le), omega (arith, q, le))
+
+      tests : (k : ℕ) → EndsIn ct (λ t. Fine claims t × (left_in m t ≡ k)) (act job n (Run (callee.User test))) (After k)
+      tests k bodies loops left t g e =
+          weaker ct left (λ u. Fine claims u × Told job m.text m.flag t u) (After k) _
+          (λ u q.
+          let same : SameVariables t.store (turn_of job u).state = ((turn_same job u).0 ∙ q.1.0.0, (turn_same job u).1 ∙ q.1.0.1) in
+          record {
+            turned = fine_same claims u.store (turn_of job u).state (turn_same job u) q.0;
+            is = left_same m t (turn_of job u).state (flag_same m.flag t (turn_of job u).state same.0) (text_same m.text t (turn_of job u).state same.1) ∙ g.1;
+            told = λ yes. subst (λ j. 0 < j) g.1 (q.1.1 yes);
+          })
+          (both_ended ct left (Fine claims) (Told job m.text m.flag t) (act job n (Run (callee.User test)) bodies loops left t)
+          (call_within n p (callee.User test) ct wt (omega (arith, cheap.0, lt)) bodies loops left t g.0 e)
+          (tells_to job n test m.text m.flag tell bodies loops left t))
+
+      again : (k : ℕ) (t : State) → After k t → (turn_of job t).again ≡ true
+          → EndsIn cb (λ u. u ≡ (turn_of job t).state) (act job n (Run (callee.User body))) (λ u. Fine claims u × (left_in m u < k))
+      again k t b goes bodies loops left u eu e =
+          let fine : Fine claims u = subst (Fine claims) (sym eu) b.turned in
+          let size : left_in m u ≡ k = ap (left_in m) eu ∙ b.is in
+          weaker cb left (λ q. Fine claims q × (left_in m q ≤ left_in m u - 1)) (λ q. Fine claims q × (left_in m q < k)) _
+          (λ q g. (g.0, (let a = g.1 in let z = b.told goes in omega (arith, size, a, z))))
+          (both_ended cb left (Fine claims) (λ q. left_in m q ≤ left_in m u - 1) (act job n (Run (callee.User body)) bodies loops left u)
+          (call_within n p (callee.User body) cb wb (omega (arith, cheap.1, lt)) bodies loops left u fine e)
+          (shortens_done job m kinds effects kh eh n body es bodies loops left u (let a = fine.1.1 in omega (arith, a, flagged))))
+
+  shortened_within : (n : ℕ) → Level n → (test body cost : ℕ) → ShortenedWithin claims (suc cost) body test → cost < n → (yes : Bool) (bodies loops left : ℕ) (s : State)
+      → Fine claims s → cost ≤ left
+      → Ended cost (Fine claims) left (turns_if job yes n (act job n (Run (callee.User test))) (act job n (Run (callee.User body))) bodies loops left s)
+  shortened_within n p test body cost w lt more bodies loops left s h l =
+      let measures = texts_hold.0 in
+      let k = some_more (slice_index_or claims.ends test 0) w.0 in
+      let ends : EndHolds job.style measures (suc k.0) test = subst (λ c. EndHolds job.style measures c test) k.1 (texts_hold.1.0 test) in
+      let short : ShortenHolds job.style measures (suc k.0) body =
+      subst (λ c. ShortenHolds job.style measures c body) (w.1.0 ∙ k.1) (texts_hold.1.1.0 body) in
+      let le : suc claims.kept * (slice_index_or claims.costs test 0 + slice_index_or claims.costs body 0) ≤ cost =
+      (let q = w.1.1.1.1 in let r : claims.kept + 1 ≡ suc claims.kept = omega arith in
+      subst (λ j. j * (slice_index_or claims.costs test 0 + slice_index_or claims.costs body 0) ≤ cost) r (omega (arith, q))) in
+      shortened_by n p test body (measures k.0) short.0 short.1.0 short.1.1.0 short.1.1.1.0 short.1.1.1.1 ends (texts_hold.1.1.1.0 k.0)
+      (slice_index_or claims.costs test 0) (slice_index_or claims.costs body 0) cost (w.1.1.0, omega arith) (w.1.1.1.0, omega arith) w.1.1.0 le lt
+      more bodies loops left s h l
+
+  either_within : (n : ℕ) → Level n → (test body cost : ℕ) → TurnsWithin claims (suc cost) body test → cost < n → (yes : Bool) (bodies loops left : ℕ) (s : State)
+      → Fine claims s → cost ≤ left
+      → Ended cost (Fine claims) left (turns_if job yes n (act job n (Run (callee.User test))) (act job n (Run (callee.User body))) bodies loops left s)
+  either_within n p test body cost (inl w) lt more bodies loops left s h l = loop_within n p test body cost w lt more bodies loops left s h l
+  either_within n p test body cost (inr w) lt more bodies loops left s h l = shortened_within n p test body cost w lt more bodies loops left s h l
+
   -- ---- what follows
 
   follow_within : (n : ℕ) → Level n → (after : Next) (cost : ℕ) → NextWithin cost after → cost < n → (bodies loops left : ℕ) (s : State) → Fine claims s → cost ≤ left
@@ -234,7 +326,7 @@ module _ (job : Job) (claims : Claims)
       (fine_same claims s.store t same h, (tt, tt)) l)
       (nat_lt bodies most_bodies)
   follow_within n p (next.Loop (callee.User test) (callee.User body)) cost w lt bodies loops left s h l =
-      loop_within n p test body cost w lt (nat_lt loops most_loops) bodies loops left s h l
+      either_within n p test body cost w lt (nat_lt loops most_loops) bodies loops left s h l
   follow_within n p (next.Loop (callee.User test) g) cost w lt bodies loops left s h l = absurd w
   follow_within n p (next.Loop f g) cost w lt bodies loops left s h l = absurd w
 
@@ -274,7 +366,7 @@ module _ (job : Job) (claims : Claims)
   type_within (next.Open number) h = absurd h
   type_within (next.Loop test body) h = absurd h
 
-  turns_within : (less test body : ℕ) (after : Next) → LoopOf (callee.User test) (callee.User body) after → CountedWithin claims (suc less) body test
+  turns_within : (less test body : ℕ) (after : Next) → LoopOf (callee.User test) (callee.User body) after → TurnsWithin claims (suc less) body test
       → NextWithin less after
   turns_within less test body next.Nothing h w = tt
   turns_within less test body (next.End limit) h w = tt
@@ -363,10 +455,14 @@ module _ (job : Job) (claims : Claims)
   choice_ends n p (known.Function g) below cost w lt bodies loops left s h l = absurd w
   choice_ends n p top below cost w lt bodies loops left s h l = absurd w
 
-  counted_ends : (n : ℕ) → Level n → (body test cost : ℕ) → CountedWithin claims cost body test → cost < suc n → (bodies loops left : ℕ) (s : State)
+  turns_some_cost : (body test : ℕ) → TurnsWithin claims 0 body test → ⊥
+  turns_some_cost body test (inl w) = absurd (let e = w.1.1.1.1 in omega (arith, e))
+  turns_some_cost body test (inr w) = absurd (let e = w.1.1.1.1 in omega (arith, e))
+
+  counted_ends : (n : ℕ) → Level n → (body test cost : ℕ) → TurnsWithin claims cost body test → cost < suc n → (bodies loops left : ℕ) (s : State)
       → Here (known.Function (callee.User body)) (known.Function (callee.User test)) s → cost ≤ left
       → Ended cost (Here known.Anything known.Anything) left (act job (suc n) (Run (callee.BuiltIn built_in.While)) bodies loops left s)
-  counted_ends n p body test zero w lt bodies loops left s h l = absurd (let e = w.1.1.1.1 in omega (arith, e))
+  counted_ends n p body test zero w lt bodies loops left s h l = absurd (turns_some_cost body test w)
   counted_ends n p body test (suc less) w lt bodies loops left s h l =
       let on = functions_on claims (callee.User body) (callee.User test) s.store.literals h.1 in
       stepped n p (Run (callee.BuiltIn built_in.While)) less (suc less) s
@@ -427,7 +523,7 @@ module _ (job : Job) (claims : Claims)
       bodies loops left s (variable_step job v s.store) (known_claim v s.store (slice_index_or claims.bounds v 0) h.0 refl) h l
   level_next n p top below (Run (callee.GlobalString i)) cost w lt bodies loops left s h l =
       push_known n cost w (Run (callee.GlobalString i)) (literal.Text (text_of s.store.strings i)) known.Kept top below
-      bodies loops left s (string_step job i s.store) (text_of s.store.strings i, (refl, h.0.1 i)) h l
+      bodies loops left s (string_step job i s.store) (text_of s.store.strings i, (refl, h.0.1.0 i)) h l
   level_next n p top below (Run f) cost w lt bodies loops left s h l = single_ends n p (Run f) tt refl cost w lt bodies loops left s h.0 l
 
   pub level : (n : ℕ) → Level n

@@ -1,7 +1,7 @@
 -- What the checker sees to. A certificate claims for each function of a style how many steps a call of it takes at most; 0 claims nothing. Each claim is checked
 -- by the function's own body and the claims of what it calls. A call takes a step itself, so a function that calls itself, or one that calls it, bears no claim out.
 -- For loops it claims how great a global integer variable can be, which functions are the test of a loop that counts it down, and which are its body.
-use Rattle.std.specs.Prelude.{◌≡◌, ℕ, zero, suc, ◌+◌, ◌-◌, ◌*◌, ◌≤◌, ◌<◌, pos, negsuc, List, [], ◌∷◌, length, Bool, Some, true, codes, slice_index_or}
+use Rattle.std.specs.Prelude.{◌≡◌, ℕ, zero, suc, ◌+◌, ◌-◌, ◌*◌, ◌≤◌, ◌<◌, pos, negsuc, List, [], ◌∷◌, length, Bool, Some, true, codes, slice_index_or, ◌⊎◌}
 use Rattle.btx_bst.specs.declared.built_in.BuiltIn.{BuiltIn}
 use Rattle.btx_bst.specs.declared.built_in.BuiltIn.TheVariants as built_in
 use Rattle.btx_bst.specs.declared.callee.Callee.{Callee}
@@ -14,9 +14,14 @@ use Rattle.btx_bst.specs.language.Items as item
 use Rattle.btx_bst.specs.language.Style.{Style, type_of}
 use Rattle.btx_ends.specs.declared.known.Known.{Known}
 use Rattle.btx_ends.specs.declared.known.Known.TheVariants as known
+use Rattle.btx_ends.specs.declared.measures.Measure.{Measure}
+use Rattle.btx_ends.specs.declared.measures.Effect.{Effect}
+use Rattle.btx_ends.specs.declared.measures.Effect.TheVariants as effect
+use Rattle.btx_ends.specs.declared.measures.Kind.{Kind}
 use Rattle.btx_ends.specs.Counters.{above_zero_test}
 use Rattle.btx_ends.specs.Ends.{is_among, StyleEnds}
 use Rattle.btx_ends.specs.Keeping.{BodiesKeep, BodyCounts}
+use Rattle.btx_ends.specs.Shortening.{Tells, body_of, KindsHold, EffectsHold}
 
 -- what a certificate claims of a style
 pub record Claims : Type 0 where
@@ -30,6 +35,12 @@ pub record Claims : Type 0 where
   pub tests : List ℕ
   -- of each function, by its number, one more than the number of the global integer variable that it counts down; 0 claims nothing
   pub counts : List ℕ
+  -- of each function, by its number, one more than the number of the measure by which it tells whether a loop may go on; 0 claims nothing
+  pub ends : List ℕ
+  -- of each function, by its number, one more than the number of the measure that it lessens; 0 claims nothing
+  pub shortens : List ℕ
+  -- how many global integer variables there are at least
+  pub integers : ℕ
   -- how many bytes a global string variable keeps at most
   pub kept : ℕ
 
@@ -104,9 +115,22 @@ CountedWithin claims most body test =
     let cost = slice_index_or claims.costs body 0 in
     (0 < counted) × ((slice_index_or claims.counts body 0 ≡ counted) × ((0 < turns) × ((0 < cost) × (turns * (4 + cost) < most))))
 
+-- a loop of which each turn makes a text shorter or sets a flag takes at most `most` steps: its own step, and for each turn, of which there is one more than a
+-- string variable keeps bytes, those of the test and of the body
+abbrev pub ShortenedWithin : Claims → ℕ → ℕ → ℕ → Type 0
+ShortenedWithin claims most body test =
+    let ended = slice_index_or claims.ends test 0 in
+    let of_test = slice_index_or claims.costs test 0 in
+    let of_body = slice_index_or claims.costs body 0 in
+    (0 < ended) × ((slice_index_or claims.shortens body 0 ≡ ended) × ((0 < of_test) × ((0 < of_body) × ((claims.kept + 1) * (of_test + of_body) < most))))
+
+-- a loop of either kind
+abbrev pub TurnsWithin : Claims → ℕ → ℕ → ℕ → Type 0
+TurnsWithin claims most body test = CountedWithin claims most body test ⊎ ShortenedWithin claims most body test
+
 -- .. where its body and its test are known to stand on top of the stack
 abbrev pub LoopWithin : Claims → ℕ → Known → Known → Type 0
-LoopWithin claims most (known.Function (callee.User body)) (known.Function (callee.User test)) = CountedWithin claims most body test
+LoopWithin claims most (known.Function (callee.User body)) (known.Function (callee.User test)) = TurnsWithin claims most body test
 LoopWithin claims most _ _ = ⊥
 
 -- a value that is assigned is no greater than is claimed of the variable
@@ -189,6 +213,42 @@ CountHolds style (suc v) body = (keeps : ℕ → Bool) × (BodyCounts keeps v bo
 abbrev pub CountsHold : List ℕ → Style → Type 0
 CountsHold counts style = (number : ℕ) → CountHolds style (slice_index_or counts number 0) (slice_index_or style.bodies number [])
 
+-- a function tells whether a loop may go on by the measure that is claimed
+abbrev pub EndHolds : Style → (ℕ → Measure) → ℕ → ℕ → Type 0
+EndHolds style measures zero number = Unit {0}
+EndHolds style measures (suc k) number = Tells style (measures k).text (measures k).flag (body_of style number)
+
+-- a function lessens a measure, by what is said of all functions
+abbrev pub LessensBy : Style → Measure → (ℕ → Kind) → (ℕ → Effect) → ℕ → Type 0
+LessensBy style m kinds effects number =
+    KindsHold style kinds × (EffectsHold style m kinds effects × (effects number ≡ effect.Shortens))
+
+-- a function lessens the measure that is claimed
+abbrev pub ShortenHolds : Style → (ℕ → Measure) → ℕ → ℕ → Type 0
+ShortenHolds style measures zero number = Unit {0}
+ShortenHolds style measures (suc k) number = (kinds : ℕ → Kind) × ((effects : ℕ → Effect) × LessensBy style (measures k) kinds effects number)
+
+-- .. and so do all
+abbrev pub EndsHold : Style → (ℕ → Measure) → List ℕ → Type 0
+EndsHold style measures ends = (number : ℕ) → EndHolds style measures (slice_index_or ends number 0) number
+
+abbrev pub ShortensHold : Style → (ℕ → Measure) → List ℕ → Type 0
+ShortensHold style measures shortens = (number : ℕ) → ShortenHolds style measures (slice_index_or shortens number 0) number
+
+-- each flag is a variable that is there
+abbrev pub FlagsHold : (ℕ → Measure) → ℕ → Type 0
+FlagsHold measures integers = (k : ℕ) → (measures k).flag ≤ integers
+
+-- the measures of a list, by their numbers
+abbrev pub measures_by : List Measure → ℕ → Measure
+measures_by measures k = slice_index_or measures k (record { text = 0; flag = 0; word = 0 })
+
+-- all claims on loops over texts hold
+abbrev pub TextsHold : Claims → Style → Type 0
+TextsHold claims style =
+    (measures : ℕ → Measure) × (EndsHold style measures claims.ends × (ShortensHold style measures claims.shortens
+    × (FlagsHold measures claims.integers × (claims.integers ≤ length style.names.global_integers))))
+
 -- nothing is claimed of `entry.max$` and `global.max$`, which don't begin with 0
 abbrev pub FirstUnclaimed : List ℕ → Type 0
 FirstUnclaimed bounds = (slice_index_or bounds 0 0 ≡ 0) × (slice_index_or bounds 1 0 ≡ 0)
@@ -199,7 +259,7 @@ FunctionsWithin claims allowed style = BodiesWithin claims style × (OwnWithin c
 
 -- all claims on loops and variables hold
 abbrev pub LoopsHold : Claims → Style → Type 0
-LoopsHold claims style = TestsHold claims.tests style × (CountsHold claims.counts style × FirstUnclaimed claims.bounds)
+LoopsHold claims style = TestsHold claims.tests style × (CountsHold claims.counts style × (FirstUnclaimed claims.bounds × TextsHold claims style))
 
 -- THE LAW: a style of which a certificate's claims hold ends
 abbrev pub ClaimsEnd : Type 0

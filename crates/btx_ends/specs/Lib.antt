@@ -2,5 +2,6 @@ pub mod Ends
 pub mod Costs
 pub mod Counters
 pub mod Keeping
+pub mod Shortening
 pub mod Certificates
 pub mod Views

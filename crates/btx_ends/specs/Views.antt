@@ -9,5 +9,8 @@ claims_of given = record {
   bounds = given.bounds.now;
   tests = given.tests.now;
   counts = given.counts.now;
+  ends = given.ends.now;
+  shortens = given.shortens.now;
+  integers = given.integers;
   kept = given.kept;
 }

@@ -1,14 +1,18 @@
 //! The checker of certificates.
-ghost use Rattle.std.specs.Prelude.{◌≡◌, IsTrue, true, IfSome, IfOk};
+ghost use Rattle.std.specs.Prelude.{◌≡◌, ◌≤◌, ◌<◌, IsTrue, true, IfSome, IfOk, length};
 ghost use Rattle.btx_bst.specs.declared.callee.Callee.TheVariants as callee;
+ghost use Rattle.btx_ends.specs.declared.measures.Effect.TheVariants as effect;
 ghost use Rattle.btx_ends.specs.Certificates as within;
 ghost use Rattle.btx_ends.specs.Ends.{StyleEnds};
+ghost use Rattle.btx_ends.specs.Shortening.{effects_by, kinds_by};
 ghost use Rattle.btx_ends.specs.Views.{claims_of};
 
 use crate::claims::{Claims, claim_of};
 use crate::costs::{Bound, body_cost, items_cost};
 use crate::keeping::{functions_keep, is_counting, is_test};
+use crate::measures::{Effect, Kind, Measure};
 use crate::search::proposed;
+use crate::shortening::{effects_hold, kinds_hold, said_of, tells};
 use btx_bst::{Style, Token};
 use std::alloc::{AllocError, Global};
 
@@ -27,6 +31,18 @@ pub struct Certificate {
     pub counts: Vec<u32>,
     /// Of each global integer variable, by its number, which functions keep it, by their numbers. It may be empty where no function is said to count it down.
     pub keeps: Vec<Vec<bool>>,
+    /// What loops over texts are measured by.
+    pub measures: Vec<Measure>,
+    /// Of each function, by its number, one more than the number of the measure by which it tells whether a loop may go on; 0 claims nothing.
+    pub ends: Vec<u32>,
+    /// Of each function, by its number, one more than the number of the measure that it lessens; 0 claims nothing.
+    pub shortens: Vec<u32>,
+    /// Of each function, by its number, what it does with integers on top of the stack.
+    pub kinds: Vec<Kind>,
+    /// Of each measure, what each function does, by its number.
+    pub effects: Vec<Vec<Effect>>,
+    /// How many global integer variables there are at least.
+    pub integers: u32,
     /// How many bytes a global string variable keeps at most.
     pub kept: u32,
 }
@@ -42,6 +58,9 @@ impl Certificate {
             bounds: self.bounds.as_slice(),
             tests: self.tests.as_slice(),
             counts: self.counts.as_slice(),
+            ends: self.ends.as_slice(),
+            shortens: self.shortens.as_slice(),
+            integers: self.integers,
             kept: self.kept,
         }
     }
@@ -160,6 +179,142 @@ fn counts_hold(style: &Style, counts: &[u32], keeps: &[Vec<bool>]) -> bool
     true
 }
 
+// The measure of a number; past the last one that of a text, without a flag.
+fn measure_of(measures: &[Measure], k: usize) -> Measure
+    ensures { result ≡ within.measures_by measures.now k }
+{
+    if k < measures.len() {
+        measures[k]
+    } else {
+        Measure {
+            text: 0,
+            flag: 0,
+            word: 0,
+        }
+    }
+}
+
+// Answers whether a function tells whether a loop may go on by the measure that is claimed.
+fn end_holds(style: &Style, measures: &[Measure], claim: u32, number: usize) -> bool
+    requires { number < length style.now.bodies }
+    ensures { IsTrue result → within.EndHolds style.now (within.measures_by measures.now) claim number }
+{
+    if claim == 0 {
+        return true;
+    }
+    let m = measure_of(measures, (claim - 1) as usize);
+    tells(style, m, style.body(number))
+}
+
+// Answers whether that is so of all functions.
+fn ends_hold(style: &Style, measures: &[Measure], ends: &[u32]) -> bool
+    ensures { IsTrue result → within.EndsHold style.now (within.measures_by measures.now) ends.now }
+{
+    if ends.len() > style.functions() {
+        return false;
+    }
+    for number in 0..ends.len() {
+        if !end_holds(style, measures, ends[number], number) {
+            return false;
+        }
+    }
+    true
+}
+
+/// Answers whether a function is said to make less of what is left.
+pub(crate) fn is_shortening(effects: &[Effect], number: usize) -> bool
+    ensures { IsTrue result → effects_by effects.now number ≡ effect.Shortens }
+{
+    match said_of(effects, number) {
+        Effect::Shortens => true,
+        _ => false,
+    }
+}
+
+// Answers whether a function lessens a measure, by what is said of all functions.
+fn lessens_by(style: &Style, m: Measure, kinds: &[Kind], effects: &[Effect], number: usize) -> bool
+    ensures { IsTrue result → within.LessensBy style.now m (kinds_by kinds.now) (effects_by effects.now) number }
+{
+    is_shortening(effects, number)
+        && kinds_hold(style, kinds)
+        && effects_hold(style, m, kinds, effects)
+}
+
+// Answers whether a function lessens the measure that is claimed.
+fn shorten_holds(
+    style: &Style,
+    measures: &[Measure],
+    certificate: &Certificate,
+    claim: u32,
+    number: usize,
+) -> bool
+    ensures { IsTrue result → within.ShortenHolds style.now (within.measures_by measures.now) claim number }
+{
+    if claim == 0 {
+        return true;
+    }
+    let k = (claim - 1) as usize;
+    if k >= certificate.effects.len() {
+        return false;
+    }
+    let effects = certificate.effects[k].as_slice();
+    let m = measure_of(measures, k);
+    lessens_by(style, m, certificate.kinds.as_slice(), effects, number)
+}
+
+// Answers whether that is so of all functions.
+fn shortens_hold(
+    style: &Style,
+    measures: &[Measure],
+    certificate: &Certificate,
+    shortens: &[u32],
+) -> bool
+    ensures { IsTrue result → within.ShortensHold style.now (within.measures_by measures.now) shortens.now }
+{
+    for number in 0..shortens.len() {
+        if !shorten_holds(style, measures, certificate, shortens[number], number) {
+            return false;
+        }
+    }
+    true
+}
+
+// Answers whether all flags are variables that are there.
+fn flags_hold(measures: &[Measure], integers: u32) -> bool
+    ensures { IsTrue result → within.FlagsHold (within.measures_by measures.now) integers }
+{
+    for m in measures {
+        if m.flag > integers {
+            return false;
+        }
+    }
+    true
+}
+
+// Answers whether a style has so many global integer variables.
+fn has_integers(style: &Style, count: u32) -> bool
+    ensures { IsTrue result → count ≤ length style.now.names.global_integers }
+{
+    count as usize <= style.global_integers()
+}
+
+// Answers whether all claims on loops over texts hold.
+fn texts_hold(style: &Style, claims: Claims<'_>, certificate: &Certificate) -> bool
+    ensures { IsTrue result → within.TextsHold (claims_of claims.entry) style.now }
+{
+    let measures = certificate.measures.as_slice();
+    if !ends_hold(style, measures, claims.ends) {
+        return false;
+    }
+    if !shortens_hold(style, measures, certificate, claims.shortens) {
+        return false;
+    }
+    if !flags_hold(measures, claims.integers) {
+        return false;
+    }
+    has_integers(style, claims.integers)
+}
+
 // Answers whether nothing is claimed of `entry.max$` and `global.max$`.
 fn first_unclaimed(bounds: &[u64]) -> bool
     ensures { IsTrue result → within.FirstUnclaimed bounds.now }
@@ -175,12 +330,13 @@ fn functions_hold(style: &Style, allowed: &[u32], claims: Claims<'_>) -> bool
 }
 
 // Answers whether all claims on loops and variables hold.
-fn loops_hold(style: &Style, claims: Claims<'_>, keeps: &[Vec<bool>]) -> bool
+fn loops_hold(style: &Style, claims: Claims<'_>, certificate: &Certificate) -> bool
     ensures { IsTrue result → within.LoopsHold (claims_of claims.entry) style.now }
 {
     tests_hold(style, claims.tests)
-        && counts_hold(style, claims.counts, keeps)
+        && counts_hold(style, claims.counts, certificate.keeps.as_slice())
         && first_unclaimed(claims.bounds)
+        && texts_hold(style, claims, certificate)
 }
 
 /// Judges a certificate: answers the bound of a style's runs, for entries of the types that are allowed or that the style doesn't know, where global string
@@ -192,7 +348,7 @@ pub fn ends(style: &Style, allowed: &[u32], certificate: &Certificate) -> Option
     if !functions_hold(style, allowed, claims) {
         return None;
     }
-    if !loops_hold(style, claims, certificate.keeps.as_slice()) {
+    if !loops_hold(style, claims, certificate) {
         return None;
     }
     items_cost(claims, style.items())

@@ -14,6 +14,12 @@ pub struct Claims<'c> {
     pub tests: &'c [u32],
     /// Of each function, by its number, one more than the number of the variable that it counts down; 0 claims nothing.
     pub counts: &'c [u32],
+    /// Of each function, by its number, one more than the number of the measure by which it tells whether a loop may go on; 0 claims nothing.
+    pub ends: &'c [u32],
+    /// Of each function, by its number, one more than the number of the measure that it lessens; 0 claims nothing.
+    pub shortens: &'c [u32],
+    /// How many global integer variables there are at least.
+    pub integers: u32,
     /// How many bytes a global string variable keeps at most.
     pub kept: u32,
 }

@@ -94,13 +94,42 @@ fn counted_cost(claims: Claims<'_>, body: u32, test: u32) -> Option<u64>
     all.checked_add(1)
 }
 
+// .. whose turns make a text shorter or set a flag: its own step, and those of each turn.
+fn shortened_cost(claims: Claims<'_>, body: u32, test: u32) -> Option<u64>
+    ensures { IfSome result (λ most. within.ShortenedWithin (claims_of claims.entry) most body test) }
+{
+    let ended = number_for(claims.ends, test as usize);
+    if ended == 0 || number_for(claims.shortens, body as usize) != ended {
+        return None;
+    }
+    let of_test = claim_of(claims.costs, test as usize);
+    let of_body = claim_of(claims.costs, body as usize);
+    if of_test == 0 || of_body == 0 {
+        return None;
+    }
+    let turn = of_test.checked_add(of_body)?;
+    let turns = claims.kept as u64 + 1;
+    let all = turns.checked_mul(turn)?;
+    all.checked_add(1)
+}
+
+// .. of either kind
+fn turns_cost(claims: Claims<'_>, body: u32, test: u32) -> Option<u64>
+    ensures { IfSome result (λ most. within.TurnsWithin (claims_of claims.entry) most body test) }
+{
+    match counted_cost(claims, body, test) {
+        Some(cost) => Some(cost),
+        None => shortened_cost(claims, body, test),
+    }
+}
+
 // Answers how many steps a `while$` takes at most, where this is known of the two literals on top of the stack.
 fn loop_cost(claims: Claims<'_>, top: Known, below: Known) -> Option<u64>
     ensures { IfSome result (λ most. within.LoopWithin (claims_of claims.entry) most top below) }
 {
     match (top, below) {
         (Known::Function(Callee::User(body)), Known::Function(Callee::User(test))) => {
-            counted_cost(claims, body, test)
+            turns_cost(claims, body, test)
         }
         _ => None,
     }

@@ -8,7 +8,10 @@ pub mod keeping;
 pub mod known;
 pub mod laws;
 pub mod literals;
+pub mod measures;
 pub mod search;
+pub mod shortening;
+pub mod tops;
 
 pub use checker::{Certificate, check, ends};
 pub use costs::Bound;

@@ -1,10 +1,12 @@
 //! The search that proposes a certificate. Nothing is promised of what it finds: the checker judges it.
-use crate::checker::Certificate;
-use crate::claims::{Claims, claim_of};
+use crate::checker::{Certificate, is_shortening};
+use crate::claims::{Claims, claim_of, number_for};
 use crate::costs::body_cost;
 use crate::keeping::{is_counting, is_test, tokens_keep};
 use crate::known::Known;
 use crate::literals::{below_after, top_after};
+use crate::measures::{Effect, Kind, Measure};
+use crate::shortening::{begins_word, is_not, is_or, tells, tokens_through};
 use btx_bst::{BuiltIn, Callee, Style, Token};
 use std::alloc::{AllocError, Global};
 
@@ -21,6 +23,11 @@ pub fn proposed(
     let tests = tests_of(alloc, style, &bounds)?;
     let keeps = rows_of(alloc, style, &tests, bounds.len())?;
     let counts = counts_of(alloc, style, &keeps)?;
+    let kinds = kinds_of(alloc, style)?;
+    let measures = measures_of(alloc, style)?;
+    let effects = effects_of(alloc, style, &kinds, &measures)?;
+    let ends = ends_of(alloc, style, &measures)?;
+    let shortens = shortens_of(alloc, style, &ends, &effects)?;
     let mut found = Certificate {
         costs: Vec::new(alloc),
         types: 0,
@@ -28,6 +35,12 @@ pub fn proposed(
         tests,
         counts,
         keeps,
+        measures,
+        ends,
+        shortens,
+        kinds,
+        effects,
+        integers: count_of(style.global_integers()),
         kept,
     };
     found.costs = costs_of(alloc, style, &found)?;
@@ -84,6 +97,9 @@ fn raise_in(body: &[Token], bounds: &mut [u64], kept: u32, may_raise: bool) {
             bounds: &*bounds,
             tests: &[],
             counts: &[],
+            ends: &[],
+            shortens: &[],
+            integers: 0,
             kept,
         };
         let after = top_after(claims, top, below, *token);
@@ -224,6 +240,203 @@ fn counted_number(body: &[Token], keeps: &[Vec<bool>]) -> u32 {
             }
         }
         _ => 0,
+    }
+}
+
+// ---- texts
+
+// How many measures are looked at.
+const MOST_MEASURES: usize = 16;
+
+// A number of 32 bits, or the greatest one.
+fn count_of(number: usize) -> u32 {
+    match u32::try_from(number) {
+        Ok(count) => count,
+        Err(_) => 0,
+    }
+}
+
+// Says of each function what it does with integers on top of the stack.
+fn kinds_of(alloc: Global, style: &Style) -> Result<Vec<Kind>, AllocError> {
+    let mut kinds: Vec<Kind> = Vec::new(alloc);
+    let mut number: u32 = 0;
+    for _ in 0..style.functions() {
+        kinds.push(kind_for(style, number))?;
+        number = next_number(number);
+    }
+    Ok(kinds)
+}
+
+// .. of one
+fn kind_for(style: &Style, number: u32) -> Kind {
+    if is_not(style, number) {
+        Kind::Not
+    } else if is_or(style, number) {
+        Kind::Or
+    } else {
+        Kind::Other
+    }
+}
+
+// The measure by which a body seems to tell whether a loop may go on: by `t empty$ not`, `v not t empty$ not and` or `t #1 #1 substring$ "w" =`.
+fn measure_told(body: &[Token]) -> Option<Measure> {
+    if body.len() != 3 && body.len() != 6 {
+        return None;
+    }
+    match (body[0], body[2]) {
+        (Token::Run(Callee::GlobalString(text)), _) => Some(Measure {
+            text,
+            flag: 0,
+            word: 0,
+        }),
+        (Token::Run(Callee::GlobalInteger(v)), Token::Run(Callee::GlobalString(text))) => {
+            Some(Measure {
+                text,
+                flag: next_number(v),
+                word: 0,
+            })
+        }
+        _ => None,
+    }
+}
+
+// The text with which the first byte of a variable is compared by some function that does nothing else; 0 if there is none.
+fn word_for(style: &Style, text: u32) -> u32 {
+    for number in 0..style.functions() {
+        if let Some(word) = begins_word(text, style.body(number)) {
+            return word;
+        }
+    }
+    0
+}
+
+// The measures of the style's tests.
+fn measures_of(alloc: Global, style: &Style) -> Result<Vec<Measure>, AllocError> {
+    let mut measures: Vec<Measure> = Vec::new(alloc);
+    for number in 0..style.functions() {
+        let body = style.body(number);
+        if measures.len() < MOST_MEASURES {
+            if let Some(told) = measure_told(body) {
+                if tells(style, told, body) {
+                    let m = Measure {
+                        word: word_for(style, told.text),
+                        ..told
+                    };
+                    if !is_measure(&measures, m) {
+                        measures.push(m)?;
+                    }
+                }
+            }
+        }
+    }
+    Ok(measures)
+}
+
+// Answers whether a measure is one of these.
+fn is_measure(measures: &[Measure], wanted: Measure) -> bool {
+    for m in measures {
+        if *m == wanted {
+            return true;
+        }
+    }
+    false
+}
+
+// Says of each measure what each function does.
+fn effects_of(
+    alloc: Global,
+    style: &Style,
+    kinds: &[Kind],
+    measures: &[Measure],
+) -> Result<Vec<Vec<Effect>>, AllocError> {
+    let mut rows: Vec<Vec<Effect>> = Vec::new(alloc);
+    for m in measures {
+        let mut row: Vec<Effect> = Vec::new(alloc);
+        for number in 0..style.functions() {
+            let effect = effect_for(style, *m, kinds, &row, style.body(number));
+            row.push(effect)?;
+        }
+        rows.push(row)?;
+    }
+    Ok(rows)
+}
+
+// .. of one body
+fn effect_for(style: &Style, m: Measure, kinds: &[Kind], row: &[Effect], body: &[Token]) -> Effect {
+    match tokens_through(style, m, kinds, row, false, body) {
+        Some(true) => Effect::Shortens,
+        Some(false) => Effect::Keeps,
+        None => match tokens_through(style, m, kinds, row, true, body) {
+            Some(true) => Effect::ShortensIfBegun,
+            _ => Effect::Other,
+        },
+    }
+}
+
+// Says of each function by which measure it tells whether a loop may go on.
+fn ends_of(alloc: Global, style: &Style, measures: &[Measure]) -> Result<Vec<u32>, AllocError> {
+    let mut ends: Vec<u32> = Vec::new(alloc);
+    for number in 0..style.functions() {
+        ends.push(end_for(style, measures, style.body(number)))?;
+    }
+    Ok(ends)
+}
+
+// .. of one body: one more than the number of the measure, or 0
+fn end_for(style: &Style, measures: &[Measure], body: &[Token]) -> u32 {
+    let mut k: u32 = 0;
+    for m in measures {
+        k = next_number(k);
+        if tells(style, *m, body) {
+            return k;
+        }
+    }
+    0
+}
+
+// Says of each function that is the body of a loop which measure it lessens: the one of the loop's test.
+fn shortens_of(
+    alloc: Global,
+    style: &Style,
+    ends: &[u32],
+    effects: &[Vec<Effect>],
+) -> Result<Vec<u32>, AllocError> {
+    let mut shortens: Vec<u32> = Vec::new(alloc);
+    for _ in 0..style.functions() {
+        shortens.push(0)?;
+    }
+    for number in 0..style.functions() {
+        note_loops(style.body(number), ends, effects, &mut shortens);
+    }
+    Ok(shortens)
+}
+
+// .. by the loops of one body
+fn note_loops(body: &[Token], ends: &[u32], effects: &[Vec<Effect>], shortens: &mut [u32]) {
+    let mut top: Option<usize> = None;
+    let mut below: Option<usize> = None;
+    for token in body {
+        if *token == Token::Run(Callee::BuiltIn(BuiltIn::While)) {
+            if let (Some(turn), Some(test)) = (top, below) {
+                note_loop(turn, number_for(ends, test), effects, shortens);
+            }
+        }
+        below = top;
+        top = match *token {
+            Token::Quote(Callee::User(number)) => Some(number as usize),
+            _ => None,
+        };
+    }
+}
+
+// .. of one loop with this body, and a test of this claim
+fn note_loop(body: usize, claim: u32, effects: &[Vec<Effect>], shortens: &mut [u32]) {
+    if claim == 0 || body >= shortens.len() {
+        return;
+    }
+    let k = (claim - 1) as usize;
+    if k < effects.len() && is_shortening(effects[k].as_slice(), body) {
+        shortens[body] = claim;
     }
 }
 

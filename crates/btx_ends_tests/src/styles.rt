@@ -20,10 +20,14 @@ FUNCTION {f} {#3 'n := {n #0 >} {n #1 - 'n :=} while$} READ EXECUTE {f}
 FUNCTION {f} {#-3 'n := {n #0 >} {n #1 - 'n :=} while$} READ EXECUTE {f}
 FUNCTION {f} {title 's := s num.names$ 'n := {n #0 >} {n #1 - 'n :=} while$} READ ITERATE {f}
 INTEGERS {m} FUNCTION {g} {\"a\" write$} FUNCTION {f} {#2 'm := m 'n := {n #0 >} {g #1 'g 'skip$ if$ n #1 - 'n :=} while$} READ EXECUTE {f}
-INTEGERS {m} FUNCTION {f} {#2 'n := {n #0 >} {#3 'm := {m #0 >} {m #1 - 'm :=} while$ n #1 - 'n :=} while$} READ REVERSE {f}";
+INTEGERS {m} FUNCTION {f} {#2 'n := {n #0 >} {#3 'm := {m #0 >} {m #1 - 'm :=} while$ n #1 - 'n :=} while$} READ REVERSE {f}
+FUNCTION {not} {{#0} {#1} if$} FUNCTION {f} {title 's := {s empty$ not} {s #2 global.max$ substring$ 's :=} while$} READ ITERATE {f}
+FUNCTION {f} {title 's := {s #1 #1 substring$ \"-\" =} {s #2 global.max$ substring$ 's :=} while$} READ ITERATE {f}
+FUNCTION {not} {{#0} {#1} if$} FUNCTION {f} {title 's := \"\" {s empty$ not} {s #1 #1 substring$ \"-\" = {s #1 #2 substring$ \"--\" = not {\"--\" * s #2 global.max$ substring$ 's :=} {{s #1 #1 substring$ \"-\" =} {\"-\" * s #2 global.max$ substring$ 's :=} while$} if$} {s #1 #1 substring$ * s #2 global.max$ substring$ 's :=} if$} while$ pop$} READ ITERATE {f}
+FUNCTION {not} {{#0} {#1} if$} FUNCTION {and} {'skip$ {pop$ #0} if$} FUNCTION {or} {{pop$ #1} 'skip$ if$} FUNCTION {f} {title 's := #0 'n := {n not s empty$ not and} {s #1 #1 substring$ duplicate$ \"-\" = swap$ duplicate$ \",\" = swap$ \"+\" = or or {#1 'n :=} {s #2 global.max$ substring$ 's :=} if$} while$} READ ITERATE {f}";
 
 // Their bounds: the steps of a run, and for each entry.
-const BOUNDS: [(u64, u64); 14] = [
+const BOUNDS: [(u64, u64); 18] = [
     (2, 0),
     (0, 9),
     (7, 3),
@@ -38,6 +42,10 @@ const BOUNDS: [(u64, u64); 14] = [
     (0, 1031),
     (70, 0),
     (0, 175),
+    (0, 1623),
+    (0, 1421),
+    (0, 167164),
+    (0, 6272),
 ];
 
 // .. and of styles that aren't known to end: for a loop whose test looks at no variable, a type that calls the entry's type, functions that don't stand just
@@ -56,7 +64,21 @@ FUNCTION {f} {title num.names$ 'n := {n #0 >} {n #1 - 'n :=} while$} READ ITERAT
 FUNCTION {g} {#9 'n :=} FUNCTION {f} {#3 'n := {n #0 >} {g n #1 - 'n :=} while$} READ EXECUTE {f}
 FUNCTION {f} {#3 'n := {n #0 >} {n #1 - 'n := #1 'n :=} while$} READ EXECUTE {f}
 FUNCTION {f} {#3 'n := {n #0 >} {#1 n - 'n :=} while$} READ EXECUTE {f}
-INTEGERS {m} FUNCTION {f} {#3 'n := {n #0 >} {m #1 - 'm :=} while$} READ EXECUTE {f}";
+INTEGERS {m} FUNCTION {f} {#3 'n := {n #0 >} {m #1 - 'm :=} while$} READ EXECUTE {f}
+FUNCTION {not} {{#0} {#1} if$} FUNCTION {f} {title 's := {s empty$ not} {s #1 global.max$ substring$ 's :=} while$} READ ITERATE {f}
+FUNCTION {not} {{#0} {#1} if$} FUNCTION {f} {title 's := {s empty$} {s #2 global.max$ substring$ 's :=} while$} READ ITERATE {f}
+FUNCTION {not} {{#0} {#1} if$} FUNCTION {f} {title 's := {s empty$ not} {s #2 global.max$ substring$ 's := title 's :=} while$} READ ITERATE {f}
+FUNCTION {not} {{#0} {#1} if$} FUNCTION {f} {title 's := {s empty$ not} {s #2 global.max$ substring$ pop$} while$} READ ITERATE {f}
+FUNCTION {not} {{#1} {#0} if$} FUNCTION {f} {title 's := {s empty$ not} {s #2 global.max$ substring$ 's :=} while$} READ ITERATE {f}
+FUNCTION {f} {title 's := {s #1 #1 substring$ \"\" =} {s #2 global.max$ substring$ 's :=} while$} READ ITERATE {f}
+FUNCTION {not} {{#0} {#1} if$} FUNCTION {f} {title 's := {s empty$ not} {#1 {s #2 global.max$ substring$ 's :=} 'skip$ if$} while$} READ ITERATE {f}
+FUNCTION {not} {{#0} {#1} if$} FUNCTION {f} {title 's := {s empty$ not} {title {s #2 global.max$ substring$ 's :=} {s #2 global.max$ substring$ 's :=} if$} while$} READ ITERATE {f}
+FUNCTION {not} {{#0} {#1} if$} FUNCTION {f} {title 's := \"\" {s empty$ not} {s #1 #1 substring$ \"-\" = {s #1 #2 substring$ \"--\" = not {\"--\" * s #2 global.max$ substring$ 's :=} {{s #1 #1 substring$ \"+\" =} {\"-\" * s #2 global.max$ substring$ 's :=} while$} if$} {s #1 #1 substring$ * s #2 global.max$ substring$ 's :=} if$} while$ pop$} READ ITERATE {f}
+FUNCTION {not} {{#0} {#1} if$} FUNCTION {f} {title 's := \"\" {s empty$ not} {s #1 #1 substring$ \"-\" = {s #1 #2 substring$ \"--\" = not {\"--\" * s #2 global.max$ substring$ 's :=} {{s #1 #1 substring$ \"-\" =} {\"-\" * s #2 global.max$ substring$ 's :=} while$} if$} {s #1 #1 substring$ * s #1 global.max$ substring$ 's :=} if$} while$ pop$} READ ITERATE {f}
+FUNCTION {not} {{#0} {#1} if$} FUNCTION {and} {'skip$ {pop$ #0} if$} FUNCTION {or} {{pop$ #1} 'skip$ if$} FUNCTION {f} {title 's := #0 'n := {n not s empty$ not and} {s #1 #1 substring$ duplicate$ \"-\" = swap$ duplicate$ \",\" = swap$ \"+\" = or or {#0 'n :=} {s #2 global.max$ substring$ 's :=} if$} while$} READ ITERATE {f}
+FUNCTION {not} {{#0} {#1} if$} FUNCTION {and} {'skip$ {pop$ #0} if$} FUNCTION {or} {{pop$ #1} 'skip$ if$} FUNCTION {f} {title 's := #0 'n := {n not s empty$ not and} {s #1 #1 substring$ duplicate$ \"-\" = swap$ duplicate$ \",\" = swap$ \"+\" = or or {skip$} {s #2 global.max$ substring$ 's :=} if$} while$} READ ITERATE {f}
+FUNCTION {not} {{#0} {#1} if$} FUNCTION {and} {'skip$ {pop$ #0} if$} FUNCTION {or} {{pop$ #1} 'skip$ if$} FUNCTION {f} {title 's := #0 'n := {n not s empty$ not and} {s #1 #1 substring$ duplicate$ \"-\" = swap$ duplicate$ \",\" = swap$ \"+\" = or pop$ title {#1 'n :=} {s #2 global.max$ substring$ 's :=} if$} while$} READ ITERATE {f}
+FUNCTION {not} {{#0} {#1} if$} FUNCTION {and} {'skip$ {pop$ #0} if$} FUNCTION {or} {{pop$ #1} 'skip$ if$} FUNCTION {f} {title 's := #0 'n := {n not not s empty$ not and} {s #1 #1 substring$ duplicate$ \"-\" = swap$ duplicate$ \",\" = swap$ \"+\" = or or {#1 'n :=} {s #2 global.max$ substring$ 's :=} if$} while$} READ ITERATE {f}";
 
 // How many bytes a global string variable keeps in these tests.
 const KEPT: u32 = 100;
