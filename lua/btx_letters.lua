@@ -625,11 +625,12 @@ end
 
 -- What is to be said of the letters of a list, a line each, as `bibtex-search` has it in its log, added to a list of lines. `is_asked` is whether text was to be read so.
 local function add_notes(notes, task, made, is_by_letters, is_asked)
-    if not is_asked then
+    local line = are_whole(task.files, ".bib") and half_of(made) or nil
+    -- (a list that has half a letter is no better for that)
+    if not is_asked and not line then
         notes[#notes + 1] = "The list is made with -text=utf8: read by bytes, it would have half a letter, which LaTeX refuses."
     end
-    local line = half_of(made)
-    if line and are_whole(task.files, ".bib") then
+    if line then
         local remedy = is_by_letters and "the style cuts text by bytes" or "try -text=utf8"
         remedy = are_whole(task.files, ".bst") and remedy or "the style isn't UTF-8"
         notes[#notes + 1] = "Line " .. line .. " of the list has half a letter, which LaTeX refuses: " .. remedy .. "."

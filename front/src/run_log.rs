@@ -82,20 +82,25 @@ impl RunLog<'_> {
             );
         }
         if let Some(line) = half {
-            let remedy = match (self.ran.utf8, style_is_whole(self.files)) {
-                (_, false) => "the style isn't UTF-8".into(),
-                (true, true) => {
-                    let entry = key_above(&self.ran.list, line)
-                        .map_or(String::new(), |key| format!(" of the entry `{}`", plain(key)));
-                    format!(
-                        "the style cuts text by bytes. Write the letter{entry} as a command of TeX, such as {{\\'e}}, or take another style"
-                    )
-                }
-                (false, true) => "try -text=utf8".into(),
-            };
-            notes.push_str(&format!("Line {line} of the list has half a letter, which LaTeX refuses: {remedy}.\n"));
+            notes.push_str(&self.half_letter_note(line));
         }
         notes.into_bytes()
+    }
+
+    /// What is to be said of half a letter in this line of the list: why it is there, and what to do, a line each.
+    fn half_letter_note(&self, line: usize) -> String {
+        let (why, advice) = match (self.ran.utf8, style_is_whole(self.files)) {
+            (_, false) => ("the style isn't UTF-8", String::new()),
+            (false, true) => ("try -text=utf8", String::new()),
+            (true, true) => {
+                let key = key_above(&self.ran.list, line);
+                let entry = key.map_or(String::new(), |key| format!(" of the entry `{}`", plain(key)));
+                let advice =
+                    format!("Write the letter{entry} as a command of TeX, such as {{\\'e}}, or take another style.\n");
+                ("the style cuts text by bytes", advice)
+            }
+        };
+        format!("Line {line} of the list has half a letter, which LaTeX refuses: {why}.\n{advice}")
     }
 
     /// What is to be said of a run that was ended, and where its style stood.

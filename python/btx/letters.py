@@ -300,9 +300,10 @@ class Task:
 
     def notes_of(self, made: Result, by_letters: bool, is_asked: bool) -> List[str]:
         """What is to be said of the letters of a list, a line each, as `bibtex-search` has it in its log. is_asked: whether text was to be read so."""
-        notes = [] if is_asked else ["The list is made with -text=utf8: read by bytes, it would have half a letter, which LaTeX refuses."]
-        line = half_of(made)
-        if line and self.are_databases_whole:
+        line = half_of(made) if self.are_databases_whole else 0
+        # (a list that has half a letter is no better for that)
+        notes = [] if is_asked or line else ["The list is made with -text=utf8: read by bytes, it would have half a letter, which LaTeX refuses."]
+        if line:
             remedy = "the style cuts text by bytes" if by_letters else "try -text=utf8"
             notes.append(f"Line {line} of the list has half a letter, which LaTeX refuses: {remedy if self.is_style_whole else NOT_WHOLE}.")
         return notes

@@ -349,9 +349,10 @@ function moved(codes, { log, events }) {
 // What is to be said of the letters of a list, a line each, as `bibtex-search` has it in its log. `isAsked` is whether text was to be read so.
 function notesOf(job, made, read, isAsked) {
   const notes = [];
-  if (!isAsked) notes.push('The list is made with -text=utf8: read by bytes, it would have half a letter, which LaTeX refuses.');
-  const line = halfOf(made);
-  if (line && job.areDatabasesWhole) {
+  const line = job.areDatabasesWhole ? halfOf(made) : 0;
+  // (a list that has half a letter is no better for that)
+  if (!isAsked && !line) notes.push('The list is made with -text=utf8: read by bytes, it would have half a letter, which LaTeX refuses.');
+  if (line) {
     const remedy = read === 'utf8' ? 'the style cuts text by bytes' : 'try -text=utf8';
     notes.push(`Line ${line} of the list has half a letter, which LaTeX refuses: ${job.isStyleWhole ? remedy : "the style isn't UTF-8"}.`);
   }

@@ -11,7 +11,7 @@ letters_job() {
 says_of_letters() {
     local file said
     for file in "$folder/stdout" job.blg; do
-        said=$(grep -E 'half a letter|-letters' "$file" || true)
+        said=$(grep -E 'half a letter|-letters|^Write the letter' "$file" || true)
         [ "$said" = "$(printf '%s\n' "$@")" ] || complaints+=("$file says of letters: $said")
     done
 }
@@ -47,10 +47,12 @@ begin half_letter_of_the_style
 letters_job 'Émile Zola' "$piece"
 run_search -no-explain job
 wants_text job.bbl $'plain\n\xC3\n'
-says_of_letters "Line 2 of the list has half a letter, which LaTeX refuses: the style cuts text by bytes. Write the letter as a command of TeX, such as {\\'e}, or take another style."
+says_of_letters "Line 2 of the list has half a letter, which LaTeX refuses: the style cuts text by bytes." \
+    "Write the letter as a command of TeX, such as {\\'e}, or take another style."
 sed -i 's/"plain" write\$ newline\$/"\\\\bibitem{" cite$ * "}" * write$ newline$/' s.bst
 run_search -no-explain job
-says_of_letters "Line 2 of the list has half a letter, which LaTeX refuses: the style cuts text by bytes. Write the letter of the entry \`k\` as a command of TeX, such as {\\'e}, or take another style."
+says_of_letters "Line 2 of the list has half a letter, which LaTeX refuses: the style cuts text by bytes." \
+    "Write the letter of the entry \`k\` as a command of TeX, such as {\\'e}, or take another style."
 end
 
 begin whole_letters_stay_as_they_are
