@@ -173,7 +173,7 @@ def random_jobs(count, seed):
 
 
 def all_jobs(count, seed):
-    """The jobs that are compared; of those that are made by chance so many."""
+    """The jobs that are compared; of those that are made by chance the first `count`."""
     return [*named_jobs(), *special_jobs(), *chosen_jobs(), *random_jobs(count, seed)]
 
 

@@ -178,7 +178,7 @@ impl RunLog<'_> {
     }
 }
 
-/// The key of the last `\\bibitem` in the first so many lines of a list; None where it isn't plain.
+/// The key of the last `\\bibitem` in the first `lines` lines of a list; None where it isn't plain.
 fn key_above(list: &[u8], lines: usize) -> Option<&[u8]> {
     const ITEM: &[u8] = b"\\bibitem";
     let end = list.iter().enumerate().filter(|(_, byte)| **byte == b'\n').nth(lines.checked_sub(1)?);

@@ -90,11 +90,11 @@ enum Meaning {
 /// What a built-in function does with what texts hold.
 #[derive(Debug, Clone, Copy, PartialEq, Eq)]
 enum Effect {
-    /// Pops so many.
+    /// Pops this number of literals.
     Take(u8),
-    /// Pops so many, and pushes what holds no letters.
+    /// Pops this number of literals, and pushes what holds no letters.
     Answer(u8),
-    /// Pops so many above a text, which holds what it held.
+    /// Pops this number of literals above a text, which holds what it held.
     Keep(u8),
     Concatenate,
     Assign,

@@ -55,7 +55,7 @@ class Body(NamedTuple):
     number: int
 
 
-# What a step is; a number is a literal that holds so much.
+# What a step is; a number is a literal, by how much of a letter it holds.
 Step = Union[int, Called, Quoted, Body]
 # What stands on a stack: what a text may hold, or what can be executed.
 Literal = Union[int, Quoted, Body]

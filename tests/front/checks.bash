@@ -20,7 +20,7 @@ if [ "$with_tex" != yes ]; then
     export TEXMFCNF=$room/no_tex
 fi
 
-# can_be_loaded KILOBYTES PROGRAM: in so much memory the system can load the program, of which nothing is run here. Else the loader dies, or says what it can't map.
+# can_be_loaded KILOBYTES PROGRAM: in KILOBYTES of memory the system can load PROGRAM, of which nothing is run here. Else the loader dies, or says what it can't map.
 can_be_loaded() {
     local status=0
     (
