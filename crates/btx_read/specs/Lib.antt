@@ -1,4 +1,9 @@
+pub mod LibraryRecords
 pub mod Records
 pub mod Rows
 pub mod RowLaws
 pub mod Readings
+pub mod Libraries
+pub mod Errors
+pub mod LibraryLaws
+pub mod WorkedLibraries

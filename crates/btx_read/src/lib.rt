@@ -4,6 +4,7 @@
 pub mod content;
 pub mod known_strings;
 pub mod laws;
+pub mod library_records;
 mod no_keys;
 mod places;
 pub mod reading;
@@ -15,6 +16,7 @@ mod texts;
 pub use btx_bib::strings::StringTable;
 pub use content::Content;
 pub use known_strings::add_string;
+pub use library_records::library_rows;
 pub use reading::{RecordReader, read_records};
 pub use record::Record;
 pub use row::Row;

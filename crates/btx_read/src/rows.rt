@@ -108,7 +108,12 @@ fn push_text(
 
 impl Rows {
     // Appends a record of a file.
-    fn push(&mut self, alloc: Global, file: &[u8], one: &Record<'_>) -> Result<(), AllocError>
+    pub(crate) fn push(
+        &mut self,
+        alloc: Global,
+        file: &[u8],
+        one: &Record<'_>,
+    ) -> Result<(), AllocError>
         ensures rows { OnOk result (self.new.rows.items ≡ self.old.rows.items ++ spec.row_of file.now (length self.old.texts.items) one.now ∷ []) }
         ensures texts { OnOk result (self.new.texts.items ≡ self.old.texts.items ++ spec.texts_of file.now one.now) }
     {
