@@ -3,7 +3,7 @@ use Rattle.std.proofs.Common.{◌≡◌, ℕ, zero, suc, ◌+◌, ◌-◌, ◌�
 use Rattle.std.proofs.Common.{take, drop, drop-cons, add-one, get_or, refl, arith, sym, ap, subst, ◌∙◌, true≢false}
 use Rattle.std.specs.Prelude.{slice_index_or, IfSome}
 use Rattle.std.proofs.lemmas.Bool.{eqb-true}
-use Rattle.std.proofs.lemmas.List.{take_all, take_more, get_or_past}
+use Rattle.std.proofs.lemmas.List.{take-append-drop, take_all, take_more, get_or_past}
 use Rattle.btx_bst.specs.declared.built_in.BuiltIn.TheVariants as built_in
 use Rattle.btx_bst.specs.declared.callee.Callee.{Callee}
 use Rattle.btx_bst.specs.declared.callee.Callee.TheVariants as callee
@@ -25,7 +25,7 @@ use Rattle.btx_ends.specs.declared.measures.Tops.{Tops}
 use Rattle.btx_ends.specs.Shortening.{body_of, nothing_seen, tops_after, StepThrough, TokensThrough, EffectHolds, EffectsHold, KindHolds, KindsHold, kinds_by, effects_by, Tells, TellsBoth}
 use Rattle.btx_ends.specs.Certificates.{EndHolds, EndsHold, LessensBy, ShortenHolds, ShortensHold, FlagsHold, measures_by}
 use Rattle.btx_ends.specs.Certificates.{TestHolds, TestsHold, CountHolds, CountsHold, top_after, below_after}
-use Rattle.btx_ends.specs.Keeping.{TokensKeep, StepKeeps, BodiesKeep, said_by, quoted_after, quoted_below}
+use Rattle.btx_ends.specs.Keeping.{TokensKeep, StepKeeps, BodiesKeep, BodyCounts, said_by, pushed_after, pushed_below}
 
 -- what takes so many steps at most takes at most more
 pub callee_more : (claims : Claims) (less more : ℕ) (f : Callee) → CalleeWithin claims less f → less ≤ more → CalleeWithin claims more f
@@ -74,27 +74,27 @@ reached_end claims body rest cost top below e h =
     let z : cost + 0 ≡ cost = omega arith in
     subst (λ n. TokensWithin claims known.Anything known.Anything body n) z (h2.reached 0 tt)
 
--- after the first tokens of a body that keeps a variable: if the rest of it keeps it, so does the whole
-pub record KeptSoFar (keeps : ℕ → Bool) (v : ℕ) (body rest : List Token) (top below : Option Callee) : Type 0 where
-  pub so_far : TokensKeep keeps v top below rest → TokensKeep keeps v None None body
+-- after the first tokens of a body that doesn't raise a variable: if the rest of it doesn't, nor does the whole
+pub record KeptSoFar (one : Bool) (keeps : ℕ → Bool) (v : ℕ) (body rest : List Token) (top below : Option Token) : Type 0 where
+  pub so_far : TokensKeep one keeps v top below rest → TokensKeep one keeps v None None body
 
-pub kept_init : (keeps : ℕ → Bool) (v : ℕ) (body : List Token) → KeptSoFar keeps v body body None None
-kept_init keeps v body = record { so_far = λ w. w }
+pub kept_init : (one : Bool) (keeps : ℕ → Bool) (v : ℕ) (body : List Token) → KeptSoFar one keeps v body body None None
+kept_init one keeps v body = record { so_far = λ w. w }
 
-pub kept_step : (keeps : ℕ → Bool) (v : ℕ) (body : List Token) (k : ℕ) (d : Token) (top below top' below' : Option Callee) → k < length body
-    → KeptSoFar keeps v body (drop k body) top below → StepKeeps keeps v top below (get_or body k d) → top' ≡ quoted_after (get_or body k d)
-    → below' ≡ quoted_below top (get_or body k d) → KeptSoFar keeps v body (drop (k + 1) body) top' below'
-kept_step keeps v body k d top below top' below' l h g et eb =
+pub kept_step : (one : Bool) (keeps : ℕ → Bool) (v : ℕ) (body : List Token) (k : ℕ) (d : Token) (top below top' below' : Option Token) → k < length body
+    → KeptSoFar one keeps v body (drop k body) top below → StepKeeps one keeps v top below (get_or body k d) → top' ≡ pushed_after (get_or body k d)
+    → below' ≡ pushed_below top (get_or body k d) → KeptSoFar one keeps v body (drop (k + 1) body) top' below'
+kept_step one keeps v body k d top below top' below' l h g et eb =
     let e2 : drop k body ≡ get_or body k d ∷ drop (k + 1) body = rw add-one (drop-cons body k d l) in
-    let h2 = subst (λ (ts : List Token). KeptSoFar keeps v body ts top below) e2 h in
-    let at : KeptSoFar keeps v body (drop (k + 1) body) (quoted_after (get_or body k d)) (quoted_below top (get_or body k d)) =
+    let h2 = subst (λ (ts : List Token). KeptSoFar one keeps v body ts top below) e2 h in
+    let at : KeptSoFar one keeps v body (drop (k + 1) body) (pushed_after (get_or body k d)) (pushed_below top (get_or body k d)) =
     record { so_far = λ w. h2.so_far (g, w) } in
-    subst (λ (o : Option Callee). KeptSoFar keeps v body (drop (k + 1) body) o below') (sym et)
-    (subst (λ (o : Option Callee). KeptSoFar keeps v body (drop (k + 1) body) (quoted_after (get_or body k d)) o) (sym eb) at)
+    subst (λ (o : Option Token). KeptSoFar one keeps v body (drop (k + 1) body) o below') (sym et)
+    (subst (λ (o : Option Token). KeptSoFar one keeps v body (drop (k + 1) body) (pushed_after (get_or body k d)) o) (sym eb) at)
 
-pub kept_end : (keeps : ℕ → Bool) (v : ℕ) (body rest : List Token) (top below : Option Callee) → rest ≡ [] → KeptSoFar keeps v body rest top below
-    → TokensKeep keeps v None None body
-kept_end keeps v body rest top below e h = (subst (λ (ts : List Token). KeptSoFar keeps v body ts top below) e h).so_far tt
+pub kept_end : (one : Bool) (keeps : ℕ → Bool) (v : ℕ) (body rest : List Token) (top below : Option Token) → rest ≡ []
+    → KeptSoFar one keeps v body rest top below → TokensKeep one keeps v None None body
+kept_end one keeps v body rest top below e h = (subst (λ (ts : List Token). KeptSoFar one keeps v body ts top below) e h).so_far tt
 
 -- ---- items
 
@@ -208,6 +208,13 @@ tests_all tests style n l h =
 abbrev pub CountAt : List ℕ → Style → ℕ → Type 0
 CountAt counts style k = CountHolds style (slice_index_or counts k 0) (slice_index_or style.bodies k [])
 
+pub counted : (style : Style) (claim : ℕ) (keeps : ℕ → Bool) (body : List Token) → (claim ≡ 0 → ⊥) → BodyCounts keeps (claim - 1) body
+    → BodiesKeep true keeps (claim - 1) style → CountHolds style claim body
+counted style zero keeps body h w k = absurd (h refl)
+counted style (suc v) keeps body h w k =
+    let e : suc v - 1 ≡ v = omega arith in
+    (keeps, (subst (λ n. BodyCounts keeps n body) e w, subst (λ n. BodiesKeep true keeps n style) e k))
+
 pub counts_more : (counts : List ℕ) (style : Style) (n : ℕ) (body : List Token) (claim : ℕ) → FirstHold (CountAt counts style) n
     → body ≡ slice_index_or style.bodies n [] → claim ≡ slice_index_or counts n 0 → CountHolds style claim body → FirstHold (CountAt counts style) (n + 1)
 counts_more counts style n body claim h eb ec w =
@@ -221,13 +228,13 @@ counts_all counts style n l h =
 
 -- .. what is said of functions that keep a variable
 abbrev pub KeepsAt : List Bool → ℕ → Style → ℕ → Type 0
-KeepsAt keeps v style k = slice_index_or keeps k false ≡ true → TokensKeep (said_by keeps) v None None (slice_index_or style.bodies k [])
+KeepsAt keeps v style k = slice_index_or keeps k false ≡ true → TokensKeep true (said_by keeps) v None None (slice_index_or style.bodies k [])
 
 pub keeps_more : (keeps : List Bool) (v : ℕ) (style : Style) (n : ℕ) → FirstHold (KeepsAt keeps v style) n → KeepsAt keeps v style n
     → FirstHold (KeepsAt keeps v style) (n + 1)
 keeps_more keeps v style n h w = first_more (KeepsAt keeps v style) n h w
 
-pub keeps_all : (keeps : List Bool) (v : ℕ) (style : Style) (n : ℕ) → length keeps ≤ n → FirstHold (KeepsAt keeps v style) n → BodiesKeep (said_by keeps) v style
+pub keeps_all : (keeps : List Bool) (v : ℕ) (style : Style) (n : ℕ) → length keeps ≤ n → FirstHold (KeepsAt keeps v style) n → BodiesKeep true (said_by keeps) v style
 keeps_all keeps v style n l h =
     all_hold (KeepsAt keeps v style) n h
     (λ k m e. absurd (let q : slice_index_or keeps k false ≡ false = get_or_past keeps k false (omega (arith, l, m)) in true≢false (sym e ∙ q)))
@@ -254,6 +261,13 @@ pub one : (xs : List Token) (d a : Token) → length xs ≡ 1 → get_or xs 0 d 
 one (x ∷ []) d a l ea = ap (λ (t : Token). t ∷ []) ea
 one [] d a l ea = absurd (omega (arith, l))
 one (x ∷ y ∷ xs) d a l ea = absurd (omega (arith, l))
+
+-- a list in three parts
+pub parted : (body a b c : List Token) (k n : ℕ) → take k body ≡ a → take n (drop k body) ≡ b → drop n (drop k body) ≡ c → body ≡ a ++ (b ++ c)
+parted body a b c k n ea eb ec =
+    sym (take-append-drop k body) ∙ ap (λ (xs : List Token). xs ++ drop k body) ea
+    ∙ ap (λ (xs : List Token). a ++ xs)
+    (sym (take-append-drop n (drop k body)) ∙ ap (λ (xs : List Token). xs ++ drop n (drop k body)) eb ∙ ap (λ (xs : List Token). b ++ xs) ec)
 
 pub two : (xs : List Token) (d a b : Token) → length xs ≡ 2 → get_or xs 0 d ≡ a → get_or xs 1 d ≡ b → xs ≡ a ∷ b ∷ []
 two (x ∷ y ∷ []) d a b l ea eb = ap (λ (t : Token). t ∷ y ∷ []) ea ∙ ap (λ (t : Token). a ∷ t ∷ []) eb

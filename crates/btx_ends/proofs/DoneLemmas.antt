@@ -1,5 +1,5 @@
 -- What tokens leave where they are done: rules for one token after another, and the tests of loops that make a text shorter.
-use Rattle.std.proofs.Common.{◌≡◌, ℕ, zero, suc, ◌+◌, ℤ, pos, Bool, true, false, not, cond, nat_lt, List, [], ◌∷◌, length, refl, sym, ap, subst, ◌∙◌}
+use Rattle.std.proofs.Common.{◌≡◌, ℕ, zero, suc, ◌+◌, ℤ, pos, Bool, true, false, not, cond, nat_lt, List, [], ◌∷◌, ◌++◌, length, refl, sym, ap, subst, ◌∙◌}
 use Rattle.std.specs.Prelude.{slice_get, unwrap_or}
 use Rattle.std.specs.Str.{bytes_eq}
 use Rattle.std.specs.List.{list_all}
@@ -34,7 +34,7 @@ use Rattle.btx_machine.specs.language.Meaning.{most_bodies, then_do}
 use Rattle.btx_machine.specs.language.MeaningBySteps.{in_turn, body_if, follow, act}
 use Rattle.btx_ends.specs.Counters.{value_in}
 use Rattle.btx_ends.specs.Keeping.{IfDone}
-use Rattle.btx_ends.specs.Shortening.{text_in, begins, word_of, body_of, NotOf, AndOf, OrOf, filled_test, flag_test, begins_test}
+use Rattle.btx_ends.specs.Shortening.{text_in, begins, word_of, body_of, NotOf, AndOf, OrOf, filled_test, flag_test, begins_test, until_test}
 use Rattle.btx_ends.proofs.CounterLemmas.{variable_step, quote_step, integer_step, string_step}
 
 -- ---- outcomes
@@ -344,32 +344,43 @@ filled_to job d test t negation nought one is negates bodies loops left s =
     Q : State → Type 0
     Q t1 = LeavesIn (truth (not (list_all is_white (text_in t s))) ∷ s.store.literals) s.store t1
 
--- `t #1 #1 substring$ "w" =`
+-- .. and `t #1 #1 substring$ "w" =`
+begins_tokens : (job : Job) (t w : ℕ) (e : ℕ) (rest : List Token) (bodies loops left : ℕ) (s : State) (Q : State → Type 0)
+    → ((less : ℕ) (u : State) → Leaves (truth (begins (word_of job.style w) (text_in t s)) ∷ s.store.literals) s.store u.store
+    → IfDone Q (in_turn (act job e) rest bodies loops less u))
+    → IfDone Q (in_turn (act job e) (begins_test t w ++ rest) bodies loops left s)
+begins_tokens job t w e rest bodies loops left s Q f =
+    if_then (LeavesIn (literal.Text (text_in t s) ∷ s.store.literals) s.store) Q _ _
+    (pushed_to job e (Run (callee.GlobalString t)) (literal.Text (text_in t s)) s.store.literals bodies loops left s (string_step job t s.store))
+    (λ less1 t1 q1. if_then (LeavesIn (literal.Integer (pos 1) ∷ t1.store.literals) t1.store) Q _ _
+    (pushed_to job e (token.Integer (pos 1)) (literal.Integer (pos 1)) t1.store.literals bodies loops less1 t1 (integer_step job (pos 1) t1.store))
+    (λ less2 t2 q2. if_then (LeavesIn (literal.Integer (pos 1) ∷ t2.store.literals) t2.store) Q _ _
+    (pushed_to job e (token.Integer (pos 1)) (literal.Integer (pos 1)) t2.store.literals bodies loops less2 t2 (integer_step job (pos 1) t2.store))
+    (λ less3 t3 q3. if_then (LeavesIn (literal.Text (substring_of (text_in t s) (pos 1) (pos 1)) ∷ s.store.literals) t3.store) Q _ _
+    (text_to job e (Run (callee.BuiltIn built_in.Substring)) (substring_of (text_in t s) (pos 1) (pos 1)) s.store.literals bodies loops less3 t3
+    (substring_step job (pos 1) (pos 1) (text_in t s) s.store.literals t3.store
+    (q3.0 ∙ ap (on (literal.Integer (pos 1))) (q2.0 ∙ ap (on (literal.Integer (pos 1))) q1.0))))
+    (λ less4 t4 q4. if_then (LeavesIn (literal.Text (word_of job.style w) ∷ t4.store.literals) t4.store) Q _ _
+    (text_to job e (token.Text w) (word_of job.style w) t4.store.literals bodies loops less4 t4 (word_step job w t4.store))
+    (λ less5 t5 q5. if_then (LeavesIn (truth (begins (word_of job.style w) (text_in t s)) ∷ s.store.literals) t5.store) Q _ _
+    (pushed_to job e (Run (callee.BuiltIn built_in.Equals)) (truth (begins (word_of job.style w) (text_in t s))) s.store.literals bodies loops less5 t5
+    (equals_step job (word_of job.style w) (substring_of (text_in t s) (pos 1) (pos 1)) s.store.literals t5.store
+    (q5.0 ∙ ap (on (literal.Text (word_of job.style w))) q4.0)))
+    (λ less6 t6 q6. f less6 t6 (
+      q6.0,
+      (q6.1.0 ∙ q5.1.0 ∙ q4.1.0 ∙ q3.1.0 ∙ q2.1.0 ∙ q1.1.0, q6.1.1 ∙ q5.1.1 ∙ q4.1.1 ∙ q3.1.1 ∙ q2.1.1 ∙ q1.1.1),
+    )))))))
+
 pub begins_to : (job : Job) (d test t w : ℕ) → body_of job.style test ≡ begins_test t w → (bodies loops left : ℕ) (s : State)
     → IfDone (LeavesIn (truth (begins (word_of job.style w) (text_in t s)) ∷ s.store.literals) s.store) (act job d (Run (callee.User test)) bodies loops left s)
 begins_to job d test t w is bodies loops left s =
     call_to job d test _ Q bodies loops left s is
-    (λ e less u q. if_then (LeavesIn (literal.Text (text_in t u) ∷ u.store.literals) u.store) Q _ _
-    (pushed_to job e (Run (callee.GlobalString t)) (literal.Text (text_in t u)) u.store.literals (bodies + 1) loops less u (string_step job t u.store))
-    (λ less1 t1 q1. if_then (LeavesIn (literal.Integer (pos 1) ∷ t1.store.literals) t1.store) Q _ _
-    (pushed_to job e (token.Integer (pos 1)) (literal.Integer (pos 1)) t1.store.literals (bodies + 1) loops less1 t1 (integer_step job (pos 1) t1.store))
-    (λ less2 t2 q2. if_then (LeavesIn (literal.Integer (pos 1) ∷ t2.store.literals) t2.store) Q _ _
-    (pushed_to job e (token.Integer (pos 1)) (literal.Integer (pos 1)) t2.store.literals (bodies + 1) loops less2 t2 (integer_step job (pos 1) t2.store))
-    (λ less3 t3 q3. if_then (LeavesIn (literal.Text (substring_of (text_in t u) (pos 1) (pos 1)) ∷ u.store.literals) t3.store) Q _ _
-    (text_to job e (Run (callee.BuiltIn built_in.Substring)) (substring_of (text_in t u) (pos 1) (pos 1)) u.store.literals (bodies + 1) loops less3 t3
-    (substring_step job (pos 1) (pos 1) (text_in t u) u.store.literals t3.store
-    (q3.0 ∙ ap (on (literal.Integer (pos 1))) (q2.0 ∙ ap (on (literal.Integer (pos 1))) q1.0))))
-    (λ less4 t4 q4. if_then (LeavesIn (literal.Text (word_of job.style w) ∷ t4.store.literals) t4.store) Q _ _
-    (text_to job e (token.Text w) (word_of job.style w) t4.store.literals (bodies + 1) loops less4 t4 (word_step job w t4.store))
-    (λ less5 t5 q5. if_then (LeavesIn (truth (begins (word_of job.style w) (text_in t u)) ∷ u.store.literals) t5.store) Q _ _
-    (pushed_to job e (Run (callee.BuiltIn built_in.Equals)) (truth (begins (word_of job.style w) (text_in t u))) u.store.literals (bodies + 1) loops less5 t5
-    (equals_step job (word_of job.style w) (substring_of (text_in t u) (pos 1) (pos 1)) u.store.literals t5.store
-    (q5.0 ∙ ap (on (literal.Text (word_of job.style w))) q4.0)))
-    (λ less6 t6 q6. (
-      q6.0 ∙ ap (λ (ts : List (List ℕ)). truth (begins (word_of job.style w) (unwrap_or (slice_get ts t) [])) ∷ u.store.literals) q.1.1
+    (λ e less u q. begins_tokens job t w e [] (bodies + 1) loops less u Q
+    (λ less1 z p. (
+      p.0 ∙ ap (λ (ts : List (List ℕ)). truth (begins (word_of job.style w) (unwrap_or (slice_get ts t) [])) ∷ u.store.literals) q.1.1
           ∙ ap (on (truth (begins (word_of job.style w) (text_in t s)))) q.0,
-      (q6.1.0 ∙ q5.1.0 ∙ q4.1.0 ∙ q3.1.0 ∙ q2.1.0 ∙ q1.1.0 ∙ q.1.0, q6.1.1 ∙ q5.1.1 ∙ q4.1.1 ∙ q3.1.1 ∙ q2.1.1 ∙ q1.1.1 ∙ q.1.1),
-    ))))))))
+      (p.1.0 ∙ q.1.0, p.1.1 ∙ q.1.1),
+    )))
   where
     Q : State → Type 0
     Q t1 = LeavesIn (truth (begins (word_of job.style w) (text_in t s)) ∷ s.store.literals) s.store t1
@@ -411,6 +422,40 @@ flag_to job d test v t negation conjunction nought one none is negates joins bod
       );
       flag = λ one. ap (λ (xs : List ℤ). not (is_positive (unwrap_or (slice_get xs v) (pos 0)))) (sym q.1.0) ∙ (lower_positive b a one).0;
       text = λ one. ap (λ (xs : List (List ℕ)). not (list_all is_white (unwrap_or (slice_get xs t) []))) (sym (q2.1.1 ∙ q1.1.1 ∙ q.1.1)) ∙ (lower_positive b a one).1;
+    })))))
+
+-- `t empty$ not t #1 #1 substring$ "w" = not and`: an integer that is above 0 only where the text isn't empty
+pub record Until (t : ℕ) (s u : State) : Type 0 where
+  pub integer : ℤ
+  pub leaves : Leaves (literal.Integer integer ∷ s.store.literals) s.store u.store
+  pub text : is_positive integer ≡ true → not (list_all is_white (text_in t s)) ≡ true
+
+pub until_to : (job : Job) (d test t w negation conjunction nought one none : ℕ) → body_of job.style test ≡ until_test t w negation conjunction
+    → NotOf job.style negation nought one → AndOf job.style conjunction none → (bodies loops left : ℕ) (s : State)
+    → IfDone (Until t s) (act job d (Run (callee.User test)) bodies loops left s)
+until_to job d test t w negation conjunction nought one none is negates joins bodies loops left s =
+    call_to job d test _ (Until t s) bodies loops left s is
+    (λ e less u q. filled_tokens job t negation nought one negates e (begins_test t w ++ Run (callee.User negation) ∷ Run (callee.User conjunction) ∷ [])
+    (bodies + 1) loops less u (Until t s)
+    (λ less1 t1 q1. begins_tokens job t w e (Run (callee.User negation) ∷ Run (callee.User conjunction) ∷ []) (bodies + 1) loops less1 t1 (Until t s)
+    (λ less2 t2 q2.
+    let a = not (list_all is_white (text_in t u)) in
+    let c = begins (word_of job.style w) (text_in t t1) in
+    let b = not (is_positive (number_of c)) in
+    if_then (LeavesIn (truth b ∷ t1.store.literals) t2.store) (Until t s) _ _
+    (not_to job e negation nought one negates (number_of c) t1.store.literals (bodies + 1) loops less2 t2
+    (q2.0 ∙ ap (λ (y : Literal). y ∷ t1.store.literals) (truth_number c)))
+    (λ less3 t3 q3. if_then (LeavesIn (literal.Integer (lower_if (is_positive (number_of b)) (number_of a)) ∷ u.store.literals) t3.store) (Until t s) _ _
+    (and_to job e conjunction none joins (number_of b) (number_of a) u.store.literals (bodies + 1) loops less3 t3
+    (q3.0 ∙ ap (λ (y : Literal). y ∷ t1.store.literals) (truth_number b) ∙ ap (on (literal.Integer (number_of b)))
+    (q1.0 ∙ ap (λ (y : Literal). y ∷ u.store.literals) (truth_number a))))
+    (λ less4 t4 q4. record {
+      integer = lower_if (is_positive (number_of b)) (number_of a);
+      leaves = (
+        q4.0 ∙ ap (on (literal.Integer (lower_if (is_positive (number_of b)) (number_of a)))) q.0,
+        (q4.1.0 ∙ q3.1.0 ∙ q2.1.0 ∙ q1.1.0 ∙ q.1.0, q4.1.1 ∙ q3.1.1 ∙ q2.1.1 ∙ q1.1.1 ∙ q.1.1),
+      );
+      text = λ so. ap (λ (xs : List (List ℕ)). not (list_all is_white (unwrap_or (slice_get xs t) []))) (sym q.1.1) ∙ (lower_positive b a so).0;
     })))))
 
 -- ---- `or`

@@ -6,6 +6,7 @@ pub mod KeepLemmas
 pub mod LowerLemmas
 pub mod FineLemmas
 pub mod DoneLemmas
+pub mod SumLemmas
 pub mod StackLemmas
 pub mod ShorterLemmas
 pub mod TellLemmas

@@ -1,11 +1,12 @@
--- A body that keeps a variable up to the tokens `v #1 - 'v :=` makes it smaller, where it is done.
-use Rattle.std.proofs.Common.{◌≡◌, ℕ, zero, suc, ◌+◌, ◌≤◌, ℤ, pos, Bool, List, [], ◌∷◌, ◌++◌, None, arith, sym, ap, subst, ◌∙◌}
+-- A body with the tokens `v #1 - 'v :=` makes the variable smaller, where it is done, if what stands before them and after them doesn't raise it.
+use Rattle.std.proofs.Common.{◌≡◌, ℕ, zero, suc, ◌+◌, ◌≤◌, ℤ, pos, negsuc, Bool, true, false, true≢false, refl, List, [], ◌∷◌, ◌++◌, None, arith, sym, ap, subst, ◌∙◌}
 use Rattle.std.specs.Prelude.{slice_get, slice_index_or, unwrap_or, ◌-ℤ◌}
 use Rattle.std.proofs.lemmas.Int.{ints}
 use Rattle.btx_bst.specs.declared.built_in.BuiltIn.TheVariants as built_in
 use Rattle.btx_bst.specs.declared.callee.Callee.TheVariants as callee
 use Rattle.btx_bst.specs.declared.token.Token.{Token}
 use Rattle.btx_bst.specs.declared.token.Token.TheVariants as token
+use Rattle.btx_bst.specs.language.Style.{Style}
 use Rattle.btx_stack.specs.declared.literal.Literal.{Literal}
 use Rattle.btx_stack.specs.declared.literal.Literal.TheVariants as literal
 use Rattle.btx_step.specs.language.Answers.{with_literals}
@@ -16,7 +17,7 @@ use Rattle.btx_machine.specs.language.Steps.{token_effect}
 use Rattle.btx_machine.specs.language.MeaningBySteps.{in_turn, follow, act}
 use Rattle.btx_ends.specs.Costs.{Ended}
 use Rattle.btx_ends.specs.Counters.{value_in, above_zero, less_one}
-use Rattle.btx_ends.specs.Keeping.{IfDone, TokensKeep, BodiesKeep}
+use Rattle.btx_ends.specs.Keeping.{IfDone, TokensKeep, BodiesKeep, BodyCounts, said_by}
 use Rattle.btx_ends.proofs.CounterLemmas.{Pushed, Small, at_most_above, effect_pushed, effect_assigned, effect_minus, in_turn_both, opens_to, assign_step, quote_step, one_step, put_small, variable_step}
 use Rattle.btx_ends.proofs.KeepLemmas.{then_done, tokens_keep_values}
 
@@ -43,7 +44,11 @@ stepped job e x P bodies loops (suc left) s f = if_ended 0 left P _ (f left)
 abbrev pub AtMost : ℕ → ℕ → State → Type 0
 AtMost v k t = above_zero (value_in v t) ≤ k
 
-less_one_done : (job : Job) (v k e bodies loops left : ℕ) (s : State) → value_in v s ≡ pos (suc k)
+one_less : (a : ℤ) (k : ℕ) → above_zero a ≤ suc k → above_zero (a -ℤ pos 1) ≤ k
+one_less (pos n) k h = at_most_above (pos n -ℤ pos 1) k (omega (arith, ints, h))
+one_less (negsuc n) k h = at_most_above (negsuc n -ℤ pos 1) k (omega (arith, ints))
+
+less_one_done : (job : Job) (v k e bodies loops left : ℕ) (s : State) → AtMost v (suc k) s
     → IfDone (AtMost v k) (in_turn (act job (suc e)) (less_one v) bodies loops left s)
 less_one_done job v k e bodies loops left s h =
     then_done (Pushed (literal.Integer (value_in v s)) s.store) (AtMost v k) _ _
@@ -55,7 +60,7 @@ less_one_done job v k e bodies loops left s h =
     (λ left2 u q. then_done (Small k (with_literals s.store.literals u.store)) (AtMost v k) _ _
     (stepped job e (token.Run (callee.BuiltIn built_in.Minus)) (Small k (with_literals s.store.literals u.store)) bodies loops left2 u
     (λ less. effect_minus job k e u (pos 1) (value_in v s) s.store.literals
-    (at_most_above (value_in v s -ℤ pos 1) k (let m = h in omega (arith, ints, m)))
+    (one_less (value_in v s) k h)
     (q.0 ∙ ap (λ (xs : List Literal). literal.Integer (pos 1) ∷ xs) p.0) bodies loops less))
     (λ left3 w r. then_done (Pushed (literal.Function (callee.GlobalInteger v)) w.store) (AtMost v k) _ _
     (stepped job e (token.Quote (callee.GlobalInteger v)) (Pushed (literal.Function (callee.GlobalInteger v)) w.store) bodies loops left3 w
@@ -69,27 +74,35 @@ less_one_done job v k e bodies loops left s h =
     (put_small z.store.integers v r.integer k r.small) bodies loops less))
     (λ left5 y g. g)))))
 
--- tokens that end so
-counting_done : (job : Job) (keeps : ℕ → Bool) (v k : ℕ) (others : List Token) → BodiesKeep keeps v job.style → TokensKeep keeps v None None others
-    → (depth bodies loops left : ℕ) (s : State) → value_in v s ≡ pos (suc k) → IfDone (AtMost v k) (in_turn (act job depth) (others ++ less_one v) bodies loops left s)
-counting_done job keeps v k others bk tk depth bodies loops left s h =
-    subst (λ (o : Outcome). IfDone (AtMost v k) o) (sym (in_turn_both (act job depth) others (less_one v) bodies loops left s))
-    (then_done (λ t. value_in v t ≡ pos (suc k)) (AtMost v k) (in_turn (act job depth) others bodies loops left s) (in_turn (act job depth) (less_one v) bodies loops)
-    (tokens_keep_values job keeps v bk others tk depth (pos (suc k)) bodies loops left s h)
-    (λ rest t b. at depth rest t b))
+-- of no function this is said
+none_said : (style : Style) (v : ℕ) → BodiesKeep false (said_by []) v style
+none_said style v number e = absurd (let q : said_by [] number ≡ false = refl in true≢false (sym e ∙ q))
+
+-- tokens around these
+counting_done : (job : Job) (keeps : ℕ → Bool) (v k : ℕ) (others after : List Token) → BodiesKeep true keeps v job.style
+    → TokensKeep true keeps v None None others → TokensKeep false (said_by []) v None None after → (depth bodies loops left : ℕ) (s : State) → AtMost v (suc k) s
+    → IfDone (AtMost v k) (in_turn (act job depth) (others ++ (less_one v ++ after)) bodies loops left s)
+counting_done job keeps v k others after bk tk ta depth bodies loops left s h =
+    subst (λ (o : Outcome). IfDone (AtMost v k) o) (sym (in_turn_both (act job depth) others (less_one v ++ after) bodies loops left s))
+    (then_done (AtMost v (suc k)) (AtMost v k) (in_turn (act job depth) others bodies loops left s) (in_turn (act job depth) (less_one v ++ after) bodies loops)
+    (tokens_keep_values job true keeps v bk others tk depth (suc k) (omega arith) bodies loops left s h)
+    (λ rest t b. subst (λ (o : Outcome). IfDone (AtMost v k) o) (sym (in_turn_both (act job depth) (less_one v) after bodies loops rest t))
+    (then_done (AtMost v k) (AtMost v k) (in_turn (act job depth) (less_one v) bodies loops rest t) (in_turn (act job depth) after bodies loops)
+    (at depth rest t b)
+    (λ rest1 u c. tokens_keep_values job false (said_by []) v (none_said job.style v) after ta depth k (omega arith) bodies loops rest1 u c))))
   where
-    at : (depth rest : ℕ) (t : State) → value_in v t ≡ pos (suc k) → IfDone (AtMost v k) (in_turn (act job depth) (less_one v) bodies loops rest t)
+    at : (depth rest : ℕ) (t : State) → AtMost v (suc k) t → IfDone (AtMost v k) (in_turn (act job depth) (less_one v) bodies loops rest t)
     at zero rest t b = tt
     at (suc e) rest t b = less_one_done job v k e bodies loops rest t b
 
 -- a call of such a body
-pub call_lowers : (job : Job) (keeps : ℕ → Bool) (body v k : ℕ) (others : List Token) → BodiesKeep keeps v job.style → TokensKeep keeps v None None others
-    → slice_index_or job.style.bodies body [] ≡ others ++ less_one v → (depth bodies loops left : ℕ) (s : State) → value_in v s ≡ pos (suc k)
+pub call_lowers : (job : Job) (keeps : ℕ → Bool) (body v k : ℕ) → BodyCounts keeps v (slice_index_or job.style.bodies body [])
+    → BodiesKeep true keeps v job.style → (depth bodies loops left : ℕ) (s : State) → AtMost v (suc k) s
     → IfDone (AtMost v k) (act job depth (token.Run (callee.User body)) bodies loops left s)
-call_lowers job keeps body v k others bk tk is zero bodies loops left s h = tt
-call_lowers job keeps body v k others bk tk is (suc e) bodies loops zero s h = tt
-call_lowers job keeps body v k others bk tk is (suc e) bodies loops (suc left) s h =
+call_lowers job keeps body v k w bk zero bodies loops left s h = tt
+call_lowers job keeps body v k w bk (suc e) bodies loops zero s h = tt
+call_lowers job keeps body v k w bk (suc e) bodies loops (suc left) s h =
     opens_to job body s e bodies loops left (AtMost v k)
-    (λ t same. subst (λ (ts : List Token). IfDone (AtMost v k) (in_turn (act job e) ts (bodies + 1) loops left t)) (sym is)
-    (counting_done job keeps v k others bk tk e (bodies + 1) loops left t
-    (ap (λ (xs : List ℤ). unwrap_or (slice_get xs v) (pos 0)) same.0 ∙ h)))
+    (λ t same. subst (λ (ts : List Token). IfDone (AtMost v k) (in_turn (act job e) ts (bodies + 1) loops left t)) (sym w.1.1.0)
+    (counting_done job keeps v k w.0 w.1.0 bk w.1.1.1.0 w.1.1.1.1 e (bodies + 1) loops left t
+    (subst (λ (xs : List ℤ). above_zero (unwrap_or (slice_get xs v) (pos 0)) ≤ suc k) (sym same.0) h)))

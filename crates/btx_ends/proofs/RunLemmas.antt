@@ -37,13 +37,15 @@ use Rattle.btx_ends.specs.declared.measures.Effect.{Effect}
 use Rattle.btx_ends.specs.declared.measures.Effect.TheVariants as effect
 use Rattle.btx_ends.specs.declared.measures.Kind.{Kind}
 use Rattle.btx_ends.specs.Shortening.{text_in, flag_in, left_in, Tells, KindsHold, EffectsHold}
-use Rattle.btx_ends.specs.Certificates.{EndHolds, ShortenHolds, TextsHold, TestsHold, CountsHold, TestHolds, CountHolds, top_after, below_after, known_value, known_names, known_difference}
+use Rattle.btx_ends.specs.Certificates.{EndHolds, ShortenHolds, TextsHold, TestsHold, CountsHold, TestHolds, CountHolds, top_after, below_after, known_value, known_names, known_sum, known_difference}
 use Rattle.btx_ends.proofs.EndLemmas.{then_ends, at_most, step_ends, loops_end_in}
 use Rattle.btx_ends.proofs.QuietLemmas.{IsQuiet, IsSingleToken, OneOf, OfType, step_quiet, choice_next, type_next}
 use Rattle.btx_ends.proofs.CounterLemmas.{Pushed, SameVariables, Tested, in_store, weaker, push_ends, test_ends, turn_again, turn_same, above, minus_done, Small, variable_step}
 use Rattle.btx_ends.proofs.CounterLemmas.{quote_step, names_step, string_step, integer_step, at_most_above, opens}
 use Rattle.btx_ends.proofs.KeepLemmas.{LoopOf, loop_next}
 use Rattle.btx_ends.proofs.LowerLemmas.{both_ended, call_lowers, AtMost}
+use Rattle.btx_ends.proofs.DoneLemmas.{AnswerSo, one_to}
+use Rattle.btx_ends.proofs.SumLemmas.{Summed, small_at, plus_so, minus_so}
 use Rattle.btx_ends.proofs.ShorterLemmas.{flag_same, text_same, left_same, shortens_done}
 use Rattle.btx_ends.proofs.TellLemmas.{Told, tells_to, left_few}
 use Rattle.btx_ends.proofs.FineLemmas.{Fine, FineIn, IsKnown, Stands, fine_same, fine_assigned, names_few, pushed_on, text_of}
@@ -227,7 +229,7 @@ module _ (job : Job) (claims : Claims)
           (λ q g. (g.0, (let a = g.1 in omega (arith, size, a))))
           (both_ended cost left (Fine claims) (AtMost v more.0) _
           (call_within n p (callee.User body) cost w (omega (arith, le, lt)) bodies loops left u fine e)
-          (call_lowers job counted.0 body v more.0 counted.1.0.0 counted.1.1 counted.1.0.1.1 counted.1.0.1.0 n bodies loops left u here))
+          (call_lowers job counted.0 body v more.0 counted.1.0 counted.1.1 n bodies loops left u (let a = ap above_zero here in omega (arith, a))))
 
   loop_within : (n : ℕ) → Level n → (test body cost : ℕ) → CountedWithin claims (suc cost) body test → cost < n → (yes : Bool) (bodies loops left : ℕ) (s : State)
       → Fine claims s → cost ≤ left
@@ -422,6 +424,16 @@ module _ (job : Job) (claims : Claims)
   names_end n p top below cost one lt bodies loops left s h l =
       single_ends n p (Run (callee.BuiltIn built_in.NumNames)) tt refl cost one lt bodies loops left s h.0 l
 
+  -- a token after which an integer of 32 bits is on top
+  sum_ends : (n : ℕ) → Level n → (x : Token) → IsSingleToken x → is_assignment x ≡ false → ((r : Store) → AnswerSo (Summed r) (on_store.step_of job x r))
+      → (cost : ℕ) → 1 ≤ cost → cost < suc n → (bodies loops left : ℕ) (s : State) → Fine claims s → cost ≤ left
+      → Ended cost (Here known_sum known.Anything) left (act job (suc n) x bodies loops left s)
+  sum_ends n p x single a so cost one lt bodies loops left s h l =
+      weaker cost left (λ t. Here known.Anything known.Anything t × Summed s.store t.store) (Here known_sum known.Anything) _
+      (λ t q. (q.0.0, (small_at claims t.store.literals q.1.1, tt)))
+      (both_ended cost left (Here known.Anything known.Anything) (λ t. Summed s.store t.store) (act job (suc n) x bodies loops left s)
+      (single_ends n p x single a cost one lt bodies loops left s h l) (one_to job (suc n) x (Summed s.store) bodies loops left s (so s.store)))
+
   minus_end : (n : ℕ) → Level n → (top below : Known) (cost : ℕ) → 1 ≤ cost → cost < suc n → (bodies loops left : ℕ) (s : State) → Here top below s → cost ≤ left
       → Ended cost (Here (known_difference top below) known.Anything) left (act job (suc n) (Run (callee.BuiltIn built_in.Minus)) bodies loops left s)
   minus_end n p (known.Integer (pos k)) (known.AtMost most) cost one lt bodies loops left s h l =
@@ -434,7 +446,7 @@ module _ (job : Job) (claims : Claims)
       ))
       (minus_done job most n s (pos k) on.from on.below (less_above on.from k most on.small) on.is bodies loops left (omega (arith, one, l))))
   minus_end n p top below cost one lt bodies loops left s h l =
-      single_ends n p (Run (callee.BuiltIn built_in.Minus)) tt refl cost one lt bodies loops left s h.0 l
+      sum_ends n p (Run (callee.BuiltIn built_in.Minus)) tt refl (minus_so job) cost one lt bodies loops left s h.0 l
 
   assign_ends : (n : ℕ) → Level n → (top below : Known) (cost : ℕ) → AssignsWithin claims top below → 1 ≤ cost → cost < suc n → (bodies loops left : ℕ) (s : State)
       → Here top below s → cost ≤ left
@@ -513,6 +525,8 @@ module _ (job : Job) (claims : Claims)
   level_next n p top below (Run (callee.BuiltIn built_in.Assign)) cost w lt bodies loops left s h l =
       assign_ends n p top below cost w.0 w.1 lt bodies loops left s h l
   level_next n p top below (Run (callee.BuiltIn built_in.CallType)) cost w lt bodies loops left s h l = type_ends n p cost w lt bodies loops left s h.0 l
+  level_next n p top below (Run (callee.BuiltIn built_in.Plus)) cost w lt bodies loops left s h l =
+      sum_ends n p (Run (callee.BuiltIn built_in.Plus)) tt refl (plus_so job) cost w lt bodies loops left s h.0 l
   level_next n p top below (Run (callee.BuiltIn built_in.Minus)) cost w lt bodies loops left s h l = minus_end n p top below cost w lt bodies loops left s h l
   level_next n p top below (Run (callee.BuiltIn built_in.NumNames)) cost w lt bodies loops left s h l = names_end n p top below cost w lt bodies loops left s h l
   level_next n p top below (Run (callee.BuiltIn f)) cost w lt bodies loops left s h l =

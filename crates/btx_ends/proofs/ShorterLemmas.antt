@@ -41,14 +41,14 @@ use Rattle.btx_ends.specs.declared.measures.Tops.{Tops}
 use Rattle.btx_ends.specs.Counters.{value_in}
 use Rattle.btx_ends.specs.Keeping.{IfDone}
 use Rattle.btx_ends.specs.Shortening.{text_in, flag_in, left_of, left_in, begins, word_of, body_of, begins_test, KindHolds, KindsHold, tops_of, nothing_seen, is_number, is_begins}
-use Rattle.btx_ends.specs.Shortening.{built_in_seen, called_seen, string_seen, tops_after, effect_of, lessens, CalleeThrough, ChoiceThrough, IsBeginsTest, LoopThrough, AssignThrough}
+use Rattle.btx_ends.specs.Shortening.{built_in_seen, called_seen, string_seen, tops_after, effect_of, lessens, CalleeThrough, ChosenThrough, NeitherThrough, ChoiceThrough, IsBeginsTest, LoopThrough, IsLess, AssignThrough}
 use Rattle.btx_ends.specs.Shortening.{StepThrough, TokensThrough, EffectHolds, EffectsHold}
 use Rattle.btx_ends.proofs.CounterLemmas.{SameVariables, variable_step, quote_step, integer_step, string_step, opens_to, turn_again, turn_same}
 use Rattle.btx_ends.proofs.DoneLemmas.{if_then, if_weaker, LeavesIn, AnswerSo, one_to, pushed_to, text_to, word_step, begins_to, not_to, or_to, one_if, so_by}
 use Rattle.btx_ends.proofs.FineLemmas.{length-slice_set}
 use Rattle.btx_ends.proofs.QuietLemmas.{IsSingleToken, OneOf, choice_next}
 use Rattle.btx_step.proofs.LeaveLemmas.{variables_stay}
-use Rattle.btx_ends.proofs.StackLemmas.{IsSeen, Stands, On, there, stands_on, nothing_on, pushed_on, SeenIn, single_so, substring_so, compared_so, doubled_so, swapped_so}
+use Rattle.btx_ends.proofs.StackLemmas.{IsSeen, Stands, On, is_known, there, stands_on, nothing_on, pushed_on, SeenIn, single_so, substring_so, compared_so, doubled_so, swapped_so}
 use Rattle.btx_ends.proofs.StackLemmas.{number_is, known_value, value_number, and_both, padded_two}
 
 or_false : (b : Bool) → (b || false) ≡ b
@@ -398,8 +398,7 @@ module _ (job : Job) (m : Measure) (kinds : ℕ → Kind) (effects : ℕ → Eff
   begins_seen seen.Shorter y i text e q h so = absurd (cc)
 
   chosen_done : (n : ℕ) → Level n → (x : List ℕ) (v : ℤ) (begun before after : Bool) (g f : Callee) (third fourth : Seen)
-      → (begun ≡ true → begins word x ≡ true) → (is_number third ≡ true)
-      × (CalleeThrough effects ((begun && not before) || is_begins third) before f after × CalleeThrough effects (begun && not before) before g after)
+      → (begun ≡ true → begins word x ≡ true) → ChosenThrough effects (begun && not before) before g f third after
       → (bodies loops left : ℕ) (s : State) → Plain x v before s
       → Stands job.style m (text_in m.text s) (seen.Function g ∷ seen.Function f ∷ third ∷ fourth ∷ []) s.store.literals
       → IfDone (Here x v after nothing_seen) (act job (suc n) (Run (callee.BuiltIn built_in.If)) bodies loops left s)
@@ -448,12 +447,12 @@ module _ (job : Job) (m : Measure) (kinds : ℕ → Kind) (effects : ℕ → Eff
       by (next.Open number) u o same = absurd o
       by (next.Loop a b) u o same = absurd o
 
-  neither_done : (n : ℕ) → Level n → (x : List ℕ) (v : ℤ) (before after : Bool) (g f : Callee) (third fourth : Seen)
-      → (effect_of effects f ≡ effect.Keeps) × ((effect_of effects g ≡ effect.Keeps) × (after ≡ before))
+  neither_done : (n : ℕ) → Level n → (x : List ℕ) (v : ℤ) (begun before after : Bool) (g f : Callee) (third fourth : Seen)
+      → (begun ≡ true → begins word x ≡ true) → NeitherThrough effects (begun && not before) before g f after
       → (bodies loops left : ℕ) (s : State) → Plain x v before s
       → Stands job.style m (text_in m.text s) (seen.Function g ∷ seen.Function f ∷ third ∷ fourth ∷ []) s.store.literals
       → IfDone (Here x v after nothing_seen) (act job (suc n) (Run (callee.BuiltIn built_in.If)) bodies loops left s)
-  neither_done n p x v before after g f third fourth w bodies loops left s h st =
+  neither_done n p x v begun before after g f third fourth known w bodies loops left s h st =
       let text = text_in m.text s in
       let a = there job.style m text (seen.Function g) (seen.Function f ∷ third ∷ fourth ∷ []) s.store.literals refl st in
       let b = there job.style m text (seen.Function f) (third ∷ fourth ∷ []) a.others refl a.below in
@@ -461,17 +460,19 @@ module _ (job : Job) (m : Measure) (kinds : ℕ → Kind) (effects : ℕ → Eff
       (choose_any n f g b.others (Plain x v after) bodies loops left s
       (a.is ∙ ap (λ (y : Literal). y ∷ a.others) a.seen_so
       ∙ ap (λ (ys : List Literal). literal.Function g ∷ ys) (b.is ∙ ap (λ (y : Literal). y ∷ b.others) b.seen_so))
-      (λ t same. subst (λ c. Plain x v c t) (sym w.1.1) (plain_same x v before s t same h))
-      (λ k o less t same. kept k o less t same))
+      (λ t same. subst (λ c. Plain x v c t) (sym w.0) (plain_same x v before s t same h))
+      (λ k o less t same. executed k o less t same))
     where
-      kept : (k : Callee) → (k ≡ f) ⊎ (k ≡ g) → (less : ℕ) (t : State) → SameVariables s.store t
+      through : (k : Callee) → CalleeThrough effects (begun && not before) before k after → (less : ℕ) (t : State) → SameVariables s.store t
           → IfDone (Plain x v after) (act job n (Run k) bodies loops less t)
-      kept k (inl e) less t same =
-          through_done n p k false before after (false, (ap (λ c. lessens false (effect_of effects c)) e ∙ ap (lessens false) w.0, w.1.1 ∙ sym (or_false before)))
-          bodies loops less t (λ q. absurd (cc)) x v (plain_same x v before s t same h)
-      kept k (inr e) less t same =
-          through_done n p k false before after (false, (ap (λ c. lessens false (effect_of effects c)) e ∙ ap (lessens false) w.1.0, w.1.1 ∙ sym (or_false before)))
-          bodies loops less t (λ q. absurd (cc)) x v (plain_same x v before s t same h)
+      through k c less t same =
+          through_done n p k (begun && not before) before after c bodies loops less t
+          (λ q. ap (begins word) (text_same m.text s t same.1) ∙ begun_now x v begun before s known h.0 q) x v (plain_same x v before s t same h)
+
+      executed : (k : Callee) → (k ≡ f) ⊎ (k ≡ g) → (less : ℕ) (t : State) → SameVariables s.store t
+          → IfDone (Plain x v after) (act job n (Run k) bodies loops less t)
+      executed k (inl e) less t same = through k (subst (λ c. CalleeThrough effects (begun && not before) before c after) (sym e) w.1.0) less t same
+      executed k (inr e) less t same = through k (subst (λ c. CalleeThrough effects (begun && not before) before c after) (sym e) w.1.1) less t same
 
   choice_done : (n : ℕ) → Level n → (x : List ℕ) (v : ℤ) (begun before after : Bool) (top below third fourth : Seen)
       → (begun ≡ true → begins word x ≡ true) → ChoiceThrough effects (begun && not before) before top below third after
@@ -481,7 +482,7 @@ module _ (job : Job) (m : Measure) (kinds : ℕ → Kind) (effects : ℕ → Eff
   choice_done n p x v begun before after (seen.Function g) (seen.Function f) third fourth known (inl w) bodies loops left s h st =
       chosen_done n p x v begun before after g f third fourth known w bodies loops left s h st
   choice_done n p x v begun before after (seen.Function g) (seen.Function f) third fourth known (inr w) bodies loops left s h st =
-      neither_done n p x v before after g f third fourth w bodies loops left s h st
+      neither_done n p x v begun before after g f third fourth known w bodies loops left s h st
   choice_done n p x v begun before after (seen.Function g) below third fourth known w bodies loops left s h st = absurd w
   choice_done n p x v begun before after top below third fourth known w bodies loops left s h st = absurd w
 
@@ -608,17 +609,28 @@ module _ (job : Job) (m : Measure) (kinds : ℕ → Kind) (effects : ℕ → Eff
           (name_done n p x v before false body (keeps_lessens body eb) bs ls l s1 h1))
           n bodies (loops + 1) less t (plain_same x v before s t same h)
 
+      -- where less is left already, each turn leaves it so
+      less_after : (less : ℕ) (t : State) → SameVariables s.store t → before ≡ true → effect_of effects test ≡ effect.Keeps → effect_of effects body ≡ effect.Shortens
+          → IfDone (Plain x v true) (turns job n (act job n (Run test)) (act job n (Run body)) bodies (loops + 1) less t)
+      less_after less t same bt et eb =
+          turns_done x v true (act job n (Run test)) (act job n (Run body))
+          (λ bs ls l s1 h1. name_done n p x v true false test (keeps_lessens test et) bs ls l s1 h1)
+          (λ bs ls l s1 h1. name_done n p x v true true body (shortens_lessens body eb) bs ls l s1 h1)
+          n bodies (loops + 1) less t (subst (λ c. Plain x v c t) bt (plain_same x v before s t same h))
+
       turning : ((effect_of effects body ≡ effect.Keeps) × (after ≡ before))
-          ⊎ ((effect_of effects body ≡ effect.Shortens) × (IsBeginsTest job.style m test × (((begun && not before) ≡ true) × (after ≡ true))))
+          ⊎ ((effect_of effects body ≡ effect.Shortens) × ((after ≡ true) × ((before ≡ true) ⊎ (IsBeginsTest job.style m test × ((begun && not before) ≡ true)))))
           → (less : ℕ) (t : State) → SameVariables s.store t
           → IfDone (Plain x v after) (turns job n (act job n (Run test)) (act job n (Run body)) bodies (loops + 1) less t)
       turning (inl k) less t same =
           subst (λ c. IfDone (Plain x v c) (turns job n (act job n (Run test)) (act job n (Run body)) bodies (loops + 1) less t)) (sym k.1)
           (same_after less t same w.0 k.0)
       turning (inr k) less t same =
-          let q = nothing_before begun before k.1.1.0 in
-          subst (λ c. IfDone (Plain x v c) (turns job n (act job n (Run test)) (act job n (Run body)) bodies (loops + 1) less t)) (sym k.1.1.1)
-          (begun_test test k.1.0 w.0 k.0 (begun_now x v begun before s known h.0 k.1.1.0) q.0 q.1 less t same)
+          subst (λ c. IfDone (Plain x v c) (turns job n (act job n (Run test)) (act job n (Run body)) bodies (loops + 1) less t)) (sym k.1.0)
+          (elim k.1.1 [
+            | inl bt ↦ less_after less t same bt w.0 k.0
+            | inr i ↦ (let q = nothing_before begun before i.1 in begun_test test i.0 w.0 k.0 (begun_now x v begun before s known h.0 i.1) q.0 q.1 less t same)
+          ])
 
   loop_done : (n : ℕ) → Level n → (x : List ℕ) (v : ℤ) (begun before after : Bool) (top below third fourth : Seen)
       → (begun ≡ true → begins word x ≡ true) → LoopThrough job.style m effects (begun && not before) before top below after
@@ -748,7 +760,7 @@ module _ (job : Job) (m : Measure) (kinds : ℕ → Kind) (effects : ℕ → Eff
       )))
 
   string_assigned : (n : ℕ) (x : List ℕ) (v : ℤ) (before after : Bool) (i : ℕ) (value third fourth : Seen)
-      → ((i ≢ m.text) × (after ≡ before)) ⊎ ((i ≡ m.text) × ((value ≡ seen.Shorter) × (after ≡ true)))
+      → ((i ≢ m.text) × (after ≡ before)) ⊎ ((i ≡ m.text) × (IsLess job.style value × (after ≡ true)))
       → (bodies loops left : ℕ) (s : State) → Plain x v before s → (ls : List Literal)
       → s.store.literals ≡ literal.Function (callee.GlobalString i) ∷ ls → Stands job.style m (text_in m.text s) (value ∷ third ∷ fourth ∷ []) ls
       → IfDone (Here x v after nothing_seen) (act job n (Run (callee.BuiltIn built_in.Assign)) bodies loops left s)
@@ -756,15 +768,25 @@ module _ (job : Job) (m : Measure) (kinds : ℕ → Kind) (effects : ℕ → Eff
       other_assigned n x v before after (callee.GlobalString i) ls w.0 w.1 bodies loops left s h top
   string_assigned n x v before after i value third fourth (inr w) bodies loops left s h ls top st =
       let text = text_in m.text s in
-      let st2 = subst (λ k. Stands job.style m text (k ∷ third ∷ fourth ∷ []) ls) w.1.0 st in
-      let a = there job.style m text seen.Shorter (third ∷ fourth ∷ []) ls refl st2 in
-      let z = a.seen_so.0 in
-      let is : s.store.literals ≡ literal.Function (callee.GlobalString i) ∷ literal.Text z ∷ a.others =
-      top ∙ ap (λ (ys : List Literal). literal.Function (callee.GlobalString i) ∷ ys) (a.is ∙ ap (λ (y : Literal). y ∷ a.others) a.seen_so.1.0) in
+      let a = there job.style m text value (third ∷ fourth ∷ []) ls (less_known value w.1.0) st in
+      let so = less_text value a.first w.1.0 a.seen_so in
+      let is : s.store.literals ≡ literal.Function (callee.GlobalString i) ∷ literal.Text so.0 ∷ a.others =
+      top ∙ ap (λ (ys : List Literal). literal.Function (callee.GlobalString i) ∷ ys) (a.is ∙ ap (λ (y : Literal). y ∷ a.others) so.1.0) in
       lessened_done n x v after w.1.1 bodies loops left s h.1
-      (so_by (Lessened x v s) _ _ (assign_step (literal.Function (callee.GlobalString i) ∷ literal.Text z ∷ a.others) s.store is)
-      (put z a.others a.seen_so.1.1, refl))
+      (so_by (Lessened x v s) _ _ (assign_step (literal.Function (callee.GlobalString i) ∷ literal.Text so.0 ∷ a.others) s.store is)
+      (put so.0 a.others so.1.1, refl))
     where
+      less_known : (k : Seen) → IsLess job.style k → is_known job.style m (text_in m.text s) k ≡ true
+      less_known seen.Shorter l = refl
+      less_known (seen.Word w) l = refl
+      less_known k l = absurd l
+
+      less_text : (k : Seen) (y : Literal) → IsLess job.style k → IsSeen job.style m (text_in m.text s) k y
+          → (z : List ℕ) × ((y ≡ literal.Text z) × (length z ≤ length (text_in m.text s) - 1))
+      less_text seen.Shorter y l h = h
+      less_text (seen.Word w) y l h = (word_of job.style w, (h, omega (arith, l)))
+      less_text k y l h = absurd l
+
       put : (z : List ℕ) (ys : List Literal) → length z ≤ length (text_in m.text s) - 1
           → left_in m (state (variables.with_global_string i (take job.global_max z) (with_literals ys s.store)) s.out) ≤ left_of v x - 1
       put z ys l =
@@ -803,7 +825,7 @@ module _ (job : Job) (m : Measure) (kinds : ℕ → Kind) (effects : ℕ → Eff
           ap (λ k. flag_in k (state r s.out)) (sym w.0) ∙ set_there s.store.integers i (pos 1) l in
           set_left (flag_in m.flag (state r s.out)) (text_in m.text (state r s.out)) (left_of v x - 1) (ap is_positive is)
 
-  assign_done : (n : ℕ) (x : List ℕ) (v : ℤ) (before after : Bool) (top below third fourth : Seen) → AssignThrough m before top below after
+  assign_done : (n : ℕ) (x : List ℕ) (v : ℤ) (before after : Bool) (top below third fourth : Seen) → AssignThrough job.style m before top below after
       → (bodies loops left : ℕ) (s : State) → Plain x v before s
       → Stands job.style m (text_in m.text s) (top ∷ below ∷ third ∷ fourth ∷ []) s.store.literals
       → IfDone (Here x v after nothing_seen) (act job n (Run (callee.BuiltIn built_in.Assign)) bodies loops left s)
@@ -811,7 +833,7 @@ module _ (job : Job) (m : Measure) (kinds : ℕ → Kind) (effects : ℕ → Eff
       let a = there job.style m (text_in m.text s) (seen.Function f) (below ∷ third ∷ fourth ∷ []) s.store.literals refl st in
       by f w a.others (a.is ∙ ap (λ (y : Literal). y ∷ a.others) a.seen_so) a.below
     where
-      by : (f : Callee) → AssignThrough m before (seen.Function f) below after → (ls : List Literal) → s.store.literals ≡ literal.Function f ∷ ls
+      by : (f : Callee) → AssignThrough job.style m before (seen.Function f) below after → (ls : List Literal) → s.store.literals ≡ literal.Function f ∷ ls
           → Stands job.style m (text_in m.text s) (below ∷ third ∷ fourth ∷ []) ls
           → IfDone (Here x v after nothing_seen) (act job n (Run (callee.BuiltIn built_in.Assign)) bodies loops left s)
       by (callee.GlobalString i) w ls e st2 = string_assigned n x v before after i below third fourth w bodies loops left s h ls e st2

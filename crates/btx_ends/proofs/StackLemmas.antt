@@ -1,5 +1,5 @@
 -- What is known of the literals on top of the stack, where a text gets shorter, is so after each token.
-use Rattle.std.proofs.Common.{◌≡◌, ℕ, zero, suc, ◌-◌, ◌≤◌, ℤ, pos, negsuc, Bool, true, false, ◌&&◌, ◌||◌, cond, nat_eq, List, [], ◌∷◌, ◌++◌, length, drop, refl, arith, sym, ap, subst, ◌∙◌}
+use Rattle.std.proofs.Common.{◌≡◌, ℕ, zero, suc, ◌-◌, ◌≤◌, ℤ, pos, negsuc, Bool, true, false, ◌&&◌, ◌||◌, cond, nat_eq, List, [], ◌∷◌, ◌++◌, length, take, drop, refl, arith, sym, ap, subst, ◌∙◌}
 use Rattle.std.proofs.lemmas.List.{length-take, length-drop}
 use Rattle.std.proofs.lemmas.Bool.{eqb-true}
 use Rattle.btx_step.specs.declared.next.Next.{Next}
@@ -70,6 +70,12 @@ shorter_part : (text : List ℕ) (k : ℕ) (n : ℤ) → length (substring_of te
 shorter_part text k (pos n) =
     let a = length-take n (drop (suc (suc k) - 1) text) in let b = length-drop (suc (suc k) - 1) text in omega (arith, a, b)
 shorter_part text k (negsuc n) = omega arith
+
+shorter_front : (text : List ℕ) (k : ℕ) (n : ℤ) → length (substring_of text (negsuc (suc k)) n) ≤ length text - 1
+shorter_front text k (pos n) =
+    let front = take (length text - (suc (suc k) - 1)) text in
+    let a = length-take (length text - (suc (suc k) - 1)) text in let b = length-drop (length front - n) front in omega (arith, a, b)
+shorter_front text k (negsuc n) = omega arith
 
 module _ (style : Style) (m : Measure) (text : List ℕ) where
   abbrev pub IsSeen : Seen → Literal → Type 0
@@ -258,6 +264,7 @@ module _ (style : Style) (m : Measure) (text : List ℕ) where
   part_is (seen.Integer (pos (suc zero))) (pos (suc zero)) n y e h =
       let q : n ≡ pos 1 = cc in ap (λ (k : ℤ). literal.Text (substring_of text (pos 1) k)) q
   part_is top (pos (suc (suc k))) n y e h = (substring_of text (pos (suc (suc k))) n, (refl, shorter_part text k n))
+  part_is top (negsuc (suc k)) n y e h = (substring_of text (negsuc (suc k)) n, (refl, shorter_front text k n))
   part_is top start n y e h = (substring_of text start n, refl)
 
   pub substring_so : (job : Job) (top below third fourth : Seen) (s : Store) → Stands (top ∷ below ∷ third ∷ fourth ∷ []) s.literals

@@ -16,7 +16,7 @@ use Rattle.btx_ends.specs.Counters.{value_in}
 use Rattle.btx_ends.specs.Keeping.{IfDone}
 use Rattle.btx_ends.specs.Shortening.{text_in, flag_in, left_of, begins, word_of, body_of, Tells}
 use Rattle.btx_ends.proofs.CounterLemmas.{SameVariables, turn_again}
-use Rattle.btx_ends.proofs.DoneLemmas.{if_weaker, LeavesIn, Both, filled_to, begins_to, flag_to}
+use Rattle.btx_ends.proofs.DoneLemmas.{if_weaker, LeavesIn, Both, Until, filled_to, begins_to, until_to, flag_to}
 
 -- the variables are those of `s`, and the loop goes on only where something was left
 abbrev pub Told : Job → ℕ → ℕ → State → State → Type 0
@@ -49,11 +49,20 @@ tells_to job d test t zero (inl w) bodies loops left s =
     if_weaker (LeavesIn (truth white ∷ s.store.literals) s.store) (Told job t zero s) _
     (filled_to job d test t w.0 w.1.1.0 w.1.1.1.0 w.1.0 w.1.1.1.1 bodies loops left s)
     (λ u q. (q.1, λ e. not_white (text_in t s) (sym (turn_again job white s.store.literals u q.0) ∙ e)))
-tells_to job d test t zero (inr w) bodies loops left s =
+tells_to job d test t zero (inr (inl w)) bodies loops left s =
     let told = begins (word_of job.style w.0) (text_in t s) in
     if_weaker (LeavesIn (truth told ∷ s.store.literals) s.store) (Told job t zero s) _
     (begins_to job d test t w.0 w.1.0 bodies loops left s)
     (λ u q. (q.1, λ e. some_begun (text_in t s) (word_of job.style w.0) w.1.1 (sym (turn_again job told s.store.literals u q.0) ∙ e)))
+tells_to job d test t zero (inr (inr w)) bodies loops left s =
+    let nay = w.1.1.1.1.0 in
+    let join = w.1.1.1.1.1 in
+    if_weaker (Until t s) (Told job t zero s) _
+    (until_to job d test t w.0 w.1.0 w.1.1.0 nay.0 nay.1.0 join.0 w.1.1.1.0 nay.1.1 join.1 bodies loops left s)
+    (λ u q. (
+      q.leaves.1,
+      λ e. not_white (text_in t s) (q.text (sym (again_of job q.integer s.store.literals u q.leaves.0) ∙ e)),
+    ))
 tells_to job d test t (suc v) w bodies loops left s =
     let nay = w.1.1.1.0 in
     let join = w.1.1.1.1 in

@@ -1,7 +1,7 @@
 -- What the checker sees to. A certificate claims for each function of a style how many steps a call of it takes at most; 0 claims nothing. Each claim is checked
 -- by the function's own body and the claims of what it calls. A call takes a step itself, so a function that calls itself, or one that calls it, bears no claim out.
 -- For loops it claims how great a global integer variable can be, which functions are the test of a loop that counts it down, and which are its body.
-use Rattle.std.specs.Prelude.{◌≡◌, ℕ, zero, suc, ◌+◌, ◌-◌, ◌*◌, ◌≤◌, ◌<◌, pos, negsuc, List, [], ◌∷◌, length, Bool, Some, true, codes, slice_index_or, ◌⊎◌}
+use Rattle.std.specs.Prelude.{◌≡◌, ℕ, zero, suc, ◌+◌, ◌-◌, ◌*◌, ◌^◌, ◌≤◌, ◌<◌, pos, negsuc, List, [], ◌∷◌, length, Bool, Some, true, codes, slice_index_or, ◌⊎◌}
 use Rattle.btx_bst.specs.declared.built_in.BuiltIn.{BuiltIn}
 use Rattle.btx_bst.specs.declared.built_in.BuiltIn.TheVariants as built_in
 use Rattle.btx_bst.specs.declared.callee.Callee.{Callee}
@@ -51,10 +51,14 @@ abbrev pub known_value : ℕ → Known
 known_value zero = known.Anything
 known_value (suc most) = known.AtMost most
 
--- .. of a difference: an integer that isn't below 0 is taken from one that is at most so great
+-- .. of a sum: an integer of 32 bits, whatever the operands are. If it didn't fit, it is 0
+abbrev pub known_sum : Known
+known_sum = known.AtMost (2 ^ 31)
+
+-- .. of a difference: an integer that isn't below 0 may be taken from one that is at most so great
 abbrev pub known_difference : Known → Known → Known
 known_difference (known.Integer (pos n)) (known.AtMost most) = known.AtMost most
-known_difference _ _ = known.Anything
+known_difference _ _ = known_sum
 
 -- .. of the number of names of a string that a variable keeps
 abbrev pub known_names : ℕ → Known → Known
@@ -63,6 +67,7 @@ known_names kept _ = known.Anything
 
 -- .. of what a built-in function pushes
 abbrev pub known_result : Claims → Known → Known → BuiltIn → Known
+known_result claims top below built_in.Plus = known_sum
 known_result claims top below built_in.Minus = known_difference top below
 known_result claims top below built_in.NumNames = known_names claims.kept top
 known_result claims top below _ = known.Anything
@@ -204,10 +209,10 @@ TestHolds (suc v) body = body ≡ above_zero_test v
 abbrev pub TestsHold : List ℕ → Style → Type 0
 TestsHold tests style = (number : ℕ) → TestHolds (slice_index_or tests number 0) (slice_index_or style.bodies number [])
 
--- a function counts the variable down that it is claimed to count down: it ends in `v #1 - 'v :=`, after tokens that keep v
+-- a function counts the variable down that it is claimed to count down
 abbrev pub CountHolds : Style → ℕ → List Token → Type 0
 CountHolds style zero body = Unit {0}
-CountHolds style (suc v) body = (keeps : ℕ → Bool) × (BodyCounts keeps v body × BodiesKeep keeps v style)
+CountHolds style (suc v) body = (keeps : ℕ → Bool) × (BodyCounts keeps v body × BodiesKeep true keeps v style)
 
 -- all claims on counting down hold of the style's bodies
 abbrev pub CountsHold : List ℕ → Style → Type 0

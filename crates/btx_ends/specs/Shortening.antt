@@ -1,5 +1,5 @@
 -- Loops that go on until a text is empty, or until a flag is set: each turn makes the text shorter, or sets the flag. Read off the tokens, as what keeps a variable.
-use Rattle.std.specs.Prelude.{◌≡◌, ◌≢◌, ℕ, zero, suc, ◌<◌, ℤ, pos, List, [], ◌∷◌, length, Bool, true, false, not, ◌&&◌, ◌||◌, if◌then◌else◌, Option, Some, None}
+use Rattle.std.specs.Prelude.{◌≡◌, ◌≢◌, ℕ, zero, suc, ◌<◌, ℤ, pos, negsuc, List, [], ◌∷◌, ◌++◌, length, Bool, true, false, not, ◌&&◌, ◌||◌, if◌then◌else◌, Option, Some, None}
 use Rattle.std.specs.Prelude.{◌⊎◌, nat_eq, slice_get, slice_index_or, unwrap_or}
 use Rattle.std.specs.Str.{bytes_eq}
 use Rattle.btx_bst.specs.declared.built_in.BuiltIn.{BuiltIn}
@@ -103,12 +103,21 @@ begins_test t word =
     Run (callee.GlobalString t) ∷ token.Integer (pos 1) ∷ token.Integer (pos 1) ∷ Run (callee.BuiltIn built_in.Substring) ∷ token.Text word
     ∷ Run (callee.BuiltIn built_in.Equals) ∷ []
 
+-- .. `t empty$ not t #1 #1 substring$ "w" = not and`
+abbrev pub until_test : ℕ → ℕ → ℕ → ℕ → List Token
+until_test t word negation conjunction =
+    filled_test t negation ++ (begins_test t word ++ Run (callee.User negation) ∷ Run (callee.User conjunction) ∷ [])
+
 -- a body is a test that is true only where the text isn't empty
 abbrev pub TellsFilled : Style → ℕ → List Token → Type 0
 TellsFilled style t body = (negation : ℕ) × ((body ≡ filled_test t negation) × IsNot style negation)
 
 abbrev pub TellsBegun : Style → ℕ → List Token → Type 0
 TellsBegun style t body = (word : ℕ) × ((body ≡ begins_test t word) × (0 < length (word_of style word)))
+
+abbrev pub TellsUntil : Style → ℕ → List Token → Type 0
+TellsUntil style t body =
+    (word : ℕ) × ((negation : ℕ) × ((conjunction : ℕ) × ((body ≡ until_test t word negation conjunction) × (IsNot style negation × IsAnd style conjunction))))
 
 -- .. and the flag isn't set
 abbrev pub TellsBoth : Style → ℕ → ℕ → List Token → Type 0
@@ -117,7 +126,7 @@ TellsBoth style v t body =
 
 -- a body is a test that is true only where the loop may still turn
 abbrev pub Tells : Style → ℕ → ℕ → List Token → Type 0
-Tells style t zero body = TellsFilled style t body ⊎ TellsBegun style t body
+Tells style t zero body = TellsFilled style t body ⊎ (TellsBegun style t body ⊎ TellsUntil style t body)
 Tells style t (suc v) body = TellsBoth style v t body
 
 -- ---- what is known of literals
@@ -166,6 +175,7 @@ is_text it = false
 abbrev pub part_of : Seen → ℤ → Seen
 part_of (seen.Integer (pos (suc zero))) (pos (suc zero)) = seen.Start
 part_of size (pos (suc (suc n))) = seen.Shorter
+part_of size (negsuc (suc n)) = seen.Shorter
 part_of size from = seen.Text
 
 -- .. after `substring$`, of the text alone
@@ -254,12 +264,18 @@ abbrev pub is_begins : Seen → Bool
 is_begins seen.Begins = true
 is_begins it = false
 
--- an `if$` over two functions, and an integer below them, does what both do; the lower function is executed where the integer is above 0. Without an integer it
--- executes neither, and so changes nothing if they don't
+-- an `if$` over two functions, and an integer below them, does what both do; the lower function is executed where the integer is above 0
+abbrev pub ChosenThrough : (ℕ → Effect) → Bool → Bool → Callee → Callee → Seen → Bool → Type 0
+ChosenThrough effects begun before g f third after =
+    (is_number third ≡ true) × (CalleeThrough effects (begun || is_begins third) before f after × CalleeThrough effects begun before g after)
+
+-- without an integer it executes neither: then it does what both do if that is nothing, or if less is left already
+abbrev pub NeitherThrough : (ℕ → Effect) → Bool → Bool → Callee → Callee → Bool → Type 0
+NeitherThrough effects begun before g f after = (after ≡ before) × (CalleeThrough effects begun before f after × CalleeThrough effects begun before g after)
+
 abbrev pub ChoiceThrough : (ℕ → Effect) → Bool → Bool → Seen → Seen → Seen → Bool → Type 0
 ChoiceThrough effects begun before (seen.Function g) (seen.Function f) third after =
-    ((is_number third ≡ true) × (CalleeThrough effects (begun || is_begins third) before f after × CalleeThrough effects begun before g after))
-    ⊎ ((effect_of effects f ≡ effect.Keeps) × ((effect_of effects g ≡ effect.Keeps) × (after ≡ before)))
+    ChosenThrough effects begun before g f third after ⊎ NeitherThrough effects begun before g f after
 ChoiceThrough effects begun before _ _ third after = ⊥
 
 -- a function is a test whether the text begins with the word
@@ -268,22 +284,29 @@ IsBeginsTest style m (callee.User number) =
     (word : ℕ) × ((body_of style number ≡ begins_test m.text word) × (word_of style word ≡ word_of style m.word))
 IsBeginsTest style m f = ⊥
 
--- a `while$` changes nothing if its functions don't. It turns once at least where its test is known to be true, and so makes less if its body does
+-- a `while$` changes nothing if its functions don't. It turns once at least where its test is known to be true, and so makes less if its body does; and so does one
+-- of any number of turns where less is left already
 abbrev pub LoopThrough : Style → Measure → (ℕ → Effect) → Bool → Bool → Seen → Seen → Bool → Type 0
 LoopThrough style m effects begun before (seen.Function body) (seen.Function test) after =
     (effect_of effects test ≡ effect.Keeps)
     × (((effect_of effects body ≡ effect.Keeps) × (after ≡ before))
-    ⊎ ((effect_of effects body ≡ effect.Shortens) × (IsBeginsTest style m test × ((begun ≡ true) × (after ≡ true)))))
+    ⊎ ((effect_of effects body ≡ effect.Shortens) × ((after ≡ true) × ((before ≡ true) ⊎ (IsBeginsTest style m test × (begun ≡ true))))))
 LoopThrough style m effects begun before _ _ after = ⊥
 
--- what `:=` assigns to is known. The text is only given a shorter one, and the flag is only set
-abbrev pub AssignThrough : Measure → Bool → Seen → Seen → Bool → Type 0
-AssignThrough m before (seen.Function (callee.GlobalString i)) value after =
-    ((i ≢ m.text) × (after ≡ before)) ⊎ ((i ≡ m.text) × ((value ≡ seen.Shorter) × (after ≡ true)))
-AssignThrough m before (seen.Function (callee.GlobalInteger v)) value after =
+-- a value is shorter than the text, or empty
+abbrev pub IsLess : Style → Seen → Type 0
+IsLess style seen.Shorter = Unit {0}
+IsLess style (seen.Word w) = length (word_of style w) ≡ 0
+IsLess style _ = ⊥
+
+-- what `:=` assigns to is known. The text is only given a shorter one, or an empty one, and the flag is only set
+abbrev pub AssignThrough : Style → Measure → Bool → Seen → Seen → Bool → Type 0
+AssignThrough style m before (seen.Function (callee.GlobalString i)) value after =
+    ((i ≢ m.text) × (after ≡ before)) ⊎ ((i ≡ m.text) × (IsLess style value × (after ≡ true)))
+AssignThrough style m before (seen.Function (callee.GlobalInteger v)) value after =
     ((suc v ≢ m.flag) × (after ≡ before)) ⊎ ((suc v ≡ m.flag) × ((value ≡ seen.Integer (pos 1)) × (after ≡ true)))
-AssignThrough m before (seen.Function f) value after = after ≡ before
-AssignThrough m before _ value after = ⊥
+AssignThrough style m before (seen.Function f) value after = after ≡ before
+AssignThrough style m before _ value after = ⊥
 
 -- a token leads from what was so before it to what is so after it
 abbrev pub StepThrough : Style → Measure → (ℕ → Effect) → Bool → Bool → Tops → Token → Bool → Type 0
@@ -291,7 +314,7 @@ StepThrough style m effects begun before tops (Run (callee.BuiltIn built_in.If))
     ChoiceThrough effects (begun && not before) before tops.top tops.below tops.third after
 StepThrough style m effects begun before tops (Run (callee.BuiltIn built_in.While)) after =
     LoopThrough style m effects (begun && not before) before tops.top tops.below after
-StepThrough style m effects begun before tops (Run (callee.BuiltIn built_in.Assign)) after = AssignThrough m before tops.top tops.below after
+StepThrough style m effects begun before tops (Run (callee.BuiltIn built_in.Assign)) after = AssignThrough style m before tops.top tops.below after
 StepThrough style m effects begun before tops (Run f) after = CalleeThrough effects (begun && not before) before f after
 StepThrough style m effects begun before tops _ after = after ≡ before
 

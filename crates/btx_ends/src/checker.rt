@@ -29,7 +29,7 @@ pub struct Certificate {
     pub tests: Vec<u32>,
     /// Of each function, by its number, one more than the number of the variable that it counts down; 0 claims nothing.
     pub counts: Vec<u32>,
-    /// Of each global integer variable, by its number, which functions keep it, by their numbers. It may be empty where no function is said to count it down.
+    /// Of each global integer variable, by its number, which functions don't raise it, by their numbers. It may be empty where no function is said to count it down.
     pub keeps: Vec<Vec<bool>>,
     /// What loops over texts are measured by.
     pub measures: Vec<Measure>,
@@ -149,7 +149,7 @@ fn tests_hold(style: &Style, tests: &[u32]) -> bool
     true
 }
 
-// Answers whether a body counts the variable down that it is claimed to count down, by what is said of the functions that keep each variable.
+// Answers whether a body counts the variable down that it is claimed to count down, by what is said of the functions that don't raise each variable.
 fn count_holds(style: &Style, claim: u32, keeps: &[Vec<bool>], body: &[Token]) -> bool
     ensures { IsTrue result → within.CountHolds style.now claim body.now }
 {

@@ -1,5 +1,5 @@
-//! Which tokens keep the value of a global integer variable, and which functions count one down.
-ghost use Rattle.std.specs.Prelude.{◌≡◌, IsTrue, true, None, false, slice_index_or};
+//! Which tokens leave a global integer variable no greater than it was, and which functions count one down.
+ghost use Rattle.std.specs.Prelude.{◌≡◌, IsTrue, true, None, false, [], slice_index_or};
 ghost use Rattle.btx_bst.specs.declared.built_in.BuiltIn.TheVariants as built_in;
 ghost use Rattle.btx_bst.specs.declared.callee.Callee.TheVariants as callee;
 ghost use Rattle.btx_bst.specs.declared.token.Token.TheVariants as tokens;
@@ -8,7 +8,7 @@ ghost use Rattle.btx_ends.specs.Keeping as keeping;
 
 use btx_bst::{BuiltIn, Callee, Style, Token};
 
-// Answers whether a function is said to keep the variable.
+// Answers whether a function is said not to raise the variable.
 fn is_kept_by(keeps: &[bool], number: usize) -> bool
     ensures { result ≡ slice_index_or keeps.now number false }
 {
@@ -19,7 +19,7 @@ fn is_kept_by(keeps: &[bool], number: usize) -> bool
     }
 }
 
-// Answers whether a built-in function keeps every variable by its name alone.
+// Answers whether a built-in function changes no variable by its name alone.
 fn built_in_keeps(f: BuiltIn) -> bool
     ensures { IsTrue result → keeping.BuiltInKeeps f }
 {
@@ -32,7 +32,7 @@ fn built_in_keeps(f: BuiltIn) -> bool
     }
 }
 
-// Answers whether what is executed under a name keeps the variable, by what is said of the style's functions.
+// Answers whether what is executed under a name doesn't raise the variable, by what is said of the style's functions.
 fn callee_keeps(keeps: &[bool], f: Callee) -> bool
     ensures { IsTrue result → keeping.CalleeKeeps (keeping.said_by keeps.now) f }
 {
@@ -47,41 +47,54 @@ fn callee_keeps(keeps: &[bool], f: Callee) -> bool
     }
 }
 
-// .. whether two functions do that an `if$` or a `while$` takes
-fn both_keep(keeps: &[bool], top: Option<Callee>, below: Option<Callee>) -> bool
+// .. whether two functions don't that an `if$` or a `while$` takes
+fn both_keep(keeps: &[bool], top: Option<Token>, below: Option<Token>) -> bool
     ensures { IsTrue result → keeping.BothKeep (keeping.said_by keeps.now) top below }
 {
     match (top, below) {
-        (Some(top), Some(below)) => callee_keeps(keeps, top) && callee_keeps(keeps, below),
+        (Some(Token::Quote(top)), Some(Token::Quote(below))) => {
+            callee_keeps(keeps, top) && callee_keeps(keeps, below)
+        }
         _ => false,
     }
 }
 
-// Answers whether what `:=` assigns to is known, and isn't the variable v.
-fn is_other(v: u32, top: Option<Callee>) -> bool
-    ensures { IsTrue result → keeping.IsOther v top }
+// Answers whether what `:=` assigns is an integer of the style, of at most 1 or 0.
+fn is_low(one: bool, value: Option<Token>) -> bool
+    ensures { IsTrue result → keeping.IsLow one value }
 {
-    match top {
-        Some(Callee::GlobalInteger(w)) => w != v,
-        Some(_) => true,
-        None => false,
+    match value {
+        Some(Token::Integer(n)) => { if one { n <= 1 } else { n <= 0 } }
+        _ => false,
     }
 }
 
-// Answers whether a token keeps the variable v, where these functions are known to stand on top of the stack and below that.
+// Answers whether what `:=` assigns to is known, and isn't the variable v, or v is given a low integer.
+fn assign_keeps(one: bool, v: u32, top: Option<Token>, value: Option<Token>) -> bool
+    ensures { IsTrue result → keeping.AssignKeeps one v top value }
+{
+    match top {
+        Some(Token::Quote(Callee::GlobalInteger(w))) => w != v || is_low(one, value),
+        Some(Token::Quote(_)) => true,
+        _ => false,
+    }
+}
+
+// Answers whether a token doesn't raise the variable v, where these tokens pushed the literal on top of the stack and the one below that.
 fn step_keeps(
+    one: bool,
     keeps: &[bool],
     v: u32,
-    top: Option<Callee>,
-    below: Option<Callee>,
+    top: Option<Token>,
+    below: Option<Token>,
     token: Token,
 ) -> bool
-    ensures { IsTrue result → keeping.StepKeeps (keeping.said_by keeps.now) v top below token }
+    ensures { IsTrue result → keeping.StepKeeps one (keeping.said_by keeps.now) v top below token }
 {
     match token {
         Token::Run(Callee::BuiltIn(BuiltIn::If)) => both_keep(keeps, top, below),
         Token::Run(Callee::BuiltIn(BuiltIn::While)) => both_keep(keeps, top, below),
-        Token::Run(Callee::BuiltIn(BuiltIn::Assign)) => is_other(v, top),
+        Token::Run(Callee::BuiltIn(BuiltIn::Assign)) => assign_keeps(one, v, top, below),
         Token::Run(f) => callee_keeps(keeps, f),
         Token::Text(_) => true,
         Token::Integer(_) => true,
@@ -89,55 +102,55 @@ fn step_keeps(
     }
 }
 
-// Answers which function is known to stand on top of the stack after a token.
-fn quoted_after(token: Token) -> Option<Callee>
-    ensures { result ≡ keeping.quoted_after token }
+// Answers which token pushed the literal on top of the stack, after a token, if that is a function or an integer.
+fn pushed_after(token: Token) -> Option<Token>
+    ensures { result ≡ keeping.pushed_after token }
 {
     match token {
-        Token::Quote(f) => Some(f),
+        Token::Quote(f) => Some(Token::Quote(f)),
+        Token::Integer(n) => Some(Token::Integer(n)),
         Token::Text(_) => None,
-        Token::Integer(_) => None,
         Token::Run(_) => None,
     }
 }
 
-// Answers which function is known to stand below that.
-fn quoted_below(top: Option<Callee>, token: Token) -> Option<Callee>
-    ensures { result ≡ keeping.quoted_below top token }
+// Answers which token pushed the one below that.
+fn pushed_below(top: Option<Token>, token: Token) -> Option<Token>
+    ensures { result ≡ keeping.pushed_below top token }
 {
     match token {
         Token::Quote(_) => top,
+        Token::Integer(_) => top,
         Token::Text(_) => None,
-        Token::Integer(_) => None,
         Token::Run(_) => None,
     }
 }
 
-/// Answers whether the tokens of a body keep the variable v, by what is said of the style's functions.
-pub(crate) fn tokens_keep(keeps: &[bool], v: u32, body: &[Token]) -> bool
-    ensures { IsTrue result → keeping.TokensKeep (keeping.said_by keeps.now) v None None body.now }
+/// Answers whether the tokens of a body leave the variable v at most what it was, or 1 or 0, by what is said of the style's functions.
+pub(crate) fn tokens_keep(one: bool, keeps: &[bool], v: u32, body: &[Token]) -> bool
+    ensures { IsTrue result → keeping.TokensKeep one (keeping.said_by keeps.now) v None None body.now }
 {
-    let mut top: Option<Callee> = None;
-    let mut below: Option<Callee> = None;
+    let mut top: Option<Token> = None;
+    let mut below: Option<Token> = None;
     for token in body {
-        if !step_keeps(keeps, v, top, below, *token) {
+        if !step_keeps(one, keeps, v, top, below, *token) {
             return false;
         }
-        below = quoted_below(top, *token);
-        top = quoted_after(*token);
+        below = pushed_below(top, *token);
+        top = pushed_after(*token);
     }
     true
 }
 
-/// Answers whether the functions of a style keep the variable v that are said to.
+/// Answers whether the functions of a style don't raise the variable v of which this is said.
 pub(crate) fn functions_keep(style: &Style, keeps: &[bool], v: u32) -> bool
-    ensures { IsTrue result → keeping.BodiesKeep (keeping.said_by keeps.now) v style.now }
+    ensures { IsTrue result → keeping.BodiesKeep true (keeping.said_by keeps.now) v style.now }
 {
     if keeps.len() > style.functions() {
         return false;
     }
     for number in 0..keeps.len() {
-        if keeps[number] && !tokens_keep(keeps, v, style.body(number)) {
+        if keeps[number] && !tokens_keep(true, keeps, v, style.body(number)) {
             return false;
         }
     }
@@ -225,13 +238,39 @@ fn is_less_one(v: u32, last: &[Token]) -> bool
         && is_assign(last[4])
 }
 
-/// Answers whether a body counts the variable v down: it ends in `v #1 - 'v :=`, after tokens that keep v.
+// Answers whether tokens execute no function of the style, and leave the variable v at most what it was, or 0.
+fn others_keep(v: u32, others: &[Token]) -> bool
+    ensures { IsTrue result → keeping.TokensKeep false (keeping.said_by []) v None None others.now }
+{
+    tokens_keep(false, &[], v, others)
+}
+
+// Answers whether a body begins so with tokens that leave v at most what it was, or 1, and goes on with `v #1 - 'v :=`.
+fn is_counting_at(keeps: &[bool], v: u32, body: &[Token], place: usize) -> bool
+    ensures { IsTrue result → keeping.BodyCounts (keeping.said_by keeps.now) v body.now }
+{
+    if place > body.len() || body.len() - place < 5 {
+        return false;
+    }
+    let (others, last) = body.split_at(place);
+    let (less, rest) = last.split_at(5);
+    is_less_one(v, less) && tokens_keep(true, keeps, v, others) && others_keep(v, rest)
+}
+
+// The place of the last `-` of a body that stands as in `v #1 - 'v :=`, less 2; 0 if there is none.
+fn counting_place(v: u32, body: &[Token]) -> usize {
+    let mut place = 0;
+    for number in 2..body.len() {
+        if is_minus(body[number]) && is_value(v, body[number - 2]) {
+            place = number - 2;
+        }
+    }
+    place
+}
+
+/// Answers whether a body counts the variable v down.
 pub(crate) fn is_counting(keeps: &[bool], v: u32, body: &[Token]) -> bool
     ensures { IsTrue result → keeping.BodyCounts (keeping.said_by keeps.now) v body.now }
 {
-    if body.len() < 5 {
-        return false;
-    }
-    let (others, last) = body.split_at(body.len() - 5);
-    is_less_one(v, last) && tokens_keep(keeps, v, others)
+    is_counting_at(keeps, v, body, counting_place(v, body))
 }

@@ -26,7 +26,7 @@ pub fn counters_end()
     ensures both { CountedLoopsEnd }
 {}
 
-/// Tokens that assign nothing to a global integer variable, by themselves, in their loops and in what they call, keep its value.
+/// Tokens that give a global integer variable only low integers, by themselves, in their loops and in what they call, leave it no greater than it was, or than these.
 pub fn tokens_keep_values()
     ensures { TokensKeepValues }
 {}

@@ -18,13 +18,20 @@ fn known_value(claim: u64) -> Known
     }
 }
 
+// Answers what is known of a sum.
+fn known_sum() -> Known
+    ensures { result ≡ within.known_sum }
+{
+    Known::AtMost(1 << 31)
+}
+
 // Answers what is known of a difference, from what is known of the integer that is taken, and of the one that it is taken from.
 fn known_difference(taken: Known, from: Known) -> Known
     ensures { result ≡ within.known_difference taken from }
 {
     match (taken, from) {
         (Known::Integer(n), Known::AtMost(most)) if n >= 0 => Known::AtMost(most),
-        _ => Known::Anything,
+        _ => known_sum(),
     }
 }
 
@@ -43,6 +50,7 @@ fn known_result(claims: Claims<'_>, top: Known, below: Known, f: BuiltIn) -> Kno
     ensures { result ≡ within.known_result (claims_of claims.entry) top below f }
 {
     match f {
+        BuiltIn::Plus => known_sum(),
         BuiltIn::Minus => known_difference(top, below),
         BuiltIn::NumNames => known_names(claims.kept, top),
         _ => Known::Anything,

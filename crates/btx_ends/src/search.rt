@@ -22,12 +22,13 @@ pub fn proposed(
     let bounds = bounds_of(alloc, style, kept, with_loops)?;
     let tests = tests_of(alloc, style, &bounds)?;
     let keeps = rows_of(alloc, style, &tests, bounds.len())?;
-    let counts = counts_of(alloc, style, &keeps)?;
+    let loops = loops_of(alloc, style)?;
+    let counts = counts_of(alloc, style, &loops, &tests, &keeps)?;
     let kinds = kinds_of(alloc, style)?;
     let measures = measures_of(alloc, style)?;
     let effects = effects_of(alloc, style, &kinds, &measures)?;
     let ends = ends_of(alloc, style, &measures)?;
-    let shortens = shortens_of(alloc, style, &ends, &effects)?;
+    let shortens = shortens_of(alloc, style, &loops, &ends, &effects)?;
     let mut found = Certificate {
         costs: Vec::new(alloc),
         types: 0,
@@ -210,37 +211,71 @@ fn row_of(alloc: Global, style: &Style, v: u32, tested: bool) -> Result<Vec<bool
         return Ok(row);
     }
     for number in 0..style.functions() {
-        let keeps = tokens_keep(&row, v, style.body(number));
+        let keeps = tokens_keep(true, &row, v, style.body(number));
         row.push(keeps)?;
     }
     Ok(row)
 }
 
-// Says of each function which variable it counts down.
-fn counts_of(alloc: Global, style: &Style, keeps: &[Vec<bool>]) -> Result<Vec<u32>, AllocError> {
-    let mut counts: Vec<u32> = Vec::new(alloc);
+// The body and the test of each loop, by the numbers of their functions, where both are quoted just before it.
+fn loops_of(alloc: Global, style: &Style) -> Result<Vec<(usize, usize)>, AllocError> {
+    let mut loops: Vec<(usize, usize)> = Vec::new(alloc);
     for number in 0..style.functions() {
-        counts.push(counted_number(style.body(number), keeps))?;
+        add_loops(style.body(number), &mut loops)?;
     }
-    Ok(counts)
+    Ok(loops)
 }
 
-// .. of one function: one more than the variable's number, or 0
-fn counted_number(body: &[Token], keeps: &[Vec<bool>]) -> u32 {
-    if body.len() < 5 {
-        return 0;
-    }
-    let token = body[body.len() - 5];
-    match token {
-        Token::Run(Callee::GlobalInteger(v)) => {
-            if (v as usize) < keeps.len() && is_counting(keeps[v as usize].as_slice(), v, body) {
-                next_number(v)
-            } else {
-                0
+// .. of one body
+fn add_loops(tokens: &[Token], loops: &mut Vec<(usize, usize)>) -> Result<(), AllocError> {
+    let mut top: Option<usize> = None;
+    let mut below: Option<usize> = None;
+    for token in tokens {
+        if *token == Token::Run(Callee::BuiltIn(BuiltIn::While)) {
+            if let (Some(body), Some(test)) = (top, below) {
+                loops.push((body, test))?;
             }
         }
-        _ => 0,
+        below = top;
+        top = match *token {
+            Token::Quote(Callee::User(number)) => Some(number as usize),
+            _ => None,
+        };
     }
+    Ok(())
+}
+
+// As many times 0 as a style has functions.
+fn no_claims(alloc: Global, style: &Style) -> Result<Vec<u32>, AllocError> {
+    let mut claims: Vec<u32> = Vec::new(alloc);
+    for _ in 0..style.functions() {
+        claims.push(0)?;
+    }
+    Ok(claims)
+}
+
+// Says of each function that is the body of a loop which variable it counts down: the one of the loop's test.
+fn counts_of(
+    alloc: Global,
+    style: &Style,
+    loops: &[(usize, usize)],
+    tests: &[u32],
+    keeps: &[Vec<bool>],
+) -> Result<Vec<u32>, AllocError> {
+    let mut counts = no_claims(alloc, style)?;
+    for turn in loops {
+        let (body, test) = *turn;
+        let claim = number_for(tests, test);
+        if claim != 0 && body < counts.len() && body < style.functions() {
+            let v = claim - 1;
+            if (v as usize) < keeps.len()
+                && is_counting(keeps[v as usize].as_slice(), v, style.body(body))
+            {
+                counts[body] = claim;
+            }
+        }
+    }
+    Ok(counts)
 }
 
 // ---- texts
@@ -278,9 +313,10 @@ fn kind_for(style: &Style, number: u32) -> Kind {
     }
 }
 
-// The measure by which a body seems to tell whether a loop may go on: by `t empty$ not`, `v not t empty$ not and` or `t #1 #1 substring$ "w" =`.
+// The measure by which a body seems to tell whether a loop may go on: by `t empty$ not`, `v not t empty$ not and`, `t #1 #1 substring$ "w" =`, or by the first of
+// these and the contrary of the last.
 fn measure_told(body: &[Token]) -> Option<Measure> {
-    if body.len() != 3 && body.len() != 6 {
+    if body.len() != 3 && body.len() != 6 && body.len() != 11 {
         return None;
     }
     match (body[0], body[2]) {
@@ -398,35 +434,16 @@ fn end_for(style: &Style, measures: &[Measure], body: &[Token]) -> u32 {
 fn shortens_of(
     alloc: Global,
     style: &Style,
+    loops: &[(usize, usize)],
     ends: &[u32],
     effects: &[Vec<Effect>],
 ) -> Result<Vec<u32>, AllocError> {
-    let mut shortens: Vec<u32> = Vec::new(alloc);
-    for _ in 0..style.functions() {
-        shortens.push(0)?;
-    }
-    for number in 0..style.functions() {
-        note_loops(style.body(number), ends, effects, &mut shortens);
+    let mut shortens = no_claims(alloc, style)?;
+    for turn in loops {
+        let (body, test) = *turn;
+        note_loop(body, number_for(ends, test), effects, &mut shortens);
     }
     Ok(shortens)
-}
-
-// .. by the loops of one body
-fn note_loops(body: &[Token], ends: &[u32], effects: &[Vec<Effect>], shortens: &mut [u32]) {
-    let mut top: Option<usize> = None;
-    let mut below: Option<usize> = None;
-    for token in body {
-        if *token == Token::Run(Callee::BuiltIn(BuiltIn::While)) {
-            if let (Some(turn), Some(test)) = (top, below) {
-                note_loop(turn, number_for(ends, test), effects, shortens);
-            }
-        }
-        below = top;
-        top = match *token {
-            Token::Quote(Callee::User(number)) => Some(number as usize),
-            _ => None,
-        };
-    }
 }
 
 // .. of one loop with this body, and a test of this claim

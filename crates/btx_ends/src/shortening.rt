@@ -1,5 +1,5 @@
 //! Which tokens make a text shorter or set a flag, and which functions tell whether a loop may go on.
-ghost use Rattle.std.specs.Prelude.{◌≡◌, ◌&&◌, ◌||◌, not, IsTrue, true, false, IfSome, pos};
+ghost use Rattle.std.specs.Prelude.{◌≡◌, ◌&&◌, ◌||◌, not, IsTrue, true, false, IfSome, pos, [], ◌∷◌};
 ghost use Rattle.btx_bst.specs.declared.built_in.BuiltIn.TheVariants as built_in;
 ghost use Rattle.btx_bst.specs.declared.callee.Callee.TheVariants as callee;
 ghost use Rattle.btx_bst.specs.declared.token.Token.TheVariants as tokens;
@@ -112,7 +112,46 @@ fn begun_by(begun: bool, it: Seen) -> bool
     begun || is_begins(it)
 }
 
-// .. after an `if$` over two functions, and this below them
+// .. after an `if$` over two functions, and an integer of which this is known below them
+fn chosen_through(
+    effects: &[Effect],
+    begun: bool,
+    before: bool,
+    g: Callee,
+    f: Callee,
+    third: Seen,
+) -> Option<bool>
+    ensures { IfSome result (λ after. shortening.ChosenThrough (shortening.effects_by effects.now) begun before g f third after) }
+{
+    if !is_number(third) {
+        return None;
+    }
+    let begun_below = begun_by(begun, third);
+    let after = callee_through(effects, begun_below, before, f)?;
+    let other = callee_through(effects, begun, before, g)?;
+    if after == other { Some(after) } else { None }
+}
+
+// .. where there may be no integer, so that neither is executed
+fn neither_through(
+    effects: &[Effect],
+    begun: bool,
+    before: bool,
+    g: Callee,
+    f: Callee,
+) -> Option<bool>
+    ensures { IfSome result (λ after. shortening.NeitherThrough (shortening.effects_by effects.now) begun before g f after) }
+{
+    let first = callee_through(effects, begun, before, f)?;
+    let second = callee_through(effects, begun, before, g)?;
+    if first == before && second == before {
+        Some(before)
+    } else {
+        None
+    }
+}
+
+// .. in either case
 fn both_through(
     effects: &[Effect],
     begun: bool,
@@ -123,16 +162,10 @@ fn both_through(
 ) -> Option<bool>
     ensures { IfSome result (λ after. shortening.ChoiceThrough (shortening.effects_by effects.now) begun before (seen.Function g) (seen.Function f) third after) }
 {
-    if keeps(effects, f) && keeps(effects, g) {
-        return Some(before);
+    match chosen_through(effects, begun, before, g, f, third) {
+        Some(after) => Some(after),
+        None => neither_through(effects, begun, before, g, f),
     }
-    if !is_number(third) {
-        return None;
-    }
-    let begun_below = begun_by(begun, third);
-    let after = callee_through(effects, begun_below, before, f)?;
-    let other = callee_through(effects, begun, before, g)?;
-    if after == other { Some(after) } else { None }
 }
 
 // .. after an `if$`
@@ -358,6 +391,9 @@ fn turns_through(
     if keeps(effects, body) {
         return Some(before);
     }
+    if before && shortens(effects, body) {
+        return Some(true);
+    }
     let Callee::User(number) = test else {
         return None;
     };
@@ -386,12 +422,13 @@ fn loop_through(
     }
 }
 
-// Answers whether a literal is known to be shorter than the text.
-fn is_shorter(it: Seen) -> bool
-    ensures { IsTrue result → it ≡ seen.Shorter }
+// Answers whether a literal is known to be shorter than the text, or empty.
+fn is_less(style: &Style, it: Seen) -> bool
+    ensures { IsTrue result → shortening.IsLess style.now it }
 {
     match it {
         Seen::Shorter => true,
+        Seen::Word(word) => style.text(word).len() == 0,
         _ => false,
     }
 }
@@ -407,21 +444,21 @@ fn is_seen_one(it: Seen) -> bool
 }
 
 // .. after an `:=` to a global string variable
-fn string_through(m: Measure, before: bool, i: u32, value: Seen) -> Option<bool>
-    ensures { IfSome result (λ after. shortening.AssignThrough m before (seen.Function (callee.GlobalString i)) value after) }
+fn string_through(style: &Style, m: Measure, before: bool, i: u32, value: Seen) -> Option<bool>
+    ensures { IfSome result (λ after. shortening.AssignThrough style.now m before (seen.Function (callee.GlobalString i)) value after) }
 {
     if i != m.text {
         return Some(before);
     }
-    if is_shorter(value) {
+    if is_less(style, value) {
         return Some(true);
     }
     None
 }
 
 // .. to a global integer variable
-fn integer_through(m: Measure, before: bool, v: u32, value: Seen) -> Option<bool>
-    ensures { IfSome result (λ after. shortening.AssignThrough m before (seen.Function (callee.GlobalInteger v)) value after) }
+fn integer_through(style: &Style, m: Measure, before: bool, v: u32, value: Seen) -> Option<bool>
+    ensures { IfSome result (λ after. shortening.AssignThrough style.now m before (seen.Function (callee.GlobalInteger v)) value after) }
 {
     if m.flag == 0 || v != m.flag - 1 {
         return Some(before);
@@ -433,12 +470,16 @@ fn integer_through(m: Measure, before: bool, v: u32, value: Seen) -> Option<bool
 }
 
 // .. after an `:=`
-fn assign_through(m: Measure, before: bool, tops: Tops) -> Option<bool>
-    ensures { IfSome result (λ after. shortening.AssignThrough m before tops.top tops.below after) }
+fn assign_through(style: &Style, m: Measure, before: bool, tops: Tops) -> Option<bool>
+    ensures { IfSome result (λ after. shortening.AssignThrough style.now m before tops.top tops.below after) }
 {
     match tops.top {
-        Seen::Function(Callee::GlobalString(i)) => string_through(m, before, i, tops.below),
-        Seen::Function(Callee::GlobalInteger(v)) => integer_through(m, before, v, tops.below),
+        Seen::Function(Callee::GlobalString(i)) => {
+            string_through(style, m, before, i, tops.below)
+        }
+        Seen::Function(Callee::GlobalInteger(v)) => {
+            integer_through(style, m, before, v, tops.below)
+        }
         Seen::Function(_) => Some(before),
         _ => None,
     }
@@ -462,7 +503,7 @@ fn step_through(
         Token::Run(Callee::BuiltIn(BuiltIn::While)) => {
             loop_through(style, m, effects, begun, before, tops)
         }
-        Token::Run(Callee::BuiltIn(BuiltIn::Assign)) => assign_through(m, before, tops),
+        Token::Run(Callee::BuiltIn(BuiltIn::Assign)) => assign_through(style, m, before, tops),
         Token::Run(f) => callee_through(effects, begun, before, f),
         Token::Text(_) => Some(before),
         Token::Integer(_) => Some(before),
@@ -777,6 +818,47 @@ fn tells_begun(style: &Style, t: u32, body: &[Token]) -> bool
     }
 }
 
+// Answers whether tokens are these two calls.
+#[tactic(auto, using(crate::proofs::CodeLemmas::two))]
+fn are_calls(one: u32, other: u32, calls: &[Token]) -> bool
+    ensures { IsTrue result → calls.now ≡ tokens.Run (callee.User one) ∷ tokens.Run (callee.User other) ∷ [] }
+{
+    calls.len() == 2 && is_call(one, calls[0]) && is_call(other, calls[1])
+}
+
+// Answers whether a body is `t empty$ not t #1 #1 substring$ "w" = not and`.
+fn is_until_of(t: u32, word: u32, negation: u32, conjunction: u32, body: &[Token]) -> bool
+    ensures { IsTrue result → body.now ≡ shortening.until_test t word negation conjunction }
+{
+    if body.len() != 11 {
+        return false;
+    }
+    let (filled, others) = body.split_at(3);
+    let (begins, calls) = others.split_at(6);
+    is_filled_of(t, negation, filled)
+        && is_begins_of(t, word, begins)
+        && are_calls(negation, conjunction, calls)
+}
+
+// .. as long as it doesn't begin with a word
+fn tells_until(style: &Style, t: u32, body: &[Token]) -> bool
+    ensures { IsTrue result → shortening.TellsUntil style.now t body.now }
+{
+    if body.len() != 11 {
+        return false;
+    }
+    let negation = called_by(body[2]);
+    let conjunction = called_by(body[10]);
+    match pushed_text(body[7]) {
+        None => false,
+        Some(word) => {
+            is_until_of(t, word, negation, conjunction, body)
+                && is_not(style, negation)
+                && is_and(style, conjunction)
+        }
+    }
+}
+
 // .. and the flag isn't set
 fn tells_both(style: &Style, v: u32, t: u32, body: &[Token]) -> bool
     ensures { IsTrue result → shortening.TellsBoth style.now v t body.now }
@@ -798,7 +880,10 @@ fn tells_text(style: &Style, t: u32, body: &[Token]) -> bool
     if tells_filled(style, t, body) {
         return true;
     }
-    tells_begun(style, t, body)
+    if tells_begun(style, t, body) {
+        return true;
+    }
+    tells_until(style, t, body)
 }
 
 /// Answers whether a body is a test that is true only where a loop of this measure may still turn.

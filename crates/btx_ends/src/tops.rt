@@ -70,11 +70,11 @@ fn is_value(it: Seen) -> bool
     is_number(it) || is_text(it)
 }
 
-// Answers what is known of a part of the text from a byte on, where this is known of its length.
+// Answers what is known of a part of the text from a byte on, or up to one that is counted from the right, where this is known of its length.
 fn part_of(size: Seen, start: i32) -> Seen
     ensures { result ≡ shortening.part_of size start }
 {
-    if start >= 2 {
+    if start >= 2 || start <= -2 {
         return Seen::Shorter;
     }
     match size {

@@ -24,10 +24,17 @@ INTEGERS {m} FUNCTION {f} {#2 'n := {n #0 >} {#3 'm := {m #0 >} {m #1 - 'm :=} w
 FUNCTION {not} {{#0} {#1} if$} FUNCTION {f} {title 's := {s empty$ not} {s #2 global.max$ substring$ 's :=} while$} READ ITERATE {f}
 FUNCTION {f} {title 's := {s #1 #1 substring$ \"-\" =} {s #2 global.max$ substring$ 's :=} while$} READ ITERATE {f}
 FUNCTION {not} {{#0} {#1} if$} FUNCTION {f} {title 's := \"\" {s empty$ not} {s #1 #1 substring$ \"-\" = {s #1 #2 substring$ \"--\" = not {\"--\" * s #2 global.max$ substring$ 's :=} {{s #1 #1 substring$ \"-\" =} {\"-\" * s #2 global.max$ substring$ 's :=} while$} if$} {s #1 #1 substring$ * s #2 global.max$ substring$ 's :=} if$} while$ pop$} READ ITERATE {f}
-FUNCTION {not} {{#0} {#1} if$} FUNCTION {and} {'skip$ {pop$ #0} if$} FUNCTION {or} {{pop$ #1} 'skip$ if$} FUNCTION {f} {title 's := #0 'n := {n not s empty$ not and} {s #1 #1 substring$ duplicate$ \"-\" = swap$ duplicate$ \",\" = swap$ \"+\" = or or {#1 'n :=} {s #2 global.max$ substring$ 's :=} if$} while$} READ ITERATE {f}";
+FUNCTION {not} {{#0} {#1} if$} FUNCTION {and} {'skip$ {pop$ #0} if$} FUNCTION {or} {{pop$ #1} 'skip$ if$} FUNCTION {f} {title 's := #0 'n := {n not s empty$ not and} {s #1 #1 substring$ duplicate$ \"-\" = swap$ duplicate$ \",\" = swap$ \"+\" = or or {#1 'n :=} {s #2 global.max$ substring$ 's :=} if$} while$} READ ITERATE {f}
+FUNCTION {not} {{#0} {#1} if$} FUNCTION {f} {title 's := {s empty$ not} {s #1 #1 substring$ s #2 global.max$ substring$ 's := missing$ 'skip$ {\"\" 's :=} if$} while$} READ ITERATE {f}
+FUNCTION {not} {{#0} {#1} if$} FUNCTION {f} {title 's := {s empty$ not} {s #2 global.max$ substring$ 's := {s #1 #1 substring$ \"-\" =} {s #2 global.max$ substring$ 's :=} while$} while$} READ ITERATE {f}
+FUNCTION {f} {#3 'n := {n #0 >} {n #0 > {#1 'n :=} 'skip$ if$ n #1 - 'n :=} while$} READ EXECUTE {f}
+INTEGERS {m} FUNCTION {f} {#3 'n := {n #0 >} {n #1 - 'n := m #1 - 'm := \"a\" write$} while$} READ EXECUTE {f}
+INTEGERS {m} FUNCTION {f} {n #1 + 'n := {n #0 >} {n #1 - 'n :=} while$} READ EXECUTE {f}
+FUNCTION {not} {{#0} {#1} if$} FUNCTION {f} {title 's := {s empty$ not} {s #-2 global.max$ substring$ 's :=} while$} READ ITERATE {f}
+FUNCTION {not} {{#0} {#1} if$} FUNCTION {and} {'skip$ {pop$ #0} if$} FUNCTION {or} {{pop$ #1} 'skip$ if$} FUNCTION {f} {title 's := {s empty$ not s #1 #1 substring$ \"-\" = not and} {s #2 global.max$ substring$ 's :=} while$} READ ITERATE {f}";
 
 // Their bounds: the steps of a run, and for each entry.
-const BOUNDS: [(u64, u64); 18] = [
+const BOUNDS: [(u64, u64); 25] = [
     (2, 0),
     (0, 9),
     (7, 3),
@@ -46,10 +53,17 @@ const BOUNDS: [(u64, u64); 18] = [
     (0, 1421),
     (0, 167164),
     (0, 6272),
+    (0, 2835),
+    (0, 144740),
+    (87, 0),
+    (75, 0),
+    (21474836499, 0),
+    (0, 1623),
+    (0, 3542),
 ];
 
 // .. and of styles that aren't known to end: for a loop whose test looks at no variable, a type that calls the entry's type, functions that don't stand just
-// before their `if$`; and for loops whose variable is raised, is given something that isn't known to be bounded, or is changed by what the body calls, and one
+// before their `if$`; and for loops whose variable is given something that isn't known to be bounded, or is changed by what the body calls, and one
 // whose body counts another variable down.
 const OTHERS: &[u8] = b"FUNCTION {f} {{#0} 'skip$ while$} READ EXECUTE {f}
 FUNCTION {f} {{#1} 'skip$ while$} READ EXECUTE {f}
@@ -59,7 +73,6 @@ FUNCTION {g} {if$} FUNCTION {f} {#1 'skip$ 'skip$ g} READ EXECUTE {f}
 FUNCTION {f} {#1 'skip$ skip$ 'skip$ if$} READ EXECUTE {f}
 FUNCTION {f} {#1 'skip$ 'while$ if$} READ EXECUTE {f}
 READ EXECUTE {while$}
-FUNCTION {f} {n #1 + 'n := {n #0 >} {n #1 - 'n :=} while$} READ EXECUTE {f}
 FUNCTION {f} {title num.names$ 'n := {n #0 >} {n #1 - 'n :=} while$} READ ITERATE {f}
 FUNCTION {g} {#9 'n :=} FUNCTION {f} {#3 'n := {n #0 >} {g n #1 - 'n :=} while$} READ EXECUTE {f}
 FUNCTION {f} {#3 'n := {n #0 >} {n #1 - 'n := #1 'n :=} while$} READ EXECUTE {f}
@@ -78,7 +91,20 @@ FUNCTION {not} {{#0} {#1} if$} FUNCTION {f} {title 's := \"\" {s empty$ not} {s 
 FUNCTION {not} {{#0} {#1} if$} FUNCTION {and} {'skip$ {pop$ #0} if$} FUNCTION {or} {{pop$ #1} 'skip$ if$} FUNCTION {f} {title 's := #0 'n := {n not s empty$ not and} {s #1 #1 substring$ duplicate$ \"-\" = swap$ duplicate$ \",\" = swap$ \"+\" = or or {#0 'n :=} {s #2 global.max$ substring$ 's :=} if$} while$} READ ITERATE {f}
 FUNCTION {not} {{#0} {#1} if$} FUNCTION {and} {'skip$ {pop$ #0} if$} FUNCTION {or} {{pop$ #1} 'skip$ if$} FUNCTION {f} {title 's := #0 'n := {n not s empty$ not and} {s #1 #1 substring$ duplicate$ \"-\" = swap$ duplicate$ \",\" = swap$ \"+\" = or or {skip$} {s #2 global.max$ substring$ 's :=} if$} while$} READ ITERATE {f}
 FUNCTION {not} {{#0} {#1} if$} FUNCTION {and} {'skip$ {pop$ #0} if$} FUNCTION {or} {{pop$ #1} 'skip$ if$} FUNCTION {f} {title 's := #0 'n := {n not s empty$ not and} {s #1 #1 substring$ duplicate$ \"-\" = swap$ duplicate$ \",\" = swap$ \"+\" = or pop$ title {#1 'n :=} {s #2 global.max$ substring$ 's :=} if$} while$} READ ITERATE {f}
-FUNCTION {not} {{#0} {#1} if$} FUNCTION {and} {'skip$ {pop$ #0} if$} FUNCTION {or} {{pop$ #1} 'skip$ if$} FUNCTION {f} {title 's := #0 'n := {n not not s empty$ not and} {s #1 #1 substring$ duplicate$ \"-\" = swap$ duplicate$ \",\" = swap$ \"+\" = or or {#1 'n :=} {s #2 global.max$ substring$ 's :=} if$} while$} READ ITERATE {f}";
+FUNCTION {not} {{#0} {#1} if$} FUNCTION {and} {'skip$ {pop$ #0} if$} FUNCTION {or} {{pop$ #1} 'skip$ if$} FUNCTION {f} {title 's := #0 'n := {n not not s empty$ not and} {s #1 #1 substring$ duplicate$ \"-\" = swap$ duplicate$ \",\" = swap$ \"+\" = or or {#1 'n :=} {s #2 global.max$ substring$ 's :=} if$} while$} READ ITERATE {f}
+FUNCTION {not} {{#0} {#1} if$} FUNCTION {f} {title 's := {s empty$ not} {s #1 #1 substring$ s #2 global.max$ substring$ 's := missing$ 'skip$ {\"a\" 's :=} if$} while$} READ ITERATE {f}
+FUNCTION {not} {{#0} {#1} if$} FUNCTION {f} {title 's := {s empty$ not} {s #1 #1 substring$ s #2 global.max$ substring$ 's := missing$ 'skip$ {title 's :=} if$} while$} READ ITERATE {f}
+FUNCTION {not} {{#0} {#1} if$} FUNCTION {f} {title 's := {s empty$ not} {s #1 global.max$ substring$ 's := {s #1 #1 substring$ \"-\" =} {s #2 global.max$ substring$ 's :=} while$} while$} READ ITERATE {f}
+FUNCTION {not} {{#0} {#1} if$} FUNCTION {f} {title 's := {s empty$ not} {s #2 global.max$ substring$ 's := {s #1 #1 substring$ \"\" =} {s #2 global.max$ substring$ 's :=} while$} while$} READ ITERATE {f}
+FUNCTION {f} {#3 'n := {n #0 >} {n #0 > {#2 'n :=} 'skip$ if$ n #1 - 'n :=} while$} READ EXECUTE {f}
+FUNCTION {f} {#3 'n := {n #0 >} {n #0 > {#1 'n :=} 'skip$ if$ n #0 - 'n :=} while$} READ EXECUTE {f}
+INTEGERS {m} FUNCTION {f} {#3 'n := {n #0 >} {n #1 - 'm := m #1 - 'm := \"a\" write$} while$} READ EXECUTE {f}
+INTEGERS {m} FUNCTION {f} {n #1 + 'n := {n #0 >} {n #0 - 'n :=} while$} READ EXECUTE {f}
+INTEGERS {m} FUNCTION {f} {n #1 + 'n := {n #0 >} {n #1 - 'm :=} while$} READ EXECUTE {f}
+FUNCTION {not} {{#0} {#1} if$} FUNCTION {f} {title 's := {s empty$ not} {s #-1 global.max$ substring$ 's :=} while$} READ ITERATE {f}
+FUNCTION {not} {{#0} {#1} if$} FUNCTION {f} {title 's := {s empty$ not} {s #-2 global.max$ substring$ 'label :=} while$} READ ITERATE {f}
+FUNCTION {not} {{#0} {#1} if$} FUNCTION {and} {'skip$ {pop$ #0} if$} FUNCTION {or} {{pop$ #1} 'skip$ if$} FUNCTION {f} {title 's := {s empty$ not s #1 #1 substring$ \"-\" = not or} {s #2 global.max$ substring$ 's :=} while$} READ ITERATE {f}
+FUNCTION {not} {{#0} {#1} if$} FUNCTION {and} {'skip$ {pop$ #0} if$} FUNCTION {or} {{pop$ #1} 'skip$ if$} FUNCTION {f} {title 's := {s empty$ not s #1 #1 substring$ \"-\" = not and} {s #1 global.max$ substring$ 's :=} while$} READ ITERATE {f}";
 
 // How many bytes a global string variable keeps in these tests.
 const KEPT: u32 = 100;
