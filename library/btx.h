@@ -49,7 +49,7 @@ enum {
     BTX_MEMORY = 2,  /* memory was refused */
     BTX_ASKS = 3,    /* the run asked for a file of which nothing was said */
     BTX_FULL = 4,    /* the list or the log is longer than its room */
-    BTX_ENDS = 5     /* btx_needs: the run ends with its .aux files, so it needs no other file */
+    BTX_ENDS = 5     /* btx_needs: the run ends with its .aux files, so it needs no other file; btx_read_job: it ends before it has a library */
 };
 
 /* How a run ended (`end` of its report). */
@@ -184,6 +184,19 @@ typedef struct {
 uint32_t btx_read(const unsigned char *file, size_t file_len, const unsigned char *text, size_t text_len, const btx_string *strings, size_t strings_len,
                   btx_record *records, size_t records_room, unsigned char *texts, size_t texts_room, btx_sizes *sizes);
 
+/* Reads the library of a job, which is what its style has of the databases: the entries of its list in their order, with what they inherited. The records are those of
+   btx_read, of three kinds. BTX_ENTRY: the name is the style's function for the entry's type, in lower case, or has no byte where the style has none before READ;
+   the text is the key as the list spells it. BTX_FIELD, for each field that has a value: the name as the style declares it, in lower case; fields
+   come in the order of the style's ENTRY. Before them comes `crossref`, if the entry has a parent in the list: its text is that parent's key, as the list spells it.
+   BTX_END: the end of the entry. A library keeps no places: `start`, `end` and `line` are 0; btx_read has them, by the key. Which fields are
+   inherited isn't said.
+   Files and options are those of btx_run; of the options only `min_crossrefs` changes what is written. What a run logs of its files isn't written: btx_run_events has it.
+   Answers BTX_FULL as btx_read does; BTX_ASKS if it asks for a file of which nothing was said; BTX_ENDS, with sizes of 0 and no record, where the run ends before it
+   has a library: there is no top file or no style, or a limit of files or strings is met before the style is executed. A style without READ has a library all the
+   same, of which its run reads nothing. After BTX_REFUSED, BTX_MEMORY and BTX_ASKS nothing was written. */
+uint32_t btx_read_job(const unsigned char *job, size_t job_len, const btx_file *files, size_t files_len, const btx_options *options,
+                      btx_record *records, size_t records_room, unsigned char *texts, size_t texts_room, btx_sizes *sizes);
+
 /* What is said of a style. */
 enum {
     BTX_CLEAN = 0,     /* no run of it logs a fault of the stack or of kinds */
@@ -207,6 +220,24 @@ typedef struct {
    that and BTX_MEMORY nothing was written. */
 uint32_t btx_check(const unsigned char *name, size_t name_len, const unsigned char *style, size_t style_len, uint64_t steps,
                    unsigned char *types, size_t types_room, unsigned char *notes, size_t notes_room, btx_verdict *verdict);
+
+/* What is said of the steps of a style's runs. */
+typedef struct {
+    uint64_t once;    /* of a style that ends: a run takes at most this many steps, */
+    uint64_t each;    /* and this many for each entry of the list */
+    size_t types_len; /* how many bytes the names of types have */
+    size_t notes_len; /* how many bytes the notes have */
+    bool ends;        /* whether each run of it ends within that bound */
+} btx_bound;
+
+/* Says of a style, before any run, whether each run of it ends. `name` is that of its file. If `ends` is true, no run of it is stopped whose budget is at least the
+   bound, and none takes more steps: for any document and databases in which each entry's type is one that the style doesn't know or one that is named in `types`, each
+   with a byte 10, where a global string variable keeps at most `kept` bytes (20,000, unless `global_max` of the options is another number). These types are those of
+   btx_check. A run may still end at a limit: of the stack, a string or a file. A style of which `ends` is false may end, too: then `notes` say where the first
+   token stands of which no bound is known, in lines whose form the man page says. Answers BTX_FULL if one of the two is longer than its room; BTX_REFUSED if the
+   style is longer than a file may be; after that and BTX_MEMORY nothing was written. */
+uint32_t btx_check_ends(const unsigned char *name, size_t name_len, const unsigned char *style, size_t style_len, uint32_t kept,
+                        unsigned char *types, size_t types_room, unsigned char *notes, size_t notes_room, btx_bound *bound);
 
 #ifdef __cplusplus
 }

@@ -37,3 +37,81 @@ run "$tests/read" d.bib
 wants_quiet
 [ "$(grep -ca . "$folder/stdout")" -eq 5 ] || complaints+=("$(cat -v "$folder/stdout")")
 end
+
+# The library of a job, in rooms of each size, and with each number of its files.
+
+# library_files CITED..: a style and a database for a job that cites these keys.
+library_files() {
+    printf '%s\n' 'ENTRY{title year publisher}{}{}' 'FUNCTION{book}{}' 'FUNCTION{misc}{}' 'READ' 'FUNCTION{late}{}' >all.bst
+    printf '%s\n' '@string{s = "A"}' '@misc{child, year = 1 # s, CrossRef = "PARENT", note = "unread", title = "  own  "}' '@late{other, title = {x}, year = ""}' '@unwanted{u, x = 1}' \
+        '@book{Parent, title = {The parent}, publisher = {P}, crossref = "child"}' '@book{lonely, crossref = "nowhere"}' >d.bib
+    printf '\\citation{%s}\n' "$@" >p.aux
+    printf '%s\n' '\bibdata{d}' '\bibstyle{all}' >>p.aux
+}
+
+begin the_library_of_a_job
+library_files Other child lonely missing
+run "$tests/read_job" . p min_crossrefs=1
+wants_quiet
+wants_output 'entry =Other
+field title=x
+field year=
+end =
+entry misc=child
+field crossref=Parent
+field title=own
+field year=1A
+field publisher=P
+end =
+entry book=lonely
+end =
+entry book=Parent
+field crossref=child
+field title=The parent
+field year=1A
+field publisher=P
+end =
+'
+run "$tests/read_job" . p min_crossrefs=2
+wants_quiet
+wants_output 'entry =Other
+field title=x
+field year=
+end =
+entry misc=child
+field title=own
+field year=1A
+field publisher=P
+end =
+entry book=lonely
+end =
+'
+end
+
+begin every_entry_of_a_job
+library_files lonely '*'
+run "$tests/read_job" . p
+wants_quiet
+[ "$(grep '^entry' "$folder/stdout" | tr '\n' ,)" = 'entry book=lonely,entry misc=child,entry =other,entry =u,entry book=Parent,' ] || complaints+=("$(cat "$folder/stdout")")
+end
+
+begin jobs_without_a_library
+library_files child
+printf '%s\n' '\citation{child}' '\bibdata{d}' >p.aux
+for job in p nothing; do
+    run "$tests/read_job" . "$job"
+    wants_quiet
+    wants_output 'it ends before it has a library
+'
+done
+library_files child
+{ printf '@misc{child, title = {'; head -c 1000001 /dev/zero | tr '\0' x; printf '}}\n'; } >d.bib
+run "$tests/read_job" . p
+wants_quiet
+wants_output 'it ends before it has a library
+'
+printf '%s\n' '\bibdata{d}' '\bibstyle{all}' >p.aux
+run "$tests/read_job" . p
+wants_quiet
+wants_output ''
+end

@@ -118,8 +118,34 @@ static void styles(void) {
     check_style(faulty, 1000, 10, BTX_FULL, BTX_WARNINGS, "", notes);
 }
 
+static void check_ends(const char *style, uint32_t kept, size_t room, uint32_t answer, bool ends, uint64_t once, uint64_t each, const char *types, const char *notes) {
+    unsigned char types_room[256], notes_room[256];
+    btx_bound one = {9, 9, 9, 9, !ends};
+    must(btx_check_ends((const unsigned char *)"s.bst", 5, (const unsigned char *)style, strlen(style), kept, types_room, room, notes_room, room, &one) == answer, "btx_check_ends answers something else");
+    must(one.ends == ends && one.once == once && one.each == each, "the bound is %u and %u", (unsigned)one.once, (unsigned)one.each);
+    must(one.types_len == strlen(types) && one.notes_len == strlen(notes), "there are %zu and %zu bytes", one.types_len, one.notes_len);
+    if (answer != BTX_DONE) return;
+    must(!memcmp(types_room, types, one.types_len) && !memcmp(notes_room, notes, one.notes_len), "types or notes are others");
+}
+
+static void bounds(void) {
+    const char *counted = "ENTRY{title}{}{} INTEGERS{n} FUNCTION {misc} {title num.names$ 'n := {n #0 >} {n #1 - 'n :=} while$} READ ITERATE {call.type$}";
+    const char *ending = "ENTRY{title}{}{} STRINGS{s} FUNCTION{book}{cite$ write$}\nFUNCTION {misc} {title 's := cite$ write$} FUNCTION {f} {skip$}READ EXECUTE {f} ITERATE {call.type$}";
+    const char *longer = "ENTRY{title}{}{} STRINGS{s} FUNCTION{not}{{#0}{#1}if$} FUNCTION {misc} {title 's := {s empty$ not} {s #2 global.max$ substring$ 's :=} while$} READ ITERATE {call.type$}";
+    const char *again = "ENTRY{title}{}{} FUNCTION {misc} {call.type$} READ ITERATE {call.type$}";
+    check_ends(counted, 20000, 256, BTX_DONE, false, 0, 0, "", "next while$\nunbounded in 1 2 6 misc\n");
+    check_ends(ending, 20000, 256, BTX_DONE, true, 2, 7, "book\nmisc\n", "");
+    check_ends(ending, 0, 10, BTX_DONE, true, 2, 7, "book\nmisc\n", "");
+    check_ends(ending, 0, 9, BTX_FULL, true, 2, 7, "book\nmisc\n", "");
+    check_ends(longer, 0, 256, BTX_DONE, true, 0, 24, "misc\n", "");
+    check_ends(longer, 100, 256, BTX_DONE, true, 0, 1624, "misc\n", "");
+    check_ends(again, 20000, 256, BTX_DONE, false, 0, 0, "", "again misc\n");
+    check_ends(again, 20000, 4, BTX_FULL, false, 0, 0, "", "again misc\n");
+}
+
 int main(void) {
     styles();
+    bounds();
     no_file();
     places();
     no_top_file();

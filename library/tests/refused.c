@@ -1,5 +1,5 @@
 /* refused FOLDER JOB STEP OPTION..: refuses each STEP-th request for memory of a run in turn, once each. The run answers BTX_MEMORY with a beginning of the
-   list and of the log; or, where the request could be spared, what it answers without a refusal. Then the same of btx_needs and of btx_where. Linked with
+   list and of the log; or, where the request could be spared, what it answers without a refusal. Then the same of btx_needs, of btx_where and of btx_read_job. Linked with
    --wrap=malloc and --wrap=realloc. */
 #include "jobs.h"
 
@@ -80,6 +80,21 @@ static int check_where(const job *its, const btx_options *options, long number) 
     return 1;
 }
 
+/* Whether btx_read_job, whose request for memory number `number` is refused, has made that request. */
+static int check_read_job(const job *its, const btx_options *options, long number) {
+    static btx_record records[1000];
+    static unsigned char texts[65536];
+    btx_sizes sizes = {77, 77};
+    requests = 0;
+    refused = number;
+    is_counting = 1;
+    uint32_t answer = btx_read_job((const unsigned char *)its->name, strlen(its->name), its->files, its->count, options, records, 1000, texts, sizeof texts, &sizes);
+    is_counting = 0;
+    if (requests < number) return 0;
+    must(answer == BTX_DONE || (answer == BTX_MEMORY && sizes.records == 77 && sizes.texts == 77), "without request %ld btx_read_job answers %u", number, answer);
+    return 1;
+}
+
 int main(int count, char **words) {
     asked test;
     ask(&test, count, words, 1, "refused FOLDER JOB STEP OPTION..");
@@ -94,6 +109,7 @@ int main(int count, char **words) {
         while (check_needs(&test.its, known, number)) number += step;
     }
     for (long number = 1; check_where(&test.its, &test.options, number);) number += step;
+    for (long number = 1; check_read_job(&test.its, &test.options, number);) number += step;
     free_outcome(&first);
     free_asked(&test);
     return 0;

@@ -23,9 +23,13 @@ static btx_verdict verdict;
 static unsigned char types[4096], notes[ROOM];
 
 static void *run_job(void *unused) {
+    static btx_record records[64];
     unsigned char names[64];
+    btx_sizes sizes;
     size_t len;
     (void)unused;
+    answer = btx_read_job((const unsigned char *)its.name, strlen(its.name), its.files, its.count, &options, records, 64, notes, sizeof notes, &sizes);
+    must(answer == BTX_DONE || answer == BTX_FULL || answer == BTX_ENDS, "btx_read_job answers %u", answer);
     must(btx_needs((const unsigned char *)its.name, strlen(its.name), its.files, its.count, names, sizeof names, &len) != BTX_MEMORY, "btx_needs fails");
     one.answer = btx_run((const unsigned char *)its.name, strlen(its.name), its.files, its.count, &options, one.list, one.list_room, one.log, one.log_room, &one.report);
     return NULL;

@@ -1,5 +1,6 @@
 pub mod AnswersLemmas
 pub mod CheckLemmas
+pub mod CleanEndsLemmas
 pub mod EventLemmas
 pub mod FullLemmas
 pub mod HandedLemmas

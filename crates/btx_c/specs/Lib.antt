@@ -1,4 +1,5 @@
 pub mod Checks
+pub mod CleanEnds
 pub mod Events
 pub mod CallerFiles
 pub mod Known
@@ -8,3 +9,4 @@ pub mod Options
 pub mod Outcomes
 pub mod Reports
 pub mod Read
+pub mod JobRows

@@ -45,8 +45,12 @@ fn push_types(style: &Style<'_>, numbers: &[u32], types: &mut Vec<u8>) -> Result
     Ok(())
 }
 
-// Answers the names of these functions.
-fn names_of(alloc: Global, style: &Style<'_>, numbers: &[u32]) -> Result<Vec<u8>, AllocError>
+/// Answers the names of these functions, each with byte 10.
+pub(crate) fn names_of(
+    alloc: Global,
+    style: &Style<'_>,
+    numbers: &[u32],
+) -> Result<Vec<u8>, AllocError>
     ensures { IfOk result (λ types. types.items ≡ type_names style.now.names numbers.now) }
 {
     let mut types = Vec::new(alloc);

@@ -1,8 +1,8 @@
 //! The calls for C.
-ghost use Rattle.std.specs.Prelude.{◌≡◌, ◌<◌, ◌≤◌, ◌⊎◌, length};
+ghost use Rattle.std.specs.Prelude.{◌≡◌, ◌<◌, ◌≤◌, ◌⊎◌, IsTrue, length};
 ghost use Rattle.btx_machine.specs.language.Product.{log_of};
 ghost use Rattle.btx_core.specs.refinement.ComputedProduct.{product};
-ghost use Rattle.btx_c.specs.Checks.{SaidClean};
+ghost use Rattle.btx_c.specs.Checks.{SaidClean, SaidEnding};
 ghost use Rattle.btx_machine.specs.laws.Reports.{log_counts};
 ghost use Rattle.btx_c.specs.Events.{Divided};
 ghost use Rattle.btx_c.specs.CallerFiles.{OtherFiles};
@@ -11,6 +11,7 @@ ghost use Rattle.btx_c.specs.Noted.{PutsEvents};
 ghost use Rattle.btx_c.specs.Options.{IsInRange, asked};
 ghost use Rattle.btx_c.specs.Outcomes.{Broke, Overflows, Ran, Wrote, all_files, filled};
 
+use crate::bounded::bound_style;
 use crate::cause::Cause;
 use crate::checked::check_style;
 use crate::event::BtxEvent;
@@ -21,7 +22,7 @@ use crate::options::{BtxOptions, read_options};
 use crate::places::places;
 use crate::report::{BtxReport, broken_off, in_numbers};
 use crate::run::run_handed;
-use crate::verdict::{BtxVerdict, CLEAN, verdict_of};
+use crate::verdict::{BtxBound, BtxVerdict, CLEAN, verdict_of};
 use btx_text::Fault;
 use std::alloc::Global;
 
@@ -282,6 +283,47 @@ pub extern "C" fn btx_check(
                 bodies: said.bodies as u64,
                 types_len,
                 notes_len,
+            };
+            if types_len > types.len() || notes_len > notes.len() {
+                FULL
+            } else {
+                DONE
+            }
+        }
+        Err(Fault::FileLimit) => REFUSED,
+        Err(_) => MEMORY,
+    }
+}
+
+/// Says of a style before any run whether each run of it ends, and within how many steps: `once` steps, and `each` more for each entry of the list, whatever the
+/// databases, as long as each entry's type is one that the style doesn't know or one of those that are written into `types`, each with byte 10, and a global
+/// string variable keeps at most `kept` bytes. Where no bound is known, `notes` say which token of the style is the first without one.
+#[unsafe(no_mangle)]
+pub extern "C" fn btx_check_ends(
+    alloc: Global,
+    name: &[u8],
+    text: &[u8],
+    kept: u32,
+    types: &mut [u8],
+    notes: &mut [u8],
+    bound: &mut BtxBound,
+) -> u32
+    ensures answers { result ≤ FULL }
+    ensures ends { result ≡ DONE → IsTrue bound.new.ends
+        → SaidEnding name.now text.now kept (bound.new.once, bound.new.each) bound.new.types_len (types.old, types.new) }
+    ensures done { result ≡ DONE → (bound.new.types_len ≤ length types.old) × (bound.new.notes_len ≤ length notes.old) }
+    ensures none { (result ≡ MEMORY) ⊎ (result ≡ REFUSED) → (types.new ≡ types.old) × ((notes.new ≡ notes.old) × (bound.new ≡ bound.old)) }
+{
+    match bound_style(alloc, name, text, kept) {
+        Ok(said) => {
+            let types_len = copy_out(said.types.as_slice(), types);
+            let notes_len = copy_out(said.notes.as_slice(), notes);
+            *bound = BtxBound {
+                once: said.once,
+                each: said.each,
+                types_len,
+                notes_len,
+                ends: said.ends,
             };
             if types_len > types.len() || notes_len > notes.len() {
                 FULL

@@ -3,12 +3,14 @@
 #![tactic(auto)]
 
 pub mod answers;
+pub mod bounded;
 pub mod cause;
 pub mod checked;
 pub mod event;
 pub mod exports;
 pub mod handed;
 pub mod index;
+pub mod job_rows;
 pub mod kept;
 pub mod laws;
 pub mod lines;
@@ -18,8 +20,11 @@ pub mod options;
 pub mod others;
 pub mod places;
 pub mod read;
+pub mod read_job;
 pub mod report;
 pub mod run;
 pub mod supposed;
+pub mod unbounded;
 pub mod verdict;
 pub mod warned;
+mod weight;

@@ -28,7 +28,7 @@ pub struct BtxSizes {
 }
 
 // Copies rows, as many as `into` has room for.
-fn copy_rows(rows: &[Row], into: &mut [Row])
+pub(crate) fn copy_rows(rows: &[Row], into: &mut [Row])
     ensures { into.new ≡ filled_rows into.old rows.now }
 {
     let fits = rows.len().min(into.len());
@@ -36,7 +36,7 @@ fn copy_rows(rows: &[Row], into: &mut [Row])
 }
 
 // Copies bytes, as many as `into` has room for.
-fn copy_texts(texts: &[u8], into: &mut [u8])
+pub(crate) fn copy_texts(texts: &[u8], into: &mut [u8])
     ensures { into.new ≡ filled into.old texts.now }
 {
     let fits = texts.len().min(into.len());

@@ -38,3 +38,19 @@ pub fn verdict_of(is_clean: bool, is_whole: bool) -> u32
         INCOMPLETE
     }
 }
+
+/// What is said of the steps of a style's runs, in numbers as C has them.
+#[repr(C)]
+#[derive(Clone, Copy)]
+pub struct BtxBound {
+    /// Of a style that ends: the steps of a run, and
+    pub once: u64,
+    /// the steps for each entry of the list.
+    pub each: u64,
+    /// How many bytes the names of the types have.
+    pub types_len: usize,
+    /// How many bytes the notes have.
+    pub notes_len: usize,
+    /// Whether each run ends within the bound.
+    pub ends: bool,
+}
