@@ -177,6 +177,11 @@ impl<'a> Code<'a> {
         &self.text.bytes[self.tokens[index].start..self.tokens[index].end]
     }
 
+    /// Where a token begins.
+    pub(crate) fn start(&self, index: usize) -> usize {
+        self.tokens[index].start
+    }
+
     /// What a token is.
     pub(crate) fn kind(&self, index: usize) -> Kind {
         self.tokens[index].kind
@@ -262,7 +267,7 @@ impl<'a> Code<'a> {
     }
 
     /// The token that closes what this one opens.
-    fn closing(&self, open: usize) -> Option<usize> {
+    pub(crate) fn closing(&self, open: usize) -> Option<usize> {
         let mut depth = 0_usize;
         for index in open..self.tokens.len() {
             match self.tokens[index].kind {

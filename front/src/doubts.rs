@@ -1,6 +1,7 @@
 //! What may be meant otherwise in the text of one field: signs that LaTeX stops at, letters of HTML, names in another order than BibTeX's, a year that no label fits.
 
 use crate::advice::Seen;
+use crate::mistakes::number_meant;
 use crate::terminal::plain;
 use crate::text::find;
 
@@ -51,7 +52,8 @@ pub fn doubt(name: &[u8], text: &[u8], has_label: bool) -> Option<Doubt> {
     if is_in(name, &[b"author", b"editor"]) {
         return entity(text, false).or_else(|| suffix(text)).or_else(|| initials(text));
     }
-    (has_label && is_in(name, &[b"year"])).then(|| year(text)).flatten()
+    let of_year = || letter_for_digit(text).or_else(|| has_label.then(|| year(text)).flatten());
+    entity(text, false).or_else(|| is_in(name, &[b"year"]).then(of_year).flatten())
 }
 
 /// Whether a style takes a label from the end of the year, as `alpha` does.
@@ -62,7 +64,8 @@ pub fn has_label_of_year(style: &[u8]) -> bool {
 // ---- signs ----
 
 /// Letters of HTML and what stands for them in TeX.
-const ENTITIES: [(&[u8], &str); 12] = [
+const ENTITIES: [(&[u8], &str); 13] = [
+    (b"hyphen", "`-`"),
     (b"amp", "`\\&`"),
     (b"lt", "`$<$`"),
     (b"gt", "`$>$`"),
@@ -75,6 +78,24 @@ const ENTITIES: [(&[u8], &str); 12] = [
     (b"rsquo", "`'`"),
     (b"ldquo", "a quote of TeX, ``..''"),
     (b"rdquo", "a quote of TeX, ``..''"),
+];
+
+/// The numbers of these letters.
+const ENTITY_CODES: [(u32, &[u8]); 14] = [
+    (0x22, b"quot"),
+    (0x26, b"amp"),
+    (0x27, b"apos"),
+    (0x3C, b"lt"),
+    (0x3E, b"gt"),
+    (0xA0, b"nbsp"),
+    (0x2010, b"hyphen"),
+    (0x2011, b"hyphen"),
+    (0x2013, b"ndash"),
+    (0x2014, b"mdash"),
+    (0x2018, b"lsquo"),
+    (0x2019, b"rsquo"),
+    (0x201C, b"ldquo"),
+    (0x201D, b"rdquo"),
 ];
 
 /// The end of the names that HTML has for letters with an accent.
@@ -100,13 +121,25 @@ fn meant_by_entity(name: &[u8], is_address: bool) -> Option<String> {
     if let Some((_, meant)) = ENTITIES.iter().find(|(known, _)| *known == name) {
         return Some(if is_address && name == b"amp" { "`&`".into() } else { (*meant).to_string() });
     }
-    let number = name.strip_prefix(b"#");
-    if number == Some(b"39") || number == Some(b"x27") {
-        return Some("`'`".into());
+    if let Some(code) = code_of(name) {
+        let sign = ENTITY_CODES.iter().find(|(known, _)| *known == code);
+        return match sign {
+            Some((_, name)) => meant_by_entity(name, is_address),
+            None if code < 0x20 => None,
+            None => char::from_u32(code)
+                .filter(|sign| sign.is_alphabetic())
+                .map_or(Some("the letter itself".into()), |sign| Some(format!("`{sign}`"))),
+        };
     }
-    let is_number = number.is_some_and(|rest| !rest.is_empty() && rest.iter().all(u8::is_ascii_alphanumeric));
     let is_letter = name.first().is_some_and(u8::is_ascii_alphabetic) && ACCENTS.iter().any(|end| name.ends_with(end));
-    (is_number || is_letter).then(|| "the letter itself".into())
+    is_letter.then(|| "the letter itself".into())
+}
+
+/// The number of a letter that is written `#N` or `#xN`.
+fn code_of(name: &[u8]) -> Option<u32> {
+    let digits = std::str::from_utf8(name.strip_prefix(b"#")?).ok()?;
+    let hexadecimal = digits.strip_prefix('x').or_else(|| digits.strip_prefix('X'));
+    hexadecimal.map_or_else(|| digits.parse().ok(), |digits| u32::from_str_radix(digits, 16).ok())
 }
 
 /// A backslash that an address doesn't need: `\_`, also as `{\_}`.
@@ -194,7 +227,8 @@ fn after_group(text: &[u8], at: usize) -> usize {
 /// What comes after a last name.
 const SUFFIXES: [&[u8]; 7] = [b"jr", b"jr.", b"sr", b"sr.", b"II", b"III", b"IV"];
 
-fn is_suffix(word: &[u8]) -> bool {
+/// Whether a word comes after a last name.
+pub fn is_suffix(word: &[u8]) -> bool {
     SUFFIXES.iter().any(|suffix| word == *suffix || suffix[0].is_ascii_lowercase() && word.eq_ignore_ascii_case(suffix))
 }
 
@@ -271,7 +305,40 @@ fn initials(text: &[u8]) -> Option<Doubt> {
     Some(Doubt { place: last.0, seen: Seen::InitialsLast, names })
 }
 
+// ---- commands ----
+
+/// Commands of letters, of which BibTeX changes the case as it does of the letters of ASCII.
+const LETTERS: [&[u8]; 5] = [b"O", b"L", b"OE", b"AE", b"AA"];
+
+/// A command outside of braces whose name has a capital letter, where the style changes the case of the text.
+pub fn lost_case(text: &[u8]) -> Option<Doubt> {
+    let mut depth = 0_i64;
+    for (at, byte) in text.iter().enumerate() {
+        depth += i64::from(*byte == b'{') - i64::from(*byte == b'}');
+        if depth != 0 || *byte != b'\\' {
+            continue;
+        }
+        let word = command_at(text, at + 1);
+        let is_it = word.iter().any(u8::is_ascii_uppercase);
+        let is_after_line_end = at.checked_sub(1).is_some_and(|before| text[before] == b'\\');
+        if is_it && !is_after_line_end && !LETTERS.contains(&word) {
+            let behind = at + 1 + word.len();
+            let end = if text.get(behind) == Some(&b'{') { after_group(text, behind) } else { behind };
+            let (argument, command) = (plain(&text[behind..end]), plain(&text[at..behind]));
+            let names = vec![command.clone() + &argument, command.to_ascii_lowercase() + &argument];
+            return Some(Doubt { place: at, seen: Seen::CommandLosesCase, names });
+        }
+    }
+    None
+}
+
 // ---- years ----
+
+/// A year with a letter that looks like a digit.
+fn letter_for_digit(text: &[u8]) -> Option<Doubt> {
+    let (number, letter) = number_meant(text.trim_ascii()).filter(|(number, _)| number.len() == 4)?;
+    Some(Doubt { place: 0, seen: Seen::LetterForDigit, names: vec![number, letter.to_string()] })
+}
 
 /// A year whose last two letters, of which the style makes a label, are no digits.
 fn year(text: &[u8]) -> Option<Doubt> {
@@ -317,7 +384,9 @@ mod tests {
         assert_eq!(said("title", "O&#39;Hara").map(|names| names[1].clone()), Some("`'`".into()));
         assert_eq!(said("url", "a{\\_}b"), Some(vec!["_".into(), "{\\_}".into()]));
         assert_eq!(said("url", "a\\%20b"), Some(vec!["%".into(), "\\%".into()]));
-        assert_eq!([said("url", "a&b;c"), said("author", "A \\& B;")], [None, None]);
+        assert_eq!(said("pages", "1&#8211;2"), Some(vec!["&#8211;".into(), "`--`".into()]));
+        assert_eq!(said("title", "&#xFC;ber"), Some(vec!["&#xFC;".into(), "`ü`".into()]));
+        assert_eq!([said("url", "a&b;c"), said("author", "A \\& B;"), said("number", "&#;")], [None, None, None]);
     }
 
     #[test]
@@ -344,7 +413,19 @@ mod tests {
     }
 
     #[test]
+    fn commands_keep_their_case_in_braces() {
+        let said = |text: &str| lost_case(text.as_bytes()).map(|doubt| (doubt.place, doubt.names.join(" ")));
+        assert_eq!(said("Models in \\LaTeX and"), Some((10, "\\LaTeX \\latex".into())));
+        assert_eq!(said("Erd\\H{o}s"), Some((3, "\\H{o} \\h{o}".into())));
+        for whole in ["{\\LaTeX}", "\\emph{In \\TeX}", "\\AA ngstr", "\\\\The", "\\alpha", "{A} \\O B", "\\"] {
+            assert_eq!(said(whole), None, "{whole}");
+        }
+    }
+
+    #[test]
     fn years_of_words_are_seen() {
+        assert_eq!([seen("year", "2O12"), seen("year", "l998")], [Some((0, Seen::LetterForDigit)); 2]);
+        assert_eq!(seen("volume", "2O12"), None);
         assert_eq!(seen("year", "2021, in press"), Some((0, Seen::YearOfWords)));
         assert_eq!([seen("year", "2021"), seen("year", "(2021)"), seen("year", "in press 2021")], [None; 3]);
         assert_eq!(doubt(b"year", b"in press", false), None);

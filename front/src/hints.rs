@@ -1,6 +1,7 @@
 //! What a style's designer may want to look at although no run logs a fault by it: functions and variables without a use, integers that always have one value, and loops
 //! that don't change what their test reads.
 
+use crate::advice::operands;
 use crate::code_places::DEFAULT_TYPE;
 use crate::database::Folded;
 use crate::style_text::{Command, Kind, Token, Tokens, commands, commands_among};
@@ -86,7 +87,9 @@ pub fn hints(bytes: &[u8]) -> Vec<Hint> {
         let said = said_of(declared, uses.get(&Folded(declared.name)).unwrap_or(&none))?;
         Some(Hint { line: text.line_of(declared.start), text: said, is_of_loop: false })
     });
-    let mut hints: Vec<Hint> = found.chain(of_loops(&style, &text)).collect();
+    let of_styles = of_sort(&style, &text, &uses).into_iter().chain(of_unused(&style, &text, &uses));
+    let others = of_pieces(&style, &text).into_iter().chain(of_loops(&style, &text)).chain(of_styles);
+    let mut hints: Vec<Hint> = found.chain(others).collect();
     hints.sort_by_key(|hint| hint.line);
     hints
 }
@@ -104,6 +107,81 @@ fn said_of(declared: &Declared<'_>, uses: &Uses) -> Option<String> {
         Sort::Integer if uses.is_always_0() => Some(format!("the integer {name} is always 0")),
         Sort::Integer | Sort::Text => None,
     }
+}
+
+/// The pieces of texts that are always empty: they have no byte, or start at 0, which is before the first one.
+fn of_pieces(style: &Read<'_>, text: &Text<'_>) -> Vec<Hint> {
+    let is_integer = |token: &Token| token.kind == Kind::Integer;
+    let value =
+        |token: &Token| Some(token).filter(|token| is_integer(token)).and_then(|token| integer(style.of(token)));
+    let said = |before: &[Token], of: &Token| {
+        let (start, length) = (before.first().and_then(value), before.last().and_then(value)?);
+        let (name, why) = match style.of(of).to_ascii_lowercase().as_slice() {
+            b"substring$" if length < 1 => ("substring$", format!("{length} bytes")),
+            b"substring$" if start == Some(0) => ("substring$", "the start 0, where the first byte is 1".to_string()),
+            b"text.prefix$" if length < 1 => ("text.prefix$", format!("{length} letters")),
+            _ => return None,
+        };
+        Some(Hint {
+            line: text.line_of(of.start),
+            text: format!("this `{name}` is always empty: it asks for {why}"),
+            is_of_loop: false,
+        })
+    };
+    let names = style.tokens.iter().enumerate().filter(|(_, token)| token.kind == Kind::Name);
+    names.filter_map(|(at, token)| said(&style.tokens[at.saturating_sub(2)..at], token)).collect()
+}
+
+/// Constants of a kind that the built-in function after them doesn't take, in functions that nothing uses: a check of runs doesn't come to these.
+fn of_unused(style: &Read<'_>, text: &Text<'_>, uses: &HashMap<Folded<'_>, Uses>) -> Vec<Hint> {
+    let is_unused = |declared: &&Declared<'_>| {
+        declared.sort == Sort::Function && !declared.may_be_type && !uses.contains_key(&Folded(declared.name))
+    };
+    let starts: HashSet<usize> = style.declared.iter().filter(is_unused).map(|declared| declared.start).collect();
+    let spans = spans_of(style)
+        .into_iter()
+        .filter(|span| style.tokens[span.clone()].iter().any(|token| starts.contains(&token.start)));
+    let said = |pair: &[Token]| {
+        let (constant, function) = (plain(style.of(&pair[0])), style.of(&pair[1]));
+        let takes = operands(function).filter(|_| pair[1].kind == Kind::Name)?;
+        let wanted = takes.rsplit(' ').next().unwrap_or(takes);
+        let is_other = match pair[0].kind {
+            Kind::Integer => ["TEXT", "CASE", "FORMAT", "CHARACTER", "NAMES", "FIELD"].contains(&wanted),
+            Kind::Text => ["NUMBER", "LENGTH"].contains(&wanted),
+            _ => false,
+        };
+        let said = format!(
+            "`{}` takes {takes}, pushed in this order, and gets {constant} as its {wanted}: no run shows that, since its function is never used",
+            plain(function)
+        );
+        is_other.then(|| Hint { line: text.line_of(pair[1].start), text: said, is_of_loop: false })
+    };
+    spans.flat_map(|span| style.tokens[span].windows(2).filter_map(said).collect::<Vec<_>>()).collect()
+}
+
+/// The hint on a style whose entries get keys to sort by, which nothing sorts by.
+fn of_sort(style: &Read<'_>, text: &Text<'_>, uses: &HashMap<Folded<'_>, Uses>) -> Option<Hint> {
+    let key = Folded(b"sort.key$");
+    let is_only_set = uses.get(&key).is_some_and(|uses| uses.quoted > 0 && uses.taken == 0);
+    // (a designer may have made a comment of SORT, so that the list stays in that order)
+    let is_left_out =
+        |line: &[u8]| line.strip_prefix(b"%").is_some_and(|rest| rest.trim_ascii().eq_ignore_ascii_case(b"sort"));
+    let has_sort = || style.bytes.split(|byte| *byte == b'\n').any(|line| is_left_out(line.trim_ascii()));
+    if !is_only_set || style.commands.iter().any(|command| command.is("sort")) || has_sort() {
+        return None;
+    }
+    let (loops, mut left) = (Loops::new(style), MOST_TOKENS);
+    let mut sets = |command: &&Command<'_>| {
+        let is_run = command.is("iterate") || command.is("reverse");
+        let function = command.name.filter(|_| is_run).and_then(|name| loops.functions.get(&Folded(name)));
+        function.is_some_and(|tokens| loops.may_change(tokens.clone(), key, &mut left))
+    };
+    let command = style.commands.iter().rev().find(|command| sets(command))?;
+    let (word, name) = (plain(command.word), plain(command.name?));
+    let text_of = format!(
+        "{word} {{{name}}} sets sort.key$, and there is no SORT: put it below this line, or the list stays in the order of citation"
+    );
+    Some(Hint { line: text.line_of(command.start), text: text_of, is_of_loop: false })
 }
 
 /// The token's text.
@@ -168,13 +246,17 @@ const USUAL_TYPES: [&str; 24] = [
     "standard",
 ];
 
+/// Whether styles usually know this type.
+pub fn is_usual_type(name: &[u8]) -> bool {
+    USUAL_TYPES.iter().any(|usual| name.eq_ignore_ascii_case(usual.as_bytes()))
+}
+
 /// The functions that are meant as types of entries, as far as can be seen: first those with the name of a usual type, then those above READ without a dot that nothing uses.
 pub fn types_meant(bytes: &[u8]) -> Vec<Vec<u8>> {
     let style = Read::new(bytes);
     let uses = uses(&style);
     let functions = style.declared.iter().filter(|declared| declared.may_be_type).map(|declared| declared.name);
-    let is_usual = |name: &&[u8]| USUAL_TYPES.iter().any(|usual| name.eq_ignore_ascii_case(usual.as_bytes()));
-    let (usual, others): (Vec<&[u8]>, Vec<&[u8]>) = functions.partition(is_usual);
+    let (usual, others): (Vec<&[u8]>, Vec<&[u8]>) = functions.partition(|name| is_usual_type(name));
     let unused = others.into_iter().filter(|name| !uses.contains_key(&Folded(name)) && !name.contains(&b'.'));
     usual.into_iter().chain(unused).map(<[u8]>::to_vec).collect()
 }
@@ -247,9 +329,28 @@ fn name_that_touches<'a>(bytes: &'a [u8], command: &Command<'a>) -> Option<&'a [
 
 // ---- loops ----
 
-/// Built-in functions of a test that reads nothing but what stands in it.
-const PURE: [&str; 12] =
-    ["=", ">", "<", "+", "-", "*", "empty$", "text.length$", "num.names$", "substring$", "chr.to.int$", "text.prefix$"];
+/// Built-in functions of a test that reads nothing but what stands in it: how many literals each takes, and how many it leaves.
+const PURE: [(&str, usize, usize); 16] = [
+    ("=", 2, 1),
+    (">", 2, 1),
+    ("<", 2, 1),
+    ("+", 2, 1),
+    ("-", 2, 1),
+    ("*", 2, 1),
+    ("empty$", 1, 1),
+    ("text.length$", 1, 1),
+    ("num.names$", 1, 1),
+    ("substring$", 3, 1),
+    ("chr.to.int$", 1, 1),
+    ("text.prefix$", 2, 1),
+    ("duplicate$", 1, 2),
+    ("pop$", 1, 0),
+    ("skip$", 0, 0),
+    ("swap$", 2, 2),
+];
+
+/// How deep braces stand in each other in a test that is followed.
+const MOST_NESTED: usize = 8;
 
 /// How many tokens are looked at for all loops of a style.
 const MOST_TOKENS: usize = 2_000_000;
@@ -294,6 +395,18 @@ fn of_loops<'a>(style: &'a Read<'a>, text: &Text<'_>) -> Vec<Hint> {
         found.extend(said.map(|text| Hint { line: begin, text, is_of_loop: true }));
     }
     found
+}
+
+/// Of the loop whose `while$` is the one of this line, where it changes nothing that its test reads: the variables that it reads, and the lines of its body. Once such a loop is entered, it never ends.
+pub fn loop_without_end(bytes: &[u8], line: usize) -> Option<(String, String)> {
+    let (text, style) = (Text::new(bytes), Read::new(bytes));
+    let line_of = |token: usize| text.line_of(style.tokens[token].start);
+    let mut ends = (0..style.tokens.len()).filter(|end| is_while(&style, *end) && line_of(*end) == line);
+    let end = ends.next().filter(|_| ends.next().is_none())?;
+    let loops = Loops::new(&style);
+    let (of_while, mut left) = (loops.loop_of(end)?, MOST_TOKENS);
+    let read = loops.unchanged(&of_while, &mut left).filter(|read| !read.is_empty())?;
+    Some((listed(&read, "or"), in_lines((line_of(of_while.body.start - 1), line_of(end)))))
 }
 
 /// Whether the token of this number is `while$`.
@@ -404,13 +517,15 @@ impl<'a> Loops<'a> {
         self.spans[..behind].last().filter(|span| span.contains(&token)).cloned()
     }
 
+    /// The variables that the test of a loop reads, where the loop changes none of them.
+    fn unchanged(&self, of_while: &Loop, left: &mut usize) -> Option<Vec<Folded<'a>>> {
+        let read = self.read_by(of_while.test.clone())?;
+        (!read.iter().any(|name| self.may_change(of_while.body.clone(), *name, left))).then_some(read)
+    }
+
     /// What is said of a loop that changes nothing that its test reads.
     fn endless(&self, of_while: &Loop, lines: (usize, usize), left: &mut usize) -> Option<String> {
-        let read = self.read_by(of_while.test.clone())?;
-        if read.iter().any(|name| self.may_change(of_while.body.clone(), *name, left)) {
-            return None;
-        }
-        let body = in_lines(lines);
+        let (read, body) = (self.unchanged(of_while, left)?, in_lines(lines));
         Some(if read.is_empty() {
             format!("does this loop end? Its test always leaves the same (body: {body})")
         } else {
@@ -438,18 +553,52 @@ impl<'a> Loops<'a> {
 
     /// The variables that a test reads; None where it also reads the stack, a field, or what a function of the style does.
     fn read_by(&self, test: Range<usize>) -> Option<Vec<Folded<'a>>> {
-        let mut read: Vec<Folded<'a>> = Vec::new();
-        for token in &self.style.tokens[test.clone()] {
-            let name = self.style.of(token);
-            match token.kind {
-                Kind::Integer | Kind::Text => {}
-                Kind::Name if self.variables.contains(&Folded(name)) => read.push(Folded(name)),
-                Kind::Name if PURE.iter().any(|pure| pure.as_bytes() == name) => {}
-                _ => return None,
+        self.depth_after(test.clone(), 0, MOST_NESTED).filter(|depth| *depth == 1)?;
+        let mut seen = HashSet::new();
+        let names = self.style.tokens[test].iter().map(|token| Folded(self.style.of(token)));
+        Some(names.filter(|name| self.variables.contains(name) && seen.insert(*name)).collect())
+    }
+
+    /// How many literals stand on the stack after these tokens, of which `depth` did before. None where they take what stood there before all of them, or where that isn't seen.
+    fn depth_after(&self, tokens: Range<usize>, depth: usize, nested: usize) -> Option<usize> {
+        let (mut depth, mut blocks, mut at) = (depth, Vec::new(), tokens.start);
+        while at < tokens.end {
+            let (kind, name) = (self.style.tokens[at].kind, self.style.of(&self.style.tokens[at]));
+            at += 1;
+            if kind == Kind::Open {
+                let close = self.closing(at, tokens.end)?;
+                blocks.push(at..close);
+                at = close + 1;
+            } else if name == b"if$" {
+                let (no, yes, below) = (blocks.pop()?, blocks.pop()?, depth.checked_sub(1)?);
+                let [yes, no] = [yes, no].map(|block| self.depth_after(block, below, nested.checked_sub(1)?));
+                depth = yes.filter(|_| yes == no)?;
+            } else if kind == Kind::Integer || kind == Kind::Text || self.variables.contains(&Folded(name)) {
+                depth += 1;
+            } else {
+                let (_, takes, leaves) =
+                    PURE.iter().find(|(pure, ..)| kind == Kind::Name && pure.as_bytes() == name)?;
+                depth = depth.checked_sub(*takes)? + leaves;
+            }
+            if !blocks.is_empty() && kind != Kind::Open {
+                return None;
             }
         }
-        read.dedup();
-        (!test.is_empty()).then_some(read)
+        blocks.is_empty().then_some(depth)
+    }
+
+    /// The token that closes the braces whose first token is `from`.
+    fn closing(&self, from: usize, end: usize) -> Option<usize> {
+        let mut depth = 0_usize;
+        for at in from..end {
+            match self.style.tokens[at].kind {
+                Kind::Close if depth == 0 => return Some(at),
+                Kind::Close => depth -= 1,
+                Kind::Open => depth += 1,
+                _ => {}
+            }
+        }
+        None
     }
 
     /// Whether a variable comes after a quote in these tokens, or in the functions that they name. It may do where `left` tokens don't suffice to see.
@@ -506,6 +655,19 @@ mod tests {
     }
 
     #[test]
+    fn pieces_that_are_always_empty_are_named() {
+        let style = "EXECUTE {f.g}\nFUNCTION {f.g} {\ns #0 #1 substring$\ns #2 #0 substring$\ns #-1 #1 substring$ #0 text.prefix$\ns i #-3 Substring$ s #1 text.prefix$\n#0 s #1 substring$ }";
+        let empty = |name: &str, why: &str| format!("this `{name}` is always empty: it asks for {why}");
+        let wanted = [
+            (3, empty("substring$", "the start 0, where the first byte is 1")),
+            (4, empty("substring$", "0 bytes")),
+            (5, empty("text.prefix$", "0 letters")),
+            (6, empty("substring$", "-3 bytes")),
+        ];
+        assert_eq!(said(style), wanted);
+    }
+
+    #[test]
     fn names_do_not_act_on_a_terminal() {
         assert_eq!(
             said("INTEGERS {v\u{1b}]0;P\u{7}\u{202e}}"),
@@ -537,9 +699,49 @@ mod tests {
             "{i} 'c.d while$",
             "#1 'i := {s empty$} {i pop$ i #1 + 'i := \"\" 's :=} while$",
             "s num.names$ 'i := {s empty$} {i pop$ \"\" 's :=} while$",
+            "{#0 >} {skip$} while$",
+            "{s empty$ {#0} {#0 #1} if$} {skip$} while$",
         ] {
             assert_eq!(of(body), []);
         }
+    }
+
+    #[test]
+    fn tests_with_branches_are_followed() {
+        let style = "INTEGERS {n} STRINGS {s}\nFUNCTION {a.b} {\n{ s n #1 substring$ \".\" =\n n #0 > {} {pop$ #0} if$ }\n{n #1 - pop$}\nwhile$ }\nEXECUTE {a.b}";
+        let line = "does this loop end? Its body (lines 5-6) never changes s or n, which its test reads";
+        assert!(said(style).contains(&(3, line.to_string())), "{:?}", said(style));
+        let found = loop_without_end(style.as_bytes(), 6);
+        assert_eq!(found, Some(("s or n".to_string(), "lines 5-6".to_string())));
+        assert_eq!(loop_without_end(style.as_bytes(), 5), None);
+    }
+
+    #[test]
+    fn constants_in_unused_functions_are_looked_at() {
+        let style = |commands: &str| {
+            said(&format!(
+                "FUNCTION {{f.g}} {{\n\"A\" \"{{ll}}\" #1 format.name$ #1 #2 >\n\"4\" - #1 #2 + write$}}\nREAD\n{commands}"
+            ))
+        };
+        let named = |begin: &str| format!("{begin}: no run shows that, since its function is never used");
+        let wanted = [
+            (1, "the function f.g is never used".to_string()),
+            (2, named("`format.name$` takes NAMES NUMBER FORMAT, pushed in this order, and gets #1 as its FORMAT")),
+            (3, named("`-` takes NUMBER NUMBER, pushed in this order, and gets \"4\" as its NUMBER")),
+        ];
+        assert_eq!(style(""), wanted);
+        assert_eq!(style("EXECUTE {f.g}"), []);
+    }
+
+    #[test]
+    fn keys_to_sort_by_are_sorted_by() {
+        let style = |commands: &str| {
+            said(&format!("READ\nFUNCTION {{a.b}} {{cite$ 'sort.key$ :=}}\nFUNCTION {{pre.sort}} {{a.b}}\n{commands}"))
+        };
+        let hint = "ITERATE {pre.sort} sets sort.key$, and there is no SORT: put it below this line, or the list stays in the order of citation";
+        assert_eq!(style("ITERATE {pre.sort}\nITERATE {call.type$}\n"), [(4, hint.to_string())]);
+        assert_eq!([style("ITERATE {pre.sort}\nSORT\n"), style("ITERATE {pre.sort}\n%SORT\n")], [vec![], vec![]]);
+        assert_eq!(style("FUNCTION {c.d} {sort.key$ write$}\nITERATE {pre.sort}\nITERATE {c.d}\n"), []);
     }
 
     #[test]

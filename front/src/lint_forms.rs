@@ -3,11 +3,13 @@
 use crate::btx::Verdict;
 use crate::code_places::Code;
 use crate::explain;
+use crate::lint_ends::Ends;
 use crate::lint_text::{Style, groups, verdict, write};
 use crate::lint_types::Types;
 use crate::lint_warnings::Warning;
 use crate::log::Log;
 use crate::shapes::Part;
+use crate::shown_line::ShownLine;
 use crate::style_check::StyleCheck;
 use crate::terminal::{Terminal, plain};
 use std::io::{self, Write};
@@ -41,6 +43,7 @@ pub fn write_for_people(linted: &Linted, terminal: &Terminal, out: &mut impl Wri
     let code = code_of(check);
     let style = Style { path: &path, code: &code, terminal, has_mistakes: check.messages.count > 0 };
     write(&style, &check.found, check.entries.as_deref(), out)?;
+    write_constants(&style, check, out)?;
     for hint in check.hints.iter().filter(|hint| !hint.is_of_loop) {
         writeln!(out, "{path}:{}: hint: {}", hint.line, hint.text)?;
     }
@@ -48,9 +51,23 @@ pub fn write_for_people(linted: &Linted, terminal: &Terminal, out: &mut impl Wri
     if let Some(uncovered) = types_said(linted).and_then(Types::uncovered_text) {
         writeln!(out, "    not covered: {uncovered}")?;
     }
+    write_ends(&path, check, out)?;
     let unsaid = if check.is_clean() { "clean says nothing of loops: " } else { "" };
     for hint in check.hints.iter().filter(|hint| hint.is_of_loop) {
         writeln!(out, "{path}:{}: hint: {unsaid}{}", hint.line, hint.text)?;
+    }
+    Ok(())
+}
+
+/// Writes the constants that functions can't take.
+fn write_constants(style: &Style<'_, '_>, check: &StyleCheck, out: &mut impl Write) -> io::Result<()> {
+    for constant in &check.constants {
+        let (path, number) = (style.path, constant.line);
+        writeln!(out, "{path}:{number}: in {}: each run of this logs: {}", constant.owner, constant.text)?;
+        let line = style.code.text.line(number);
+        let shown = ShownLine { name: path, number, line, mark: Some(constant.mark) }.lines(style.terminal);
+        shown.iter().try_for_each(|line| writeln!(out, "    {line}"))?;
+        writeln!(out, "    do: {}", constant.advice)?;
     }
     Ok(())
 }
@@ -68,22 +85,56 @@ fn write_verdict(style: &Style<'_, '_>, check: &StyleCheck, out: &mut impl Write
             out,
             "{path}: incomplete: its text wasn't read to its end, so mistakes may stand in the rest of it"
         ),
+        Some(Verdict::Clean { .. }) if !check.is_clean() => {
+            writeln!(out, "{path}: warnings: {}, but no fault of the stack or of kinds", constants_in_words(check))
+        }
         Some(Verdict::Clean { literals, bodies, types }) => {
             writeln!(
                 out,
                 "{path}: clean: no run with a budget of at most 1,500,000,000 steps logs a fault of the stack or of kinds (at most {bodies} bodies are open; {literals} literals were met)"
             )?;
-            let types: Vec<String> = types.iter().map(|name| plain(name)).collect();
-            match types.is_empty() {
-                true => writeln!(out, "    for entries of the types that it doesn't know"),
-                false => {
-                    writeln!(out, "    for entries of the types {}, and of all that it doesn't know", types.join(", "))
-                }
-            }
+            write_types(types, out)
         }
-        Some(Verdict::Warnings(_)) => writeln!(out, "{path}: warnings: {}", verdict(&check.found)),
+        Some(Verdict::Warnings(_)) => writeln!(out, "{path}: warnings: {}", warnings_in_words(check)),
         Some(Verdict::Incomplete(_)) => write_unended(style, check.steps, out),
         None => writeln!(out, "{path}: incomplete: the style has more than 2,147,483,647 bytes"),
+    }
+}
+
+/// How many places there are where a run may go wrong, and constants.
+fn warnings_in_words(check: &StyleCheck) -> String {
+    match check.constants.is_empty() {
+        true => verdict(&check.found),
+        false => format!("{}; {}", verdict(&check.found), constants_in_words(check)),
+    }
+}
+
+/// How many constants there are that functions can't take.
+fn constants_in_words(check: &StyleCheck) -> String {
+    match check.constants.len() {
+        1 => "1 constant that the function after it can't take".to_string(),
+        more => format!("{more} constants that the functions after them can't take"),
+    }
+}
+
+/// Writes whether each run of the style ends. The types of entries are those of the verdict, where it has some.
+fn write_ends(path: &str, check: &StyleCheck, out: &mut impl Write) -> io::Result<()> {
+    match check.ends() {
+        None => Ok(()),
+        Some(Ends::Unproved(reason)) => writeln!(out, "{path}: not known to end: {}", reason.in_words()),
+        Some(Ends::Proved(proved)) => {
+            writeln!(out, "{path}: ends: {}", proved.in_words())?;
+            if check.is_clean() { Ok(()) } else { write_types(&proved.types, out) }
+        }
+    }
+}
+
+/// Writes for which types of entries something is said.
+fn write_types(types: &[Vec<u8>], out: &mut impl Write) -> io::Result<()> {
+    let types: Vec<String> = types.iter().map(|name| plain(name)).collect();
+    match types.is_empty() {
+        true => writeln!(out, "    for entries of the types that it doesn't know"),
+        false => writeln!(out, "    for entries of the types {}, and of all that it doesn't know", types.join(", ")),
     }
 }
 
@@ -146,7 +197,9 @@ pub fn line_of(check: &StyleCheck) -> String {
         }
         _ => word.to_string(),
     };
-    format!("{path}: {said}, messages {}, hints {}", check.messages.count, check.hints.len())
+    let constants = Some(check.constants.len()).filter(|count| *count > 0);
+    let constants = constants.map_or_else(String::new, |count| format!(", constants {count}"));
+    format!("{path}: {said}, messages {}{constants}, hints {}", check.messages.count, check.hints.len())
 }
 
 #[cfg(test)]

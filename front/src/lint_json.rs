@@ -1,7 +1,9 @@
 //! What is found of a style as JSON: the fields that the manual page of `bibtex-lint` describes, in their order.
 
-use crate::btx::Verdict;
+use crate::btx::{Bound, Verdict};
 use crate::code_places::Code;
+use crate::constants::Constant;
+use crate::lint_ends::Ends;
 use crate::lint_entry::Shown;
 use crate::lint_forms::{Linted, code_of, path_of, types_said};
 use crate::lint_text::said_of;
@@ -25,13 +27,43 @@ struct StyleJson<'a> {
     types: Option<Vec<String>>,
     #[serde(skip_serializing_if = "Option::is_none")]
     uncovered: Option<Vec<String>>,
+    /// Null where the style isn't known to end.
+    ends: Option<BoundJson>,
     messages: Vec<String>,
     warnings: Vec<WarningJson<'a>>,
     #[serde(skip_serializing_if = "Option::is_none")]
     behind: Option<usize>,
     #[serde(skip_serializing_if = "Vec::is_empty")]
     causes: Vec<CauseJson>,
+    #[serde(skip_serializing_if = "Vec::is_empty")]
+    constants: Vec<ConstantJson<'a>>,
     hints: Vec<HintJson<'a>>,
+}
+
+/// A constant that the function after it can't take.
+#[derive(Serialize)]
+struct ConstantJson<'a> {
+    text: &'a str,
+    #[serde(rename = "do")]
+    advice: &'a str,
+    executed: &'a str,
+    function: &'a str,
+    line: usize,
+}
+
+impl ConstantJson<'_> {
+    fn of(constant: &Constant) -> ConstantJson<'_> {
+        let Constant { text, advice, function, owner, line, .. } = constant;
+        ConstantJson { text, advice, executed: function, function: owner, line: *line }
+    }
+}
+
+/// The bound of the steps of a style that ends.
+#[derive(Serialize)]
+struct BoundJson {
+    once: u64,
+    each: u64,
+    kept: u32,
 }
 
 /// Where a style may go wrong.
@@ -133,6 +165,18 @@ impl OperandJson {
     }
 }
 
+impl BoundJson {
+    fn of(ends: &Ends) -> Option<BoundJson> {
+        match ends {
+            Ends::Proved(proved) => {
+                let Bound { once, each, kept } = proved.bound;
+                Some(BoundJson { once, each, kept })
+            }
+            Ends::Unproved(_) => None,
+        }
+    }
+}
+
 impl<'a> WarningJson<'a> {
     fn of(warning: &'a Warning, code: &Code<'_>, shown: Option<&Shown>) -> WarningJson<'a> {
         let (text, advice) = said_of(warning, code);
@@ -203,20 +247,23 @@ pub fn json_of(linted: &Linted) -> String {
         bodies,
         types: types.map(|types| plain_names(&types.taken)),
         uncovered: types.map(|types| plain_names(&types.uncovered)),
+        ends: check.ends().and_then(BoundJson::of),
         messages: lines.map(plain).collect(),
         warnings: shown.map(|(number, warning)| WarningJson::of(warning, &code, entry(number))).collect(),
         behind: Some(check.found.hidden()).filter(|hidden| *hidden > 0),
         causes: check.found.causes.iter().map(CauseJson::of).collect(),
+        constants: check.constants.iter().map(ConstantJson::of).collect(),
         hints: check.hints.iter().map(|hint| HintJson { line: hint.line, text: &hint.text }).collect(),
     };
     on_one_line(&json)
 }
 
-fn on_one_line(value: &impl Serialize) -> String {
-    let mut text = Vec::new();
-    // Nothing of these has a key that is no text, and a text takes all that is written to it.
+/// A value as JSON, on one line.
+pub fn on_one_line(value: &impl Serialize) -> String {
+    let mut text = Vec::with_capacity(1 << 9);
+    // Nothing of these has a key that is no text, a text takes all that is written to it, and all of that is UTF-8.
     let _ = value.serialize(&mut Serializer::with_formatter(&mut text, OnOneLine));
-    String::from_utf8_lossy(&text).into_owned()
+    String::from_utf8(text).unwrap_or_default()
 }
 
 #[cfg(test)]

@@ -1,17 +1,19 @@
 //! `bibtex-lint`: what can be said of styles before any document uses them. `bibtex-search` is this program where it is called so.
 
+use crate::btx::Options;
 use crate::exit::{Failure, Name, Status};
-use crate::job::{File, find_style, is_of_missing};
+use crate::job::{File, Files, find_style, is_of_missing};
 use crate::lint_databases::{self, is_database};
 use crate::lint_forms::{Linted, line_of, write_for_people};
 use crate::lint_json::json_of;
 use crate::lint_types::types_of;
 use crate::search::Search;
 use crate::style_check::StyleCheck;
-use crate::terminal::{Terminal, plain};
+use crate::terminal::{Patient, Terminal, plain};
+use crate::trace::trace;
 use std::ffi::OsString;
 use std::fmt;
-use std::io::{self, Write};
+use std::io::{self, BufWriter, Write};
 use std::os::unix::ffi::OsStringExt;
 use std::process::ExitCode;
 
@@ -22,6 +24,12 @@ const HELP: &str = concat!(
   operand, a literal left over), with a budget of up to 1,500,000,000 steps.
   It may log others, such as a format of names that is illegal. Styles are
   found along BSTINPUTS, and where TeX has its own.
+  A style that is said to end has a bound. No run of it whose budget is at
+  least the bound is stopped, and none takes more steps. That is proved for
+  any document, and for any databases whose entries have types that are named
+  or that the style doesn't know. A global string variable keeps at most as
+  many bytes there as is said. A run may end sooner, at a limit of the stack,
+  of a string or of a file.
   Of databases (names that end in .bib) it says what python3 -m btx doctor
   says, if Python's package btx is installed; else what a run would log.
 
@@ -61,15 +69,34 @@ enum Asked {
     Check { how: How, styles: Vec<Vec<u8>> },
     Databases { as_json: bool, databases: Vec<Vec<u8>> },
     Job(Vec<u8>),
+    Trace(Traced),
     Help,
     Version,
     Refused(String),
 }
 
+/// An entry whose run is to be traced.
+#[derive(Debug, Clone, PartialEq, Eq)]
+struct Traced {
+    job: Vec<u8>,
+    key: Vec<u8>,
+    /// The function of which each token is shown.
+    function: Option<Vec<u8>>,
+}
+
+/// What the words with a job ask for.
+fn with_job(job: Vec<u8>, key: Option<Vec<u8>>, function: Option<Vec<u8>>) -> Asked {
+    match key {
+        Some(key) => Asked::Trace(Traced { job, key, function }),
+        None if function.is_some() => Asked::Refused("--function needs --trace".into()),
+        None => Asked::Job(job),
+    }
+}
+
 /// Reads the words of the command line.
 fn read_words(words: impl Iterator<Item = Vec<u8>>) -> Asked {
     let mut how = USUAL;
-    let (mut styles, mut job) = (Vec::new(), None);
+    let (mut styles, mut job, mut key, mut function) = (Vec::new(), None, None, None);
     let (mut words, mut are_names) = (words, false);
     while let Some(word) = words.next() {
         let option = word.strip_prefix(b"-").filter(|rest| !rest.is_empty() && !are_names);
@@ -84,10 +111,17 @@ fn read_words(words: impl Iterator<Item = Vec<u8>>) -> Asked {
             b"entry" => how.has_entries = true,
             b"help" | b"h" => return Asked::Help,
             b"version" => return Asked::Version,
-            b"job" => match words.next() {
-                Some(word) => job = Some(word),
-                None => return Asked::Refused("--job needs a job".into()),
-            },
+            b"job" | b"trace" | b"function" => {
+                let Some(word) = words.next() else {
+                    return Asked::Refused(format!("--{} needs a name after it", plain(option)));
+                };
+                let named = match option {
+                    b"job" => &mut job,
+                    b"trace" => &mut key,
+                    _ => &mut function,
+                };
+                *named = Some(word);
+            }
             _ => match steps_of(option) {
                 Some(number) => how.steps = Some(number),
                 None if option.starts_with(b"steps=") => {
@@ -98,8 +132,9 @@ fn read_words(words: impl Iterator<Item = Vec<u8>>) -> Asked {
         }
     }
     match job {
-        Some(job) if styles.is_empty() && how == USUAL => Asked::Job(job),
-        Some(_) => Asked::Refused("--job takes no other option and no style: it explains a job for people".into()),
+        Some(job) if styles.is_empty() && how == USUAL => with_job(job, key, function),
+        Some(_) => Asked::Refused("--job takes no style, and no other option than --trace: it is for people".into()),
+        None if key.is_some() || function.is_some() => Asked::Refused("--trace and --function need --job".into()),
         None if styles.is_empty() => Asked::Refused("name a style or a database".into()),
         None if styles.iter().all(|name| is_database(name)) => match how {
             How { form: Form::Line, .. } | How { steps: Some(_), .. } | How { has_entries: true, .. } => {
@@ -119,11 +154,12 @@ fn steps_of(option: &[u8]) -> Option<u64> {
     std::str::from_utf8(option.strip_prefix(b"steps=")?).ok()?.parse().ok()
 }
 
-/// The program. `explain_job` is what explains a job.
+/// The program. `explain_job` is what explains a job, and `files_of` what finds the files of one, with its options.
 pub fn main(
     name: &Name,
     words: impl Iterator<Item = OsString>,
     explain_job: impl FnOnce(Vec<u8>) -> Result<Status, Failure>,
+    files_of: impl FnOnce(&[u8]) -> Result<(Files, Options), Failure>,
 ) -> ExitCode {
     match read_words(words.map(OsString::into_vec)) {
         Asked::Help => printed(
@@ -137,10 +173,25 @@ pub fn main(
             Status::Refused
         }
         Asked::Job(job) => explain_job(job.clone()).unwrap_or_else(|failure| unexplained(name, &job, &failure)),
+        Asked::Trace(traced) => {
+            let found = files_of(&traced.job);
+            found.and_then(|(files, options)| trace_entry(name, &traced, &files, &options)).unwrap_or_else(|failure| unexplained(name, &traced.job, &failure))
+        }
         Asked::Check { how, styles } => check_all(name, how, &styles),
         Asked::Databases { as_json, databases } => lint_databases::examine(name, &databases, as_json),
     }
     .into()
+}
+
+/// Prints the run of an entry of a job.
+fn trace_entry(name: &Name, traced: &Traced, files: &Files, options: &Options) -> Result<Status, Failure> {
+    let Some(trace) = trace(files, &traced.key, options)? else {
+        name.say(format_args!("no command of the style is executed for an entry {}", plain(&traced.key)));
+        return Ok(Status::Refused);
+    };
+    let mut out = BufWriter::new(Patient(io::stdout()));
+    let written = trace.write(traced.function.as_deref(), &mut out).and_then(|()| out.flush());
+    Ok(written.map_or_else(|fault| name.unprinted(&fault), |()| Status::Finished))
 }
 
 /// Says why a job isn't explained, and answers the exit status: one that isn't there is refused, as a style is.

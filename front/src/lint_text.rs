@@ -5,6 +5,7 @@ use crate::code_places::{Code, CodePlace};
 use crate::lint_entry::Shown;
 use crate::lint_ties::{Ties, varies};
 use crate::lint_warnings::{Cause, Fault, Growth, Operand, Value, Wanted, Warning, Warnings, text_of_classes};
+use crate::literals::shortage;
 use crate::notes::Spot;
 use crate::operands::{
     MEND_TEST, Said, TEST_LEAVES, assigned, assigned_without_entry, compared, exchanged, left_out, let_through, pushed,
@@ -191,6 +192,10 @@ pub fn said_of(warning: &Warning, code: &Code<'_>) -> (String, String) {
         return (format!("`{next}` takes VALUE 'VARIABLE: {what}"), advice);
     }
     match (warning.fault, &warning.missing) {
+        (Some(Fault::EmptyStack), None) => {
+            let shortage = shortage(code, &warning.places, &warning.next);
+            (what_of(warning), shortage.map_or_else(|| advice_of(warning), |shortage| shortage.advice()))
+        }
         (Some(Fault::NotAssignable | Fault::WrongKind), None) if next == ":=" => {
             assigned(code, place, warning.operand.as_ref().map(|operand| &operand.value))
                 .map_or_else(usual, |(what, advice)| (format!("`{next}` takes VALUE 'VARIABLE: {what}"), advice))

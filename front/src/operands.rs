@@ -1,5 +1,6 @@
 //! What a style's text says of a wrong operand: what a variable is declared as, what is compared, and through which function a missing field came.
 
+use crate::advice::Seen;
 use crate::code_places::{Code, CodePlace, Declared, Left};
 use crate::database::Folded;
 use crate::lint_warnings::{Value, text_of_classes};
@@ -126,11 +127,31 @@ pub fn compared(place: CodePlace<'_, '_>) -> Option<Said> {
             Some((what, format!("ask by `{field} empty$` whether the entry has it, or compare it with a string")))
         }
         (Left::Text(text), Left::Number(number)) | (Left::Number(number), Left::Text(text)) => {
+            if let Some(advice) = as_integer(text) {
+                return Some((NEVER.to_string(), advice));
+            }
             let what = format!("{NEVER}: `{}` is a string, and `{}` is a number", plain(text), plain(number));
             Some((what, "compare two numbers or two strings; `int.to.str$` makes a string of a number".to_string()))
         }
         _ => None,
     }
+}
+
+/// What to do about a string of digits where an integer is taken.
+fn as_integer(text: &[u8]) -> Option<String> {
+    let digits = text.strip_prefix(b"\"")?.strip_suffix(b"\"")?;
+    let is_number = digits.len() < 10 && !digits.is_empty() && digits.iter().all(u8::is_ascii_digit);
+    let (number, text) = (format!("#{}", plain(digits)), plain(text));
+    is_number.then(|| Seen::IntegerInQuotes.with(&[&number, &text]))
+}
+
+/// What to do about a function that takes an integer and gets a string of digits, which stands just before it.
+fn integer_in_quotes(place: CodePlace<'_, '_>) -> Option<String> {
+    let text = |back: usize| match place.value(back)? {
+        Left::Text(text) => as_integer(text),
+        _ => None,
+    };
+    text(1).or_else(|| text(2))
 }
 
 /// What to do where a field may be missing that a function of the style was run on just before.
@@ -194,6 +215,9 @@ pub fn advice_at(code: &Code<'_>, scene: &Scene, message: &[u8], function: &[u8]
         b":=" if message == NO_TEXT => return None,
         b":=" => assigned(code, place, value_of(message).as_ref()),
         b"=" => compared(place),
+        _ if message.ends_with(b" is not an integer") && integer_in_quotes(place).is_some() => {
+            return integer_in_quotes(place);
+        }
         _ if message == NO_TEXT => return let_through(place, None),
         _ => None,
     };

@@ -2,9 +2,11 @@
 
 use crate::btx::{self, Answer, MemoryRefused, Options, Rooms, Verdict};
 use crate::code_places::{Code, Declared};
+use crate::constants::{Constant, constants};
 use crate::exit::{Failure, words_of};
 use crate::hints::{Hint, hints};
 use crate::job::{File, Files};
+use crate::lint_ends::{Ends, ends_of};
 use crate::lint_entry::{Shown, entries};
 use crate::lint_warnings::{Warnings, read};
 use crate::log::{Content, Place};
@@ -52,12 +54,16 @@ pub struct StyleCheck {
     pub messages: Messages,
     /// None where the style is too long.
     pub verdict: Option<Verdict>,
+    /// Whether each run of it ends; None where the style is too long.
+    ends: Option<Ends>,
     /// How many steps the check could take.
     pub steps: u64,
     /// Where it may go wrong, if it isn't clean.
     pub found: Warnings,
     /// Whether an entry shows each of the warnings that are shown, where that was asked.
     pub entries: Option<Vec<Shown>>,
+    /// Constants that the functions after them can't take.
+    pub constants: Vec<Constant>,
     pub hints: Vec<Hint>,
 }
 
@@ -68,7 +74,7 @@ impl StyleCheck {
         let style = File { name: name_in_job(&style.name), ..style };
         let bytes = style.bytes.clone().unwrap_or_default();
         let steps = steps.unwrap_or_else(|| usual_steps(&bytes));
-        let verdict = check_apart(&style, steps)?;
+        let (verdict, ends) = check_apart(&style, steps)?;
         let found = match &verdict {
             Some(Verdict::Warnings(notes) | Verdict::Incomplete(notes)) => read(notes, &style.name),
             _ => Warnings::default(),
@@ -76,7 +82,8 @@ impl StyleCheck {
         let entries = if has_entries { Some(entries(&style, &found.shown())?) } else { None };
         let files = job_of(style);
         let messages = messages_of(&files)?;
-        Ok(StyleCheck { files, messages, verdict, steps, found, entries, hints: hints(&bytes) })
+        let constants = constants(&bytes)?;
+        Ok(StyleCheck { files, messages, verdict, ends, steps, found, entries, constants, hints: hints(&bytes) })
     }
 
     /// The verdict, in a word. A style whose text has mistakes isn't called clean, whatever is said of what could be read of it.
@@ -84,10 +91,15 @@ impl StyleCheck {
         match self.verdict {
             _ if self.messages.count > 0 => "mistakes",
             _ if !self.messages.is_whole => "incomplete",
-            Some(Verdict::Clean { .. }) => "clean",
-            Some(Verdict::Warnings(_)) => "warnings",
+            Some(Verdict::Clean { .. }) if self.constants.is_empty() => "clean",
+            Some(Verdict::Clean { .. } | Verdict::Warnings(_)) => "warnings",
             Some(Verdict::Incomplete(_)) | None => "incomplete",
         }
+    }
+
+    /// Whether each run of it ends, where that is said: not of a style whose text has mistakes, or wasn't read to its end.
+    pub fn ends(&self) -> Option<&Ends> {
+        self.ends.as_ref().filter(|_| self.messages.count == 0 && self.messages.is_whole)
     }
 
     /// Whether nothing is to be said but hints.
@@ -111,12 +123,13 @@ fn unbegun(style: &File, fault: &io::Error) -> Failure {
 }
 
 /// Checks a style in a thread of its own, whose stack has room for the call. No clock says when it ends, so the verdict is the same on every machine.
-fn check_apart(style: &File, steps: u64) -> Result<Option<Verdict>, Failure> {
+fn check_apart(style: &File, steps: u64) -> Result<(Option<Verdict>, Option<Ends>), Failure> {
     let (name, bytes) = (style.name.clone(), style.bytes.clone().unwrap_or_default());
-    let check = move || btx::check(&name, &bytes, steps);
+    let check = move || Ok((btx::check(&name, &bytes, steps)?, ends_of(&name, &bytes)?));
     let thread = thread::Builder::new().stack_size(STACK).spawn(check).map_err(|fault| unbegun(style, &fault))?;
     // (a thread that panicked has ended the program)
-    Ok(thread.join().unwrap_or(Ok(None))?)
+    let checked: Result<_, MemoryRefused> = thread.join().unwrap_or(Ok((None, None)));
+    Ok(checked?)
 }
 
 /// A style's name as an `.aux` file can have it: whitespace, braces, commas and control bytes are `-`. The path stays, by which the style is shown.

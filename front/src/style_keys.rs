@@ -3,7 +3,6 @@
 use crate::style_text::{Kind, Token, Tokens};
 use std::collections::HashMap;
 use std::hash::{BuildHasherDefault, Hash, Hasher};
-use std::ops::Range;
 
 /// What a text may hold: bits.
 type Held = u8;
@@ -51,19 +50,32 @@ struct Name<'a>(&'a [u8]);
 
 impl PartialEq for Name<'_> {
     fn eq(&self, other: &Self) -> bool {
-        self.0.eq_ignore_ascii_case(other.0)
+        // (nearly each name has the letters of its definition)
+        self.0 == other.0 || self.0.eq_ignore_ascii_case(other.0)
     }
 }
 
 impl Eq for Name<'_> {}
 
+impl Name<'_> {
+    /// Its last eight bytes, or all of them.
+    fn last_word(&self) -> u64 {
+        let half = |bytes: &[u8; 4]| u64::from(u32::from_le_bytes(*bytes));
+        match (self.0.last_chunk(), self.0.first_chunk(), self.0.last_chunk()) {
+            (Some(last), ..) => u64::from_le_bytes(*last),
+            (_, Some(first), Some(last)) => half(first) << 32 | half(last),
+            _ => self.0.iter().fold(0, |word, byte| word << 8 | u64::from(*byte)),
+        }
+    }
+}
+
 impl Hash for Name<'_> {
     fn hash<H: Hasher>(&self, state: &mut H) {
         // (with this bit two letters are the same that differ in their case)
         const SMALL: u64 = 0x2020_2020_2020_2020;
-        let (words, rest) = self.0.as_chunks::<8>();
+        let (words, _) = self.0.as_chunks::<8>();
         words.iter().for_each(|word| state.write_u64(u64::from_le_bytes(*word) | SMALL));
-        state.write_u64(rest.iter().fold(rest.len() as u64, |word, byte| word << 8 | u64::from(*byte | 0x20)));
+        state.write_u64((self.last_word() | SMALL) ^ self.0.len() as u64);
     }
 }
 
@@ -159,7 +171,7 @@ enum Step {
     /// A name, and one with `'` before it.
     Name(Meaning),
     Quoted(Meaning),
-    /// A body in a body, by its number.
+    /// A body, by the place of its last step. Its steps stand after this one; its number is the place of this one.
     Body(u32),
 }
 
@@ -240,25 +252,23 @@ impl State {
         self.stack.pop().unwrap_or(Literal::Text(self.below))
     }
 
-    /// What is so after either of two ways.
-    fn join(&self, other: &State) -> Followed<State> {
-        let (ours, theirs) = (self.stack.literals(), other.stack.literals());
-        let common = ours.len().min(theirs.len());
-        let (deeper, tops) = ours.split_at(ours.len() - common);
-        let (deeper_too, other_tops) = theirs.split_at(theirs.len() - common);
-        let mut joined = *self;
-        joined.stack.len = common;
-        for (at, pair) in tops.iter().zip(other_tops).enumerate() {
-            joined.stack.room[at] = match pair {
+    /// Adds what is so after another way.
+    fn join(&mut self, other: &State) -> Followed<()> {
+        let (ours, theirs) = (self.stack.len, other.stack.len);
+        let common = ours.min(theirs);
+        let (deeper, tops) = other.stack.literals().split_at(theirs - common);
+        self.below |= other.below | held_of(deeper) | held_of(&self.stack.room[..ours - common]);
+        self.stack.room.copy_within(ours - common..ours, 0);
+        self.stack.len = common;
+        for (one, other) in self.stack.room[..common].iter_mut().zip(tops) {
+            *one = match (*one, *other) {
                 (Literal::Text(held), Literal::Text(more)) => Literal::Text(held | more),
-                (one, other) if one == other => *one,
+                (one, other) if one == other => one,
                 _ => return Err(NotFollowed),
             };
         }
-        joined.below =
-            deeper.iter().chain(deeper_too).fold(self.below | other.below, |below, literal| below | literal.held());
-        (joined.letters, joined.keys) = (self.letters | other.letters, self.keys | other.keys);
-        Ok(joined)
+        (self.letters, self.keys) = (self.letters | other.letters, self.keys | other.keys);
+        Ok(())
     }
 
     /// What a variable holds.
@@ -274,8 +284,13 @@ impl State {
 
     /// Whether a literal may hold keys that another command may take.
     fn leaves_keys(&self) -> bool {
-        self.below & KEYS != 0 || self.stack.literals().iter().any(|literal| literal.held() & KEYS != 0)
+        (self.below | held_of(self.stack.literals())) & KEYS != 0
     }
+}
+
+/// What any of these literals may hold.
+fn held_of(literals: &[Literal]) -> Held {
+    literals.iter().fold(PLAIN, |held, literal| held | literal.held())
 }
 
 /// A style as it is read.
@@ -285,15 +300,14 @@ struct Style<'a> {
     /// How many variables it has, and how many each entry has.
     texts: u32,
     of_entries: u32,
-    /// The steps of all bodies, and where those of each stand.
+    /// The steps of all bodies, in the order of the text.
     steps: Vec<Step>,
-    bodies: Vec<Range<usize>>,
     /// The bodies of the functions.
     functions: Vec<u32>,
     /// What the commands execute.
     executed: Vec<Meaning>,
-    /// Room for the steps of bodies that aren't closed yet.
-    open: Vec<Step>,
+    /// The bodies that aren't closed yet.
+    open: Vec<u32>,
 }
 
 /// A number of something in a style.
@@ -316,23 +330,27 @@ impl<'a> Reading<'a> {
         self.tokens.next().filter(|token| token.kind == kind).ok_or(NotFollowed)
     }
 
-    /// The names between braces.
-    fn names(&mut self) -> Followed<Vec<&'a [u8]>> {
+    /// Does this with each of the names between braces.
+    fn names(&mut self, mut take: impl FnMut(&'a [u8]) -> Followed<()>) -> Followed<()> {
         self.expect(Kind::Open)?;
-        let mut names = Vec::new();
         loop {
             let token = self.tokens.next().ok_or(NotFollowed)?;
             match token.kind {
-                Kind::Name => names.push(self.word(&token)),
-                Kind::Close => return Ok(names),
+                Kind::Name => take(self.word(&token))?,
+                Kind::Close => return Ok(()),
                 _ => return Err(NotFollowed),
             }
         }
     }
 
-    /// The one name between braces.
+    /// The last name between braces, where there should be one alone.
     fn name(&mut self) -> Followed<&'a [u8]> {
-        self.names()?.pop().ok_or(NotFollowed)
+        let mut last = None;
+        self.names(|name| {
+            last = Some(name);
+            Ok(())
+        })?;
+        last.ok_or(NotFollowed)
     }
 }
 
@@ -341,7 +359,7 @@ impl<'a> Style<'a> {
     fn read(text: &'a [u8], fixed: &[&str]) -> Followed<Style<'a>> {
         let mut style = Style::default();
         style.meanings.reserve(text.len() / 64 + BUILTINS.len());
-        style.steps.reserve(text.len() / 16);
+        style.steps.reserve(text.len() / 8);
         for (name, effect) in BUILTINS {
             style.define(name.as_bytes(), Meaning::Builtin(effect))?;
         }
@@ -379,81 +397,69 @@ impl<'a> Style<'a> {
     }
 
     fn read_command(&mut self, word: &[u8], reading: &mut Reading<'a>, fixed: &[&str]) -> Followed<()> {
-        match &*word.to_ascii_lowercase() {
-            b"entry" => {
-                for name in reading.names()? {
-                    let is_fixed = fixed.iter().any(|field| name.eq_ignore_ascii_case(field.as_bytes()));
-                    self.define(name, Meaning::Field(if is_fixed { PLAIN } else { LETTERS }))?;
-                }
-                for name in reading.names()? {
-                    self.define(name, Meaning::Integer)?;
-                }
-                for name in reading.names()? {
-                    self.define_of_entry(name)?;
-                }
-            }
-            b"integers" => {
-                for name in reading.names()? {
-                    self.define(name, Meaning::Integer)?;
-                }
-            }
-            b"strings" => {
-                for name in reading.names()? {
-                    self.define_text(name)?;
-                }
-            }
-            b"macro" => {
-                reading.name()?;
-                reading.expect(Kind::Open)?;
-                reading.expect(Kind::Text)?;
-                reading.expect(Kind::Close)?;
-            }
-            b"function" => {
-                let name = reading.name()?;
-                reading.expect(Kind::Open)?;
-                let body = self.read_body(reading)?;
-                self.define(name, Meaning::Function(number_of(self.functions.len())?))?;
-                self.functions.push(body);
-            }
-            b"execute" | b"iterate" | b"reverse" => {
-                let meaning = self.meaning(reading.name()?)?;
-                self.executed.push(meaning);
-            }
-            b"read" | b"sort" => {}
-            _ => return Err(NotFollowed),
+        let is = |command: &str| word.eq_ignore_ascii_case(command.as_bytes());
+        if is("function") {
+            let name = reading.name()?;
+            reading.expect(Kind::Open)?;
+            let body = self.read_body(reading)?;
+            self.define(name, Meaning::Function(number_of(self.functions.len())?))?;
+            self.functions.push(body);
+        } else if is("macro") {
+            reading.name()?;
+            reading.expect(Kind::Open)?;
+            reading.expect(Kind::Text)?;
+            reading.expect(Kind::Close)?;
+        } else if is("entry") {
+            let is_fixed = |name: &[u8]| fixed.iter().any(|field| name.eq_ignore_ascii_case(field.as_bytes()));
+            let held = |name: &[u8]| if is_fixed(name) { PLAIN } else { LETTERS };
+            reading.names(|name| self.define(name, Meaning::Field(held(name))))?;
+            reading.names(|name| self.define(name, Meaning::Integer))?;
+            reading.names(|name| self.define_of_entry(name))?;
+        } else if is("integers") {
+            reading.names(|name| self.define(name, Meaning::Integer))?;
+        } else if is("strings") {
+            reading.names(|name| self.define_text(name))?;
+        } else if is("execute") || is("iterate") || is("reverse") {
+            let meaning = self.meaning(reading.name()?)?;
+            self.executed.push(meaning);
+        } else if !is("read") && !is("sort") {
+            return Err(NotFollowed);
         }
         Ok(())
     }
 
-    /// Reads a body after its `{`; its number. (Bodies in bodies are kept on a list of their own, so that no depth is too deep.)
+    /// Begins a body.
+    fn open_body(&mut self) -> Followed<()> {
+        self.open.push(number_of(self.steps.len())?);
+        self.steps.push(Step::Body(0));
+        Ok(())
+    }
+
+    /// Ends the body that was begun last; its number.
+    fn close_body(&mut self) -> Followed<u32> {
+        let number = self.open.pop().ok_or(NotFollowed)?;
+        self.steps[number as usize] = Step::Body(number_of(self.steps.len() - 1)?);
+        Ok(number)
+    }
+
+    /// Reads a body after its `{`; its number. (The bodies in it are kept on a list, so that no depth is too deep.)
     fn read_body(&mut self, reading: &mut Reading<'a>) -> Followed<u32> {
-        // (the steps of the bodies that are open, and where those of each begin)
-        let (mut steps, mut begins) = (std::mem::take(&mut self.open), vec![0]);
+        self.open_body()?;
         loop {
-            let token = reading.tokens.next().ok_or(NotFollowed)?;
-            let step = match token.kind {
-                Kind::Open => {
-                    begins.push(steps.len());
-                    continue;
-                }
+            let token = reading.tokens.take_token().ok_or(NotFollowed)?;
+            match token.kind {
+                Kind::Open => self.open_body()?,
                 Kind::Close => {
-                    let begin = begins.pop().ok_or(NotFollowed)?;
-                    let start = self.steps.len();
-                    self.steps.extend(steps.drain(begin..));
-                    self.bodies.push(start..self.steps.len());
-                    let number = number_of(self.bodies.len() - 1)?;
-                    if begins.is_empty() {
-                        self.open = steps;
+                    let number = self.close_body()?;
+                    if self.open.is_empty() {
                         return Ok(number);
                     }
-                    Step::Body(number)
                 }
-                Kind::Text | Kind::Integer => Step::Literal,
-                Kind::Name => Step::Name(self.meaning(reading.word(&token))?),
-                Kind::Quoted => Step::Quoted(self.meaning(&reading.word(&token)[1..])?),
+                Kind::Text | Kind::Integer => self.steps.push(Step::Literal),
+                Kind::Name => self.steps.push(Step::Name(self.meaning(reading.word(&token))?)),
+                Kind::Quoted => self.steps.push(Step::Quoted(self.meaning(&reading.word(&token)[1..])?)),
                 Kind::OpenText | Kind::NoInteger | Kind::Stuff => return Err(NotFollowed),
-            };
-            steps.push(step);
+            }
         }
     }
 
@@ -470,27 +476,70 @@ struct Known {
     is_in_loop: bool,
     before: Saved,
     after: Saved,
+    /// What was found of the function before.
+    next: Option<u32>,
 }
 
-/// A state in as little room as it needs.
+/// A state in as little room as it needs: its literals stand on a list of all such states.
 struct Saved {
     held: (Held, u128, u128),
-    stack: Box<[Literal]>,
+    start: usize,
+    len: usize,
 }
 
-impl Saved {
-    fn new(state: &State) -> Saved {
-        Saved { held: state.held(), stack: state.stack.literals().into() }
+/// What was found of the functions.
+#[derive(Default)]
+struct Memory {
+    /// What was found last of each function, and of how many states that is known.
+    last: Vec<(Option<u32>, usize)>,
+    known: Vec<Known>,
+    literals: Vec<Literal>,
+}
+
+impl Memory {
+    fn clear(&mut self, functions: usize) {
+        self.last.clear();
+        self.last.resize(functions, (None, 0));
+        self.known.clear();
+        self.known.reserve(4 * functions);
+        self.literals.clear();
+        self.literals.reserve(16 * functions);
     }
 
-    fn is(&self, state: &State) -> bool {
-        self.held == state.held() && *self.stack == *state.stack.literals()
+    fn save(&mut self, state: &State) -> Saved {
+        let (start, literals) = (self.literals.len(), state.stack.literals());
+        self.literals.extend_from_slice(literals);
+        Saved { held: state.held(), start, len: literals.len() }
     }
 
-    fn restore(&self, state: &mut State) {
-        (state.below, state.letters, state.keys) = self.held;
-        state.stack.len = self.stack.len();
-        state.stack.room[..self.stack.len()].copy_from_slice(&self.stack);
+    fn literals(&self, saved: &Saved) -> &[Literal] {
+        &self.literals[saved.start..saved.start + saved.len]
+    }
+
+    /// Where a function leads from this state; false where that isn't known.
+    fn follow(&self, function: usize, is_in_loop: bool, state: &mut State) -> bool {
+        let mut next = self.last[function].0;
+        while let Some(known) = next.map(|number| &self.known[number as usize]) {
+            let is_it = known.is_in_loop == is_in_loop && known.before.held == state.held();
+            if is_it && self.literals(&known.before) == state.stack.literals() {
+                (state.below, state.letters, state.keys) = known.after.held;
+                state.stack.len = known.after.len;
+                state.stack.room[..known.after.len].copy_from_slice(self.literals(&known.after));
+                return true;
+            }
+            next = known.next;
+        }
+        false
+    }
+
+    /// Keeps where a function leads from a state.
+    fn keep(&mut self, function: usize, is_in_loop: bool, before: Saved, state: &State) {
+        let (next, count) = self.last[function];
+        if let (Ok(number), true) = (u32::try_from(self.known.len()), count < MOST_KNOWN) {
+            let after = self.save(state);
+            self.known.push(Known { is_in_loop, before, after, next });
+            self.last[function] = (Some(number), count + 1);
+        }
     }
 }
 
@@ -498,15 +547,15 @@ impl Saved {
 struct Following<'s> {
     style: &'s Style<'s>,
     /// The functions of the types.
-    types: Vec<Literal>,
+    types: &'s [Literal],
     /// What each variable of an entry may hold.
     of_entries: Vec<Held>,
     /// Whether a variable of an entry holds more than what was taken for all that it may, when it was read.
     is_early: bool,
     /// Which variables of an entry were read.
     are_read: Vec<bool>,
-    /// What was found of each function in this round.
-    known: Vec<Vec<Known>>,
+    /// What was found of the functions in this round.
+    memory: Memory,
     steps: usize,
     loops: usize,
     depth: usize,
@@ -521,18 +570,10 @@ impl Following<'_> {
         let mut begun = State { stack, below: LETTERS, letters: u128::MAX, keys: 0 };
         for _ in 0..MOST_ROUNDS {
             let before = begun;
-            self.known.iter_mut().for_each(Vec::clear);
+            self.memory.clear(self.style.functions.len());
             self.is_early = false;
             self.are_read.fill(false);
-            for meaning in &self.style.executed {
-                let mut state = begun;
-                self.call(*meaning, &mut state)?;
-                if state.leaves_keys() {
-                    return Err(NotFollowed);
-                }
-                state.stack.len = 0;
-                begun = begun.join(&state)?;
-            }
+            self.follow_commands(&mut begun)?;
             if before == begun && !self.is_early {
                 return Ok(());
             }
@@ -540,22 +581,41 @@ impl Following<'_> {
         Err(NotFollowed)
     }
 
+    /// Follows all commands once, each from what any may leave.
+    fn follow_commands(&mut self, begun: &mut State) -> Followed<()> {
+        for meaning in &self.style.executed {
+            let mut state = *begun;
+            self.call(*meaning, &mut state)?;
+            if state.leaves_keys() {
+                return Err(NotFollowed);
+            }
+            state.stack.len = 0;
+            begun.join(&state)?;
+        }
+        Ok(())
+    }
+
     fn body(&mut self, number: u32, state: &mut State) -> Followed<()> {
         self.depth += 1;
+        let (steps, mut at) = (&self.style.steps, number as usize);
+        let Step::Body(last) = steps[at] else { return Err(NotFollowed) };
         if self.depth > DEEPEST {
             return Err(NotFollowed);
         }
-        let style = self.style;
-        for step in &style.steps[style.bodies[number as usize].clone()] {
+        while at < last as usize {
+            at += 1;
             self.steps += 1;
             if self.steps > MOST_STEPS {
                 return Err(NotFollowed);
             }
-            match step {
+            match steps[at] {
                 Step::Literal => state.push(PLAIN)?,
-                Step::Name(meaning) => self.call(*meaning, state)?,
-                Step::Quoted(meaning) => state.stack.push(Literal::Name(*meaning))?,
-                Step::Body(number) => state.stack.push(Literal::Body(*number))?,
+                Step::Name(meaning) => self.call(meaning, state)?,
+                Step::Quoted(meaning) => state.stack.push(Literal::Name(meaning))?,
+                Step::Body(last) => {
+                    state.stack.push(Literal::Body(number_of(at)?))?;
+                    at = last as usize;
+                }
             }
         }
         self.depth -= 1;
@@ -564,16 +624,12 @@ impl Following<'_> {
 
     fn function(&mut self, number: u32, state: &mut State) -> Followed<()> {
         let (place, is_in_loop) = (number as usize, self.loops > 0);
-        let is_it = |known: &&Known| known.is_in_loop == is_in_loop && known.before.is(state);
-        if let Some(known) = self.known[place].iter().find(is_it) {
-            known.after.restore(state);
+        if self.memory.follow(place, is_in_loop, state) {
             return Ok(());
         }
-        let before = Saved::new(state);
+        let before = self.memory.save(state);
         self.body(self.style.functions[place], state)?;
-        if self.known[place].len() < MOST_KNOWN {
-            self.known[place].push(Known { is_in_loop, before, after: Saved::new(state) });
-        }
+        self.memory.keep(place, is_in_loop, before, state);
         Ok(())
     }
 
@@ -600,19 +656,24 @@ impl Following<'_> {
         }
     }
 
-    /// Follows each of these ways into one state.
-    fn any_of(&mut self, ways: &[Literal], state: &mut State) -> Followed<()> {
-        let mut joined: Option<State> = None;
-        for way in ways {
-            let mut after = *state;
+    /// Follows both of these ways into one state.
+    fn either(&mut self, ways: [Literal; 2], state: &mut State) -> Followed<()> {
+        let mut after = *state;
+        self.execute(ways[0], &mut after)?;
+        self.execute(ways[1], state)?;
+        state.join(&after)
+    }
+
+    /// Follows each of the types into one state.
+    fn any_type(&mut self, state: &mut State) -> Followed<()> {
+        let (types, before) = (self.types, *state);
+        for (number, way) in types.iter().enumerate() {
+            let mut after = before;
             self.execute(*way, &mut after)?;
-            joined = Some(match joined {
-                Some(other) => other.join(&after)?,
-                None => after,
-            });
-        }
-        if let Some(joined) = joined {
-            *state = joined;
+            if number > 0 {
+                after.join(state)?;
+            }
+            *state = after;
         }
         Ok(())
     }
@@ -626,13 +687,13 @@ impl Following<'_> {
             after.pop();
             let ended = after;
             self.execute(body, &mut after)?;
-            let joined = state.join(&after)?;
-            if joined == *state {
+            after.join(state)?;
+            if after == *state {
                 self.loops -= 1;
                 *state = ended;
                 return Ok(());
             }
-            *state = joined;
+            *state = after;
         }
         Err(NotFollowed)
     }
@@ -670,10 +731,7 @@ impl Following<'_> {
                     _ => return Err(NotFollowed),
                 }
             }
-            Effect::CallType => {
-                let types = self.types.clone();
-                self.any_of(&types, state)?;
-            }
+            Effect::CallType => self.any_type(state)?,
             // (it may have strings in it)
             Effect::Preamble => state.push(LETTERS)?,
             Effect::Duplicate => {
@@ -684,7 +742,7 @@ impl Following<'_> {
             Effect::If => {
                 let (no, yes) = (state.pop_literal(), state.pop_literal());
                 state.pop();
-                self.any_of(&[yes, no], state)?;
+                self.either([yes, no], state)?;
             }
             Effect::While => {
                 let (body, test) = (state.pop_literal(), state.pop_literal());
@@ -733,13 +791,14 @@ pub fn may_print_keys<'t>(text: &'t [u8], types: &[&'t [u8]], fixed: &[&str]) ->
                 style.meaning(kind).ok().filter(|meaning| matches!(meaning, Meaning::Function(_))).or(default);
             functions.extend(function.filter(|function| !functions.contains(function)));
         }
+        let types: Vec<Literal> = functions.into_iter().map(Literal::Name).collect();
         let mut following = Following {
             style: &style,
-            types: functions.into_iter().map(Literal::Name).collect(),
+            types: &types,
             of_entries: vec![LETTERS; style.of_entries as usize],
             is_early: false,
             are_read: vec![false; style.of_entries as usize],
-            known: style.functions.iter().map(|_| Vec::new()).collect(),
+            memory: Memory::default(),
             steps: 0,
             loops: 0,
             depth: 0,

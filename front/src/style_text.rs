@@ -66,6 +66,13 @@ fn ends_name(byte: u8) -> bool {
     ENDS_NAME[usize::from(byte)]
 }
 
+/// Whether each byte may stand between tokens, outside of comments.
+const IS_SPACE: [bool; 256] = {
+    let mut table = ENDS_NAME;
+    (table[b'}' as usize], table[b'%' as usize]) = (false, false);
+    table
+};
+
 impl<'a> Tokens<'a> {
     /// The tokens of a text.
     pub fn new(text: &'a [u8]) -> Tokens<'a> {
@@ -84,15 +91,17 @@ impl<'a> Tokens<'a> {
     /// Passes over bytes up to one that passes a test, or to the end.
     #[inline]
     fn pass_to(&mut self, test: impl Fn(u8) -> bool) {
-        while self.text.get(self.at).is_some_and(|byte| !test(*byte)) {
-            self.at += 1;
+        let (text, mut at) = (self.text, self.at);
+        while at < text.len() && !test(text[at]) {
+            at += 1;
         }
+        self.at = at;
     }
 
     #[inline]
     fn skip_space(&mut self) {
         loop {
-            self.pass_to(|byte| !is_white(byte) && byte != b'\n');
+            self.pass_to(|byte| !IS_SPACE[usize::from(byte)]);
             if self.byte() != Some(b'%') {
                 return;
             }
@@ -130,6 +139,7 @@ impl<'a> Tokens<'a> {
         Kind::Integer
     }
 
+    #[inline(always)]
     fn take(&mut self, first: u8) -> Kind {
         if self.is_behind_literal {
             self.pass_to(ends_name);
@@ -138,25 +148,21 @@ impl<'a> Tokens<'a> {
         match first {
             b'"' => return self.take_text(),
             b'#' => return self.take_integer(),
-            b'{' => self.at += 1,
-            b'}' => self.at += 1,
+            b'{' | b'}' => {
+                self.at += 1;
+                return if first == b'{' { Kind::Open } else { Kind::Close };
+            }
             _ => self.pass_to(ends_name),
         }
-        match first {
-            b'{' => Kind::Open,
-            b'}' => Kind::Close,
-            b'\'' => Kind::Quoted,
-            _ => Kind::Name,
-        }
+        if first == b'\'' { Kind::Quoted } else { Kind::Name }
     }
 }
 
-impl Iterator for Tokens<'_> {
-    type Item = Token;
-
-    fn next(&mut self) -> Option<Token> {
-        let is_next = self.byte().is_some_and(|byte| !ends_name(byte));
-        self.is_behind_literal &= is_next;
+impl Tokens<'_> {
+    /// The next token. (It is made part of the loop that asks for it, where each instruction counts.)
+    #[inline(always)]
+    pub fn take_token(&mut self) -> Option<Token> {
+        self.is_behind_literal = self.is_behind_literal && self.byte().is_some_and(|byte| !ends_name(byte));
         if !self.is_behind_literal {
             self.skip_space();
         }
@@ -164,6 +170,14 @@ impl Iterator for Tokens<'_> {
         let kind = self.take(self.byte()?);
         self.is_behind_literal = matches!(kind, Kind::Text | Kind::Integer);
         Some(Token { kind, start, end: self.at })
+    }
+}
+
+impl Iterator for Tokens<'_> {
+    type Item = Token;
+
+    fn next(&mut self) -> Option<Token> {
+        self.take_token()
     }
 }
 

@@ -3,9 +3,10 @@
 
 use crate::advice::Seen;
 use crate::aux_text::cited_keys;
+use crate::cased::Cased;
 use crate::database::{Folded, Inside};
 use crate::document::Document;
-use crate::doubts::{doubt, has_label_of_year};
+use crate::doubts::{doubt, has_label_of_year, lost_case};
 use crate::entries::{Entries, Stored};
 use crate::explain::{begins_item, shown_path};
 use crate::hints::names_of_fields;
@@ -112,6 +113,8 @@ struct Known<'k> {
     has_label: bool,
     /// Whether the document is likely to be in UTF-8.
     is_utf8: bool,
+    /// Of which fields the style changes the case.
+    cased: Cased<'k>,
 }
 
 /// A place that is shown, and what to do about it.
@@ -146,6 +149,7 @@ impl<'b, 'a> Unsaid<'b, 'a> {
             strings: strings.iter().map(|name| Folded(name)).collect(),
             has_label: has_label_of_year(style),
             is_utf8: is_in_utf8(files, document),
+            cased: Cased::new(style),
         };
         let mut cited = HashSet::new();
         let keys = cited_keys(files).filter(|key| cited.insert(Folded(key))).take(MOST_ENTRIES);
@@ -189,6 +193,9 @@ impl<'b, 'a> Unsaid<'b, 'a> {
             found(place, seen, Vec::new());
         }
         if let Some(doubt) = doubt(field, inside, known.has_label) {
+            found(start + doubt.place, doubt.seen, doubt.names);
+        }
+        if let Some(doubt) = lost_case(inside).filter(|_| known.cased.changes(stored.item.kind, field)) {
             found(start + doubt.place, doubt.seen, doubt.names);
         }
         if known.is_utf8
@@ -397,6 +404,19 @@ mod tests {
         };
         assert_eq!([seen("{jan}"), seen("\"Jan\"")], [Some(Seen::StringAsText); 2]);
         assert_eq!([seen("jan"), seen("{January}"), seen("{jan} # \"x\""), seen("1")], [None; 4]);
+    }
+
+    #[test]
+    fn commands_of_changed_titles_are_seen() {
+        let top = file("a.aux", "\\citation{k,l}\n\\bibdata{d}\n\\bibstyle{s}\n");
+        let database = "@misc{k, title = {On \\TeX}}\n@book{l, title = {On \\TeX}}\n";
+        let files = Files { top: b"a.aux".to_vec(), all: vec![top, file("d.bib", database)] };
+        let entries = Entries::new(&files);
+        let style =
+            b"ENTRY {title}{}{} FUNCTION {misc} {title \"t\" change.case$ write$} FUNCTION {book} {title write$}";
+        let unsaid = Unsaid::new(&entries, &files, style, &[], None);
+        let found: Vec<_> = unsaid.found.iter().map(|found| (found.place, found.seen)).collect();
+        assert_eq!(found, [(21, Seen::CommandLosesCase)]);
     }
 
     #[test]

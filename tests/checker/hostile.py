@@ -35,6 +35,19 @@ def loops(number, body=b""):
     return of_body(b"#3 'i := " + (b"{i #0 >} {" + body) * number + b"i #1 - 'i := " + b"} while$ " * number)
 
 
+def counters(number):
+    """Functions f0, f1, .., of which each counts a variable of its own down."""
+    made = [b"FUNCTION {f%d} {#3 'v%d := {v%d #0 >} {v%d #1 - 'v%d :=} while$}" % (n, n, n, n, n) for n in range(number)]
+    return b"ENTRY {}{}{} INTEGERS {" + b" ".join(b"v%d" % n for n in range(number)) + b"}\n" + b"\n".join(made) + b"\nREAD\nEXECUTE {f0}\n"
+
+
+def texts(number, variables):
+    """Functions f0, f1, .., of which each makes one of some texts shorter."""
+    made = [b"FUNCTION {f%d} {{s%d empty$ not} {s%d #2 global.max$ substring$ 's%d :=} while$}" % (n, *[n % variables] * 3) for n in range(number)]
+    head = b"ENTRY {}{}{} STRINGS {" + b" ".join(b"s%d" % n for n in range(variables)) + b"}\nFUNCTION {not} {{#0} {#1} if$}\n"
+    return head + b"\n".join(made) + b"\nREAD\nEXECUTE {f0}\n"
+
+
 def million_mistakes():
     return HEAD + b"nonsense\n\n" * 100_000
 
@@ -68,6 +81,12 @@ STYLES = [
     ("loops nested 2,000 deep", lambda: loops(2_000), "incomplete"),
     ("loops nested 2,000 deep, each with a variable", lambda: loops(2_000, b"j pop$ "), "incomplete"),
     ("100,000 functions, each with a loop", lambda: functions(100_000, b"#3 'i := {i #0 >} {i #1 - 'i :=} while$", b"EXECUTE {f1}"), "clean incomplete"),
+    ("400 variables that are counted down", lambda: counters(400), "clean incomplete"),
+    ("10,000 variables that are counted down", lambda: counters(10_000), "clean incomplete"),
+    ("300 loops over a text", lambda: texts(300, 1), "clean incomplete warnings"),
+    ("400 loops over 20 texts", lambda: texts(400, 20), "clean incomplete warnings"),
+    ("100,000 loops over a text", lambda: texts(100_000, 1), "clean incomplete warnings"),
+    ("loops over a text nested 1,000 deep", lambda: of_body(b"{s empty$ 'skip$ 'skip$ if$ #0} {" * 1_000 + b"s #2 global.max$ substring$ 's :=" + b"} while$" * 1_000), "clean incomplete warnings"),
     ("2^40 shapes on the stack", lambda: of_body(b"title empty$ " * 40 + b"and " * 39 + b"pop$"), "clean incomplete"),
     ("2^40 shapes of two fields", lambda: of_body(b"title empty$ author empty$ " * 20 + b"and " * 39 + b"pop$"), "clean incomplete"),
     ("2^300 shapes of integers", lambda: of_body(b"i #1 > j #1 > " * 150 + b"pop$ " * 300), "clean incomplete"),

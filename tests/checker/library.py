@@ -25,6 +25,19 @@ class CReport(ctypes.Structure):
                 ("list_len", ctypes.c_size_t), ("log_len", ctypes.c_size_t)]
 
 
+class CBound(ctypes.Structure):
+    _fields_ = [("once", ctypes.c_uint64), ("each", ctypes.c_uint64), ("types_len", ctypes.c_size_t), ("notes_len", ctypes.c_size_t), ("ends", ctypes.c_bool)]
+
+
+class Bounded(NamedTuple):
+    """What is said of a style's steps."""
+    ends: bool
+    once: int
+    each: int
+    types: list
+    notes: bytes
+
+
 class Said(NamedTuple):
     """What is said of a style."""
     verdict: str
@@ -40,12 +53,13 @@ class Ran(NamedTuple):
     log: bytes
     end: int
     deepest: int
+    steps: int
 
 
 class Checker(Library):
     def __init__(self, path):
         super().__init__(path)
-        for call in ("btx_check", "btx_run"):
+        for call in ("btx_check", "btx_check_ends", "btx_run"):
             getattr(self.library, call).restype = ctypes.c_uint32
         self.listed, self.log = ctypes.create_string_buffer(ROOM), ctypes.create_string_buffer(ROOM)
 
@@ -61,6 +75,17 @@ class Checker(Library):
         return Said(VERDICTS[verdict.verdict], verdict.literals, verdict.bodies, types.raw[:verdict.types_len].split(b"\n")[:-1],
                     notes.raw[:verdict.notes_len])
 
+    def check_ends(self, style, kept, room=FIRST_ROOM):
+        """What is said of a style's steps where a global string variable keeps at most `kept` bytes; None where memory is refused."""
+        types, notes, bound = ctypes.create_string_buffer(room), ctypes.create_string_buffer(room), CBound()
+        answer = self.library.btx_check_ends(b"s.bst", ctypes.c_size_t(5), style, ctypes.c_size_t(len(style)), ctypes.c_uint32(kept),
+                                             types, ctypes.c_size_t(room), notes, ctypes.c_size_t(room), ctypes.byref(bound))
+        if answer == FULL:
+            return self.check_ends(style, kept, max(bound.types_len, bound.notes_len))
+        if answer != DONE:
+            return None
+        return Bounded(bound.ends, bound.once, bound.each, types.raw[:bound.types_len].split(b"\n")[:-1], notes.raw[:bound.notes_len])
+
     def run(self, files, job, options):
         """What a run over all of these files gives."""
         names = list(files) + [job + b".aux"]
@@ -69,4 +94,4 @@ class Checker(Library):
         answer = self.library.btx_run(job, ctypes.c_size_t(len(job)), self.handed(files, names), ctypes.c_size_t(len(names)), ctypes.byref(given),
                                       self.listed, ctypes.c_size_t(ROOM), self.log, ctypes.c_size_t(ROOM), ctypes.byref(report))
         assert answer == DONE, answer
-        return Ran(ctypes.string_at(self.listed, report.list_len), ctypes.string_at(self.log, report.log_len), report.end, report.deepest)
+        return Ran(ctypes.string_at(self.listed, report.list_len), ctypes.string_at(self.log, report.log_len), report.end, report.deepest, report.steps)

@@ -4,7 +4,9 @@
 
 LINT is bibtex-lint, or bibtex-search, which is the same program (front/out/bibtex-search). `styles.txt` has a row for each style: its verdict, a bar, the body of its function `misc`,
 and behind a semicolon the commands, if they are others than `ITERATE {call.type$}`. A verdict is `clean`, `incomplete`, or the first warning: what is executed there, the fault (stack, kind, equal,
-variable, entry, left), and the field that may be missing. `clean or ..` is that of a style that is clean, which a checker may not see.
+variable, entry, left), and the field that may be missing. `clean or ..` is that of a style that is clean, which a checker may not see. Behind a comma a row may say whether the style ends:
+`ends ONCE EACH` is its bound, where a string variable keeps 20,000 bytes, `open NAME` what is executed by the first token without a bound, `again TYPE` the type that asks for itself, `great` a
+bound above 64 bits. Each row with a `while$` says it. A row that begins with a hyphen gives no verdict.
 
 A style with warnings is checked too with one mistake in its text, of each kind and at each of three places: all warnings must stand in the lines that they have without the mistake.
 The last line is 'N passed, M failed', of rows and of mistakes."""
@@ -68,8 +70,9 @@ def rows():
     for line in (HERE / "styles.txt").read_text().split("\n"):
         if line and not line.startswith("#"):
             verdict, _, style = line.partition(" | ")
+            verdict, _, ends = verdict.partition(", ")
             body, _, commands = style.partition(" ; ")
-            yield [each.split() for each in verdict.split(" or ")], body, commands or COMMANDS
+            yield [each.split() for each in verdict.split(" or ")], ends, body, commands or COMMANDS
 
 
 def said(line):
@@ -80,8 +83,29 @@ def said(line):
     return words[1].split()[2:] if words[1].startswith("first ") else ["warnings"]
 
 
+def ends_of(lint, folder, names):
+    """What bibtex-lint says of the ends of styles, as rows have it."""
+    found = json.loads(subprocess.run([lint, "--json", *names], cwd=folder, capture_output=True, text=True).stdout)
+    printed = subprocess.run([lint, *names], cwd=folder, capture_output=True, text=True).stdout
+    reasons = dict(re.findall(r"(?m)^(s\d+\.bst): not known to end: (.*)$", printed))
+    for name, its in zip(names, found):
+        if its["ends"]:
+            yield "ends %d %d" % (its["ends"]["once"], its["ends"]["each"])
+            continue
+        reason = reasons.get(name, "")
+        token, again = re.match(r"(?:no bound is known of )?`(\S+)` in line", reason), re.match(r"the function of the type (\S+) asks", reason)
+        if again:
+            yield "again " + again[1]
+        elif "64 bits" in reason:
+            yield "great"
+        else:
+            yield "open " + (token[1] if token else "")
+
+
 def is_right(wanted, found):
     """Whether a verdict is one of the row's. A checker that names no fault is taken at its word."""
+    if wanted == [["-"]]:
+        return True
     if not FAULTS.intersection(found[1:2]):
         wanted = [[word for word in words if word not in FAULTS] for words in wanted]
     return found in wanted
@@ -114,16 +138,17 @@ def main():
     parser.add_argument("--only", default="")
     parser.add_argument("lint")
     given = parser.parse_args()
-    table = [row for row in rows() if given.only in row[1]]
+    table = [row for row in rows() if given.only in row[2]]
     failed = 0
     with tempfile.TemporaryDirectory() as folder:
         lint = pathlib.Path(folder) / "bibtex-lint"
         lint.symlink_to(pathlib.Path(given.lint).resolve())
         names = []
-        for number, (_, body, commands) in enumerate(table):
+        for number, (_, _, body, commands) in enumerate(table):
             names.append("s%d.bst" % number)
             (pathlib.Path(folder) / names[-1]).write_text(HEAD + body + "\n}\nREAD\n" + commands + "\n")
         ran = subprocess.run([lint, "--line", *names], cwd=folder, capture_output=True, text=True)
+        endings = list(ends_of(lint, folder, names))
         beside_mistakes = list(lint_has_lines_beside_mistakes(lint, folder))
     lines = ran.stdout.split("\n")[:-1]
     if len(lines) != len(table):
@@ -131,12 +156,15 @@ def main():
         print("0 passed, %d failed" % max(1, len(table)))
         return 1
     alarms = 0
-    for (wanted, body, commands), line in zip(table, lines):
+    for (wanted, ends, body, commands), line, ending in zip(table, lines, endings):
         found = said(line)
         alarms += wanted[0] == ["clean"] and found[0] != "clean"
         if not is_right(wanted, found):
             failed += 1
             print("%s ; %s\n    is %s, not %s" % (body, commands, " ".join(found), " or ".join(map(" ".join, wanted))))
+        elif ending != ends and (ends or "while$" in body):
+            failed += 1
+            print("%s ; %s\n    %s, not %s" % (body, commands, ending, ends))
     print("%d styles that are clean aren't called so" % alarms)
     failed += beside_mistakes.count(False)
     print("%d passed, %d failed" % (len(table) + len(beside_mistakes) - failed, failed))

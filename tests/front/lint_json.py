@@ -19,14 +19,14 @@ STRINGS { s }
 FUNCTION {odd} { duplicate$ empty$ { pop$ } 'skip$ if$ }
 FUNCTION {book} { author empty$ { title write$ } 'skip$ if$ author empty$ 'skip$ { title write$ } if$ }
 FUNCTION {article} { #1 write$ write$ }
-FUNCTION {booklet} { 'skip$ write$ }
+FUNCTION {booklet} { 'skip$ write$ "ab" chr.to.int$ pop$ }
 FUNCTION {manual} { s #1 + pop$ }
 FUNCTION {misc} { title odd write$ }
 READ
 ITERATE {call.type$}
 """
 # What is an object of its own, by the name of the field that holds it.
-KINDS = {"warnings": "warning", "places": "place", "place": "place", "command": "place", "operand": "operand", "causes": "cause", "hints": "hint"}
+KINDS = {"ends": "bound", "warnings": "warning", "places": "place", "place": "place", "command": "place", "operand": "operand", "causes": "cause", "constants": "constant", "hints": "hint"}
 
 
 def fields(value, kind):
@@ -52,7 +52,7 @@ def of_manual():
 
 def of_page():
     """The fields that the page for designers of styles describes, in the rows of its table."""
-    rows = re.findall(r"(?m)^\| (style|warning|place|operand|cause|hint) \| ([^|]*) \|", (DOCS / "STYLES.md").read_text())
+    rows = re.findall(r"(?m)^\| (style|bound|warning|place|operand|cause|constant|hint) \| ([^|]*) \|", (DOCS / "STYLES.md").read_text())
     return {(kind, name) for kind, names in rows for name in re.findall(r"`(\w+)`", names)}
 
 

@@ -44,7 +44,7 @@ for word in -h --help -help; do
     wants_status 0
     wants_error ''
     wants_words "$folder/stdout" 'Usage: '
-    for option in --line --json --entry --job --steps -h --help --version; do
+    for option in --line --json --entry --job --trace --function --steps -h --help --version; do
         wants_words "$folder/stdout" "$option"
     done
 done
@@ -58,11 +58,34 @@ wants_error ''
 wants_output 'clean.bst: clean: no run with a budget of at most 1,500,000,000 steps logs a fault of the stack or of kinds (at most 4 bodies are open; 3 literals were met)
     for entries of the types article, and of all that it doesn'"'"'t know
     not covered: entries of 2 types with a dot in their names: these functions stand above READ and aren'"'"'t taken as types
+clean.bst: ends: at most 0 steps, and 13 for each entry, where a string variable keeps at most 20,000 bytes
 '
 run_lint --line clean
 wants_status 0
 wants_output 'clean.bst: clean, literals 3, bodies 4, messages 0, hints 0
 '
+end
+
+# Whether each run ends is said beside the verdict, whatever that is.
+begin lint_of_ends
+write_clean
+sed -i -e 's/^FUNCTION {default/STRINGS { rest }\nFUNCTION {not} { { #0 } { #1 } if$ }\n&/' \
+    -e 's/{ article }/{ cite$ '"'"'rest := { rest empty$ not } { rest #2 global.max$ substring$ '"'"'rest := } while$ }/' clean.bst
+run_lint clean.bst
+wants_status 0
+wants_line_of_output 'clean.bst: ends: at most 0 steps, and 24 + 16*N for each entry, where a string variable keeps at most N bytes (0 and 320,024 for N = 20,000)'
+sed -i 's/rest #2/rest #1/' clean.bst
+run_lint clean.bst
+wants_status 0
+wants_line_of_output 'clean.bst: not known to end: `while$` in line 11, in default.type: its body isn'"'"'t known to count a variable down or to make a text shorter'
+sed -i -e 's/rest #1/rest #2/' -e 's/title empty.*/title write$ }/' clean.bst
+run_lint clean.bst
+wants_status 2
+wants_line_of_output 'clean.bst: ends: at most 0 steps, and 24 + 16*N for each entry, where a string variable keeps at most N bytes (0 and 320,024 for N = 20,000)'
+wants_line_of_output '    for entries of the types article, and of all that it doesn'"'"'t know'
+sed -i 's/title write/nosuch write/' clean.bst
+run_lint clean.bst
+! grep -q 'ends: \|known to end' "$folder/stdout" || complaints+=("a style with mistakes is said to end or not: $(cat "$folder/stdout")")
 end
 
 # What the test of a loop leaves counts as well: five literals, of which the body takes four.
@@ -80,6 +103,47 @@ grep -q '^test.bst: clean, literals 5,' "$folder/stdout" || complaints+=("printe
 end
 
 # Each function above READ is a type of entry to a run: those that aren't taken as types are named, where the style is clean and where it isn't.
+begin lint_of_constants
+write_clean
+sed -i 's/{ title write\$ newline\$ }/{ title "x" change.case$ write$ #200 int.to.chr$ write$ newline$ }/' clean.bst
+run_lint clean.bst
+wants_status 2
+wants_line_of_output 'clean.bst:4: in output.title: each run of this logs: "x" is an illegal case-conversion string'
+wants_line_of_output "clean.bst:4: in output.title: each run of this logs: 200 isn't an ASCII code"
+wants_line_of_output "clean.bst: warnings: 2 constants that the functions after them can't take, but no fault of the stack or of kinds"
+run_lint --line clean
+wants_output 'clean.bst: warnings, messages 0, constants 2, hints 0
+'
+run_lint --json clean
+wants_words "$folder/stdout" '"constants": [{"text": "\"x\" is an illegal case-conversion string", "do": "the conversion is `\"t\"`, `\"l\"` or `\"u\"`", "executed": "change.case$", "function": "output.title", "line": 4}'
+end
+
+begin lint_of_the_run_of_an_entry
+write_clean
+printf '\\citation{a}\n\\bibdata{d}\n\\bibstyle{clean}\n' >paper.aux
+echo '@article{a, title = {T}} @article{b, title = {U}}' >d.bib
+run_lint --job paper --trace b --function output.title
+wants_status 0
+wants_error ''
+wants_output 'ITERATE {call.type$} (line 13)
+  article
+    output.title (line 7)
+      title (line 4)
+      empty$ (line 4), over "U"
+      if$ (line 4), over 0  '"'"'skip$  '"'"'{}
+      {} (line 4)
+      title (line 4)
+      write$ (line 4), over "U"
+      newline$ (line 4)
+'
+run_lint --job paper --trace nosuch
+wants_status 1
+run_lint --trace b clean
+wants_status 1
+run_lint --job nosuch --trace b
+wants_status 1
+end
+
 begin lint_of_types_that_are_not_covered
 write_clean
 sed -i 's/^FUNCTION {article}/FUNCTION {mid} { output.title }\n\n&/; s/^{ output.title }/{ mid }/' clean.bst
@@ -397,7 +461,7 @@ wants_output 'clean.bst: mistakes, messages 1, hints 0
 '
 run_lint --json clean.bst
 wants_status 2
-grep -q '"verdict": "mistakes", "messages": \[' "$folder/stdout" || complaints+=("printed is $(cat "$folder/stdout")")
+grep -q '"verdict": "mistakes", "ends": null, "messages": \[' "$folder/stdout" || complaints+=("printed is $(cat "$folder/stdout")")
 run_lint clean.bst
 wants_status 2
 wants_line_of_output 'clean.bst: mistakes in its text (1 message): mend these first; no warning in what could be read of it'
@@ -465,7 +529,7 @@ python3 - "$folder/stdout" <<'END' || complaints+=('the JSON is another')
 import json, sys
 clean, faulty = json.load(open(sys.argv[1]))
 wanted = {"style": "clean.bst", "verdict": "clean", "literals": 3, "bodies": 4, "types": ["article"], "uncovered": ["output.title", "default.type"]}
-assert clean == {**wanted, "messages": [], "warnings": [], "hints": []}, clean
+assert clean == {**wanted, "ends": {"once": 0, "each": 13, "kept": 20000}, "messages": [], "warnings": [], "hints": []}, clean
 assert faulty["verdict"] == "mistakes" and faulty["messages"] == ["Error--nosuch is an unknown function--line 4 of file faulty.bst"], faulty
 assert [place["line"] for place in faulty["warnings"][0]["places"]] == [4, 7], faulty
 assert faulty["warnings"][0]["executed"] == "write$" and faulty["warnings"][0]["missing"] == "title", faulty
@@ -490,8 +554,10 @@ end
 begin lint_of_clean_style_with_an_illegal_format
 use_style 'FUNCTION {f} { "A B" "x" change.case$ write$ "A B" #1 "{ff~}{vv~}{ll}{, jj" format.name$ write$ } ITERATE {f}'
 run_lint s.bst
-wants_status 0
-wants_words "$folder/stdout" 'logs a fault of the stack or of kinds'
+wants_status 2
+wants_words "$folder/stdout" 'logs: "x" is an illegal case-conversion string'
+wants_words "$folder/stdout" 'logs: The format string "{ff~}{vv~}{ll}{, jj" is illegal'
+wants_words "$folder/stdout" "2 constants that the functions after them can't take, but no fault of the stack or of kinds"
 run_lint --help
 wants_words "$folder/stdout" 'It may log others, such as a format of names that is illegal.'
 run_search -terse job
@@ -637,7 +703,7 @@ grep -q '^    in FUNCTION {f}, s.bst:1; called from ITERATE {f}, s.bst:1$' "$fol
 for words in '--json --job job' '--job job --line' '--job job s'; do
     run_lint $words
     wants_status 1
-    grep -q 'takes no other option and no style' "$folder/stderr" || complaints+=("$words: $(cat "$folder/stderr")")
+    grep -q 'takes no style, and no other option than --trace' "$folder/stderr" || complaints+=("$words: $(cat "$folder/stderr")")
     [ ! -s "$folder/stdout" ] || complaints+=("$words: it prints $(head -n 3 "$folder/stdout")")
 done
 end
