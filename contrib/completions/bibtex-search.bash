@@ -3,9 +3,9 @@
 # _bibtex_options COMMAND: the names of its options, those with a value with a `=` after them.
 _bibtex_options() {
     case $1 in
-    bibtex-search) echo 'min-crossrefs= terse strict explain no-explain explain-only budget= text= letters= line= entry-max= global-max= log-room= list-room= help version' ;;
+    bibtex-search) echo 'min-crossrefs= terse strict explain no-explain explain-only json budget= text= letters= line= entry-max= global-max= log-room= list-room= help version' ;;
     bibtex-confined) echo 'min-crossrefs= text= line= entry-max= global-max= limit-memory= limit-aux= limit-input= limit-output= limit-processor= limit-clock= limit-steps= limit-names= help version' ;;
-    bibtex-lint) echo 'line json entry job steps= help version' ;;
+    bibtex-lint) echo 'line json entry job trace function steps= help version' ;;
     *) echo 'min-crossrefs= budget= dir= terse text= line= entry-max= global-max= help version' ;;
     esac
 }

@@ -80,6 +80,9 @@ struct Event {
 /// The kind of a line that is neither a warning nor an error.
 const PLAIN: u32 = 0;
 
+/// Where the lines were met that READ logs.
+const DATABASES: u32 = 2;
+
 /// Of how many lines of a log it is asked what they are: of the first ones. A style may print lines without end.
 const MOST_EVENTS: usize = 1 << 16;
 
@@ -91,6 +94,14 @@ impl Event {
         let text = log.get(start..end)?;
         let first = if self.kind == PLAIN { 0 } else { text.iter().position(|byte| *byte == b'\n')? + 1 };
         text[first..].split(|byte| *byte == b'\n').any(looks_like_message).then_some(start + first..end)
+    }
+
+    /// The bytes of the log that are this message, where it has more lines than one.
+    fn long_message(&self, log: &[u8]) -> Option<Range<usize>> {
+        let start = usize::try_from(self.at).ok()?;
+        let end = start.checked_add(usize::try_from(self.len).ok()?)?;
+        let is_long = self.kind != PLAIN && log.get(start..end)?.contains(&b'\n');
+        is_long.then_some(start..end)
     }
 }
 
@@ -141,6 +152,18 @@ unsafe extern "C" {
         notes: *mut u8,
         notes_room: usize,
         verdict: *mut CVerdict,
+    ) -> u32;
+    fn btx_check_ends(
+        name: *const u8,
+        name_len: usize,
+        text: *const u8,
+        text_len: usize,
+        kept: u32,
+        types: *mut u8,
+        types_room: usize,
+        notes: *mut u8,
+        notes_room: usize,
+        bound: *mut CBound,
     ) -> u32;
     fn btx_read(
         file: *const u8,
@@ -203,6 +226,16 @@ struct CVerdict {
     notes_len: usize,
 }
 
+#[repr(C)]
+#[derive(Debug, Clone, Copy, Default)]
+struct CBound {
+    once: u64,
+    each: u64,
+    types_len: usize,
+    notes_len: usize,
+    ends: bool,
+}
+
 /// The status of a run whose budget was spent.
 pub const STOPPED: u32 = 4;
 
@@ -258,6 +291,10 @@ pub struct Ran {
     pub log: Vec<u8>,
     /// The parts of the log that look like messages and are none, since the style printed them.
     pub printed: Vec<Range<usize>>,
+    /// The messages of the log that have more lines than one.
+    pub long: Vec<Range<usize>>,
+    /// The part of the log that READ wrote, as far as that is known: no warning outside of it is one of the databases.
+    pub of_read: Range<usize>,
     pub answer: Answer,
     /// Whether text was read as UTF-8.
     pub utf8: bool,
@@ -362,6 +399,17 @@ fn printed_parts(log: &[u8], events: &[Event]) -> Vec<Range<usize>> {
     events.iter().filter_map(|event| event.printed(log)).collect()
 }
 
+/// The part of a log that READ wrote, by the events of it. Where they end before the log does, what comes after them may be that part's.
+fn part_of_read(log: &[u8], events: &[Event]) -> Range<usize> {
+    let is_its = |event: &&Event| event.met == DATABASES;
+    let end = |event: &Event| event.at.saturating_add(event.len).min(log.len() as u64) as usize;
+    let known = events.last().map_or(0, end);
+    let first = events.iter().find(is_its).map_or(known, |event| event.at as usize);
+    let last = events.iter().rfind(is_its).map_or(first, end);
+    let may_go_on = known + 1 < log.len() && events.last().is_none_or(|last| last.met <= DATABASES);
+    first..if may_go_on { log.len() } else { last }
+}
+
 /// Runs a job over these files.
 pub fn run(job: &[u8], files: &[File], options: &Options, rooms: &Rooms) -> Ran {
     let (Ok(mut list), Ok(mut log)) = (room(rooms.list), room(rooms.log)) else {
@@ -369,6 +417,8 @@ pub fn run(job: &[u8], files: &[File], options: &Options, rooms: &Rooms) -> Ran 
             list: Vec::new(),
             log: Vec::new(),
             printed: Vec::new(),
+            long: Vec::new(),
+            of_read: 0..0,
             answer: Answer::Memory,
             utf8: options.utf8,
             letters: Letters::AsTheyAre,
@@ -413,7 +463,9 @@ pub fn run(job: &[u8], files: &[File], options: &Options, rooms: &Rooms) -> Ran 
         _ => Answer::Memory,
     };
     let printed = printed_parts(&log, &events);
-    Ran { list, log, printed, answer, utf8: options.utf8, letters: Letters::AsTheyAre }
+    let long = events.iter().filter_map(|event| event.long_message(&log)).collect();
+    let of_read = part_of_read(&log, &events);
+    Ran { list, log, printed, long, of_read, answer, utf8: options.utf8, letters: Letters::AsTheyAre }
 }
 
 /// The room for notes that is tried first.
@@ -497,14 +549,74 @@ fn check_in(name: &[u8], style: &[u8], steps: u64, room: usize) -> Result<Option
         REFUSED => return Ok(None),
         _ => return Err(MemoryRefused),
     }
-    types.truncate(verdict.types_len);
     notes.truncate(verdict.notes_len);
-    let types = types.split_inclusive(|byte| *byte == b'\n').map(|name| name[..name.len() - 1].to_vec()).collect();
+    let types = names_in(&types[..verdict.types_len]);
     Ok(Some(match verdict.verdict {
         0 => Verdict::Clean { literals: verdict.literals, bodies: verdict.bodies, types },
         1 => Verdict::Warnings(notes),
         _ => Verdict::Incomplete(notes),
     }))
+}
+
+/// A bound of the steps of a style's runs: `once` steps, and `each` for each entry of the list.
+#[derive(Debug, Clone, Copy, PartialEq, Eq)]
+pub struct Bound {
+    pub once: u64,
+    pub each: u64,
+    /// How many bytes a global string variable keeps at most.
+    pub kept: u32,
+}
+
+/// What is said of the steps of a style's runs.
+#[derive(Debug, Clone, PartialEq, Eq)]
+pub enum Steps {
+    /// Each run ends within the bound, as long as each entry's type is one that the style doesn't know or one of these.
+    Bounded(Bound, Vec<Vec<u8>>),
+    /// No bound is known: notes say where the first token without one stands.
+    Unbounded(Vec<u8>),
+}
+
+/// Says whether each run of a style ends where a global string variable keeps at most `kept` bytes. None where the text is longer than a style may be.
+pub fn check_ends(name: &[u8], style: &[u8], kept: u32) -> Result<Option<Steps>, MemoryRefused> {
+    check_ends_in(name, style, kept, ROOM_FOR_CHECK)
+}
+
+fn check_ends_in(name: &[u8], style: &[u8], kept: u32, room: usize) -> Result<Option<Steps>, MemoryRefused> {
+    let (mut types, mut notes, mut bound) = (vec![0; room], vec![0; room], CBound::default());
+    // SAFETY: each pointer is that of a slice or a reference that outlives the call, with its length; what is written is borrowed alone.
+    let answer = unsafe {
+        btx_check_ends(
+            name.as_ptr(),
+            name.len(),
+            style.as_ptr(),
+            style.len(),
+            kept,
+            types.as_mut_ptr(),
+            room,
+            notes.as_mut_ptr(),
+            room,
+            &mut bound,
+        )
+    };
+    let needed = bound.types_len.max(bound.notes_len);
+    match answer {
+        DONE => {}
+        FULL if needed > room => return check_ends_in(name, style, kept, needed),
+        REFUSED => return Ok(None),
+        _ => return Err(MemoryRefused),
+    }
+    notes.truncate(bound.notes_len);
+    let its = Bound { once: bound.once, each: bound.each, kept };
+    Ok(Some(if bound.ends {
+        Steps::Bounded(its, names_in(&types[..bound.types_len]))
+    } else {
+        Steps::Unbounded(notes)
+    }))
+}
+
+/// Names that each end in a byte 10.
+fn names_in(types: &[u8]) -> Vec<Vec<u8>> {
+    types.split_inclusive(|byte| *byte == b'\n').map(|name| name[..name.len() - 1].to_vec()).collect()
 }
 
 /// The records of a database, whatever a document cites, without their texts.
@@ -587,6 +699,19 @@ mod tests {
     const STYLE: &str = "ENTRY {title} {} {}\nFUNCTION {misc} {title write$ newline$}\nREAD\nITERATE {call.type$}\n";
 
     #[test]
+    fn what_read_logs_and_what_takes_several_lines_is_known() {
+        let style = STYLE.replace("title write$", "\"x\" warning$ \"a\" #10 int.to.chr$ * #1 + pop$");
+        let mut files = small_job(&style);
+        files[0].bytes = Some(b"\\citation{k,j}\n\\bibdata{b}\n\\bibstyle{s}\n".to_vec());
+        let ran = run(b"a.aux", &files, &OPTIONS, &ROOMS);
+        let of_read = &ran.log[ran.of_read.clone()];
+        assert_eq!(of_read, b"Warning--I didn't find a database entry for \"j\"");
+        let long: Vec<&[u8]> = ran.long.iter().map(|part| &ran.log[part.clone()]).collect();
+        assert_eq!(long, [b"Error--\"a\n\" is not an integer while executing + for entry k"]);
+        assert!(run(b"a.aux", &small_job(STYLE), &OPTIONS, &ROOMS).of_read.is_empty());
+    }
+
+    #[test]
     fn needs_names_the_top_file_then_those_that_it_names() {
         assert_eq!(needs(b"a\nb.aux", &[]).unwrap(), vec![b"a\nb.aux".to_vec()]);
         let top = &small_job(STYLE)[..1];
@@ -633,6 +758,11 @@ mod tests {
         let types = vec![b"misc".to_vec()];
         assert_eq!(check(b"s.bst", clean.as_bytes(), 1000), Ok(Some(Verdict::Clean { literals: 3, bodies: 2, types })));
         assert!(matches!(check(b"s.bst", clean.as_bytes(), 1), Ok(Some(Verdict::Incomplete(_)))));
+        let bound = Bound { once: 0, each: 11, kept: 7 };
+        assert_eq!(check_ends(b"s.bst", clean.as_bytes(), 7), Ok(Some(Steps::Bounded(bound, vec![b"misc".to_vec()]))));
+        let endless = clean.replace("{ title write$ }", "{ { #1 } 'skip$ while$ }");
+        let notes = b"next while$\nunbounded of 2 1 2 misc\n".to_vec();
+        assert_eq!(check_ends_in(b"s.bst", endless.as_bytes(), 7, 1), Ok(Some(Steps::Unbounded(notes))));
     }
 
     #[test]

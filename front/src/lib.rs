@@ -29,15 +29,19 @@
 //! | [`missing_entry`], [`nearest`] | where an entry may be that wasn't found, and which name may be meant by one that isn't known |
 //! | [`letters`], [`languages`], [`letter_codes`], [`letter_values`], [`style_keys`], [`letter_run`] | letters outside ASCII: half letters in a list, and the order of a language |
 //! | [`run_log`] | the log of a run as it is written and printed |
+//! | [`run_json`], [`message_places`], [`kinds`] | what a run says as lines of JSON: where each message stands, and a name for its kind |
 //! | [`terminal`] | what is safe to print on a terminal, and how wide it is |
 //! | [`exit`] | the exit statuses |
 //! | [`code_places`], [`operands`], [`origins`] | what stands at a place of a style's code, and what that says of a wrong operand and of where it was pushed |
 //! | [`repeats`] | errors of an execution that repeat |
 //! | [`style_check`], [`hints`] | what can be said of a style before any document uses it |
+//! | [`constants`] | constants that the function after them can't take |
 //! | [`lint_types`] | for entries of which types that is said |
 //! | [`lint_warnings`], [`lint_entry`] | where a style may go wrong, and an entry that shows it |
+//! | [`literals`] | which call on the way to such a place finds too few literals |
 //! | [`lint_ties`] | from which unequal `if$` such a place may follow |
 //! | [`lint_text`], [`lint_forms`], [`lint_json`] | what is printed of a style, for people and for other programs |
+//! | [`trace`] | the run of one entry, call by call |
 //! | [`search_program`], [`lint_program`], [`confined_program`] | the programs; `bibtex-lint` is another name of `bibtex-search` |
 //!
 //! `unsafe` stands in [`btx`] and [`system`] alone.
@@ -48,8 +52,10 @@ pub mod aux_text;
 pub mod beside;
 #[allow(unsafe_code)]
 pub mod btx;
+pub mod cased;
 pub mod code_places;
 pub mod confined_program;
+pub mod constants;
 pub mod database;
 pub mod databases;
 pub mod document;
@@ -60,6 +66,7 @@ pub mod explain;
 pub mod hints;
 pub mod interrupt;
 pub mod job;
+pub mod kinds;
 pub mod kpathsea;
 pub mod languages;
 pub mod letter_codes;
@@ -67,6 +74,7 @@ pub mod letter_run;
 pub mod letter_values;
 pub mod letters;
 pub mod lint_databases;
+pub mod lint_ends;
 pub mod lint_entry;
 pub mod lint_forms;
 pub mod lint_json;
@@ -75,7 +83,9 @@ pub mod lint_text;
 pub mod lint_ties;
 pub mod lint_types;
 pub mod lint_warnings;
+pub mod literals;
 pub mod log;
+pub mod message_places;
 pub mod missing_entry;
 pub mod mistakes;
 pub mod nearest;
@@ -85,6 +95,7 @@ pub mod origins;
 pub mod outputs;
 pub mod places;
 pub mod repeats;
+pub mod run_json;
 pub mod run_log;
 pub mod scene;
 pub mod search;
@@ -101,5 +112,6 @@ pub mod task;
 pub mod terminal;
 pub mod texmf;
 pub mod text;
+pub mod trace;
 pub mod unsaid;
 pub mod words;

@@ -96,6 +96,8 @@ pub enum Content<'a> {
 pub struct Line<'a> {
     /// Its bytes, without the end of the line.
     pub bytes: &'a [u8],
+    /// How many bytes of the log come before it.
+    pub at: usize,
     /// What it is.
     pub content: Content<'a>,
 }
@@ -202,10 +204,10 @@ impl<'a> Iterator for Lines<'a> {
             return None;
         }
         let (bytes, rest) = split_line(self.rest);
-        let is_printed = self.is_printed();
+        let (at, is_printed) = (self.at, self.is_printed());
         self.at += self.rest.len() - rest.len();
         self.rest = rest;
-        Some(Line { bytes, content: if is_printed { Content::Other } else { self.content(bytes) } })
+        Some(Line { bytes, at, content: if is_printed { Content::Other } else { self.content(bytes) } })
     }
 
     /// The last line. Those before it aren't read.
@@ -270,6 +272,12 @@ impl<'a> Lines<'a> {
         }
         found
     }
+}
+
+/// The message that these bytes of a log are: one whose text has ends of lines in it stands on several.
+pub fn message_of(bytes: &[u8]) -> Option<Message<'_>> {
+    let found = bytes.strip_prefix(b"Error--").map(error);
+    found.or_else(|| bytes.strip_prefix(b"Warning--").map(warning))
 }
 
 /// Whether a line looks like an error or a warning.

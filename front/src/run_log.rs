@@ -1,11 +1,13 @@
 //! The log of a run as it is written and printed.
 
 use crate::btx::{Answer, Ran};
+use crate::exit::Status;
 use crate::explain;
 use crate::job::Files;
 use crate::letter_run::Letters;
 use crate::letters::{TextMode, databases_are_whole, style_is_whole};
-use crate::log::Log;
+use crate::log::{Content, Line, Log};
+use crate::run_json;
 use crate::scene::{End, Scenes};
 use crate::shapes::{self, Part};
 use crate::system::Signal;
@@ -13,12 +15,13 @@ use crate::terminal::{Patient, Terminal, plain};
 use crate::words::{Explain, Words};
 use std::borrow::Cow;
 use std::io::{self, Write};
+use std::ops::Range;
 
 /// The first line of a log; tools look for its beginning.
 const BANNER: &[u8] = concat!("This is BibTeX, Version ", env!("CARGO_PKG_VERSION"), " (proved)\n").as_bytes();
 
 /// How many lines of a log that has filled its room are printed.
-const MOST_PRINTED: usize = 1000;
+pub const MOST_PRINTED: usize = 1000;
 
 /// What a signal ended.
 #[derive(Debug, Clone, Copy)]
@@ -27,6 +30,21 @@ pub enum Interrupted {
     Run(Signal),
     /// The search for where the style stood at the errors of a run that is done.
     Search(Signal),
+}
+
+/// A log as it stands in the `.blg`.
+pub struct Whole {
+    pub bytes: Vec<u8>,
+    /// Those of each message and of the last line, where messages are printed as JSON.
+    pub places: Vec<Range<usize>>,
+}
+
+/// What became of what a run gave.
+pub struct Kept {
+    /// The exit status; None where a signal ends the program.
+    pub status: Option<Status>,
+    /// Whether the list and the log are written.
+    pub is_written: bool,
 }
 
 /// The log of a run.
@@ -44,26 +62,26 @@ pub struct RunLog<'a> {
 
 impl RunLog<'_> {
     /// The log as the library wrote it, with the places in the style.
-    fn log(&self) -> Log<'_> {
+    pub fn log(&self) -> Log<'_> {
         let is_interrupted = matches!(self.interrupted, Some(Interrupted::Run(_)));
         self.ran.lines_of_log().with_scenes(&self.scenes).interrupted(is_interrupted)
     }
 
     /// The whole log, as it stands in the `.blg`.
-    pub fn whole(&self) -> Vec<u8> {
-        let mut whole = BANNER.to_vec();
-        whole.extend_from_slice(&self.notes());
-        self.shape(Part::Whole, &mut whole);
-        whole
-    }
-
-    /// The log in the original's shapes.
-    fn shape(&self, part: Part, into: &mut Vec<u8>) {
-        shapes::write(&self.log(), self.files, part, self.words.rooms.log, into);
+    pub fn whole(&self) -> Whole {
+        let mut bytes = [BANNER, &self.notes()].concat();
+        let mut places = Vec::new();
+        let mut note = |line: &Line<'_>, place: Range<usize>| {
+            if self.words.is_json && matches!(line.content, Content::Message(_) | Content::Ended(_)) {
+                places.push(place);
+            }
+        };
+        shapes::write_noting(&self.log(), self.files, Part::Whole, self.words.rooms.log, &mut bytes, &mut note);
+        Whole { bytes, places }
     }
 
     /// What is to be said before the messages: how a run was ended, and what became of letters of UTF-8.
-    fn notes(&self) -> Vec<u8> {
+    pub fn notes(&self) -> Vec<u8> {
         [self.end_notes(), self.letter_notes()].concat()
     }
 
@@ -134,9 +152,13 @@ impl RunLog<'_> {
         notes
     }
 
-    /// Prints the log: explained, or as it stands in the `.blg`, which is handed in, or what went wrong alone.
-    pub fn print(&self, whole: &[u8]) -> io::Result<()> {
+    /// Prints the log: as JSON, or explained, or as it stands in the `.blg`, which is handed in, or what went wrong alone.
+    pub fn print(&self, whole: &Whole, kept: &Kept) -> io::Result<()> {
         let stdout = io::stdout();
+        if self.words.is_json {
+            let mut out = io::BufWriter::new(Patient(stdout.lock()));
+            return run_json::write(self, &whole.places, kept, &mut out).and_then(|()| out.flush());
+        }
         let terminal = Terminal::of(&stdout);
         let explains = match self.words.explain {
             Explain::OnTerminal => terminal.is_terminal,
@@ -147,7 +169,7 @@ impl RunLog<'_> {
         if explains {
             self.explain(&terminal, &mut out)?;
         } else {
-            self.print_plainly(whole, &terminal, &mut out)?;
+            self.print_plainly(&whole.bytes, &terminal, &mut out)?;
         }
         out.flush()
     }
@@ -166,7 +188,7 @@ impl RunLog<'_> {
             Part::Whole => Cow::Borrowed(whole),
             Part::Messages | Part::Mistakes => {
                 let mut messages = self.notes();
-                self.shape(Part::Messages, &mut messages);
+                shapes::write(&self.log(), self.files, Part::Messages, self.words.rooms.log, &mut messages);
                 messages.into()
             }
         };

@@ -3,9 +3,11 @@
 
 use crate::beside;
 use crate::exit::{Failure, Name, Status};
-use crate::job::{Finder, NO_SUCH_FILE};
+use crate::btx::Options;
+use crate::job::{Files, Finder, NO_SUCH_FILE};
 use crate::lint_program;
 use crate::outputs::Outputs;
+use crate::run_json;
 use crate::search::Search;
 use crate::system::{Signal, end_aborts_as_memory, keep_long_texts_apart, survive_long_files};
 use crate::task::Task;
@@ -48,11 +50,11 @@ pub fn main() -> ExitCode {
     let called = name.clone();
     panic::set_hook(Box::new(move |place| end_by_panic(&called, place)));
     if name.is("bibtex-lint") {
-        return lint_program::main(&name, words, |job| {
-            let words = words::read([b"-terse".to_vec(), b"--".to_vec(), job].into_iter(), Explain::Only, false);
-            let Asked::Run(words) = words else { return Ok(Status::Refused) };
-            prepare(&name, *words).and_then(Task::run)
-        });
+        let explain_job = |job: Vec<u8>| match words_of(&job) {
+            Some(words) => prepare(&name, words).and_then(Task::run),
+            None => Ok(Status::Refused),
+        };
+        return lint_program::main(&name, words, explain_job, files_of);
     }
     let explain = if name.is("bibtex-explain") { Explain::Only } else { Explain::OnTerminal };
     let jobs_last = env::var_os("POSIXLY_CORRECT").is_some();
@@ -73,10 +75,47 @@ pub fn main() -> ExitCode {
             Status::Refused
         }
         Asked::Run(words) => {
-            prepare(&name, *words).and_then(Task::run).unwrap_or_else(|failure| failed(&name, &failure))
+            let job = words.job.clone();
+            let is_json = words.is_json;
+            let task = prepare(&name, *words).inspect_err(|failure| {
+                if is_json {
+                    print_failure(&name, &job, failure);
+                }
+            });
+            task.and_then(Task::run).unwrap_or_else(|failure| failed(&name, &failure))
         }
     }
     .into()
+}
+
+/// The words that explain a job.
+fn words_of(job: &[u8]) -> Option<Words> {
+    match words::read([b"-terse".to_vec(), b"--".to_vec(), job.to_vec()].into_iter(), Explain::Only, false) {
+        Asked::Run(words) => Some(*words),
+        _ => None,
+    }
+}
+
+/// The files of a job, and its options as TeX's set-up gives them.
+fn files_of(job: &[u8]) -> Result<(Files, Options), Failure> {
+    let search = Search::begin();
+    let top = [job.strip_suffix(b".aux").unwrap_or(job), b".aux"].concat();
+    let mut finder = Finder::new(&search, &top);
+    finder.find_top()?;
+    let files = finder.find_all()?;
+    let Some(mut words) = words_of(job) else { return Ok((files, Options::usual(0))) };
+    take_limits(&search, &mut words);
+    Ok((files, words.options))
+}
+
+/// Prints as JSON why a job isn't run.
+fn print_failure(name: &Name, job: &[u8], failure: &Failure) {
+    let mut out = Patient(io::stdout());
+    let printed = run_json::write_failure(job, failure, &mut out).and_then(|()| out.flush());
+    // (the status stays that of the failure)
+    if let Err(fault) = printed {
+        name.unprinted(&fault);
+    }
 }
 
 /// Says why a job isn't done, and which one may be meant by a job that isn't there.

@@ -8,10 +8,10 @@ use crate::letter_run::{self, Letters};
 use crate::letters::{TextMode, databases_are_whole, style_is_whole};
 use crate::outputs::Outputs;
 use crate::places;
-use crate::run_log::{Interrupted, RunLog};
+use crate::run_log::{Interrupted, Kept, RunLog, Whole};
 use crate::scene::Scenes;
 use crate::system::{Held, Signal};
-use crate::words::Words;
+use crate::words::{Explain, Words};
 use std::cell::OnceCell;
 use std::io::{self, IsTerminal};
 use std::sync::atomic::{AtomicBool, Ordering};
@@ -182,29 +182,43 @@ impl Task {
     }
 
     /// Writes and prints what a run gave, where this thread is the first that has something to write. `log` is the whole log.
-    fn finish(&self, ran: &Ran, run_log: &RunLog<'_>, log: &[u8]) -> Option<Result<Status, Failure>> {
+    fn finish(&self, ran: &Ran, run_log: &RunLog<'_>, log: &Whole) -> Option<Result<Status, Failure>> {
         if self.is_claimed.swap(true, Ordering::SeqCst) {
             return None;
         }
-        let replaced = self.write(ran, log);
+        let replaced = self.write(ran, &log.bytes);
         self.is_written.store(true, Ordering::SeqCst);
         self.held.release();
-        let printed = run_log.print(log);
+        let status = replaced.as_ref().map_or_else(Failure::status, |()| self.status_of(ran));
+        let kept = Kept {
+            status: Some(status).filter(|_| run_log.interrupted.is_none()),
+            is_written: replaced.is_ok() && self.words.explain != Explain::Only,
+        };
+        let printed = run_log.print(log, &kept);
         Some(replaced.map(|()| self.status(ran, printed)))
     }
 
     /// The status of a run whose outputs are written.
     fn status(&self, ran: &Ran, printed: io::Result<()>) -> Status {
-        let status = match ran.answer {
-            Answer::Done(_) if self.words.is_strict && ran.misses_an_entry() => {
-                self.name.say("-strict: an entry that is cited wasn't found, so the exit status is 2");
-                Status::Errors
-            }
+        if self.is_refused(ran) {
+            self.name.say("-strict: an entry that is cited wasn't found, so the exit status is 2");
+        }
+        printed.map_or_else(|fault| self.name.unprinted(&fault), |()| self.status_of(ran))
+    }
+
+    /// Whether a run that is else done well counts as an error, since a citation has no entry.
+    fn is_refused(&self, ran: &Ran) -> bool {
+        self.words.is_strict && matches!(ran.answer, Answer::Done(_)) && ran.misses_an_entry()
+    }
+
+    /// The status of a run, as long as its log can be printed.
+    fn status_of(&self, ran: &Ran) -> Status {
+        match ran.answer {
+            Answer::Done(_) if self.is_refused(ran) => Status::Errors,
             Answer::Done(report) => Status::of_report(report.status),
             Answer::ListFull | Answer::LogFull => Status::Limit,
             Answer::Memory => Status::Memory,
-        };
-        printed.map_or_else(|fault| self.name.unprinted(&fault), |()| status)
+        }
     }
 
     /// Writes the list and the log. Where memory was refused, the old ones stay.
