@@ -195,6 +195,19 @@ pub enum Seen {
     OfBiblatexDate,
     OfBiblatexField,
     MendFirst,
+    OfInclude,
+    OfSomeInclude,
+    RecordIsRis,
+    SemicolonInCite,
+    NoHashBefore,
+    LetterForDigit,
+    CommasOfOneName,
+    FieldNotInEntry,
+    IntegerInQuotes,
+    CommandLosesCase,
+    OtherWork,
+    StyleMisnames,
+    LoopWithoutEnd,
 }
 
 impl Seen {
@@ -285,6 +298,19 @@ impl Seen {
             Seen::OfBiblatexDate => "write `year = {$1}`: `date` is a field of `biblatex`. Programs can export as BibTeX, not as BibLaTeX",
             Seen::OfBiblatexField => "call it `$2`: `$1` is a field of `biblatex`. Programs can export as BibTeX, not as BibLaTeX",
             Seen::MendFirst => "mend the error at $1 first",
+            Seen::OfInclude => "run it on `$1`: $2 includes $3, which is a part of that document",
+            Seen::OfSomeInclude => "run it on the whole document: $1 is of a part that `\\include` names there",
+            Seen::RecordIsRis => "export that record as BibTeX: what stands there is RIS",
+            Seen::SemicolonInCite => "write `$1` in the `\\cite`, with a comma between two keys, and run LaTeX",
+            Seen::NoHashBefore => "join the parts of the value of `$1` by `#`: write one before $2",
+            Seen::LetterForDigit => "write `$1`: the `$2` is a letter in the place of a digit",
+            Seen::CommasOfOneName => "write `$1`: a name has at most two commas, `von Last, Jr, First`",
+            Seen::FieldNotInEntry => "put `$1` into the first list of ENTRY ($2): a style knows only the fields of that list",
+            Seen::IntegerInQuotes => "write `$1` for `$2`: an integer begins with `#`, and what stands in quotes is a string",
+            Seen::CommandLosesCase => "put `$1` into braces, as `{$1}`: this style makes `$2` of it",
+            Seen::OtherWork => "give the second another key, such as `$1`, and cite it by that: its title is another one",
+            Seen::StyleMisnames => "call the style's function `$1` ($2) `$3`, as the type is called",
+            Seen::LoopWithoutEnd => "change $1 in the body of this loop ($2): its test reads nothing else, so the loop never ends",
         }
     }
 }

@@ -2,7 +2,7 @@
 //! Databases.
 
 use crate::text::{Text, find_byte};
-use memchr::memchr3;
+use memchr::{memchr2, memchr3};
 use std::collections::HashSet;
 use std::hash::{Hash, Hasher};
 use std::ops::Range;
@@ -67,7 +67,8 @@ pub struct Item<'a> {
 
 /// Whether an item of this kind is an entry: no comment, no preamble and no string.
 fn is_kind_of_entries(kind: &[u8]) -> bool {
-    !["comment", "preamble", "string"].iter().any(|other| kind.eq_ignore_ascii_case(other.as_bytes()))
+    let is = |other: &str| kind.len() == other.len() && kind.eq_ignore_ascii_case(other.as_bytes());
+    !(is("comment") || is("preamble") || is("string"))
 }
 
 impl<'a> Item<'a> {
@@ -225,14 +226,17 @@ fn plain_head_at(text: &[u8], start: usize) -> Option<Head<'_>> {
 }
 
 impl<'a> Item<'a> {
-    /// The item that begins at this place, where an `@` stands, and what stands in it.
-    pub fn read_at(text: &'a [u8], start: usize) -> (Item<'a>, Inside<'a>) {
-        let inside = Inside { fields: Vec::with_capacity(16), last_value: None, values: Vec::with_capacity(16) };
-        let mut reader = Reader { inside: Some(inside), ..Reader::new(text, start + 1) };
+    /// The item that begins at this place, where an `@` stands; what stands in it takes the place of what stood in another one.
+    pub fn read_at(text: &'a [u8], start: usize, inside: &mut Inside<'a>) -> Item<'a> {
+        let mut room = std::mem::take(inside);
+        room.fields.clear();
+        room.values.clear();
+        let mut reader = Reader { inside: Some(Inside { last_value: None, ..room }), ..Reader::new(text, start + 1) };
         let mut item = Item::new(start);
         item.fault = reader.read(&mut item).err();
         item.end = reader.at;
-        (item, reader.inside.unwrap_or_default())
+        *inside = reader.inside.unwrap_or_default();
+        item
     }
 
     /// Whether it is the definition of a string.
@@ -320,7 +324,7 @@ impl<'a> Reader<'a> {
 
     /// Takes one of these bytes.
     #[inline]
-    fn expect(&mut self, wanted: &[u8], message: &'static str) -> Read<u8> {
+    fn expect<const N: usize>(&mut self, wanted: &[u8; N], message: &'static str) -> Read<u8> {
         let byte = self.next_byte()?;
         if !wanted.contains(&byte) {
             return Err(message);
@@ -370,17 +374,44 @@ impl<'a> Reader<'a> {
                 self.at += 1;
                 return Ok(());
             }
-            let field = self.name()?;
-            if let Some(inside) = &mut self.inside {
-                inside.fields.push(field);
-            }
-            self.expect(b"=", NO_EQUALS)?;
-            let value = self.value()?;
+            let (field, value) = match self.plain_field() {
+                Some(field) => field,
+                None => self.field()?,
+            };
             if field.eq_ignore_ascii_case(b"crossref") {
                 item.parents.push(Parent { key: bare(value), end: self.at });
             }
         }
         Ok(())
+    }
+
+    /// Takes a field: its name and its value.
+    fn field(&mut self) -> Read<(&'a [u8], &'a [u8])> {
+        let field = self.name()?;
+        if let Some(inside) = &mut self.inside {
+            inside.fields.push(field);
+        }
+        self.expect(b"=", NO_EQUALS)?;
+        Ok((field, self.value()?))
+    }
+
+    /// Takes a field that is written as most are: `name = {text},` with no brace in the text. None where it isn't, and nothing is taken.
+    fn plain_field(&mut self) -> Option<(&'a [u8], &'a [u8])> {
+        let rest = &self.text[self.at..];
+        let name = &rest[..rest.iter().position(|byte| !is_of_name(*byte))?];
+        let text = rest[name.len()..].strip_prefix(b" = {")?;
+        let length = memchr2(b'{', b'}', text)?;
+        if !text[length..].starts_with(b"},") || !name.first()?.is_ascii_alphabetic() {
+            return None;
+        }
+        let start = self.at + name.len() + b" = ".len();
+        self.at = start + length + b"{}".len();
+        if let Some(inside) = &mut self.inside {
+            inside.fields.push(name);
+            inside.last_value = Some(start);
+            inside.values.push(start..self.at);
+        }
+        Some((name, &self.text[start..self.at]))
     }
 
     /// Takes a value; what stands there.

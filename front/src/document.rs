@@ -1,11 +1,13 @@
 //! The document whose citations a job has, where it stands beside the `.aux` file: `paper.tex` beside `paper.aux`. It is read for hints alone.
 
+use crate::beside;
 use crate::job::{File, Files};
 use crate::search::path_of;
-use crate::text::find;
-use std::collections::HashSet;
+use crate::text::{Text, find};
+use std::collections::{HashMap, HashSet};
 use std::fs;
 use std::io::Read;
+use std::ops::Range;
 
 /// A longer document isn't looked at.
 const MOST_READ: u64 = 1 << 24;
@@ -27,6 +29,87 @@ pub struct Document {
     pub file: File,
     /// Its words, where all that it cites stands in it.
     words: Option<HashSet<Vec<u8>>>,
+    /// Where each key, database and style stands first in it.
+    named: HashMap<(Named, Vec<u8>), Spot>,
+}
+
+/// A place of the document: its line, from its beginning to its end, the line's number, and the place in it.
+#[derive(Debug, Clone)]
+struct Spot {
+    line: Range<usize>,
+    number: usize,
+    place: usize,
+}
+
+/// What an argument of the document names.
+#[derive(Debug, Clone, Copy, PartialEq, Eq, Hash)]
+pub enum Named {
+    Key,
+    Database,
+    Style,
+}
+
+impl Spot {
+    fn new(lines: &Text<'_>, place: usize) -> Spot {
+        let number = lines.line_of(place);
+        let (start, end) = lines.span(number);
+        Spot { line: start..end, number, place: place - start }
+    }
+}
+
+/// How much is read of each `.aux` file that may include another one, and of how many of them.
+const MOST_OF_AUX: u64 = 1 << 20;
+const MOST_FILES: usize = 100;
+
+/// What a command's arguments name; None where it names nothing of a bibliography.
+fn named_by(command: &[u8]) -> Option<Named> {
+    match command {
+        b"bibliography" => Some(Named::Database),
+        b"bibliographystyle" => Some(Named::Style),
+        _ => find(&command.to_ascii_lowercase(), b"cite").map(|_| Named::Key),
+    }
+}
+
+/// Where the keys, databases and styles of a text of TeX stand that has no comments.
+fn names_in(text: &[u8]) -> HashMap<(Named, Vec<u8>), Spot> {
+    let (lines, mut found, mut at) = (Text::new(text), HashMap::new(), 0);
+    while let Some(before) = text[at..].iter().position(|byte| *byte == b'\\') {
+        let start = at + before + 1;
+        let length = text[start..].iter().take_while(|byte| byte.is_ascii_alphabetic()).count();
+        at = start + length.max(1).min(text.len() - start);
+        if let Some(named) = named_by(&text[start..start + length]) {
+            for (piece, place) in pieces_of_argument(text, at) {
+                found.entry((named, piece.to_vec())).or_insert_with(|| Spot::new(&lines, place));
+            }
+        }
+    }
+    found
+}
+
+/// The pieces of the argument after a command that ends here, with the place of each; options in brackets are passed over.
+fn pieces_of_argument(text: &[u8], from: usize) -> Vec<(&[u8], usize)> {
+    let mut at = from + usize::from(text.get(from) == Some(&b'*'));
+    while text.get(at) == Some(&b'[') {
+        let Some(end) = find(&text[at..], b"]") else { return Vec::new() };
+        at += end + 1;
+    }
+    let Some(inside) = text.get(at..).and_then(|rest| rest.strip_prefix(b"{")) else { return Vec::new() };
+    let Some(end) = inside.iter().position(|byte| matches!(byte, b'{' | b'}')) else { return Vec::new() };
+    let pieces = inside[..end].split(|byte| *byte == b',').map(<[u8]>::trim_ascii);
+    pieces.map(|piece| (piece, piece.as_ptr() as usize - text.as_ptr() as usize)).collect()
+}
+
+/// The job that includes the top `.aux` file of this one, which `\include` has made; None where it is no such file, and the name is None where no other names it.
+pub fn job_that_includes(files: &Files) -> Option<Option<Vec<u8>>> {
+    find(files.bytes(&files.top)?, b"\\@setckpt{")?;
+    let line = [b"\\@input{", &files.top[..], b"}"].concat();
+    let includes = |name: &Vec<u8>| {
+        let mut bytes = Vec::new();
+        let read = fs::File::open(path_of(name)).and_then(|file| file.take(MOST_OF_AUX).read_to_end(&mut bytes));
+        read.is_ok() && find(&bytes, &line).is_some()
+    };
+    let others = beside::names(".aux").into_iter().filter(|name| *name != files.top).take(MOST_FILES);
+    Some(others.filter(|name| fs::metadata(path_of(name)).is_ok_and(|data| data.is_file())).find(includes))
 }
 
 impl Document {
@@ -45,7 +128,15 @@ impl Document {
         let is_whole = !READ_OTHERS.iter().any(|command| find(bytes, command).is_some());
         let words = || bytes.split(parts).filter(|word| !word.is_empty()).map(<[u8]>::to_vec).collect();
         let words = is_whole.then(words);
-        Document { file, words }
+        let text: Vec<u8> = bytes.split_inclusive(|byte| *byte == b'\n').flat_map(blank_comment).collect();
+        let named = names_in(&text);
+        Document { file, words, named }
+    }
+
+    /// Where it names a key, a database or a style first: the line, its number, and the place in it.
+    pub fn place_of(&self, named: Named, name: &[u8]) -> Option<(&[u8], usize, usize)> {
+        let spot = self.named.get(&(named, name.to_vec()))?;
+        Some((self.bytes().get(spot.line.clone())?, spot.number, spot.place))
     }
 
     fn bytes(&self) -> &[u8] {
@@ -90,6 +181,13 @@ impl Document {
     }
 }
 
+/// A line with its end, in which spaces stand for a comment.
+fn blank_comment(line: &[u8]) -> Vec<u8> {
+    let end = without_comment(line).len();
+    let blank = |(at, byte): (usize, &u8)| if at < end || *byte == b'\n' { *byte } else { b' ' };
+    line.iter().enumerate().map(blank).collect()
+}
+
 /// A line of TeX without its comment.
 fn without_comment(line: &[u8]) -> &[u8] {
     let is_comment = |at: &usize| line[*at] == b'%' && at.checked_sub(1).is_none_or(|before| line[before] != b'\\');
@@ -109,6 +207,19 @@ mod tests {
         let whole = document("\\cite{one,two} \\citep[see][p. 3]{three}");
         assert_eq!([&b"one"[..], b"two", b"three", b"four"].map(|key| whole.lacks(key)), [false, false, false, true]);
         assert!(!document("\\input{chapter}").lacks(b"four") && !whole.lacks(b"REV41Control"));
+    }
+
+    #[test]
+    fn names_have_places() {
+        let text = "% \\cite{a}\n\\citep*[see][p. 3]{b,\n  a} \\bibliography{refs}\n\\Cite{} \\bibliographystyle{a}\\";
+        let document = document(text);
+        let place = |named, name: &str| document.place_of(named, name.as_bytes()).map(|(_, number, at)| (number, at));
+        assert_eq!(
+            [place(Named::Key, "b"), place(Named::Key, "a"), place(Named::Key, "")],
+            [Some((2, 19)), Some((3, 2)), Some((4, 6))]
+        );
+        assert_eq!(place(Named::Database, "refs"), Some((3, 19)));
+        assert_eq!([place(Named::Style, "a"), place(Named::Style, "refs")], [Some((4, 27)), None]);
     }
 
     #[test]

@@ -62,14 +62,25 @@ impl<'a> Database<'a> {
         inside.filter_map(|place| Some((Folded(key_at(bytes, place)?.name), place)))
     }
 
+    /// Where the text between items begins and ends.
+    fn gaps(&self) -> impl Iterator<Item = (usize, usize)> {
+        let ends = std::iter::once(0).chain(self.items.iter().map(|item| item.end));
+        let begins = self.items.iter().map(|item| item.start).chain([self.text.bytes.len()]);
+        ends.zip(begins).filter(|(end, begin)| end < begin)
+    }
+
+    /// The values of records of RIS in the text between items: where the record of each begins, and where the value does.
+    fn in_records(&self) -> impl Iterator<Item = (Folded<'a>, (usize, usize))> {
+        let bytes = self.text.bytes;
+        let with_record = self.gaps().filter(|(end, begin)| find(&bytes[*end..*begin], BEGINS_RECORD).is_some());
+        with_record.flat_map(move |(end, begin)| values_of_records(&bytes[end..begin], end))
+    }
+
     /// The keys of what looks like entries in the text between items, and where each begins.
     fn unread(&self) -> impl Iterator<Item = (Folded<'a>, usize)> {
         let bytes = self.text.bytes;
-        let ends = std::iter::once(0).chain(self.items.iter().map(|item| item.end));
-        let begins = self.items.iter().map(|item| item.start).chain([bytes.len()]);
-        let gaps = ends.zip(begins).filter(|(end, begin)| end < begin);
         let braces =
-            gaps.flat_map(move |(end, begin)| (end..begin).filter(move |at| matches!(bytes[*at], b'{' | b'(')));
+            self.gaps().flat_map(move |(end, begin)| (end..begin).filter(move |at| matches!(bytes[*at], b'{' | b'(')));
         braces.filter_map(move |brace| Some((Folded(key_at_brace(bytes, brace)?), brace)))
     }
 
@@ -141,6 +152,27 @@ fn between<'a>(text: &'a [u8], before: &[u8], behind: &[u8]) -> Option<&'a [u8]>
     split_first(text.strip_prefix(before)?, behind).map(|(name, _)| name)
 }
 
+/// How a record of RIS begins, and what stands after the two letters of each of its lines.
+const BEGINS_RECORD: &[u8] = b"TY  - ";
+const AFTER_TAG: &[u8] = b"  - ";
+
+/// The values of records of RIS in a text that begins at `from`: where the record of each begins, and where the value does.
+fn values_of_records(text: &[u8], from: usize) -> Vec<(Folded<'_>, (usize, usize))> {
+    let (mut found, mut record, mut at) = (Vec::new(), None, from);
+    for line in text.split(|byte| *byte == b'\n') {
+        if line.starts_with(BEGINS_RECORD) {
+            record = Some(at);
+        } else if line.starts_with(b"ER  -") {
+            record = None;
+        }
+        let value = line.get(2..).and_then(|rest| rest.strip_prefix(AFTER_TAG)).map(<[u8]>::trim_ascii);
+        let whole = value.filter(|value| !value.is_empty()).zip(record);
+        found.extend(whole.map(|(value, record)| (Folded(value), (record, at))));
+        at += line.len() + 1;
+    }
+    found
+}
+
 /// How long a key may be that is looked for between items.
 const LONGEST_UNREAD: usize = 200;
 
@@ -186,6 +218,7 @@ pub struct Entries<'a> {
     skipped: OnceCell<HashMap<Folded<'a>, Found>>,
     unread: OnceCell<HashMap<Folded<'a>, Found>>,
     unreached: OnceCell<HashMap<Folded<'a>, Found>>,
+    in_records: OnceCell<HashMap<Folded<'a>, InRecord>>,
     keyless: OnceCell<Option<Found>>,
     lost: OnceCell<Option<Told>>,
     /// For how many more keys one that may be meant is looked for.
@@ -194,6 +227,9 @@ pub struct Entries<'a> {
 
 /// Which database, counted from 0, and which of its items, or which place in it.
 type Found = (usize, usize);
+
+/// The line on which a record of RIS begins, and where the key stands in its text.
+type InRecord = (usize, (usize, usize));
 
 impl<'a> Entries<'a> {
     /// Reads all databases of a job.
@@ -206,6 +242,7 @@ impl<'a> Entries<'a> {
             skipped: OnceCell::new(),
             unread: OnceCell::new(),
             unreached: OnceCell::new(),
+            in_records: OnceCell::new(),
             keyless: OnceCell::new(),
             lost: OnceCell::new(),
             left: Cell::new(MOST_MEANT),
@@ -285,6 +322,20 @@ impl<'a> Entries<'a> {
             unread
         });
         unread.get(&Folded(key)).map(|(index, start)| (&self.databases[*index], *start))
+    }
+
+    /// Where this key stands in a record of RIS between items: where the record begins, and where the line with the key does.
+    pub fn in_record(&self, key: &[u8]) -> Option<(&Database<'a>, (usize, usize))> {
+        let found = self.in_records.get_or_init(|| {
+            let mut found = HashMap::new();
+            for (index, database) in self.databases.iter().enumerate() {
+                database.in_records().for_each(|(key, places)| {
+                    found.entry(key).or_insert((index, places));
+                });
+            }
+            found
+        });
+        found.get(&Folded(key)).map(|(index, places)| (&self.databases[*index], *places))
     }
 
     /// Where this key stands as a word in an entry that can't be read so far.

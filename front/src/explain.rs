@@ -5,13 +5,14 @@ use crate::aux_text::{broken_off, cited_keys, not_taken};
 use crate::beside;
 use crate::code_places::{Code, DEFAULT_TYPE};
 use crate::database::{Folded, Inside, Item};
-use crate::document::Document;
+use crate::document::{Document, Named, job_that_includes};
+use crate::doubts::is_suffix;
 use crate::entries::{Entries, Stored};
-use crate::hints::functions_above_read;
+use crate::hints::{functions_above_read, is_usual_type, loop_without_end};
 use crate::job::{File, Files};
 use crate::log::{Content, Ended, Line, Log, Message, Place, Severity};
 use crate::missing_entry::{self, lost_fields, meant_field, meant_string};
-use crate::mistakes::{begun_value, field_for_key, what_hides, what_to_do};
+use crate::mistakes::{begun_value, field_for_key, number_meant, what_hides, what_to_do};
 use crate::nearest::nearest;
 use crate::operands::{TEST_LEAVES, advice_at, is_of_test_in};
 use crate::origins::{MissingField, missing_field_of};
@@ -21,7 +22,8 @@ use crate::shapes::{Part, counted, went_well};
 use crate::shown_line::{ShownLine, first_columns};
 use crate::sources::{Sources, Spot};
 use crate::style_text::{
-    Command, Defined, costs_a_token, end_of_skipped, is_command, last_token, lines_of_name, nearest_word, unclosed,
+    Command, Defined, Token, Tokens, costs_a_token, end_of_skipped, is_command, last_token, lines_of_name,
+    nearest_word, unclosed,
 };
 use crate::terminal::{ERROR_COLOUR, PLACE_COLOUR, Terminal, WARNING_COLOUR, in_lines, plain};
 use crate::text::{Text, find, split_first};
@@ -63,9 +65,41 @@ pub fn write(log: &Log<'_>, files: &Files, part: Part, terminal: &Terminal, out:
     explainer.end_repeats()?;
     // A log that has filled its room has no last line.
     if let Some(end) = explainer.scene_of_end.take() {
-        explainer.scene_of_end(end, None)?;
+        let _ = explainer.scene_of_end(end, None)?;
     }
     explainer.out.flush()
+}
+
+/// What is to be done about the lines of a log, in the words and at the lines of its explanations, for who prints none.
+pub struct Adviser<'a>(Explainer<'a, io::Sink>);
+
+impl<'a> Adviser<'a> {
+    pub fn new(log: &Log<'a>, files: &'a Files) -> Adviser<'a> {
+        Adviser(Explainer::new(log, files, Part::Messages, &Terminal::NONE, io::sink()))
+    }
+
+    /// What is to be done about the next line of the log that doesn't say that all went well.
+    pub fn advice_on(&mut self, line: &Line<'a>) -> Vec<String> {
+        self.0.advice = Some(Vec::new());
+        // (nothing that is written to a sink fails)
+        let _ = self.0.line(line);
+        self.0.advice.take().unwrap_or_default()
+    }
+
+    /// The items of the databases.
+    pub fn entries(&mut self) -> &Entries<'a> {
+        self.0.entries()
+    }
+
+    /// The key of an entry at the end of a warning, or at its beginning.
+    pub fn key_in(&mut self, text: &'a [u8]) -> Option<&'a [u8]> {
+        self.0.key_in(text)
+    }
+
+    /// The code of the style in which a scene is.
+    pub fn code_of(&mut self, scene: &Scene) -> Option<&Code<'a>> {
+        self.0.code_of(scene)
+    }
 }
 
 /// An error of a style from which others follow: a function that isn't closed, so that what comes after it is read as its body, or a
@@ -77,6 +111,8 @@ struct Cause<'a> {
     number: usize,
     /// Whether the words of commands aren't known either.
     has_commands: bool,
+    /// The errors on the order of commands that follow, since this one is skipped: each ends so.
+    of_order: &'static [&'static str],
     /// What isn't known since it was read otherwise.
     lost: Defined<'a>,
     /// How many errors that follow from it weren't printed yet.
@@ -152,6 +188,8 @@ struct Explainer<'a, W: Write> {
     said_of_braces: Option<String>,
     /// How many lines that are no messages stand directly above.
     others: u64,
+    /// What was said to do about the line, where that is wanted apart.
+    advice: Option<Vec<String>>,
     out: W,
 }
 
@@ -185,6 +223,7 @@ impl<'a, W: Write> Explainer<'a, W> {
             last_of_style: 0,
             said_of_braces: None,
             others: 0,
+            advice: None,
             out,
         }
     }
@@ -208,6 +247,9 @@ impl<'a, W: Write> Explainer<'a, W> {
     }
 
     fn put_advice(&mut self, text: &str) -> io::Result<()> {
+        if let Some(advice) = &mut self.advice {
+            advice.push(text.to_string());
+        }
         self.indented(&format!("what to do: {text}")).iter().try_for_each(|line| writeln!(self.out, "{line}"))
     }
 
@@ -426,10 +468,11 @@ impl<'a, W: Write> Explainer<'a, W> {
         }
         self.put_line(if end.is_finished() { "" } else { ERROR_COLOUR }, line)?;
         if !end.is_finished() {
-            if let Some(scene) = self.scene_of_end.take() {
-                self.scene_of_end(scene, Some(end.steps))?;
-            }
-            if !self.is_interrupted {
+            let is_endless = match self.scene_of_end.take() {
+                Some(scene) => self.scene_of_end(scene, Some(end.steps))?,
+                None => false,
+            };
+            if !self.is_interrupted && !is_endless {
                 let (text, _) = split_first(line, b", warnings ").unwrap_or((line, b""));
                 self.advise(&[Section::Run], text)?;
             }
@@ -482,7 +525,7 @@ impl<'a, W: Write> Explainer<'a, W> {
             Place::Line { file, .. } if file.ends_with(b".aux") => self.in_aux_file(message),
             Place::Line { file, .. } if file.ends_with(b".bst") => self.in_style(message, file),
             Place::Line { number, file } => match self.in_database(message, number, file)? {
-                Some(advice) if advice.starts_with("write `\\bibliography{") => self.put_advice_once(&advice),
+                Some(advice) if is_of_whole_job(&advice) => self.put_advice_once(&advice),
                 Some(advice) => self.put_advice(&advice),
                 None => self.advise(&[Section::Database, Section::Entries], message.text),
             },
@@ -567,7 +610,8 @@ impl<'a, W: Write> Explainer<'a, W> {
             let from = around.filter(|_| !is_no_command).map_or(place, |around| around.start);
             let to = end_of_skipped(&text, spot.number);
             let lost = Defined::new(text.bytes, from, to.max(from), &commands);
-            self.causes.push(Cause { style, number: spot.number, has_commands: false, lost, unprinted: 0 });
+            let of_order = order_lost(around.filter(|_| !is_no_command));
+            self.causes.push(Cause { style, number: spot.number, has_commands: false, of_order, lost, unprinted: 0 });
         }
         if message.text == b"crossref is already defined" && around.is_some_and(|around| around.is("entry")) {
             return self.put_advice(&Seen::CrossrefIsField.with(&[]));
@@ -578,6 +622,11 @@ impl<'a, W: Write> Explainer<'a, W> {
         }
         if let Some(name) = unknown(message.text).filter(|_| self.causes.len() < MOST_CAUSES) {
             self.unknown_name(name, style, spot.number, &text, &commands)?;
+            let entry = commands.iter().find(|command| command.is("entry")).filter(|_| is_field(text.bytes, name));
+            if let Some(entry) = entry {
+                let at = format!("{}:{}", plain(shown_path(spot.file)), text.line_of(entry.start));
+                return self.put_advice(&Seen::FieldNotInEntry.with(&[&plain(name), &at]));
+            }
         }
         self.advise(&[Section::Style], message.text)
     }
@@ -591,7 +640,8 @@ impl<'a, W: Write> Explainer<'a, W> {
         text: &Text<'a>,
         commands: &[Command<'a>],
     ) -> io::Result<()> {
-        self.causes.push(Cause { style, number, has_commands: false, lost: Defined::one(name), unprinted: 0 });
+        let lost = Defined::one(name);
+        self.causes.push(Cause { style, number, has_commands: false, of_order: &[], lost, unprinted: 0 });
         if let Some(near) = Defined::new(text.bytes, 0, text.bytes.len(), commands).nearest(name) {
             if near.eq_ignore_ascii_case(name) {
                 return self
@@ -635,6 +685,7 @@ impl<'a, W: Write> Explainer<'a, W> {
                 style: &spot.file.name,
                 number: spot.number,
                 has_commands: false,
+                of_order: &[],
                 lost,
                 unprinted: 0,
             });
@@ -646,7 +697,7 @@ impl<'a, W: Write> Explainer<'a, W> {
     fn add_unclosed(&mut self, opened: &Command<'a>, spot: &Spot<'a>, text: &Text<'a>, commands: &[Command<'a>]) {
         let lost = Defined::new(text.bytes, opened.start, text.bytes.len(), commands);
         let (style, number) = (&spot.file.name[..], spot.number);
-        self.causes.push(Cause { style, number, has_commands: true, lost, unprinted: 0 });
+        self.causes.push(Cause { style, number, has_commands: true, of_order: &[], lost, unprinted: 0 });
     }
 
     /// Says where a brace is missing, if this is the error in which that shows itself: the function with its lines, and the brace that is likely to be without
@@ -688,12 +739,11 @@ impl<'a, W: Write> Explainer<'a, W> {
     fn follows(&mut self, message: &Message<'a>) -> bool {
         let Place::Line { file, .. } = message.place else { return false };
         let name = unknown(message.text);
-        if name.is_none() && message.text != AT_END {
-            return false;
-        }
+        let is_of_order = |cause: &Cause<'a>| cause.of_order.iter().any(|end| message.text.ends_with(end.as_bytes()));
         let is_it = |cause: &&mut Cause<'a>| {
-            let is_lost = name.is_some_and(|name| cause.lost.has(name));
-            file == cause.style && (is_lost || cause.has_commands && name.is_none_or(is_command))
+            let is_lost = name.is_some_and(|name| cause.lost.has(name)) || is_of_order(cause);
+            let is_of_commands = name.map_or(message.text == AT_END, is_command);
+            file == cause.style && (is_lost || cause.has_commands && is_of_commands)
         };
         let cause = self.causes.iter_mut().find(is_it);
         cause.map(|cause| cause.unprinted += 1).is_some()
@@ -739,8 +789,9 @@ impl<'a, W: Write> Explainer<'a, W> {
             let begun = begun_value(spot.file, &text, &item);
             begun.map_or(Ok(()), |begun| self.put_place(&begun))?;
         }
-        if let Some(seen) = self.seen_in(message, &spot, &text, &item) {
-            return Ok(Some(seen));
+        let seen = self.seen_in(message, &spot, &text, &item).or_else(|| self.misnamed_type(message.text, &item));
+        if seen.is_some() {
+            return Ok(seen);
         }
         let Some(meant) = self.meant_by(message.text, &item) else { return Ok(None) };
         let below = self.seen_below(&meant, message.text, spot.file, &item);
@@ -767,9 +818,33 @@ impl<'a, W: Write> Explainer<'a, W> {
         });
         let is_fault = item.fault.is_some_and(|fault| fault.as_bytes() == message.text);
         let hidden = hidden.or_else(|| what_hides(spot.file, text, item).filter(|_| is_fault || first.is_some()));
-        let hidden = hidden.or_else(|| self.of_other_case(first?.name));
+        let hidden =
+            hidden.or_else(|| self.of_other_case(first?.name)).or_else(|| self.other_work(first?.name, text, item));
         let fault = Some(item.end).filter(|_| is_fault);
         hidden.or_else(|| what_to_do(spot.file, text, item, fault?, message.text))
+    }
+
+    /// What to do about a second entry of a key, where its title is another than that of the first.
+    fn other_work(&mut self, key: &[u8], text: &Text<'a>, item: &Item<'a>) -> Option<String> {
+        let Stored { database, item: first } = self.entries().entry(key)?;
+        let (first, second) = (title_of(database.text.bytes, first)?, title_of(text.bytes, item)?);
+        let is_part = |whole: &[u8], part: &[u8]| find(whole, part).is_some();
+        let is_other = !is_part(&first, &second) && !is_part(&second, &first);
+        let new =
+            (b'b'..=b'z').map(|letter| [key, &[letter]].concat()).find(|new| self.entries().entry(new).is_none())?;
+        is_other.then(|| Seen::OtherWork.with(&[&plain(&new)]))
+    }
+
+    /// What to do about an entry of a usual type, where the style has a function whose name is nearly the type's, and is no usual one.
+    fn misnamed_type(&mut self, message: &[u8], item: &Item<'a>) -> Option<String> {
+        let is_it = message.starts_with(b"entry type for ") && is_usual_type(item.kind);
+        let style = self.sources.style().filter(|_| is_it)?;
+        let name =
+            nearest(item.kind, functions_above_read(style.bytes.as_deref()?)).filter(|name| !is_usual_type(name))?;
+        let (text, commands) = (self.sources.text(&style.name)?, self.sources.commands(&style.name));
+        let command = commands.iter().find(|command| command.is("function") && command.name == Some(name))?;
+        let at = format!("{}:{}", plain(shown_path(style)), text.line_of(command.start));
+        Some(Seen::StyleMisnames.with(&[&plain(name), &at, &plain(&item.kind.to_ascii_lowercase())]))
     }
 
     /// Which of two entries to remove whose keys differ in their case alone: the one that isn't cited so.
@@ -794,6 +869,9 @@ impl<'a, W: Write> Explainer<'a, W> {
         }
         if name.starts_with(b"\\") {
             return Some(Seen::BareCommand.with(&[&plain(name)]));
+        }
+        if let Some((number, letter)) = number_meant(name) {
+            return Some(Seen::LetterForDigit.with(&[&number, &letter.to_string()]));
         }
         if let Some(at) = name.iter().position(|byte| matches!(byte, b'-' | b'/')) {
             let known = self.known_strings();
@@ -931,8 +1009,8 @@ impl<'a, W: Write> Explainer<'a, W> {
         match (self.advice_at(message, function), lacked) {
             (Some(advice), _) => self.put_advice(&advice)?,
             (None, Some(lacked)) => self.put_advice_once(&Seen::FieldIsMissing.with(&[&lacked]))?,
-            (None, None) => match names_by_commas(message.text) {
-                Some(names) => self.put_advice(&Seen::NamesByCommas.with(&[&names]))?,
+            (None, None) => match one_name(message.text).or_else(|| names_by_commas(message.text)) {
+                Some(advice) => self.put_advice(&advice)?,
                 None => self.advise(&[Section::Execution], message.text)?,
             },
         }
@@ -1044,15 +1122,20 @@ impl<'a, W: Write> Explainer<'a, W> {
         Ok(())
     }
 
-    /// Where the style stood at the end of a run of `steps` steps, where their number is known.
-    fn scene_of_end(&mut self, end: &End, steps: Option<u64>) -> io::Result<()> {
+    /// Where the style stood at the end of a run of `steps` steps, where their number is known; whether it was said that it stays there without end.
+    fn scene_of_end(&mut self, end: &End, steps: Option<u64>) -> io::Result<bool> {
         if steps != Some(end.steps) {
             self.put_place(&format!("after the first {} steps it stood", end.steps))?;
         }
         self.scene(&end.scene)?;
-        let Some((innermost, others)) = end.loops.split_first() else { return Ok(()) };
+        let Some((innermost, others)) = end.loops.split_first() else { return Ok(false) };
         let others: String = others.iter().map(|call| format!(", or in that of {}", self.call(call))).collect();
-        self.put_place(&format!("it stays in the loop of the `while$` in {}{others}", self.call(innermost)))
+        self.put_place(&format!("it stays in the loop of the `while$` in {}{others}", self.call(innermost)))?;
+        let style = self.sources.file(&innermost.file).and_then(|file| file.bytes.as_deref());
+        let Some((read, body)) = style.and_then(|style| loop_without_end(style, innermost.line)) else {
+            return Ok(false);
+        };
+        self.put_advice(&Seen::LoopWithoutEnd.with(&[&read, &body])).map(|()| true)
     }
 
     fn call(&self, call: &Call) -> String {
@@ -1078,7 +1161,7 @@ impl<'a, W: Write> Explainer<'a, W> {
     fn unplaced(&mut self, message: &Message<'a>) -> io::Result<bool> {
         let text = message.text;
         if let Some(spot) = self.sources.spot(message) {
-            self.show_line(&spot)?;
+            self.show_named_file(&spot, text)?;
             let meant = beside::meant(text, self.files);
             return meant.map_or(Ok(false), |meant| self.put_place(&meant).map(|()| false));
         }
@@ -1120,6 +1203,8 @@ impl<'a, W: Write> Explainer<'a, W> {
         let stem = name.strip_suffix(".aux").unwrap_or(&name);
         let advice = if let Some(broken) = broken_off(self.files) {
             Some(Seen::AuxBreaksOff.with(&[&plain(shown_path(broken))]))
+        } else if let Some(whole) = job_that_includes(self.files) {
+            Some(of_include(&name, whole))
         } else if self.is_of_biblatex() {
             Some(Seen::OfBiblatex.with(&[stem]))
         } else {
@@ -1196,8 +1281,33 @@ impl<'a, W: Write> Explainer<'a, W> {
         }
     }
 
+    /// Where the document names a key, a database or a style; whether that was found.
+    fn show_in_document(&mut self, named: Named, name: &[u8]) -> io::Result<bool> {
+        let document = self.document();
+        let found = document.as_ref().as_ref().and_then(|document| Some((document, document.place_of(named, name)?)));
+        let Some((document, (line, number, place))) = found else { return Ok(false) };
+        let name = plain(shown_path(&document.file));
+        let lines = ShownLine { name: &name, number, line, mark: Some(place) }.lines(self.terminal);
+        lines.iter().try_for_each(|line| self.coloured(PLACE_COLOUR, &format!("{INDENT}{line}"))).map(|()| true)
+    }
+
+    /// The line of the document that names a file which wasn't found, or else that of the `.aux` file.
+    fn show_named_file(&mut self, spot: &Spot<'a>, message: &[u8]) -> io::Result<()> {
+        let is_style = message.starts_with(b"I couldn't open style file ");
+        let (named, ending) = if is_style { (Named::Style, &b".bst"[..]) } else { (Named::Database, &b".bib"[..]) };
+        let whole = split_first(message, b" file ").map_or(&b""[..], |(_, name)| name);
+        let stem = whole.strip_suffix(ending).unwrap_or(whole);
+        if self.show_in_document(named, stem)? || self.show_in_document(named, whole)? {
+            return Ok(());
+        }
+        self.show_line(spot)
+    }
+
     /// Where a key is cited, or named as a parent.
     fn cited(&mut self, key: &'a [u8]) -> io::Result<()> {
+        if self.sources.names().key(key).is_some() && self.show_in_document(Named::Key, key)? {
+            return Ok(());
+        }
         if let Some(named) = self.sources.names().key(key) {
             let spot = self.sources.spot_of_name(named, key.len());
             return spot.map_or(Ok(()), |spot| self.show_line(&spot));
@@ -1235,6 +1345,87 @@ fn fields_in_words(fields: &[&[u8]]) -> String {
     format!("{}{rest}", names.join(", "))
 }
 
+/// What to do about an `.aux` file that `\include` has made: the job to run instead, where it is known.
+fn of_include(name: &str, whole: Option<Vec<u8>>) -> String {
+    let Some(whole) = whole else { return Seen::OfSomeInclude.with(&[name]) };
+    let whole = plain(&whole);
+    Seen::OfInclude.with(&[whole.strip_suffix(".aux").unwrap_or(&whole), &whole, name])
+}
+
+/// The letters and digits of an entry's title, in lower case.
+fn title_of(bytes: &[u8], item: &Item<'_>) -> Option<Vec<u8>> {
+    let inside = Inside::of(bytes, item);
+    let of_title = inside.fields.iter().zip(&inside.values).find(|(name, _)| name.eq_ignore_ascii_case(b"title"));
+    let title: Vec<u8> =
+        bytes[of_title?.1.clone()].iter().filter(|byte| byte.is_ascii_alphanumeric()).copied().collect();
+    (!title.is_empty()).then(|| title.to_ascii_lowercase())
+}
+
+/// Whether advice on one entry is about all of its kind, so that it is given once.
+fn is_of_whole_job(advice: &str) -> bool {
+    ["write `\\bibliography{", "call the style's function "].iter().any(|begin| advice.starts_with(begin))
+}
+
+/// Fields of databases, also those that no standard style reads.
+const FIELDS: [&str; 36] = [
+    "abstract",
+    "address",
+    "annote",
+    "archiveprefix",
+    "author",
+    "booktitle",
+    "chapter",
+    "date",
+    "doi",
+    "edition",
+    "editor",
+    "eid",
+    "eprint",
+    "howpublished",
+    "institution",
+    "isbn",
+    "issn",
+    "journal",
+    "key",
+    "keywords",
+    "language",
+    "lccn",
+    "month",
+    "note",
+    "number",
+    "numpages",
+    "organization",
+    "pages",
+    "primaryclass",
+    "publisher",
+    "school",
+    "series",
+    "title",
+    "url",
+    "volume",
+    "year",
+];
+
+/// Whether a name of a style's code is meant as a field: databases have such a one, and `empty$` or `missing$` asks for it somewhere.
+fn is_field(style: &[u8], name: &[u8]) -> bool {
+    let of = |token: &Token| &style[token.start..token.end];
+    let is_named = FIELDS.iter().any(|field| name.eq_ignore_ascii_case(field.as_bytes()));
+    let tokens: Vec<Token> = if is_named { Tokens::new(style).collect() } else { Vec::new() };
+    let is_asked = |pair: &[Token]| {
+        of(&pair[0]).eq_ignore_ascii_case(name) && [&b"empty$"[..], b"missing$"].contains(&of(&pair[1]))
+    };
+    tokens.windows(2).any(is_asked)
+}
+
+/// The errors on the order of commands that follow where this one is skipped.
+fn order_lost(around: Option<&Command<'_>>) -> &'static [&'static str] {
+    match around {
+        Some(command) if command.is("entry") => &["Illegal, READ command before ENTRY", " command before READ"],
+        Some(command) if command.is("read") => &[" command before READ"],
+        _ => &[],
+    }
+}
+
 /// What to do about a command that the `.aux` file lacks, by the document: it has the command, or has its neighbour.
 fn advice_of_document(document: &Document, error: &[u8]) -> Option<String> {
     let name = plain(shown_path(&document.file));
@@ -1267,7 +1458,7 @@ fn unknown(error: &[u8]) -> Option<&[u8]> {
     error.strip_suffix(b" is an unknown function")
 }
 
-/// Names that are parted by commas, with `and` between them; None where it isn't seen which parts are one name.
+/// What to do about names that are parted by commas, with `and` between them; None where it isn't seen which parts are one name.
 fn names_by_commas(error: &[u8]) -> Option<String> {
     let (_, quoted) = split_first(error.strip_prefix(b"Too many commas in name ")?, b"\"")?;
     let parts: Vec<&[u8]> = quoted.strip_suffix(b"\"")?.split(|byte| *byte == b',').map(<[u8]>::trim_ascii).collect();
@@ -1275,6 +1466,9 @@ fn names_by_commas(error: &[u8]) -> Option<String> {
     let has_other = parts.iter().any(|part| part.is_empty() || part.contains(&b'{') || part.contains(&b'}'));
     let has_and = quoted.windows(5).any(|word| word.eq_ignore_ascii_case(b" and "));
     if has_other || has_and || parts.len() < 4 || parts.len() > MOST_OF_SCENE {
+        return None;
+    }
+    if parts.iter().any(|part| is_suffix(part) || DEGREES.contains(part)) {
         return None;
     }
     let is_one_each = parts.iter().all(is_in_words);
@@ -1285,11 +1479,26 @@ fn names_by_commas(error: &[u8]) -> Option<String> {
         }
         false => return None,
     };
-    Some(names.join(" and "))
+    Some(Seen::NamesByCommas.with(&[&names.join(" and ")]))
+}
+
+/// What stands after a name and is no part of it.
+const DEGREES: [&[u8]; 8] = [b"PhD", b"Ph.D.", b"Ph.D", b"MD", b"M.D.", b"MSc", b"Dr.", b"Prof."];
+
+/// A name with what comes after it, as `Underwood, Paul, Jr., PhD`: as BibTeX has it, without its degrees.
+fn one_name(error: &[u8]) -> Option<String> {
+    let (_, quoted) = split_first(error.strip_prefix(b"Too many commas in name ")?, b"\"")?;
+    let parts: Vec<&[u8]> = quoted.strip_suffix(b"\"")?.split(|byte| *byte == b',').map(<[u8]>::trim_ascii).collect();
+    let (suffixes, others): (Vec<&[u8]>, Vec<&[u8]>) =
+        parts.into_iter().filter(|part| !DEGREES.contains(part)).partition(|part| is_suffix(part));
+    let [family, given] = others[..] else { return None };
+    let is_one = suffixes.len() < 2 && !quoted.windows(5).any(|word| word.eq_ignore_ascii_case(b" and "));
+    let name = [&[family], &suffixes[..], &[given]].concat().join(&b", "[..]);
+    is_one.then(|| Seen::CommasOfOneName.with(&[&plain(&name)]))
 }
 
 /// The key of the message on an entry that wasn't found.
-fn missing_key(text: &[u8]) -> Option<&[u8]> {
+pub fn missing_key(text: &[u8]) -> Option<&[u8]> {
     text.strip_prefix(b"I didn't find a database entry for \"").and_then(|rest| rest.strip_suffix(b"\""))
 }
 
@@ -1301,7 +1510,7 @@ fn bad_reference(text: &[u8]) -> Option<(&[u8], &[u8])> {
 }
 
 /// What stands between these two in a text that begins with the first.
-fn between<'a>(text: &'a [u8], before: &[u8], behind: &[u8]) -> Option<&'a [u8]> {
+pub fn between<'a>(text: &'a [u8], before: &[u8], behind: &[u8]) -> Option<&'a [u8]> {
     split_first(text.strip_prefix(before)?, behind).map(|(name, _)| name)
 }
 

@@ -151,6 +151,8 @@ mod tests {
             list: Vec::new(),
             log: Vec::new(),
             printed: Vec::new(),
+            long: Vec::new(),
+            of_read: 0..0,
             answer: Answer::Done(report),
             utf8: false,
             letters: Letters::AsTheyAre,

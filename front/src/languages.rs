@@ -25,6 +25,59 @@ const ROOT: [Rule; 61] = [
     ("ẋẍ", "x"), ("ýÿŷȳẏẙỳỵỷỹ", "y"), ("ƴȝɏỿ", "y*"), ("źżžẑẓẕ", "z"), ("þƅƨƶƹƺƻƽƿǯȥɀɂʒ", "z*"), ("ƾ", "ts"), ("ƍ", "zw"),
 ];
 
+/// How many places letters have in tables: the Latin letters that most texts have.
+pub const PLACES: usize = 0x330;
+
+/// The place of a letter in a table.
+pub const fn place_of(letter: u32) -> Option<usize> {
+    match letter as usize {
+        number @ 0x80..=0x2AF => Some(number - 0x80),
+        number @ 0x1E00..=0x1EFF => Some(number - 0x1E00 + 0x230),
+        _ => None,
+    }
+}
+
+/// The letter of two or three bytes that begins at this place of a text in UTF-8, and where it ends.
+const fn letter_at(text: &[u8], at: usize) -> (u32, usize) {
+    let (first, second) = (text[at] as u32, (text[at + 1] & 0x3F) as u32);
+    if first < 0xE0 {
+        return ((first & 0x1F) << 6 | second, at + 2);
+    }
+    ((first & 0xF) << 12 | second << 6 | (text[at + 2] & 0x3F) as u32, at + 3)
+}
+
+/// Writes a number at the places of these letters.
+const fn with_rule(mut table: [u8; PLACES], letters: &[u8], number: u8) -> [u8; PLACES] {
+    let mut at = 0;
+    while at < letters.len() {
+        let (letter, after) = letter_at(letters, at);
+        if let Some(place) = place_of(letter) {
+            table[place] = number;
+        }
+        at = after;
+    }
+    table
+}
+
+/// At the place of each letter the number of its rule for any language, counted from 1; 0 where there is none.
+const RULE_OF: [u8; PLACES] = {
+    let (mut table, mut rule) = ([0; PLACES], 0);
+    while rule < ROOT.len() {
+        table = with_rule(table, ROOT[rule].0.as_bytes(), rule as u8 + 1);
+        rule += 1;
+    }
+    table
+};
+
+/// What a letter sorts as in any language that has no rule for it.
+fn of_all(small: char) -> Option<&'static str> {
+    let rule = match place_of(u32::from(small)) {
+        Some(place) => usize::from(RULE_OF[place]).checked_sub(1).map(|rule| &ROOT[rule]),
+        None => ROOT.iter().find(|(letters, _)| letters.contains(small)),
+    };
+    rule.map(|(_, written)| *written)
+}
+
 /// The languages. Those without a rule of their own sort by the letter without its marks.
 #[rustfmt::skip]
 const LANGUAGES: [Row; 19] = [
@@ -96,8 +149,8 @@ impl Language {
     /// What a small letter outside ASCII sorts as; None where it isn't a Latin one.
     pub fn key(&self, small: char) -> Option<Vec<u8>> {
         let mut own = self.own.iter().filter(|rule| are_single(rule.0));
-        let of_all = || ROOT.iter().find(|(letters, _)| letters.contains(small));
-        own.find(|(letters, _)| letters.contains(small)).or_else(of_all).map(|(_, written)| key(written))
+        let of_own = own.find(|(letters, _)| letters.contains(small)).map(|(_, written)| *written);
+        of_own.or_else(|| of_all(small)).map(key)
     }
 
     /// What the first letter of a text sorts as by being one with those that follow.
@@ -143,6 +196,14 @@ mod tests {
         assert_eq!(keys, [Some(&key("d**")[..]), Some(&key("d*")), Some(&key("d**zs")), None, Some(&key("c*"))]);
         assert_eq!(language("hr").key_of_several("Džamonja"), Some(&key("d*")[..]));
         assert_eq!(language("de").key_of_several("ch"), None);
+    }
+
+    #[test]
+    fn the_table_has_the_rules_of_all_letters() {
+        let listed = |small| ROOT.iter().find(|(letters, _)| letters.contains(small)).map(|(_, written)| *written);
+        for small in ('\u{80}'..='\u{3000}').chain("Я“ff".chars()) {
+            assert_eq!(of_all(small), listed(small), "{small}");
+        }
     }
 
     #[test]

@@ -2,8 +2,9 @@
 //! it sorts as. For BibTeX that is one letter: `purify$` keeps the key alone, `change.case$` changes the key's case, and names and prefixes keep it whole. In braces, where BibTeX knows no
 //! special characters, `purify$` keeps the key as well. So a run over such values sorts and counts letters as the language does, and what it writes is turned back.
 
-use crate::languages::Language;
+use crate::languages::{Language, PLACES, place_of};
 use std::collections::HashMap;
+use std::ops::Range;
 use std::sync::Arc;
 
 /// The control characters of a code: those that are no whitespace.
@@ -33,24 +34,77 @@ const fn is_of_code(byte: u8) -> bool {
     is_digit(byte) || byte >= MARK
 }
 
-/// The first byte from this place on that is one of a code, or that only keys have. Of 32 bytes the processor looks at many at once.
+/// The highest bit of each of eight bytes, and eight times a small number.
+const HIGH: u64 = 0x8080_8080_8080_8080;
+const fn eight(byte: u64) -> u64 {
+    byte * 0x0101_0101_0101_0101
+}
+
+/// The highest bit of each of eight bytes that is less than this number. (Above the first of these it may be that of any.)
+const fn below(word: u64, least: u64) -> u64 {
+    word.wrapping_sub(eight(least)) & !word
+}
+
+/// The first byte from this place on that passes a test. Eight bytes are looked at at once: `marks` has the highest bit of each that may pass it. (Above the first of these it may have any.)
+fn find_by(text: &[u8], from: usize, marks: impl Fn(u64) -> u64, test: impl Fn(u8) -> bool) -> Option<usize> {
+    let mut at = from;
+    while let Some(word) = text[at..].first_chunk() {
+        let found = marks(u64::from_le_bytes(*word)) & HIGH;
+        at += found.trailing_zeros() as usize / 8;
+        if found != 0 {
+            if test(text[at]) {
+                return Some(at);
+            }
+            at += 1;
+        }
+    }
+    text[at..].iter().position(|byte| test(*byte)).map(|after| at + after)
+}
+
+/// The first byte from this place on that is one of a code, or that only keys have.
 fn find_of_code(text: &[u8], from: usize) -> Option<usize> {
-    let has_it = |chunk: &[u8; 32]| chunk.iter().fold(false, |has, byte| has | is_of_code(*byte));
-    let (chunks, _) = text[from..].as_chunks::<32>();
-    let at = from + 32 * chunks.iter().position(has_it).unwrap_or(chunks.len());
-    text[at..].iter().position(|byte| is_of_code(*byte)).map(|after| at + after)
+    find_by(text, from, |word| below(word, 0x20) | below(!word, 0x100 - u64::from(MARK)), is_of_code)
+}
+
+/// The first byte from this place on that is one of a code, or none of ASCII.
+pub fn find_of_letters(text: &[u8], from: usize) -> Option<usize> {
+    find_by(text, from, |word| below(word, 0x20) | word, |byte| byte >= 0x80 || is_digit(byte))
 }
 
 fn value_of(digit: u8) -> Option<usize> {
     is_digit(digit).then(|| usize::from(digit) - if digit < 9 { 1 } else { 6 })
 }
 
+/// A text of a few bytes.
+#[derive(Debug, Clone, Copy, Default, PartialEq, Eq)]
+struct Short {
+    bytes: [u8; 16],
+    len: usize,
+}
+
+impl Short {
+    fn push(&mut self, bytes: &[u8]) {
+        self.bytes[self.len..self.len + bytes.len()].copy_from_slice(bytes);
+        self.len += bytes.len();
+    }
+
+    fn of_letters(letters: impl Iterator<Item = char>) -> Short {
+        let mut short = Short::default();
+        letters.for_each(|letter| short.push(letter.encode_utf8(&mut [0; 4]).as_bytes()));
+        short
+    }
+
+    fn bytes(&self) -> &[u8] {
+        &self.bytes[..self.len]
+    }
+}
+
 /// A letter that has a code.
 #[derive(Debug)]
 struct Letter {
-    itself: String,
+    itself: Short,
     /// It in the other case.
-    other: String,
+    other: Short,
     is_capital: bool,
 }
 
@@ -58,14 +112,15 @@ impl Letter {
     /// A letter in a text of a language; `is_foreign` where the text has no letter outside ASCII, so that its `I` may be one of another language.
     fn new(itself: char, language: &Language, is_foreign: bool) -> Letter {
         let is_capital = itself.is_uppercase();
+        let one = |letter: char| Short::of_letters(std::iter::once(letter));
         let other = match itself {
-            'I' if language.is_dotless() && !is_foreign => "ı".into(),
-            'i' if language.is_dotless() => "İ".into(),
-            'İ' => "i".into(),
-            _ if is_capital => itself.to_lowercase().collect(),
-            _ => itself.to_uppercase().collect(),
+            'I' if language.is_dotless() && !is_foreign => one('ı'),
+            'i' if language.is_dotless() => one('İ'),
+            'İ' => one('i'),
+            _ if is_capital => Short::of_letters(itself.to_lowercase()),
+            _ => Short::of_letters(itself.to_uppercase()),
         };
-        Letter { itself: itself.into(), other, is_capital }
+        Letter { itself: one(itself), other, is_capital }
     }
 }
 
@@ -95,32 +150,22 @@ pub struct Codes {
     /// Their numbers, by themselves; the `I` of a foreign text is another one.
     numbers: HashMap<(char, bool), usize>,
     /// The code of each letter outside ASCII that was met, by its place; empty where it has none.
-    codes: Vec<Option<Box<[u8]>>>,
+    codes: Vec<Option<Short>>,
     /// Those of letters that have no place.
-    others: HashMap<char, Box<[u8]>>,
+    others: HashMap<char, Short>,
 }
 
-/// The place of a letter in a table: the Latin letters that most texts have.
-fn place_of(letter: char) -> Option<usize> {
-    match letter as usize {
-        number @ 0x80..=0x24F => Some(number - 0x80),
-        number @ 0x1E00..=0x1EFF => Some(number - 0x1E00 + 0x1D0),
-        _ => None,
-    }
-}
-
-/// How many places there are.
-const PLACES: usize = 0x2D0;
-
-/// The letter outside ASCII with which this text in UTF-8 begins.
-fn first_letter(text: &[u8]) -> Option<char> {
-    let bits = |at: usize| text.get(at).map(|byte| u32::from(byte & 0x3F));
+/// The letter outside ASCII with which this text begins; None where it begins with none in UTF-8.
+pub fn first_letter(text: &[u8]) -> Option<char> {
+    let bits = |at: usize| text.get(at).filter(|byte| **byte & 0xC0 == 0x80).map(|byte| u32::from(byte & 0x3F));
     let first = u32::from(*text.first()?);
-    char::from_u32(match first {
-        0xC0..=0xDF => (first & 0x1F) << 6 | bits(1)?,
-        0xE0..=0xEF => (first & 0xF) << 12 | bits(1)? << 6 | bits(2)?,
-        _ => (first & 7) << 18 | bits(1)? << 12 | bits(2)? << 6 | bits(3)?,
-    })
+    let (letter, least) = match first {
+        0xC0..=0xDF => ((first & 0x1F) << 6 | bits(1)?, 0x80),
+        0xE0..=0xEF => ((first & 0xF) << 12 | bits(1)? << 6 | bits(2)?, 0x800),
+        0xF0..=0xF7 => ((first & 7) << 18 | bits(1)? << 12 | bits(2)? << 6 | bits(3)?, 0x1_0000),
+        _ => return None,
+    };
+    char::from_u32(letter).filter(|_| letter >= least)
 }
 
 impl Codes {
@@ -137,66 +182,79 @@ impl Codes {
         }
     }
 
-    /// Writes a text of a value, which is UTF-8, with its letters coded.
-    pub fn code(&mut self, text: &[u8], out: &mut Vec<u8>) {
+    /// Writes a text up to the last letter of this part, which is UTF-8, that has a code, with the letters of the part coded; `letters` says where in the text those outside ASCII are. It is
+    /// written up to the place `written`; up to where it is then.
+    pub fn code(
+        &mut self,
+        text: &[u8],
+        part: Range<usize>,
+        letters: &[usize],
+        written: usize,
+        out: &mut Vec<u8>,
+    ) -> usize {
         if self.language.has_rules_for_ascii() {
-            return self.code_all(text, out);
+            return self.code_all(text, part, written, out);
         }
-        let (mut depth, mut at, mut copied) = (0, 0, 0);
-        while let Some(before) = text[at..].iter().position(|byte| *byte >= 0x80) {
+        let (mut depth, mut at, mut written) = (0, part.start, written);
+        for start in letters {
             if self.in_braces == InBraces::AsTheyAre {
-                depth += depth_of(&text[at..at + before]);
+                depth += depth_of(&text[at..*start]);
             }
-            at += before;
-            let Some(letter) = first_letter(&text[at..]) else { break };
-            let after = at + letter.len_utf8();
-            if depth <= 0 && self.put(letter, &text[copied..at], out) {
-                copied = after;
+            let Some(letter) = first_letter(&text[*start..]) else { break };
+            at = start + letter.len_utf8();
+            if depth <= 0 && self.put(letter, &text[written..*start], out) {
+                written = at;
             }
-            at = after;
         }
-        out.extend_from_slice(&text[copied..]);
+        written
     }
 
     /// The same where letters of ASCII may be coded, too.
-    fn code_all(&mut self, text: &[u8], out: &mut Vec<u8>) {
-        let Ok(text) = std::str::from_utf8(text) else { return out.extend_from_slice(text) };
-        let (mut depth, mut copied, is_foreign) = (0, 0, text.is_ascii());
-        for (at, itself) in text.char_indices() {
+    fn code_all(&mut self, text: &[u8], part: Range<usize>, written: usize, out: &mut Vec<u8>) -> usize {
+        let Ok(value) = std::str::from_utf8(&text[part.clone()]) else { return written };
+        let (mut depth, mut written, is_foreign) = (0, written, value.is_ascii());
+        for (at, itself) in value.char_indices() {
             depth += i64::from(itself == '{') - i64::from(itself == '}');
             if depth > 0 && self.in_braces == InBraces::AsTheyAre {
                 continue;
             }
-            let before = &text.as_bytes()[copied..at];
+            let start = part.start + at;
+            let before = &text[written..start];
             let is_coded = match itself.is_ascii() {
-                true => self.put_of_ascii(itself, &text[at..], is_foreign, before, out),
+                true => self.put_of_ascii(itself, &value[at..], is_foreign, before, out),
                 false => self.put(itself, before, out),
             };
             if is_coded {
-                copied = at + itself.len_utf8();
+                written = start + itself.len_utf8();
             }
         }
-        out.extend_from_slice(&text.as_bytes()[copied..]);
+        written
     }
 
     /// Writes a letter outside ASCII, and what comes before it; false where it has no code, and nothing is written.
     fn put(&mut self, letter: char, before: &[u8], out: &mut Vec<u8>) -> bool {
-        let place = place_of(letter);
-        if place.map_or_else(|| !self.others.contains_key(&letter), |place| self.codes[place].is_none()) {
-            let key = self.key(letter, "", false);
-            let code = key.and_then(|key| self.code_of((letter, false), &key)).unwrap_or_default().into_boxed_slice();
-            match place {
-                Some(place) => self.codes[place] = Some(code),
-                None => {
-                    self.others.insert(letter, code);
-                }
+        let known = match place_of(u32::from(letter)) {
+            Some(place) => self.codes[place],
+            None => self.others.get(&letter).copied(),
+        };
+        let code = known.unwrap_or_else(|| self.met(letter));
+        if code.len > 0 {
+            out.extend_from_slice(before);
+            out.extend_from_slice(code.bytes());
+        }
+        code.len > 0
+    }
+
+    /// The code of a letter outside ASCII that is met for the first time.
+    fn met(&mut self, letter: char) -> Short {
+        let code = self.key(letter, "", false).and_then(|key| self.code_of((letter, false), &key)).unwrap_or_default();
+        match place_of(u32::from(letter)) {
+            Some(place) => self.codes[place] = Some(code),
+            None => {
+                self.others.insert(letter, code);
             }
         }
-        let code = place.map_or_else(|| self.others.get(&letter), |place| self.codes[place].as_ref());
-        let Some(code) = code.filter(|code| !code.is_empty()) else { return false };
-        out.extend_from_slice(before);
-        out.extend_from_slice(code);
-        true
+        code
     }
 
     /// The same of a letter of ASCII with which `rest` begins: what it sorts as depends on those that follow.
@@ -206,7 +264,7 @@ impl Codes {
             return false;
         };
         out.extend_from_slice(before);
-        out.extend_from_slice(&code);
+        out.extend_from_slice(code.bytes());
         true
     }
 
@@ -235,15 +293,16 @@ impl Codes {
     }
 
     /// The code of a letter with this key.
-    fn code_of(&mut self, known: (char, bool), key: &[u8]) -> Option<Vec<u8>> {
+    fn code_of(&mut self, known: (char, bool), key: &[u8]) -> Option<Short> {
         let number = self.number(known)?;
-        let mut code = vec![b'{', b'\\', DIGITS[number / DIGITS.len()], DIGITS[number % DIGITS.len()], b'{'];
-        code.extend_from_slice(key);
+        let mut code = Short::default();
+        code.push(&[b'{', b'\\', DIGITS[number / DIGITS.len()], DIGITS[number % DIGITS.len()], b'{']);
+        code.push(key);
         if self.letters[number].is_capital {
-            code[5..].make_ascii_uppercase();
+            code.bytes[5..].make_ascii_uppercase();
         }
-        code.extend_from_slice(self.mark);
-        code.extend_from_slice(b"}}");
+        code.push(self.mark);
+        code.push(b"}}");
         Some(code)
     }
 
@@ -256,7 +315,7 @@ impl Codes {
             let start = found.checked_sub(2).filter(|start| *start >= copied);
             if let Some((start, code)) = start.and_then(|start| Some((start, self.code_at(&text[start..])?))) {
                 turned.text.extend_from_slice(&text[copied..start]);
-                turned.text.extend_from_slice(self.letter(&code).as_bytes());
+                turned.text.extend_from_slice(self.letter(&code));
                 copied = start + code.len;
                 at = copied;
             } else {
@@ -278,11 +337,11 @@ impl Codes {
     }
 
     /// The letter that a code stands for: in the other case where its key has another case than it was given.
-    fn letter(&self, code: &Code<'_>) -> &str {
+    fn letter(&self, code: &Code<'_>) -> &[u8] {
         let letter = &self.letters[code.number];
         match code.key.iter().find(|byte| byte.is_ascii_alphabetic()) {
-            Some(byte) if byte.is_ascii_uppercase() != letter.is_capital => &letter.other,
-            _ => &letter.itself,
+            Some(byte) if byte.is_ascii_uppercase() != letter.is_capital => letter.other.bytes(),
+            _ => letter.itself.bytes(),
         }
     }
 }
@@ -306,7 +365,10 @@ mod tests {
 
     fn coded(codes: &mut Codes, text: &str) -> Vec<u8> {
         let mut out = Vec::new();
-        codes.code(text.as_bytes(), &mut out);
+        let letters: Vec<usize> =
+            text.char_indices().filter(|(_, letter)| !letter.is_ascii()).map(|(at, _)| at).collect();
+        let written = codes.code(text.as_bytes(), 0..text.len(), &letters, 0, &mut out);
+        out.extend_from_slice(&text.as_bytes()[written..]);
         out
     }
 
@@ -319,6 +381,32 @@ mod tests {
         let turned = codes.turn_back(&list);
         assert!(turned.is_whole, "{text}");
         String::from_utf8(turned.text).unwrap()
+    }
+
+    #[test]
+    fn letters_are_those_of_utf_8() {
+        let bytes = [
+            0x00, 0x7F, 0x80, 0x8F, 0x90, 0x9F, 0xA0, 0xBF, 0xC0, 0xC1, 0xC2, 0xDF, 0xE0, 0xED, 0xEF, 0xF0, 0xF4, 0xF5,
+            0xFF,
+        ];
+        for number in 0..bytes.len().pow(4) {
+            let text = [1, 19, 361, 6859].map(|place| bytes[number / place % 19]);
+            let letter = (1..=4).find_map(|len| std::str::from_utf8(&text[..len]).ok()?.chars().next());
+            assert_eq!(first_letter(&text), letter.filter(|letter| !letter.is_ascii()), "{text:?}");
+        }
+        assert_eq!(first_letter(&"ö".as_bytes()[..1]), None);
+    }
+
+    #[test]
+    fn bytes_are_found_wherever_they_are() {
+        let bytes: Vec<u8> = (0..=255).flat_map(|byte| [byte, b'a', byte]).collect();
+        for text in [&bytes[..], b"", b"ab\ncdefghijkl\tmn", b"abcdefgh", b"\n\n\n\n\n\n\n\n\n\x80\x01"] {
+            for from in 0..=text.len() {
+                let first = |test: fn(u8) -> bool| (from..text.len()).find(|at| test(text[*at]));
+                assert_eq!(find_of_code(text, from), first(is_of_code));
+                assert_eq!(find_of_letters(text, from), first(|byte| byte >= 0x80 || is_digit(byte)));
+            }
+        }
     }
 
     #[test]

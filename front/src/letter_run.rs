@@ -4,7 +4,7 @@ use crate::btx::{Answer, Ran};
 use crate::job::{File, Files};
 use crate::languages::{AFTER, Language};
 use crate::letter_codes::{Codes, InBraces, MARK, has_digits};
-use crate::letter_values::{self, FIXED, is_one_text, parts};
+use crate::letter_values::{self, FIXED, is_one_text, parts, split_at_place};
 use crate::style_keys;
 use memchr::{memchr2_iter, memmem};
 use std::ops::Range;
@@ -86,7 +86,7 @@ pub fn run(
     }
     let types: Vec<&[u8]> = chosen.types.iter().map(|kind| kind.0).collect();
     let may_print_keys = style_keys::may_print_keys(style, &types, &FIXED);
-    let job = Job { files, values: chosen.values, language };
+    let job = Job { files, values: chosen.values, letters: chosen.letters, language };
     let ran = thread::scope(|scope| {
         let prints = may_print_keys.then(|| scope.spawn(|| job.prints_keys(&run)));
         let ran = job.run_with(InBraces::Coded, &run).or_else(|why| match why {
@@ -112,10 +112,11 @@ fn moved(codes: &Codes, log: &[u8], parts: &[Range<usize>]) -> Vec<Range<usize>>
     parts.iter().map(|part| place(part.start)..place(part.end)).collect()
 }
 
-/// A job, the values of its files, and the language of their letters.
+/// A job, the values of its files, where letters outside ASCII begin in these, and the language of the letters.
 struct Job<'a> {
     files: &'a Files,
     values: Vec<Vec<Range<usize>>>,
+    letters: Vec<Vec<usize>>,
     language: &'a Arc<Language>,
 }
 
@@ -123,14 +124,14 @@ impl Job<'_> {
     /// The job with coded letters.
     fn coded(&self, in_braces: InBraces, are_marked: bool) -> Coded {
         let mut codes = Codes::new(self.language, in_braces, are_marked);
-        let mut code = |(file, values): (&File, &Vec<Range<usize>>)| {
+        let mut code = |((file, values), letters): ((&File, &Vec<Range<usize>>), &Vec<usize>)| {
             let bytes = match values[..] {
                 [] => file.bytes.clone(),
-                _ => file.bytes.as_deref().map(|bytes| coded_text(bytes, values, &mut codes)),
+                _ => file.bytes.as_deref().map(|bytes| coded_text(bytes, values, letters, &mut codes)),
             };
             File { name: file.name.clone(), bytes, path: file.path.clone() }
         };
-        let all = self.files.all.iter().zip(&self.values).map(&mut code).collect();
+        let all = self.files.all.iter().zip(&self.values).zip(&self.letters).map(&mut code).collect();
         Coded { files: Files { top: self.files.top.clone(), all }, codes }
     }
 
@@ -145,8 +146,11 @@ impl Job<'_> {
         if !list.is_whole || !log.is_whole || !self.has_all_braces(&list.text, run) {
             return Err(LeftOut::CutsLetters);
         }
-        let printed = moved(&coded.codes, &ran.log, &ran.printed);
-        Ok(Ran { list: list.text, log: log.text, printed, letters: Letters::Coded(Arc::new(coded)), ..ran })
+        let moved = |parts: &[Range<usize>]| moved(&coded.codes, &ran.log, parts);
+        let (printed, long) = (moved(&ran.printed), moved(&ran.long));
+        let of_read = moved(std::slice::from_ref(&ran.of_read)).into_iter().next().unwrap_or_default();
+        let (list, log, letters) = (list.text, log.text, Letters::Coded(Arc::new(coded)));
+        Ok(Ran { list, log, printed, long, of_read, letters, ..ran })
     }
 
     /// Whether no brace of a list is left over from a code that was cut. A style may leave out braces of its own.
@@ -166,26 +170,28 @@ impl Job<'_> {
 }
 
 /// A database whose values are coded.
-fn coded_text(text: &[u8], values: &[Range<usize>], codes: &mut Codes) -> Vec<u8> {
+fn coded_text(text: &[u8], values: &[Range<usize>], letters: &[usize], codes: &mut Codes) -> Vec<u8> {
     let mut out = Vec::with_capacity(text.len() + text.len() / 4);
-    let mut at = 0;
-    let mut code = |start: usize, end: usize| {
+    let (mut at, mut written, mut letters) = (0, 0, letters);
+    let mut code = |part: Range<usize>| {
         // An entry that stands in another's value was coded with it.
-        if start >= at {
-            out.extend_from_slice(&text[at..start]);
-            codes.code(&text[start..end], &mut out);
-            at = end;
+        if part.start >= at {
+            at = part.end;
+            let (_, after) = split_at_place(letters, part.start);
+            let (of_part, after) = split_at_place(after, part.end);
+            letters = after;
+            written = codes.code(text, part, of_part, written, &mut out);
         }
     };
     for value in values {
         if is_one_text(&text[value.clone()]) {
-            code(value.start + 1, value.end - 1);
+            code(value.start + 1..value.end - 1);
         } else {
             let parts = parts(&text[value.clone()]);
-            parts.into_iter().for_each(|part| code(value.start + part.start, value.start + part.end));
+            parts.into_iter().for_each(|part| code(value.start + part.start..value.start + part.end));
         }
     }
-    out.extend_from_slice(&text[at..]);
+    out.extend_from_slice(&text[written..]);
     out
 }
 
@@ -243,8 +249,9 @@ mod tests {
         let fields = "title = \"ö\" # {ö} # ö # 12, URL = {ö}, ö = 1";
         let files = job("title write$", fields);
         let german = Arc::new(Language::named(b"de").unwrap());
-        let values = letter_values::chosen(&files, &german).unwrap().values;
-        let coded = Job { files: &files, values, language: &german }.coded(InBraces::Coded, false);
+        let chosen = letter_values::chosen(&files, &german).unwrap();
+        let job = Job { files: &files, values: chosen.values, letters: chosen.letters, language: &german };
+        let coded = job.coded(InBraces::Coded, false);
         let code = "{\\\u{1}\u{1}{o}}";
         let wanted = format!("@misc{{k, title = \"{code}\" # {{{code}}} # ö # 12, URL = {{ö}}, ö = 1}}\n");
         assert_eq!(String::from_utf8_lossy(bytes_of(&coded.files.all[2])), wanted);

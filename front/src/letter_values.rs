@@ -2,10 +2,10 @@
 //! their keys alone, since most of a large database is of that kind.
 
 use crate::aux_text;
-use crate::database::{Folded, Head, Item, heads};
+use crate::database::{Folded, Head, Inside, Item, heads};
 use crate::job::Files;
 use crate::languages::Language;
-use crate::letter_codes::has_digits;
+use crate::letter_codes::{find_of_letters, first_letter};
 use crate::letter_run::LeftOut;
 use std::collections::HashSet;
 use std::ops::Range;
@@ -13,8 +13,19 @@ use std::ops::Range;
 /// Fields whose values stay as they are: the key of another entry, where something is found, and what styles print as they would sort it, or take apart byte by byte.
 pub const FIXED: [&str; 10] = ["crossref", "doi", "file", "month", "number", "pages", "url", "volume", "xref", "year"];
 
+/// A bit for each letter with which one of their names begins.
+const FIRST_OF_FIXED: u32 = {
+    let (mut bits, mut number) = (0, 0);
+    while number < FIXED.len() {
+        bits |= 1 << (FIXED[number].as_bytes()[0] % 32);
+        number += 1;
+    }
+    bits
+};
+
 fn is_fixed(name: &[u8]) -> bool {
-    FIXED.iter().any(|field| field.len() == name.len() && name.eq_ignore_ascii_case(field.as_bytes()))
+    let may_be = name.first().is_some_and(|first| FIRST_OF_FIXED >> (first % 32) & 1 == 1);
+    may_be && FIXED.iter().any(|field| field.len() == name.len() && name.eq_ignore_ascii_case(field.as_bytes()))
 }
 
 /// What of a job may be coded.
@@ -22,6 +33,8 @@ fn is_fixed(name: &[u8]) -> bool {
 pub struct Chosen<'a> {
     /// The values of each file, in their order.
     pub values: Vec<Vec<Range<usize>>>,
+    /// Where in each file letters outside ASCII begin, at least those of the values.
+    pub letters: Vec<Vec<usize>>,
     /// The types of the entries that the list may have.
     pub types: HashSet<Folded<'a>>,
 }
@@ -45,14 +58,18 @@ fn number_of(key: &[u8]) -> usize {
 
 impl<'a> Wanted<'a> {
     fn new(files: &'a Files) -> Wanted<'a> {
-        let mut wanted = Wanted { keys: HashSet::new(), numbers: vec![0; 1024], are_all: false };
+        // (as many as fit: to make more room later would take as long as all else)
+        let bytes: usize = files.with_ending(".aux").map(|file| file.bytes.as_deref().map_or(0, <[u8]>::len)).sum();
+        let keys = HashSet::with_capacity((bytes / 12).min(1 << 16));
+        let mut wanted = Wanted { keys, numbers: vec![0; 1024], are_all: false };
         aux_text::cited_keys(files).for_each(|key| wanted.add(key));
         wanted
     }
 
     fn add(&mut self, key: &'a [u8]) {
         self.are_all |= key == b"*";
-        self.numbers[number_of(key) / 64] |= 1 << (number_of(key) % 64);
+        let number = number_of(key);
+        self.numbers[number / 64] |= 1 << (number % 64);
         self.keys.insert(Folded(key));
     }
 
@@ -63,13 +80,43 @@ impl<'a> Wanted<'a> {
     }
 }
 
+/// The types of the entries that the list may have.
+#[derive(Default)]
+struct Types<'a> {
+    all: HashSet<Folded<'a>>,
+    /// Some of them, each at the place of its length and first byte: most entries have one of these.
+    met: [&'a [u8]; 32],
+}
+
+impl<'a> Types<'a> {
+    fn add(&mut self, kind: &'a [u8]) {
+        let met = &mut self.met[(kind.len() + kind.first().map_or(0, |first| usize::from(*first))) % 32];
+        if *met != kind || kind.is_empty() {
+            *met = kind;
+            self.all.insert(Folded(kind));
+        }
+    }
+}
+
+/// What is chosen in all databases of a job.
+struct Choice<'a> {
+    wanted: Wanted<'a>,
+    types: Types<'a>,
+    /// Whether values of ASCII have something to code, too.
+    is_of_ascii: bool,
+    /// What stands in the item that was read last.
+    inside: Inside<'a>,
+}
+
 /// A database while its values are chosen.
 struct Database<'a> {
     text: &'a [u8],
     /// The heads of the items that weren't read yet.
     heads: Vec<Head<'a>>,
-    /// The values of fields that may be coded.
+    /// The values of fields that may be coded, and have something to code.
     values: Vec<Range<usize>>,
+    /// Where letters outside ASCII begin in the items that were read.
+    letters: Vec<usize>,
     /// The strings that it defines, and their values.
     strings: Vec<(&'a [u8], Range<usize>)>,
     /// The names of strings in fields that stay as they are.
@@ -80,51 +127,39 @@ impl<'a> Database<'a> {
     fn new(text: &'a [u8]) -> Database<'a> {
         let mut found = Vec::with_capacity(text.len() / 256);
         found.extend(heads(text));
-        Database { text, heads: found, values: Vec::new(), strings: Vec::new(), fixed: Vec::new() }
+        let (values, letters) = (Vec::new(), Vec::new());
+        Database { text, heads: found, values, letters, strings: Vec::new(), fixed: Vec::new() }
     }
 
     /// Reads the items that are wanted and weren't read yet, and adds their parents to what is wanted.
-    fn read(&mut self, wanted: &mut Wanted<'a>, types: &mut HashSet<Folded<'a>>) -> Result<(), LeftOut> {
-        let (mut unread, mut end) = (Vec::new(), 0);
-        for head in std::mem::take(&mut self.heads) {
+    fn read(&mut self, choice: &mut Choice<'a>) -> Result<(), LeftOut> {
+        let (mut unread, mut end) = (0, 0);
+        for number in 0..self.heads.len() {
+            let head = self.heads[number];
             if head.start < end {
                 // (it stands in the text of an item)
-            } else if is_text(head.kind) || wanted.has(&head) {
-                end = self.read_item(head, wanted, types)?;
+            } else if is_text(head.kind) || choice.wanted.has(&head) {
+                end = self.read_item(head, choice)?;
             } else {
-                unread.push(head);
+                self.heads[unread] = head;
+                unread += 1;
             }
         }
-        self.heads = unread;
+        self.heads.truncate(unread);
         Ok(())
     }
 
     /// Reads an item; where it ends.
-    fn read_item(
-        &mut self,
-        head: Head<'a>,
-        wanted: &mut Wanted<'a>,
-        types: &mut HashSet<Folded<'a>>,
-    ) -> Result<usize, LeftOut> {
-        let (item, inside) = Item::read_at(self.text, head.start);
-        let whole = &self.text[item.start..item.end];
-        if std::str::from_utf8(whole).is_err() {
-            return Err(LeftOut::NotUtf8);
-        } else if has_digits(whole) {
-            return Err(LeftOut::ControlCharacters);
-        }
+    fn read_item(&mut self, head: Head<'a>, choice: &mut Choice<'a>) -> Result<usize, LeftOut> {
+        let item = Item::read_at(self.text, head.start, &mut choice.inside);
+        let (inside, met) = (&choice.inside, self.letters.len());
+        find_letters(&self.text[..item.end], item.start, &mut self.letters)?;
         if item.is_entry() {
-            types.insert(Folded(item.kind));
-        }
-        for (name, value) in inside.fields.iter().zip(&inside.values) {
-            if !is_fixed(name) {
-                self.values.push(value.clone());
-            } else if !is_one_text(&self.text[value.clone()]) {
-                self.fixed.extend(names_in(&self.text[value.clone()]));
-            }
+            choice.types.add(item.kind);
+            self.choose_fields(inside, met, choice.is_of_ascii);
         }
         for parent in &item.parents {
-            wanted.add(parent.key);
+            choice.wanted.add(parent.key);
         }
         if item.is_string()
             && let (Some(key), Some(value)) = (item.key, inside.values.first())
@@ -136,18 +171,57 @@ impl<'a> Database<'a> {
         let is_of_strings = |(name, value): (&&[u8], &Range<usize>)| {
             name.eq_ignore_ascii_case(b"crossref") && names_in(&self.text[value.clone()]).next().is_some()
         };
-        wanted.are_all |= !item.parents.is_empty() && of_fields.any(is_of_strings);
+        choice.wanted.are_all |= !item.parents.is_empty() && of_fields.any(is_of_strings);
         Ok(item.end)
     }
 
-    /// All its values that may be coded and have something to code, in their order.
-    fn chosen(mut self, fixed: &HashSet<Folded<'a>>, language: &Language) -> Vec<Range<usize>> {
-        let free = self.strings.into_iter().filter(|(name, _)| !fixed.contains(&Folded(name)));
-        self.values.extend(free.map(|(_, value)| value));
-        self.values.retain(|value| language.has_rules_for_ascii() || !self.text[value.clone()].is_ascii());
-        self.values.sort_unstable_by_key(|value| value.start);
-        self.values
+    /// Chooses among the values of the fields of an entry, whose letters stand on the list from the place `met` on.
+    fn choose_fields(&mut self, inside: &Inside<'a>, met: usize, is_of_ascii: bool) {
+        let (text, mut letters) = (self.text, &self.letters[met..]);
+        for (name, value) in inside.fields.iter().zip(&inside.values) {
+            letters = split_at_place(letters, value.start).1;
+            if is_fixed(name) {
+                if !is_one_text(&text[value.clone()]) {
+                    self.fixed.extend(names_in(&text[value.clone()]));
+                }
+            } else if is_of_ascii || letters.first().is_some_and(|letter| *letter < value.end) {
+                self.values.push(value.clone());
+            }
+        }
     }
+
+    /// All its values that may be coded and have something to code, in their order, and where in it letters outside ASCII begin.
+    fn chosen(mut self, fixed: &HashSet<Folded<'a>>, is_of_ascii: bool) -> (Vec<Range<usize>>, Vec<usize>) {
+        let free = self.strings.into_iter().filter(|(name, _)| !fixed.contains(&Folded(name)));
+        let has_some = |value: &Range<usize>| is_of_ascii || !self.text[value.clone()].is_ascii();
+        self.values.extend(free.map(|(_, value)| value).filter(has_some));
+        self.values.sort_unstable_by_key(|value| value.start);
+        // (an item may have been read before one that it stands in)
+        if !self.letters.is_sorted_by(|one, next| one < next) {
+            self.letters.sort_unstable();
+            self.letters.dedup();
+        }
+        (self.values, self.letters)
+    }
+}
+
+/// Those of some places, which are in their order, that are before this one, and the others. (The place is near.)
+pub fn split_at_place(places: &[usize], at: usize) -> (&[usize], &[usize]) {
+    places.split_at(places.iter().take_while(|place| **place < at).count())
+}
+
+/// Adds where the letters outside ASCII of an item begin, which is the end of this text; an error says why the item can't be coded.
+fn find_letters(text: &[u8], start: usize, letters: &mut Vec<usize>) -> Result<(), LeftOut> {
+    let mut at = start;
+    while let Some(found) = find_of_letters(text, at) {
+        let Some(letter) = first_letter(&text[found..]) else {
+            let is_utf8 = std::str::from_utf8(&text[start..]).is_ok();
+            return Err(if is_utf8 { LeftOut::ControlCharacters } else { LeftOut::NotUtf8 });
+        };
+        letters.push(found);
+        at = found + letter.len_utf8();
+    }
+    Ok(())
 }
 
 /// Whether an item of this kind has a text and no key.
@@ -157,25 +231,26 @@ fn is_text(kind: &[u8]) -> bool {
 
 /// The values of a job's databases that may be coded.
 pub fn chosen<'a>(files: &'a Files, language: &Language) -> Result<Chosen<'a>, LeftOut> {
-    let mut wanted = Wanted::new(files);
-    let mut types = HashSet::new();
+    let is_of_ascii = language.has_rules_for_ascii();
+    let mut choice =
+        Choice { wanted: Wanted::new(files), types: Types::default(), is_of_ascii, inside: Inside::default() };
     let text_of =
         |name: &[u8], bytes: &'a Option<Vec<u8>>| bytes.as_deref().filter(|_| name.ends_with(b".bib")).unwrap_or(b"");
     let mut databases: Vec<Database<'_>> =
         files.all.iter().map(|file| Database::new(text_of(&file.name, &file.bytes))).collect();
     for round in 0.. {
-        let before = (wanted.keys.len(), wanted.are_all);
+        let before = (choice.wanted.keys.len(), choice.wanted.are_all);
         for database in &mut databases {
-            database.read(&mut wanted, &mut types)?;
+            database.read(&mut choice)?;
         }
-        if before == (wanted.keys.len(), wanted.are_all) {
+        if before == (choice.wanted.keys.len(), choice.wanted.are_all) {
             break;
         }
-        wanted.are_all |= round == MOST_ROUNDS;
+        choice.wanted.are_all |= round == MOST_ROUNDS;
     }
     let fixed = fixed_strings(&databases);
-    let values = databases.into_iter().map(|database| database.chosen(&fixed, language)).collect();
-    Ok(Chosen { values, types })
+    let (values, letters) = databases.into_iter().map(|database| database.chosen(&fixed, is_of_ascii)).unzip();
+    Ok(Chosen { values, letters, types: choice.types.all })
 }
 
 /// The strings whose values stay as they are: those that a field has which stays as it is, and those in the values of these.

@@ -40,10 +40,28 @@ pub fn told(entries: &Entries<'_>, files: &Files, document: Option<&Document>, k
         let place = format!("`{}` stands at {at}, in text that isn't read", plain(key));
         return Told { place: Some(place), advice: Some(Seen::NoAtSign.with(&[])) };
     }
-    told_of_unreached(entries, key).or_else(|| lost(entries, files).cloned()).unwrap_or_else(|| {
+    let of_text = in_record(entries, key).or_else(|| with_semicolons(entries, key));
+    of_text.or_else(|| told_of_unreached(entries, key)).or_else(|| lost(entries, files).cloned()).unwrap_or_else(|| {
         let alike = told_of_alike(entries, key);
         alike.or_else(|| told_of_older(entries, document, key)).unwrap_or_else(|| told_of_nearest(entries, key))
     })
+}
+
+/// What is said of a key that stands in a record of RIS between the items of a database.
+fn in_record(entries: &Entries<'_>, key: &[u8]) -> Option<Told> {
+    let (database, (record, place)) = entries.in_record(key)?;
+    let (at, from) = (line_of(database.file, &database.text, place), database.text.line_of(record));
+    let place = format!("`{}` stands at {at}, in a record of RIS (from line {from}), which isn't read", plain(key));
+    Some(Told { place: Some(place), advice: Some(Seen::RecordIsRis.with(&[])) })
+}
+
+/// What is said of keys that are parted by semicolons, of which at least one is an entry's.
+fn with_semicolons(entries: &Entries<'_>, key: &[u8]) -> Option<Told> {
+    let keys: Vec<&[u8]> =
+        key.split(|byte| *byte == b';').map(<[u8]>::trim_ascii).filter(|key| !key.is_empty()).collect();
+    let is_it = keys.len() > 1 && keys.iter().any(|key| entries.entry(key).is_some());
+    let advice = || Seen::SemicolonInCite.with(&[&plain(&keys.join(&b","[..]))]);
+    is_it.then(|| Told { place: None, advice: Some(advice()) })
 }
 
 /// What is said of a key that stands in an entry whose beginning can't be read.
@@ -132,6 +150,8 @@ pub fn is_lost(entries: &Entries<'_>, files: &Files, key: &[u8]) -> bool {
             && entries.skipped(key).is_none()
             && entries.unread(key).is_none()
             && entries.unreached(key).is_none()
+            && entries.in_record(key).is_none()
+            && with_semicolons(entries, key).is_none()
     };
     !key.is_empty() && is_nowhere() && lost(entries, files).is_some()
 }
@@ -389,6 +409,23 @@ mod tests {
             assert_eq!(place, "the @misc that begins at d.bib:2 has no key: is it that one?");
             assert_eq!(advice, "write the key into it: `@misc{smith,`");
         }
+    }
+
+    #[test]
+    fn an_entry_is_found_in_a_record_of_ris() {
+        let text = "@misc{k}\n\nTY  - JOUR\nID  - weir2014\nER  - \nID  - other\n";
+        let (place, advice) = told_of(text, "Weir2014");
+        assert_eq!(place, "`Weir2014` stands at d.bib:4, in a record of RIS (from line 3), which isn't read");
+        assert_eq!(advice, Seen::RecordIsRis.with(&[]));
+        assert_eq!(told_of(text, "other"), (String::new(), String::new()));
+        assert_eq!(told_of("ID  - weir2014\n@misc{k}\n", "weir2014"), (String::new(), String::new()));
+    }
+
+    #[test]
+    fn keys_are_parted_by_commas() {
+        let advice = |key: &str| told_of("@misc{a1} @misc{b}", key).1;
+        assert_eq!(advice("a1;b"), "write `a1,b` in the `\\cite`, with a comma between two keys, and run LaTeX");
+        assert_eq!([advice("no;no"), advice("a1;")].map(|advice| advice.contains("comma")), [false; 2]);
     }
 
     #[test]

@@ -4,6 +4,7 @@ use crate::advice::Seen;
 use crate::database::{Inside, Item, name_at};
 use crate::explain::{begins_item, shown_path};
 use crate::job::File;
+use crate::letter_values::parts;
 use crate::terminal::plain;
 use crate::text::Text;
 use std::ops::Range;
@@ -67,6 +68,34 @@ pub fn field_for_key(key: &[u8]) -> Option<&[u8]> {
     let (name, value) = key.split_at(key.iter().position(|byte| *byte == b'=')?);
     let begins_value = matches!(value.get(1), None | Some(b'{' | b'"' | b'0'..=b'9'));
     (!name.is_empty() && name.iter().all(u8::is_ascii_alphabetic) && begins_value).then_some(name)
+}
+
+/// A number with letters that look like digits: the number, and the first such letter; None where it isn't one.
+pub fn number_meant(word: &[u8]) -> Option<(String, char)> {
+    let digits = word.iter().filter(|byte| byte.is_ascii_digit()).count();
+    let letter = word.iter().copied().find(u8::is_ascii_alphabetic)?;
+    let digit = |byte: &u8| match byte {
+        b'O' | b'o' => Some('0'),
+        b'l' | b'I' => Some('1'),
+        _ => byte.is_ascii_digit().then_some(char::from(*byte)),
+    };
+    let number: String = word.iter().map(digit).collect::<Option<String>>()?;
+    (digits > 1 && 2 * digits >= word.len()).then_some((number, char::from(letter)))
+}
+
+/// Whether a word is the name of a month, as styles define it.
+fn is_short_month(word: &[u8]) -> bool {
+    const MONTHS: [&str; 12] = ["jan", "feb", "mar", "apr", "may", "jun", "jul", "aug", "sep", "oct", "nov", "dec"];
+    MONTHS.iter().any(|month| word.eq_ignore_ascii_case(month.as_bytes()))
+}
+
+/// A value without the texts in its braces and quotes.
+fn hides_texts(value: &[u8]) -> Vec<u8> {
+    let mut value = value.to_vec();
+    for part in parts(&value.clone()) {
+        value[part].fill(b' ');
+    }
+    value
 }
 
 /// What to do about an entry that begins with this field, and not with a key.
@@ -156,6 +185,9 @@ impl<'a> Place<'_, 'a> {
         if is_field || !self.is_on_one_line(value.end) {
             return Some(Seen::NoComma.with(&[&owner, &self.line(value.end.saturating_sub(1))]));
         }
+        if let Some(seen) = self.letter_for_digit(value, word).or_else(|| self.part_without_hash(value, word, &owner)) {
+            return Some(seen);
+        }
         Some(match (first, self.byte()) {
             (b'{', Some(b'{' | b'"')) | (b'"', _) => Seen::NoHash.with(&[&owner]),
             (b'{', _) => Seen::BraceTooMany.with(&[&owner]),
@@ -163,6 +195,29 @@ impl<'a> Place<'_, 'a> {
             (_, Some(b'{' | b'"')) => Seen::NoHash.with(&[&owner]),
             _ => Seen::BareValue.with(&[&owner]),
         })
+    }
+
+    /// A number that goes on with a letter that looks like a digit, as `2O12` does.
+    fn letter_for_digit(&self, value: &Range<usize>, word: &[u8]) -> Option<String> {
+        let is_whole = value.end == self.place && self.text.bytes[value.clone()].iter().all(u8::is_ascii_digit);
+        let (number, letter) =
+            number_meant(&self.text.bytes[value.start..value.end + word.len()]).filter(|_| is_whole)?;
+        Some(Seen::LetterForDigit.with(&[&number, &letter.to_string()]))
+    }
+
+    /// A part of a value before which a `#` is missing: the name of a month, or one after other parts that are joined.
+    fn part_without_hash(&self, value: &Range<usize>, word: &'a [u8], owner: &str) -> Option<String> {
+        let bytes = &self.text.bytes[value.clone()];
+        let has_hash = hides_texts(bytes).contains(&b'#');
+        let is_part = has_hash || is_short_month(word) && owner.eq_ignore_ascii_case("month");
+        let is_on_its_own = value.end < self.place || !bytes.last()?.is_ascii_alphanumeric();
+        let part = match self.byte()? {
+            b'{' => "`{`".to_string(),
+            b'"' => "the quote".to_string(),
+            _ if word.is_empty() => return None,
+            _ => format!("`{}`", plain(word)),
+        };
+        (is_part && is_on_its_own).then(|| Seen::NoHashBefore.with(&[owner, &part]))
     }
 
     /// A quote that ends a value earlier than it was meant: one that begins the next value, or one in the text.
@@ -337,7 +392,19 @@ mod tests {
     fn what_is_missing_after_a_value_is_named() {
         assert_eq!(advice("@misc{a,\n x = {T}\n y = 1}"), "put a comma after the value of `x`, which ends at d.bib:2");
         assert_eq!(advice("@misc{a, x = {T} y = 1}"), "put a comma after the value of `x`, which ends at d.bib:1");
-        assert_eq!(advice("@misc{a, x = \"T\" jan, y = 1}"), Seen::NoHash.with(&["x"]));
+        assert_eq!(advice("@misc{a, month = \"T\" jan, y = 1}"), Seen::NoHashBefore.with(&["month", "`jan`"]));
+        assert_eq!(advice("@misc{a, x = {A {T}} may, y = 1}"), Seen::BraceTooMany.with(&["x"]));
+        assert_eq!(advice("@misc{a, x = \"#\" jan, y = 1}"), Seen::NoHash.with(&["x"]));
+        for text in ["12 # \" \" jan", "jan # {--} jan"] {
+            assert_eq!(
+                advice(&format!("@misc{{a, x = {text}, y = 1}}")),
+                Seen::NoHashBefore.with(&["x", "`jan`"]),
+                "{text}"
+            );
+        }
+        assert_eq!(advice("@misc{a, x = s # {T} \"U\", y = 1}"), Seen::NoHashBefore.with(&["x", "the quote"]));
+        assert_eq!(advice("@misc{a, year = 2O12}"), Seen::LetterForDigit.with(&["2012", "O"]));
+        assert_eq!(advice("@misc{a, year = 20l2, y = 1}"), Seen::LetterForDigit.with(&["2012", "l"]));
         assert_eq!(advice("@misc{a, x = {T} \"S\"}"), Seen::NoHash.with(&["x"]));
         assert_eq!(advice("@misc{a, x = {A {T}} S}, y = 1}"), Seen::BraceTooMany.with(&["x"]));
         for bare in ["1-2", "12A", "A title", "in press"] {

@@ -21,6 +21,11 @@ pub struct Call {
 pub const IN_BRACES: &[u8] = b"{..} of ";
 
 impl Call {
+    /// Whether it is a command, as `ITERATE {call.type$}`, and no function.
+    pub fn is_command(&self) -> bool {
+        ["EXECUTE {", "ITERATE {", "REVERSE {"].iter().any(|begin| self.function.starts_with(begin.as_bytes()))
+    }
+
     /// The named function that holds the place.
     pub fn owner(&self) -> &[u8] {
         let shown = self.function.strip_prefix(IN_BRACES).unwrap_or(&self.function);

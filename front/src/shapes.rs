@@ -9,6 +9,7 @@ use crate::scene::{Call, End};
 use crate::sources::{Sources, Spot};
 use crate::style_text;
 use crate::text::{is_white, split_first};
+use std::ops::Range;
 
 /// Which lines are written.
 #[derive(Debug, Clone, Copy, PartialEq, Eq)]
@@ -28,6 +29,18 @@ const LONGEST_SHOWN: usize = 500;
 /// Writes a log in the original's shapes. The places that errors of a style's execution get from its commands take at most `room` bytes; the further ones are left out, since each
 /// has the style's name again.
 pub fn write(log: &Log<'_>, files: &Files, part: Part, room: usize, out: &mut Vec<u8>) {
+    write_noting(log, files, part, room, out, &mut |_, _| {});
+}
+
+/// Writes the same, and hands on each line with the bytes of `out` in which it stands then.
+pub fn write_noting<'a>(
+    log: &Log<'a>,
+    files: &'a Files,
+    part: Part,
+    room: usize,
+    out: &mut Vec<u8>,
+    note: &mut dyn FnMut(&Line<'a>, Range<usize>),
+) {
     let scene_of_end = log.scene_of_end();
     let (sources, top) = (Sources::new(files), &files.top[..]);
     let is_interrupted = log.is_interrupted;
@@ -44,7 +57,11 @@ pub fn write(log: &Log<'_>, files: &Files, part: Part, room: usize, out: &mut Ve
         is_interrupted,
         out,
     };
-    log.lines().filter(|line| part == Part::Whole || !went_well(line)).for_each(|line| shapes.line(&line));
+    for line in log.lines().filter(|line| part == Part::Whole || !went_well(line)) {
+        let start = shapes.out.len();
+        shapes.line(&line);
+        note(&line, start..shapes.out.len());
+    }
     if log.has_first_scenes() && part != Part::Mistakes {
         shapes.count_unplaced();
     }

@@ -1,6 +1,7 @@
 //! The text of a file, by bytes and by lines.
 
 use memchr::memchr;
+use std::collections::HashMap;
 use std::io::BufRead;
 
 /// A text, and where its lines begin.
@@ -35,6 +36,36 @@ impl<'a> Text<'a> {
     /// The number of the line in which a place is.
     pub fn line_of(&self, place: usize) -> usize {
         self.starts.partition_point(|start| *start <= place)
+    }
+}
+
+/// How many characters of UTF-8 begin in these bytes.
+fn characters(bytes: &[u8]) -> usize {
+    bytes.iter().filter(|byte| **byte & 0xc0 != 0x80).count()
+}
+
+/// Counts characters of lines. Those of a long line are counted once, however often its places are asked for.
+#[derive(Debug, Default)]
+pub struct Columns {
+    /// By the address of each long line, how many characters begin before each piece of it, and before its end.
+    long: HashMap<usize, Vec<usize>>,
+}
+
+impl Columns {
+    /// How many bytes a piece has.
+    const PIECE: usize = 4096;
+
+    /// The column of a place in a line, counted from 1.
+    pub fn of(&mut self, line: &[u8], place: usize) -> usize {
+        if line.len() < Self::PIECE {
+            return 1 + characters(&line[..place]);
+        }
+        let sums = self.long.entry(line.as_ptr().addr()).or_insert_with(|| {
+            let add = |before: &mut usize, piece: &[u8]| Some(std::mem::replace(before, *before + characters(piece)));
+            line.chunks(Self::PIECE).chain([&line[..0]]).scan(0, add).collect()
+        });
+        let piece = place / Self::PIECE;
+        1 + sums[piece] + characters(&line[piece * Self::PIECE..place])
     }
 }
 
@@ -159,6 +190,15 @@ mod tests {
             assert_eq!(find_last(&vec![b'.'; length], b"x"), None);
         }
         assert_eq!(find_last(&[b'x'; 80], b"xy"), None);
+    }
+
+    #[test]
+    fn columns_count_characters() {
+        let mut columns = Columns::default();
+        assert_eq!([0, 1, 3, 4].map(|place| columns.of("aéb".as_bytes(), place)), [1, 2, 3, 4]);
+        let long = "é".repeat(Columns::PIECE);
+        let places = [0, 2, Columns::PIECE, Columns::PIECE + 2, long.len()];
+        assert_eq!(places.map(|place| columns.of(long.as_bytes(), place)), places.map(|place| 1 + place / 2));
     }
 
     #[test]

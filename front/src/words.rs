@@ -23,6 +23,8 @@ pub enum Explain {
 pub struct Words {
     pub job: Vec<u8>,
     pub terse: bool,
+    /// Whether messages are printed as JSON.
+    pub is_json: bool,
     /// Whether a citation without an entry counts as an error.
     pub is_strict: bool,
     pub explain: Explain,
@@ -54,6 +56,7 @@ pub enum Asked {
 enum Choice {
     MinCrossrefs,
     Terse,
+    Json,
     Help,
     Version,
     Explain,
@@ -86,7 +89,7 @@ const ORIGINAL: [Row; 4] = [
 ];
 
 /// Our own options.
-const OWN: [Row; 13] = [
+const OWN: [Row; 14] = [
     ("explain", Choice::Explain, false),
     ("no-explain", Choice::NoExplain, false),
     ("explain-only", Choice::ExplainOnly, false),
@@ -99,6 +102,7 @@ const OWN: [Row; 13] = [
     ("log-room", Choice::LogRoom, true),
     ("list-room", Choice::ListRoom, true),
     ("strict", Choice::Strict, false),
+    ("json", Choice::Json, false),
     ("dir", Choice::Folder, true),
 ];
 
@@ -196,6 +200,7 @@ impl Words {
         Words {
             job: Vec::new(),
             terse: false,
+            is_json: false,
             is_strict: false,
             explain,
             options,
@@ -214,6 +219,7 @@ impl Words {
         match row.1 {
             Choice::Terse => self.terse = true,
             Choice::Strict => self.is_strict = true,
+            Choice::Json => self.is_json = true,
             Choice::Explain => self.explain = Explain::Always,
             Choice::NoExplain => self.explain = Explain::Never,
             Choice::ExplainOnly => self.explain = Explain::Only,
@@ -387,6 +393,7 @@ mod tests {
         assert_eq!(run(&["-min", "3", "a"]).options.min_crossrefs, 3);
         assert_eq!(run(&["-min", "3", "-min", "4", "a"]).options.min_crossrefs, 4);
         assert!(run(&["-t", "a"]).terse && run(&["--ter", "a"]).terse);
+        assert_eq!(["-json", "--js", "-terse"].map(|word| run(&[word, "a"]).is_json), [true, true, false]);
         assert_eq!(["-strict", "--str", "-terse"].map(|word| run(&[word, "a"]).is_strict), [true, true, false]);
         assert_eq!(run(&["--", "-a"]).job, b"-a");
         assert_eq!(run(&["-"]).job, b"-");

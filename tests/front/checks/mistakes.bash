@@ -64,6 +64,9 @@ mistake key_of_first_field '@misc{\n author = {A. B}}\n' 'the @misc that begins 
 mistake curly_quotes '@misc{k,\n title = “Title”}\n' 'put the value into braces: `“` isn'"'"'t the quote `"`'
 mistake bare_command '@misc{k, author = {A. B}, title=\\url{http://x}}\n' 'put the value into braces: `{\url..}`' 'put the value of `title` into braces'
 mistake no_hash '@misc{k,\n month = "10~" jan}\n' 'join the parts of the value of `month` by `#`'
+mistake no_hash_before_a_month '@misc{k,\n month = 12 # " " jun}\n' 'join the parts of the value of `month` by `#`: write one before `jun`'
+mistake letter_for_a_digit '@misc{k, author = {A. B},\n year = 2O12}\n' 'write `2012`: the `O` is a letter in the place of a digit'
+mistake letter_before_digits '@misc{k, author = {A. B}, year = l998}\n' 'write `1998`: the `l` is a letter in the place of a digit'
 mistake months_in_one '@misc{k,\n author = {A. B}, month = jan-feb}\n' 'join two names by `#`: `jan # "--" # feb`'
 mistake string_below '@misc{k, author = {A. B}, title = s}\n\n@string{s = {T}}\n' 'move the `@string` of `s` (d.bib:3) above its first use'
 mistake near_string_below '@misc{k, author = {A. B}, title = acmm}\n\n@string{acm = {T}}\n' 'is it `acm`?' 'write `acm` for `acmm`, and move the `@string` of `acm` (d.bib:3) above its first use'
@@ -98,6 +101,10 @@ mistake follows_from_a_string '@article{k, author = {A. B}, journal = zz}\n' "th
 mistake near_parent '@article{k, author = {A. B}, crossref = {vol95}}\n@book{vol1995}\n' 'is it `vol1995`, which begins at d.bib:2?' 'write `crossref = {vol1995}`' "the entry's parent wasn't found"
 mistake parent_above '@book{vol}\n@misc{k, author = {A. B}, crossref = {vol}}\n@misc{l, author = {C. D}}\n' 'move `vol` below all entries that name it, or cite it'
 mistake other_case '@misc{K, author = {A. B}}\n@misc{k, author = {C. D}}\n@misc{l, author = {E. F}}\n' "remove the entry \`K\`: the document cites \`k\`, and case doesn't tell keys apart"
+mistake another_work '@misc{k, author = {A. B}, title = {Of hens}}\n@misc{K, title = {Of ducks}}\n@misc{l, author = {E. F}}\n' "remove the entry \`K\`: the document cites \`k\`, and case doesn't tell keys apart"
+mistake another_title '@misc{k, author = {A. B}, title = {Of hens}}\n@misc{k, title = {Of ducks}}\n@misc{l, author = {E. F}}\n' 'give the second another key, such as `kb`, and cite it by that: its title is another one'
+mistake the_same_title '@misc{k, author = {A. B}, title = {Of hens}}\n@misc{k, title = {{Of Hens}}}\n@misc{l, author = {E. F}}\n' 'remove one of the two'
+mistake record_of_ris '@misc{k, author = {A. B}}\n\nTY  - JOUR\nID  - l\nER  - \n' '`l` stands at d.bib:4, in a record of RIS (from line 3), which isn'"'"'t read' 'export that record as BibTeX: what stands there is RIS'
 mistake lacked_field '@misc{k, title = {T}}\n' 'give the entry a field `author`: this style takes it without asking whether it is there'
 # parents
 mistake parent_of_the_only_child '@misc{p, author = {A. B}}\n@misc{k, author = {A. B}, crossref = {p}}\n' '`p` stands at d.bib:1, above an entry that names it as its parent (d.bib:2)' 'what to do: move `p` below all entries that name it, or cite it'
@@ -108,6 +115,7 @@ mistake ris 'TY  - JOUR\nAU  - B, A\n' 'export d.bib as BibTeX: what stands in i
 mistake one_line '@misc{k,\r author {A. B}}\r' 'save d.bib with the line ends of Unix or Windows'
 mistake empty '' 'no entry stands in d.bib' '(1 more key has no entry: no entry stands in d.bib)'
 mistake_of_job other_database k,l,m refs s 'this folder has d.bib' 'it may stand in refs.bib, which wasn'"'"'t found' '(2 more keys have no entry: they may stand in refs.bib, which wasn'"'"'t found)'
+mistake_of_job semicolon 'k;on-sets' d s 'write `k,on-sets` in the `\cite`, with a comma between two keys, and run LaTeX'
 mistake_of_job dash 'on–sets,k' d s '`on–sets` has an en dash (U+2013): is it `on-sets`, which begins at d.bib:2?' 'write `on-sets` in the `\cite`, with the `-` of the keyboard'
 mistake_of_job space_between_databases k,l 'd, e' s 'not taken from this line: `e`' "it may stand in e.bib, which wasn't read (job.aux:2)" 'mend the error at job.aux:2 first'
 mistake_of_job folder k bib/d s 'is it `d`?'
@@ -126,6 +134,67 @@ begin mistake_crossref_in_entry
 sed -i 's/ENTRY *{ */ENTRY {crossref /' s.bst
 run_search -explain -terse job
 wants_words "$folder/stdout" 'take `crossref` out of ENTRY: each entry has that field'
+end
+
+# A command of a style that is skipped: the errors on the order of others follow from that.
+begin mistake_of_order_follows
+printf '%s\n' 'ENTRY {title crossref}{}{}' '' 'FUNCTION {f} {title pop$}' '' 'READ' '' 'ITERATE {f}' '' 'SORT' >s.bst
+run_search -explain -terse job
+[ "$(grep -c 'what to do' "$folder/stdout")" -eq 1 ] || complaints+=("more than one mistake is explained: $(cat "$folder/stdout")")
+wants_words "$folder/stdout" 'more errors follow from that)'
+end
+
+begin mistake_field_not_in_entry
+printf '%s\n' 'ENTRY {title}{}{}' 'FUNCTION {article} {doi empty$ {skip$} {skip$} if$}' 'READ' >s.bst
+run_search -explain -terse job
+wants_words "$folder/stdout" 'put `doi` into the first list of ENTRY (s.bst:1): a style knows only the fields of that list'
+end
+
+begin mistake_number_in_quotes
+printf '%s\n' 'ENTRY {title}{}{}' 'FUNCTION {f} {#1 "4" > pop$}' 'READ' 'EXECUTE {f}' >s.bst
+run_search -explain -terse job
+wants_words "$folder/stdout" 'write `#4` for `"4"`: an integer begins with `#`, and what stands in quotes is a string'
+end
+
+begin mistake_type_of_the_style
+printf '%s\n' 'ENTRY {title}{}{}' 'FUNCTION {inproceeding} {}' 'FUNCTION {default.type} {}' 'READ' >s.bst
+cite k,l
+printf '@inproceedings{k} @inproceedings{l}\n' >d.bib
+run_search -explain -terse job
+wants_words "$folder/stdout" 'call the style'"'"'s function `inproceeding` (s.bst:2) `inproceedings`, as the type is called'
+[ "$(grep -c 'what to do' "$folder/stdout")" -eq 1 ] || complaints+=("it is said more than once: $(cat "$folder/stdout")")
+end
+
+begin mistake_loop_without_end
+printf '%s\n' 'ENTRY {title}{}{}' 'INTEGERS {n}' 'FUNCTION {f} {#1 '"'"'n := {n #0 > {#1} {#0} if$}' '{n #1 - pop$} while$}' 'READ' 'EXECUTE {f}' >s.bst
+run_search -explain -terse -budget 1000 job
+wants_words "$folder/stdout" 'change n in the body of this loop (line 4): its test reads nothing else, so the loop never ends'
+! grep -q 'budget' "$folder/stdout" || complaints+=("a higher budget is advised: $(cat "$folder/stdout")")
+end
+
+begin mistake_part_of_a_document
+mkdir parts
+printf '%s\n' '\relax ' '\citation{k}' '\@setckpt{parts/one}{' '}' >parts/one.aux
+printf '%s\n' '\relax ' '\@input{parts/one.aux}' '\bibstyle{s}' '\bibdata{d}' >paper.aux
+run_search -explain -terse parts/one
+wants_words "$folder/stdout" 'run it on `paper`: paper.aux includes parts/one.aux, which is a part of that document'
+[ "$(grep -c 'what to do' "$folder/stdout")" -eq 1 ] || complaints+=("it is said more than once: $(cat "$folder/stdout")")
+rm paper.aux
+run_search -explain -terse parts/one
+wants_words "$folder/stdout" 'run it on the whole document: parts/one.aux is of a part that `\include` names there'
+end
+
+# Where the document names what isn't there, if that is seen.
+begin mistake_places_in_the_document
+write_author_style
+printf '%s\n' '\citation{gone}' '\citation{}' '\bibdata{ref,d}' '\bibstyle{s}' >job.aux
+printf '@misc{k, author = {A. B}}\n' >d.bib
+printf '%s\n' '% \cite{gone}' '\citep[see][]{k,' '  gone} \cite{}' '\bibliography{ref,d}' >job.tex
+run_search -explain -terse job
+for words in 'job.tex:3:   gone} \cite{}' 'job.tex:4: \bibliography{ref,d}'; do
+    wants_words "$folder/stdout" "$words"
+done
+! grep -q 'job.aux:' "$folder/stdout" || complaints+=("a place of the .aux file is shown: $(cat "$folder/stdout")")
 end
 
 begin mistake_biber
@@ -221,6 +290,15 @@ wants_words "$folder/stdout" '(1 more error is the same, for k: the style takes 
 [ "$(grep -c '^Error' "$folder/stdout")" -eq 1 ] || complaints+=("the same error is shown twice: $(cat "$folder/stdout")")
 end
 
+begin mistake_commas_of_one_name
+write_author_style
+sed -i 's/author num.names[$] pop[$]/author #1 "{ll}" format.name$ pop$/' s.bst
+cite k
+printf '@misc{k, author = {Underwood, Paul, Jr., PhD}}\n' >d.bib
+run_search -explain -terse job
+wants_words "$folder/stdout" 'write `Underwood, Jr., Paul`: a name has at most two commas, `von Last, Jr, First`'
+end
+
 begin mistake_other_job
 run_search -explain jbo
 wants_status 3
@@ -298,6 +376,8 @@ doubt() {
 }
 
 doubt html 'title = {War &lt; Peace},' 'd.bib:3:' 'write `$<$` in the place of `&lt;`, which is a letter of HTML'
+doubt number_of_html 'title = {War}, month = {1&#8211;2},' 'd.bib:3:' 'write `--` in the place of `&#8211;`, which is a letter of HTML'
+doubt letter_in_a_year 'year = {2O12},' 'write `2012`: the `O` is a letter in the place of a digit'
 doubt formula 'title = {Of H_2O},' 'put the formula into `$..$`, as in `{CO$_2$}`, or write `\_`: LaTeX stops at a `_` outside of a formula'
 doubt table 'note = {Sturm & Drang},' 'write `\&`: LaTeX stops at a bare `&`'
 doubt comment 'note = {9% of all},' 'write `\%`: LaTeX takes the rest of the line after a bare `%` for a comment'
@@ -307,6 +387,16 @@ doubt year 'year = {1999, to appear},' 'as in `year = {1999}`, and the words in 
 doubt letter_of_latin1 'title = {Gr\xfcn},' 'save d.bib as UTF-8: its byte FC isn'"'"'t UTF-8'
 doubt address_not_read 'doi = {10.1/x},' 'd.bib:3:  doi = {10.1/x}' 'this style never prints `doi`'
 doubt nothing 'title = {$a_1$ \\& \\url{b_c}}, url = {http://a_b&c%d}, year = {(1999)}, note = {gr\xc3\xbcn}' 'Ended: finished, warnings 0, errors 0'
+
+begin doubt_of_a_command_in_a_title
+write_author_style
+sed -i 's/FUNCTION {misc} {/FUNCTION {misc} {title "t" change.case$ pop$ /' s.bst
+cite k,l
+printf '@misc{k, author = {A. B}, title = {On \\TeX}}\n@misc{l, author = {A. B}, title = {On {\\TeX}}}\n' >d.bib
+run_search -explain job
+wants_words "$folder/stdout" 'put `\TeX` into braces, as `{\TeX}`: this style makes `\tex` of it'
+! grep -q 'd.bib:2' "$folder/stdout" || complaints+=("what is right is shown: $(cat "$folder/stdout")")
+end
 
 begin doubts_of_names
 write_author_style

@@ -344,6 +344,7 @@ for kilobytes in 3000 5000 8000 12000 20000 40000 80000; do
     ) >"$folder/stdout" 2>"$folder/stderr" || status=$?
     case $status in
     4 | 5 | 127) wants_whole_or_old "$(yes 'a line of the list' | head -n 30000)" ;;
+    139) ! can_be_loaded "$kilobytes" "$search" || complaints+=("with $kilobytes KB it dies") ;;
     *) complaints+=("with $kilobytes KB the exit status is $status: $(head -c 300 "$folder/stderr")") ;;
     esac
 done
