@@ -35,6 +35,8 @@ local function load_library()
         typedef struct { size_t records, texts; } btx_sizes;
         uint32_t btx_read(const char *file, size_t file_len, const char *text, size_t text_len, const btx_string *strings, size_t strings_len,
                           btx_record *records, size_t records_room, char *texts, size_t texts_room, btx_sizes *sizes);
+        uint32_t btx_read_job(const char *job, size_t job_len, const btx_file *files, size_t files_len, const btx_options *options,
+                              btx_record *records, size_t records_room, char *texts, size_t texts_room, btx_sizes *sizes);
     ]]
     local is_loaded, library = pcall(ffi.load, os.getenv("BTX_LIBRARY") or "libbtx.so.1")
     if not is_loaded then
@@ -93,6 +95,22 @@ local function needed(ffi, library, job, files)
     end
 end
 
+-- The files that a job needs, as a finder gives them.
+local function gathered(ffi, library, job, finder)
+    if job:find("\n", 1, true) then
+        error("btx: the name of a job has no line end", 0)
+    end
+    local files = {}
+    local new = needed(ffi, library, job, files)
+    while #new > 0 do
+        for _, name in ipairs(new) do
+            files[#files + 1] = { name = name, bytes = finder(name) }
+        end
+        new = needed(ffi, library, job, files)
+    end
+    return files
+end
+
 -- btx.run(job, finder, options) -> list, log, report, events, notes
 --
 -- finder(name) gives the bytes of the file of a name, or nil where there is none. options may have budget, min_crossrefs, line, entry_max,
@@ -102,19 +120,8 @@ end
 -- errors. An event is a line of the log: its text; its kind, which is "plain", "warning" or "error"; where it was met, which is "files", "style",
 -- "databases", "execution" or "end"; and the number of the current entry, from 1, if there is one. The library says what a line is, whatever its text.
 function btx.run(job, finder, options)
-    if job:find("\n", 1, true) then
-        error("btx: the name of a job has no line end", 0)
-    end
     local ffi, library = load_library()
-    local files = {}
-    local new = needed(ffi, library, job, files)
-    while #new > 0 do
-        for _, name in ipairs(new) do
-            files[#files + 1] = { name = name, bytes = finder(name) }
-        end
-        new = needed(ffi, library, job, files)
-    end
-    local given = options or {}
+    local files, given = gathered(ffi, library, job, finder), options or {}
     local function run(over, own)
         local asked = ffi.new("btx_options", given.budget or 1000000000, given.min_crossrefs or 2, given.line or 79, own.entry_max or given.entry_max or 500,
             own.global_max or given.global_max or 200000, own.utf8 or false)
@@ -198,16 +205,49 @@ end
 function btx.read(text, strings)
     local ffi, library = load_library()
     local known, count = strings_of(ffi, strings or MONTHS)
-    local records_room, texts_room, sizes = math.floor(#text / 24) + 64, 2 * #text + 64, ffi.new("btx_sizes")
+    local answer, base = btx.in_rooms(ffi, #text, function(...)
+        return library.btx_read("database.bib", 12, text, #text, known, count, ...)
+    end)
+    if answer == REFUSED then
+        error("btx: a database has at most 2147483647 bytes", 0)
+    elseif answer ~= DONE then
+        error("btx was refused memory", 0)
+    end
+    return base
+end
+
+-- btx.read_job(job, finder, options) -> {entries = .., by_key = ..}
+--
+-- Reads what a run of the job has of its databases: the entries of its list, in their order, with what they inherit. An entry has type, key and fields as those of btx.read, but no line:
+-- its type is that of a function of the style, or "", and its fields are those that the style declares. fields.crossref is there if the parent is in the list. Answers nil where
+-- the run ends before it has a library: its log says why. Of the options min_crossrefs counts.
+function btx.read_job(job, finder, options)
+    local ffi, library = load_library()
+    local files, given, length = gathered(ffi, library, job, finder), options or {}, 0
+    for _, file in ipairs(files) do
+        length = length + (file.name:match("%.bib$") and file.bytes and #file.bytes or 0)
+    end
+    local asked = ffi.new("btx_options", 1, given.min_crossrefs or 2, 79, 250, 20000, false)
+    local array = array_of(ffi, files)
+    local answer, base = btx.in_rooms(ffi, length, function(...)
+        return library.btx_read_job(job, #job, array, #files, asked, ...)
+    end)
+    if answer ~= DONE and answer ~= ENDS then
+        error("btx was refused memory", 0)
+    end
+    return base
+end
+
+-- What a call answers that writes the records of databases, in rooms that grow as they need to; and what they are of, if it is done.
+function btx.in_rooms(ffi, length, read)
+    local records_room, texts_room, sizes = math.floor(length / 24) + 64, 2 * length + 64, ffi.new("btx_sizes")
     while true do
         local records, texts = ffi.new("btx_record[?]", records_room), ffi.new("char[?]", texts_room)
-        local answer = library.btx_read("database.bib", 12, text, #text, known, count, records, records_room, texts, texts_room, sizes)
+        local answer = read(records, records_room, texts, texts_room, sizes)
         if answer == DONE then
-            return btx.base_of(ffi, records, tonumber(sizes.records), texts)
-        elseif answer == REFUSED then
-            error("btx: a database has at most 2147483647 bytes", 0)
+            return answer, btx.base_of(ffi, records, tonumber(sizes.records), texts)
         elseif answer ~= FULL then
-            error("btx was refused memory", 0)
+            return answer
         end
         records_room, texts_room = math.max(records_room, tonumber(sizes.records)), math.max(texts_room, tonumber(sizes.texts))
     end
@@ -222,7 +262,8 @@ function btx.base_of(ffi, records, count, texts)
         local name = ffi.string(texts + its.name_at, its.name_len):lower()
         local text = ffi.string(texts + its.text_at, its.text_len)
         if kind == ENTRY then
-            entry = { type = name, key = text, line = tonumber(its.line), fields = {} }
+            local line = tonumber(its.line)
+            entry = { type = name, key = text, line = line > 0 and line or nil, fields = {} }
             base.entries[#base.entries + 1] = entry
             base.by_key[text:lower()] = base.by_key[text:lower()] or entry
         elseif kind == FIELD and its.is_whole then

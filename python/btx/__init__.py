@@ -4,6 +4,7 @@
     result = btx.run_paper("paper")                 # what `bibtex paper` does on this machine
     result.bbl, result.log, result.report.errors
     btx.read("refs.bib")["knuth"]["title"]          # entries as data
+    btx.read_job("paper")["knuth"]["publisher"]     # the entries of a job, with what they inherit
     btx.run("paper", {"paper.aux": aux, "plain.bst": style, "refs.bib": database})
 
 `run` takes files that are handed in, and `run_in` those of a folder. What a call finds and how a run ends is logged by `logging`, under the name `btx`. `check` says of a
@@ -13,14 +14,15 @@ their own (README.md).
 What is proved is the library below, libbtx.so.1: that list, log and report are those of the definition of BibTeX's language for the files
 that were handed in. This package is ordinary Python around its calls."""
 
-from .checking import Answer, Branches, Fault, Operand, Spot, StyleWarning, Verdict, check
+from .checking import Answer, Bound, Branches, Fault, Operand, Spot, StyleWarning, Verdict, check
 from .events import Event, Events, Met, Severity
+from .job_reading import Library, read_job
 from .jobs import Content, Files, Finder, Name, in_folder, needs, run, run_in, run_paper
 from .messages import Kind, Message, messages_of
 from .names import Divided, NameParts, names
 from .options import LETTERS, TEX_LIVE, Options
 from .reading import MONTHS, Bibliography, Entries, Entry, Mistake, Place, read
-from .refusals import DatabaseTooLong, FileUnknown, FinderRefused, LettersRefused, LibraryMissing, MemoryRefused, NameRefused, NamesRefused, OptionRefused, OutputTooLong, Refusal, StyleTooLong
+from .refusals import DatabaseTooLong, FileUnknown, FinderRefused, LettersRefused, LibraryMissing, MemoryRefused, NameRefused, NamesRefused, NoLibrary, OptionRefused, OutputTooLong, Refusal, StyleTooLong
 from .results import End, Report, Result
 from .version import VERSION as __version__
 
@@ -44,6 +46,7 @@ __all__ = [
     "Kind",
     "LETTERS",
     "LettersRefused",
+    "Library",
     "LibraryMissing",
     "MONTHS",
     "MemoryRefused",
@@ -54,6 +57,7 @@ __all__ = [
     "NameParts",
     "NameRefused",
     "NamesRefused",
+    "NoLibrary",
     "Operand",
     "OptionRefused",
     "Options",
@@ -75,6 +79,7 @@ __all__ = [
     "names",
     "needs",
     "read",
+    "read_job",
     "run",
     "run_in",
     "run_paper",

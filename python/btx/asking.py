@@ -15,12 +15,12 @@ from typing import Dict, FrozenSet, Iterable, List, NamedTuple, Set, Tuple
 from .bsttext import read_style
 from .checkup import Refused, named_style
 from .commands import STATUS_REFUSED, Words, broken_pipe
-from .editing import TYPES
 from .events import Met, Severity
 from .jobs import run
 from .options import Options
 from .reports import shown
 from .searching import search_from
+from .standard import TYPES
 
 __all__ = ["AskedFields", "fields_of", "main"]
 

@@ -66,19 +66,25 @@ class Item:
     start: where its `@` is. kind: its type in lower case. key: that of an entry, or the name of a string; None if it has none. key_end: where that ends. end: where its
     reading ended. slip: the mistake that ended it."""
 
-    __slots__ = ("records", "at", "last", "start", "kind", "key", "key_end", "end", "slip", "own_fields")
+    __slots__ = ("records", "at", "last", "start", "own_kind", "key", "key_end", "end", "slip", "own_fields")
 
-    def __init__(self, records: Records, at: int, last: int, start: int, kind: bytes, key: Optional[bytes], key_end: int) -> None:
+    def __init__(self, records: Records, at: int, last: int, start: int, kind: Optional[bytes], key: Optional[bytes], key_end: int) -> None:
         self.records = records
         self.at = at
         self.last = last
         self.start = start
-        self.kind = kind
+        self.own_kind = kind
         self.key = key
         self.key_end = key_end
         self.end = records.ends[last]
         self.slip: Optional[Slip] = None
         self.own_fields: Optional[List[Field]] = None
+
+    @property
+    def kind(self) -> bytes:
+        if self.own_kind is None:
+            self.own_kind = self.records.name(self.at)
+        return self.own_kind
 
     @property
     def kind_end(self) -> int:
@@ -88,7 +94,7 @@ class Item:
     @property
     def is_entry(self) -> bool:
         """Whether it is an entry that has come as far as its key."""
-        return self.key is not None and self.kind != b"string"
+        return self.key is not None and self.own_kind != b"string"
 
     @property
     def is_repeated(self) -> bool:
@@ -159,20 +165,55 @@ class Lines:
 
 
 class Database:
-    """A database that was read: its text, its items, and the strings that are defined after it."""
+    """A database that was read: its text, its items, and the strings that are defined after it. Where its reader is given instead of these, they are made when somebody asks for them."""
 
-    def __init__(self, text: bytes, items: List[Item], strings: Dict[bytes, bytes]) -> None:
+    def __init__(self, text: bytes, items: List[Item], strings: Dict[bytes, bytes], reader: "Optional[Reader]" = None) -> None:
         self.text = text
-        self.items = items
-        self.strings = strings
+        self.own_items = items
+        self.own_strings = strings
+        self.reader = reader
         self.starts: Optional[List[int]] = None
 
+    def make(self) -> None:
+        """Makes the items and the strings."""
+        if self.reader is not None:
+            reader, self.reader, self.starts = self.reader, None, None
+            with without_collection():
+                reader.add_all()
+            self.own_items, self.own_strings = reader.items, reader.strings
+
+    @property
+    def items(self) -> List[Item]:
+        self.make()
+        return self.own_items
+
+    @property
+    def strings(self) -> Dict[bytes, bytes]:
+        self.make()
+        return self.own_strings
+
     def items_at(self, place: int) -> List[Item]:
-        """The items that a place is in, or directly after."""
+        """The items that a place is in, or directly after; of items that aren't made yet those alone that have a name."""
+        reader = self.reader
         if self.starts is None:
-            self.starts = [item.start for item in self.items]
+            self.starts = [item.start for item in self.own_items] if reader is None else [reader.first.starts[at] for at, _ in reader.spans]
         last = bisect.bisect_right(self.starts, place)
-        return self.items[max(last - 2, 0) : last]
+        if reader is None:
+            return self.own_items[max(last - 2, 0) : last]
+        spans = reader.spans[max(last - 2, 0) : last]
+        return [reader.item(reader.first, *span) for span in spans if reader.first.kinds[span[0]] != WRONG]
+
+    def keys(self) -> Iterator[Tuple[bytes, int]]:
+        """The keys of its entries, and where each ends."""
+        if self.reader is None:
+            yield from ((item.key, item.key_end) for item in self.own_items if item.is_entry and item.key is not None)
+            return
+        records = self.reader.first
+        texts, key_at, key_len, ends = records.texts, records.text_at, records.text_len, records.ends
+        at = records.kinds.find(ENTRY)
+        while at >= 0:
+            yield texts[key_at[at] : key_at[at] + key_len[at]], ends[at]
+            at = records.kinds.find(ENTRY, at + 1)
 
     def start(self, field: Field) -> int:
         """Where a field's value begins."""
@@ -202,7 +243,10 @@ class Database:
         alone = IS_NAME.fullmatch(self.text, field.after, field.end)
         if alone is not None:
             return [Part(*alone.span(1), True)]
-        return [part for part in parts_of(self.text, self.start(field), field.end) if part.is_name]
+        start = self.start(field)
+        if not has_names(self.text, start, field.end):
+            return []
+        return [part for part in parts_of(self.text, start, field.end) if part.is_name]
 
 
 def read(text: bytes, stored: Optional[Set[bytes]] = None, strings: Optional[Dict[bytes, bytes]] = None) -> Database:
@@ -212,15 +256,24 @@ def read(text: bytes, stored: Optional[Set[bytes]] = None, strings: Optional[Dic
     entry is a mistake, and what follows its key is text, as in a run. Without it no key is stored, so each entry is read to its end.
     strings: those that are defined before it, by names in lower case."""
     reader = Reader(text, stored, dict(strings or {}))
+    if stored is None:
+        reader.read_first(0)
+        return Database(text, [], {}, reader)
+    return read_by(reader)
+
+
+def read_by(reader: "Reader") -> Database:
+    """What a reader makes of its text."""
     with without_collection():
         place: Optional[int] = 0
         while place is not None:
-            place = reader.read_from(place)
-    return Database(text, reader.items, reader.strings)
+            reader.read_first(place)
+            place = reader.add_all()
+    return Database(reader.text, reader.items, reader.strings)
 
 
 class Reader:
-    """Makes items of the records of a database."""
+    """Makes items of the records of a database. first, spans: the records that are read without a look at keys, and those of each item."""
 
     def __init__(self, text: bytes, stored: Optional[Set[bytes]], strings: Dict[bytes, bytes]) -> None:
         self.text = text
@@ -238,21 +291,45 @@ class Reader:
             raise DatabaseTooLong(len(self.text))
         return Records(self.text, start, end, *found, self.names)
 
-    def read_from(self, place: int) -> Optional[int]:
-        """Reads the items from a place on. It answers where the rest is to be read once more, since what a repeated entry hides defines other strings before it."""
-        records = self.records(place, len(self.text), self.strings)
-        spans, turn, find = records.items(), 0, self.text.find
+    def read_first(self, place: int) -> None:
+        """Reads the records from a place on."""
+        self.first = self.records(place, len(self.text), self.strings)
+        self.spans = self.first.items()
+
+    def add_all(self) -> Optional[int]:
+        """Adds the items of the records that were read. It answers where the rest is to be read once more, since what a repeated entry hides defines other strings before it."""
+        records, spans = self.first, self.spans
+        turn = self.add_entries(records, spans, 0)
         while turn < len(spans):
             at, last = spans[turn]
             item = self.add(records, at, last)
             turn += 1
-            if item.slip is not None and item.is_repeated and find(b"@", item.key_end, records.ends[last]) >= 0:
+            if item.slip is not None and item.is_repeated and self.text.find(b"@", item.key_end, records.ends[last]) >= 0:
                 hidden = Hidden(self, records, spans, turn)
                 turn = hidden.read_from(item.key_end)
                 if hidden.changes_strings and turn < len(spans) and self.again < MOST_AGAIN:
                     self.again += 1
                     return hidden.place
+            turn = self.add_entries(records, spans, turn)
         return None
+
+    def add_entries(self, records: Records, spans: List[Tuple[int, int]], turn: int) -> int:
+        """Adds items from a turn on, as long as they are entries without a mistake whose keys aren't stored. It answers the turn of the first other item."""
+        kinds, keys, starts, ends = records.kinds, records.texts, records.starts, records.ends
+        key_at, key_len, append = records.text_at, records.text_len, self.items.append
+        stored: Set[bytes] = set() if self.stored is None else self.stored
+        while turn < len(spans):
+            at, last = spans[turn]
+            if kinds[at] != ENTRY or kinds[last] != END:
+                break
+            key = keys[key_at[at] : key_at[at] + key_len[at]]
+            lowered = key.lower()
+            if lowered in stored and self.stored is not None:
+                break
+            stored.add(lowered)
+            append(Item(records, at, last, starts[at], None, key, ends[at]))
+            turn += 1
+        return turn
 
     def add(self, records: Records, at: int, last: int) -> Item:
         """Adds the item of these records."""
@@ -276,7 +353,7 @@ class Reader:
         """The item of these records, so far as the first of them tells it."""
         kind, start, end = records.kinds[at], records.starts[at], records.ends[at]
         if kind == ENTRY:
-            return Item(records, at, last, start, records.names[at], records.value(at), end)
+            return Item(records, at, last, start, None, records.value(at), end)
         if kind == WRONG:
             # (nothing of it was read whole: it begins with the first `@` after the item before it)
             start = self.text.find(b"@", max(records.base, self.items[-1].end if self.items else 0))
@@ -356,16 +433,21 @@ class Undefined(NamedTuple):
     is_own: bool
 
 
-def undefined_strings(database: Database, strings: Set[bytes]) -> Iterator[Undefined]:
-    """The names without a string, in the order of the text. strings: the names, in lower case, that are defined before the database; those that it defines are added."""
-    for item in database.items:
-        kind = item.records.kinds[item.at]
+def undefined_strings(database: Database, strings: Set[bytes], items: Optional[List[Item]] = None) -> Iterator[Undefined]:
+    """The names without a string, in the order of the text. strings: the names, in lower case, that are defined before the database; those that it defines are added. items: those
+    that are looked at, if not all are."""
+    records, marks = None, b""
+    for item in database.items if items is None else items:
+        if item.records is not records:
+            records = item.records
+            kinds, marks = records.kinds, records.marks
+        kind = kinds[item.at]
         if kind == ENTRY:
-            if not item.is_repeated and item.records.lacks_string(item.at + 1, item.last):
+            if marks.find(1, item.at + 1, item.last) >= 0 and not item.is_repeated:
                 yield from undefined_of(database, item, strings)
         elif kind in (STRING, PREAMBLE):
-            own, records = item.key.lower() if item.key is not None else None, item.records
-            if database.text[records.ends[item.at] - 1] not in ENDS_TEXT or records.lacks_string(item.at, item.at + 1):
+            own = item.key.lower() if item.key is not None else None
+            if database.text[records.ends[item.at] - 1] not in ENDS_TEXT or marks[item.at]:
                 yield from undefined_in(database, item, item.fields[0], own, strings)
             if own is not None:
                 strings.add(own)

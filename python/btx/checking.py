@@ -4,8 +4,10 @@
     verdict.is_clean, verdict.types
     for warning in verdict.warnings:
         print(warning.line, warning.fault.value, warning.next, warning.missing)
+    if verdict.ends:
+        print(verdict.ends.steps(entries=30))
 
-The library's man page, library/btx.3, says what is promised of a clean style and what form the notes have."""
+The library's man page, library/btx.3, says what is promised of a clean style and of one that ends, and what form the notes have."""
 
 from __future__ import annotations
 
@@ -16,10 +18,12 @@ from typing import List, NamedTuple, Optional, Tuple
 from . import library
 from .refusals import StyleTooLong
 
-__all__ = ["Answer", "Branches", "Fault", "Operand", "Spot", "StyleWarning", "Verdict", "check"]
+__all__ = ["Answer", "Bound", "Branches", "Fault", "Operand", "Spot", "StyleWarning", "Verdict", "check"]
 
 # Enough for every style of TeX Live.
 STEPS = 2_000_000
+# How many bytes a global string variable keeps, where the options of a run say nothing else.
+KEPT = 20_000
 
 
 class Answer(enum.IntEnum):
@@ -100,12 +104,27 @@ class Branches(NamedTuple):
     second: Tuple[int, int]
 
 
+class Bound(NamedTuple):
+    """The bound of a style that ends. once: the most steps of a run without entries. each: the most steps more for each entry of the list. kept: how many bytes a global
+    string variable keeps at most there. types: the types of entries for which that holds, beside those that the style doesn't know."""
+
+    once: int
+    each: int
+    kept: int
+    types: List[str]
+
+    def steps(self, entries: int) -> int:
+        """The most steps of a run whose list has `entries` entries: with that budget it isn't stopped."""
+        return self.once + entries * self.each
+
+
 @dataclass
 class Verdict:
     """What is said of a style.
 
     literals, bodies: of a clean style, the greatest number of literals that was met, and the most bodies that are ever open at once. types: the types of
-    entries for which it is clean, beside those that it doesn't know. is_partial: whether there may be more places than those of `warnings`."""
+    entries for which it is clean, beside those that it doesn't know. is_partial: whether there may be more places than those of `warnings`. ends: of a style that is known to
+    end, whether it is clean or not, its bound."""
 
     answer: Answer
     literals: int
@@ -114,27 +133,42 @@ class Verdict:
     warnings: List[StyleWarning]
     causes: List[Branches]
     is_partial: bool
+    ends: Optional[Bound] = None
 
     @property
     def is_clean(self) -> bool:
         return self.answer is Answer.CLEAN
 
 
-def check(style: bytes, name: str = "style.bst", steps: int = STEPS) -> Verdict:
+def check(style: bytes, name: str = "style.bst", steps: int = STEPS, kept: int = KEPT) -> Verdict:
     """Checks the text of a style whose file has this name, in at most `steps` steps of the check (0 to 2^64 - 1), before any run.
 
-    Of a clean style no run logs a fault of the stack or of kinds, for entries of `types` and of types that it doesn't know. Mistakes in its text aren't looked at.
+    Of a clean style no run logs a fault of the stack or of kinds, for entries of `types` and of types that it doesn't know. Mistakes in its text aren't looked at. Of a style
+    that ends no run whose budget is at least the bound is stopped, where a global string variable keeps at most `kept` bytes.
     Raises a Refusal: StyleTooLong, MemoryRefused."""
     if not isinstance(style, bytes):
         raise TypeError(f"a style is bytes, and not {type(style).__name__}")
     if isinstance(steps, bool) or not isinstance(steps, int) or not 0 <= steps < 2**64:
         raise ValueError(f"a check takes 0 to 2^64 - 1 steps, and not {steps!r}")
-    checked = library.checked_style(name.encode("utf8", "surrogateescape"), style, steps)
+    if isinstance(kept, bool) or not isinstance(kept, int) or not 0 <= kept < 2**32:
+        raise ValueError(f"a variable keeps 0 to 2^32 - 1 bytes, and not {kept!r}")
+    file = name.encode("utf8", "surrogateescape")
+    checked = library.checked_style(file, style, steps)
     if checked is None:
         raise StyleTooLong(len(style))
     answered, types, notes = checked
     warnings, causes, is_partial = read_notes(notes)
-    return Verdict(Answer(answered.verdict), answered.literals, answered.bodies, lines_of(types), warnings, causes, is_partial)
+    ends = bound_of(file, style, kept)
+    return Verdict(Answer(answered.verdict), answered.literals, answered.bodies, lines_of(types), warnings, causes, is_partial, ends)
+
+
+def bound_of(file: bytes, style: bytes, kept: int) -> Optional[Bound]:
+    """The bound of a style whose file has this name; None where it isn't known to end."""
+    bounded = library.bounded_style(file, style, kept)
+    if bounded is None:
+        return None
+    answered, types = bounded
+    return Bound(answered.once, answered.each, kept, lines_of(types)) if answered.ends else None
 
 
 def lines_of(text: bytes) -> List[str]:

@@ -199,6 +199,8 @@ def of_aux(finding: Finding) -> Optional[str]:
     last = finding.source.text.rsplit(b"\n", 1)[-1]
     if last.startswith(b"\\") and last.count(b"{") > last.count(b"}"):
         return said(SEEN["AuxBreaksOff"], finding.source.name)
+    if b"\\@setckpt{" in finding.source.text and b"\\bibdata{" not in finding.source.text:
+        return said(SEEN["OfSomeInclude"], finding.source.name)
     is_of_biblatex = b"\\abx@aux@" in finding.source.text
     return said(SEEN["OfBiblatex"], re.sub(r"\.aux$", "", finding.source.name)) if is_of_biblatex else None
 

@@ -13,7 +13,7 @@ from .bibtext import REPEATED
 from .bsttext import COMMANDS, StyleText, Word, uses_between
 from .builtins import BUILT_IN
 from .checking import Fault, StyleWarning, check
-from .doctor import JOURNALS, MONTHS, Finding, Source, Style, examine
+from .doctor import JOURNALS, MONTHS, Finding, Source, Style
 from .documents import Document
 from .jobs import run
 from .mending import Mending, mend
@@ -194,7 +194,7 @@ def of_database(document: Document, workspace: Workspace) -> Iterator[Diagnostic
     """What the doctor says of a database, with the style in use."""
     used = workspace.style_in_use(document)
     style = None if used is None else used[1]
-    for finding in examine([Source(document.uri, document.text)], style, most=MOST_SHOWN + 1):
+    for finding in workspace.pieces(document).examine(Source(document.uri, document.text), style, MOST_SHOWN + 1):
         severity = HINT if finding.check == "unread-field" else SEVERITIES[finding.severity]
         yield Diagnostic(finding.start, finding.end, severity, finding.check, finding.text, partial(mending_of, document, workspace, finding, used))
 
@@ -294,7 +294,7 @@ def unknown_citations(document: Document, workspace: Workspace) -> Iterator[Diag
     databases = workspace.databases(document)
     keys: Dict[bytes, bytes] = {}
     for database in databases:
-        keys.update((item.key.lower(), item.key) for item in workspace.base(database).items if item.is_entry and item.key is not None)
+        keys.update((key.lower(), key) for key, _ in workspace.base(database).keys())
     for start, end in cited(document, workspace) if databases else ():
         key = document.text[start:end]
         if key.lower() not in keys and key != b"*":

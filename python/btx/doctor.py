@@ -13,7 +13,7 @@ from typing import Dict, FrozenSet, Iterable, Iterator, List, NamedTuple, Option
 
 from .bibtext import ENDS_TEXT, Database, Field, Item, Lines, field_of, read, undefined_strings
 from .bsttext import StyleText, read_style
-from .reading import without_collection
+from .reading import ENTRY, without_collection
 from .values import BRACE
 
 __all__ = ["CHECKS", "Check", "Citation", "Finding", "Source", "Style", "examine"]
@@ -97,6 +97,9 @@ ORGANIZATIONS = (
     " ministerium ministry ministère organisation organization society universidad universidade universiteit universitet university università universität université universitat verein"
 ).split()
 OF_ORGANIZATIONS = re.compile(rb"(?<![^ \t\r\n~])(?:%s),?(?![^ \t\r\n~])" % "|".join(ORGANIZATIONS).encode(), re.IGNORECASE)
+# The same words, among those of a text in lower case that are parted by spaces.
+WORDS_OF_ORGANIZATIONS = frozenset(word.encode() for word in ORGANIZATIONS)
+TO_SPACES = bytes.maketrans(b"\t\r\n~,", b"     ")
 # A dollar sign, and what has none of its own: what has a backslash before it, and an address.
 DOLLAR = re.compile(rb"\\(?:url|path|nolinkurl|href)[ \t\r\n]*\{[^{}]*\}|\\.|\$", re.DOTALL)
 # Fields of addresses and of other programs, which no style sets as a text of TeX.
@@ -160,6 +163,10 @@ def shown(text: bytes) -> str:
 
 # What is found: the number of the source, where it begins and ends, the check, what it is about, the key of its entry, and the source.
 Found = Tuple[int, int, int, str, Tuple[Union[bytes, str], ...], Optional[bytes], Source]
+# The same without a source.
+Local = Tuple[int, int, str, Tuple[Union[bytes, str], ...], Optional[bytes]]
+# What tells the work of an entry: the check that compares it, what is compared, the key of the entry and where that ends.
+Work = Tuple[str, object, bytes, int]
 
 
 def examine(
@@ -178,16 +185,20 @@ def examine(
             examiner.compare_citations(citations)
     found = examiner.found if not off else [it for it in examiner.found if it[3] not in off]
     found.sort(key=itemgetter(0, 1, 2))
-    return [
-        Finding(source, start, end, check, SAID[check].format(*(it if isinstance(it, str) else shown(it) for it in what)), shown(key or b""))
-        for _, start, end, check, what, key, source in found[:most]
-    ]
+    return [finding_of((start, end, check, what, key), source) for _, start, end, check, what, key, source in found[:most]]
+
+
+def finding_of(found: Local, source: Source) -> Finding:
+    """A finding in words."""
+    start, end, check, what, key = found
+    return Finding(source, start, end, check, SAID[check].format(*(it if isinstance(it, str) else shown(it) for it in what)), shown(key or b""))
 
 
 class Examiner:
     """Examines databases one after another, and keeps what later ones are compared with.
 
-    dois, titles: the key of the first entry with a doi, and with a title and a year. found: in any order."""
+    works: what tells the works of the entries that aren't compared with others yet. firsts: of each doi, and of each title with its year, the key of the first entry. plain_names:
+    lists of names of which nothing is said. found: in any order."""
 
     def __init__(self, style: Optional[Style]) -> None:
         self.style = style
@@ -195,8 +206,9 @@ class Examiner:
         self.strings: Dict[bytes, bytes] = dict(known if style is None else style.strings)
         self.stored: Set[bytes] = set()
         self.databases: List[Tuple[int, Source, Database]] = []
-        self.dois: Dict[bytes, bytes] = {}
-        self.titles: Dict[Tuple[bytes, bytes], bytes] = {}
+        self.works: List[Work] = []
+        self.firsts: Dict[object, bytes] = {}
+        self.plain_names: Set[bytes] = set()
         self.found: List[Found] = []
         self.number, self.source = 0, Source("", b"")
         self.database = Database(b"", [], {})
@@ -206,31 +218,37 @@ class Examiner:
 
     def examine(self, number: int, source: Source) -> None:
         """Examines a database."""
-        known, style = set(self.strings), self.style
+        known = set(self.strings)
         self.number, self.source, self.database = number, source, read(source.text, self.stored, self.strings)
         self.databases.append((number, source, self.database))
         self.strings = self.database.strings
-        for unknown in undefined_strings(self.database, known):
+        items = self.database.items
+        self.text_between(0, items[0].start if items else len(source.text))
+        self.examine_items(items, len(source.text), known)
+        self.found.extend((number, start, end, check, what, key, source) for start, end, check, what, key in repeated_works(self.works, self.firsts))
+        self.works = []
+
+    def examine_items(self, items: List[Item], end: int, known: Set[bytes]) -> None:
+        """Examines items that follow one another, up to where the next one begins. known: the names of the strings that are defined before them; those that they define are added."""
+        style, text = self.style, self.source.text
+        for unknown in undefined_strings(self.database, known, items):
             if style is None or not unknown.item.is_entry or unknown.field in style.fields:
-                name = source.text[unknown.part.start : unknown.part.end]
+                name = text[unknown.part.start : unknown.part.end]
                 what = "used in its own definition" if unknown.is_own else "undefined"
                 self.say("undefined-string", unknown.part.start, unknown.part.end, key_of(unknown.item), name, what)
-        self.between_items()
-        for item in self.database.items:
-            if item.is_entry and not item.is_repeated:
+        self.between_items(items, end)
+        for item in items:
+            if item.records.kinds[item.at] == ENTRY and (item.slip is None or not item.is_repeated):
                 self.entry(item)
 
-    def between_items(self) -> None:
+    def between_items(self, items: List[Item], end: int) -> None:
         """Says where the reading of an item ends with a mistake, and looks for fields in the text between items."""
-        text, items, find = self.source.text, self.database.items, self.source.text.find
-        self.text_between(0, items[0].start if items else len(text))
-        for item, following in zip(items, [*items[1:], None]):
+        find, starts = self.source.text.find, [item.start for item in items[1:]]
+        for item, following in zip(items, [*starts, end]):
             if item.slip is not None:
                 self.slip(item)
-                continue
-            end = len(text) if following is None else following.start
-            if find(b"=", item.end, end) >= 0 and item.kind != b"comment":
-                self.text_between(item.end, end)
+            elif find(b"=", item.end, following) >= 0 and item.own_kind != b"comment":
+                self.text_between(item.end, following)
 
     def slip(self, item: Item) -> None:
         assert item.slip is not None
@@ -259,7 +277,7 @@ class Examiner:
             numbers = self.first_of_each(item, names)
         if self.style is not None:
             self.unread(item, self.style, numbers)
-        if records.lacks_string(first, last):
+        if records.marks.find(1, first, last) >= 0:
             self.empty(item, numbers)
         for name, examine in EXAMINED:
             if name in numbers:
@@ -302,19 +320,15 @@ class Examiner:
                     self.say("empty-field", self.database.start(field), field.end, item.key, name)
 
     def work(self, item: Item, numbers: Dict[bytes, int]) -> None:
-        """Says whether an earlier entry has the doi, or the title and year, of an entry."""
+        """Keeps what tells the work of an entry: its doi, and its title and year."""
         records, key = item.records, item.key or b""
         if b"doi" in numbers:
-            first = self.dois.setdefault(RESOLVER.sub(b"", records.value(numbers[b"doi"]).lower()), key)
-            if first != key:
-                self.say("repeated-doi", item.key_end - len(key), item.key_end, key, first)
+            self.works.append(("repeated-doi", RESOLVER.sub(b"", records.value(numbers[b"doi"]).lower()), key, item.key_end))
         if b"title" in numbers:
             value = records.value(numbers[b"title"])
             title = (TEX_COMMAND.sub(b"", value) if b"\\" in value else value).lower().translate(None, NOT_TITLE)
             if len(title) >= LEAST_TITLE:
-                first = self.titles.setdefault((title, records.value(numbers[b"year"]) if b"year" in numbers else b""), key)
-                if first != key:
-                    self.say("repeated-title", item.key_end - len(key), item.key_end, key, first)
+                self.works.append(("repeated-title", (title, records.value(numbers[b"year"]) if b"year" in numbers else b""), key, item.key_end))
 
     # ---- fields ----
 
@@ -326,8 +340,13 @@ class Examiner:
     def names(self, item: Item, number: int) -> None:
         """Examines the names of a field."""
         value = item.records.value(number)
-        has_organization = OF_ORGANIZATIONS.search(value) is not None
-        if value.isascii() and not has_organization and not has_others_inside(value) and not has_et_al(value):
+        if value in self.plain_names:
+            return
+        lowered = value.lower()
+        # (first what takes less time)
+        has_organization = not WORDS_OF_ORGANIZATIONS.isdisjoint(lowered.translate(TO_SPACES).split()) and OF_ORGANIZATIONS.search(value) is not None
+        if not has_organization and value.isascii() and not has_others_inside(value, lowered) and not has_et_al(value, lowered):
+            self.plain_names.add(value)
             return
         field = self.text_of(item, number)
         if field is None:
@@ -337,7 +356,7 @@ class Examiner:
         if found is not None:
             self.say("et-al", offset + found.start(), offset + found.end(), item.key)
         hidden = hide_braces(text)
-        if has_others_inside(text):
+        if has_others_inside(text, text.lower()):
             self.others(item, offset, hidden)
         if has_organization:
             for start, end in spans_of_names(hidden):
@@ -424,18 +443,26 @@ class Examiner:
 EXAMINED = ((b"author", Examiner.names), (b"editor", Examiner.names), (b"pages", Examiner.pages), (b"month", Examiner.month))
 
 
+def repeated_works(works: List[Work], firsts: Dict[object, bytes]) -> Iterator[Local]:
+    """The works that earlier entries have. firsts: of each work the key of the first entry; those of these entries are added."""
+    for check, work, key, end in works:
+        first = firsts.setdefault(work, key)
+        if first != key:
+            yield end - len(key), end, check, (first,), key
+
+
 def key_of(item: Item) -> Optional[bytes]:
     return item.key if item.is_entry else None
 
 
-def has_others_inside(value: bytes) -> bool:
+def has_others_inside(value: bytes, lowered: bytes) -> bool:
     """Whether `others` may be another name than the last one."""
-    return (b"thers" in value or b"THERS" in value) and not (value[-6:].lower() == b"others" and value.lower().count(b"others") == 1)
+    return b"others" in lowered and (b"thers" in value or b"THERS" in value) and not (lowered.endswith(b"others") and lowered.count(b"others") == 1)
 
 
-def has_et_al(value: bytes) -> bool:
+def has_et_al(value: bytes, lowered: bytes) -> bool:
     # (first what takes less time)
-    return b"etal" in value.lower().translate(None, b". ~") and ET_AL.search(value) is not None
+    return b"al" in lowered and b"etal" in lowered.translate(None, b". ~") and ET_AL.search(value) is not None
 
 
 def hide_braces(text: bytes) -> bytes:

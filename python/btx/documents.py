@@ -1,4 +1,4 @@
-"""A text in an editor: its lines, which are edited by ranges whose columns count units of UTF-16, and its bytes."""
+"""A text in an editor: its bytes, which are edited by ranges whose lines are counted and whose columns count units of UTF-16."""
 
 from __future__ import annotations
 
@@ -7,16 +7,17 @@ import itertools
 import re
 from typing import Any, Dict, List, Optional
 
-__all__ = ["Document", "Position", "Range", "units"]
+__all__ = ["Document", "Feeds", "Position", "Range", "units"]
 
 Position = Dict[str, int]
 Range = Dict[str, Position]
 
-FEED = re.compile(rb"\n")
 LINE = re.compile(r"[^\r\n]*(?:\r\n|\r|\n)")
 # The bytes that begin no letter of UTF-8, those that begin none of four bytes, and the letters that have two units of UTF-16.
 NOT_FIRST, NOT_OF_FOUR = bytes(range(0x80, 0xC0)), bytes(range(0xF0))
 OF_TWO_UNITS = re.compile("[\U00010000-\U0010ffff]")
+# How many bytes of a text are looked through to count the line feeds before a place, or to find one by its number.
+BLOCK = 4096
 
 
 def split_lines(text: str) -> List[str]:
@@ -50,19 +51,42 @@ def index_of(line: str, column: int) -> int:
     return min(column - more, end)
 
 
+class Feeds:
+    """The line feeds of a text. They are counted block by block: a place has those of the blocks before its own, and the few of its own."""
+
+    def __init__(self, text: bytes) -> None:
+        self.text = text
+        self.sums = [0, *itertools.accumulate(text.count(b"\n", at, at + BLOCK) for at in range(0, len(text), BLOCK))]
+
+    def before(self, place: int) -> int:
+        """How many line feeds are before a place."""
+        block = min(place // BLOCK, len(self.sums) - 1)
+        return self.sums[block] + self.text.count(b"\n", block * BLOCK, place)
+
+    def after(self, number: int) -> int:
+        """The byte after the line feed with this number, counted from 1; of 0 the first byte of the text, and its end where there are fewer."""
+        if not 0 < number <= self.sums[-1]:
+            return 0 if number <= 0 else len(self.text)
+        block = bisect.bisect_left(self.sums, number) - 1
+        place = block * BLOCK
+        for _ in range(number - self.sums[block]):
+            place = self.text.index(b"\n", place) + 1
+        return place
+
+
 class Document:
-    """A text in an editor."""
+    """A text in an editor. text: its bytes, in UTF-8."""
 
     def __init__(self, uri: str, text: str, version: Optional[int] = None) -> None:
         self.uri = uri
         self.version = version
-        self.replace(text)
+        self.replace(text.encode("utf8", "surrogatepass"))
 
-    def replace(self, text: str) -> None:
-        self.lines = split_lines(text)
-        self.known: Optional[bytes] = None
-        self.starts: List[int] = []
-        self.feeds: List[int] = []
+    def replace(self, text: bytes) -> None:
+        self.text = text
+        self.known_feeds: Optional[Feeds] = None
+        self.known_starts: List[int] = []
+        self.has_returns = b"\r" in text
         # A line, a byte of it, and the units before that.
         self.passed = 0, 0, 0
 
@@ -70,59 +94,63 @@ class Document:
         """Makes the changes of a notice, one after another."""
         for change in changes:
             if change.get("range") is None:
-                self.replace(str(change["text"]))
+                self.replace(str(change["text"]).encode("utf8", "surrogatepass"))
             else:
                 self.edit(change["range"], str(change["text"]))
 
     def edit(self, where: Range, text: str) -> None:
-        """Puts a text in the place of a range. A line that ended in a carriage return alone may be joined to the next one."""
-        first, before = self.point(where["start"])
-        last, after = self.point(where["end"])
-        if (last, after) < (first, before):
-            first, before, last, after = last, after, first, before
-        new = self.lines[first][:before] + text + self.lines[last][after:]
-        if first > 0 and self.lines[first - 1].endswith("\r"):
-            first -= 1
-            new = self.lines[first] + new
-        lines = split_lines(new)
-        if last + 1 < len(self.lines):
-            lines.pop()
-        self.lines[first : last + 1] = lines
-        self.known = None
+        """Puts a text in the place of a range."""
+        start, end = sorted((self.place(where["start"]), self.place(where["end"])))
+        self.replace(b"".join((self.text[:start], text.encode("utf8", "surrogatepass"), self.text[end:])))
 
-    def point(self, position: Position) -> "tuple[int, int]":
-        """The line of a position, and the index in it. A line past the last one is the end of the text."""
-        line = position["line"]
-        if line >= len(self.lines):
-            return len(self.lines) - 1, len(self.lines[-1])
-        return max(line, 0), index_of(self.lines[max(line, 0)], position["character"])
+    # ---- lines ----
 
     @property
-    def text(self) -> bytes:
-        """The bytes of the text, in UTF-8."""
-        if self.known is None:
-            self.known = "".join(self.lines).encode("utf8", "surrogatepass")
-            self.starts, self.feeds, self.passed = [], [], (0, 0, 0)
-        return self.known
+    def lines(self) -> List[str]:
+        """The lines with their ends."""
+        return split_lines(self.text.decode("utf8", "surrogatepass"))
 
-    def place(self, position: Position) -> int:
-        """The byte of a position."""
-        line, index = self.point(position)
-        return self.line_starts()[line] + len(self.lines[line][:index].encode("utf8", "surrogatepass"))
+    @property
+    def feeds(self) -> Feeds:
+        if self.known_feeds is None:
+            self.known_feeds = Feeds(self.text)
+        return self.known_feeds
 
     def line_starts(self) -> List[int]:
         """The bytes at which the lines begin."""
-        text = self.text
-        if not self.starts:
+        if not self.known_starts:
+            ends = itertools.accumulate(map(len, self.text.splitlines(True)))
             # (a text that ends with a line has an empty one after it)
-            self.starts = [0, *itertools.accumulate(map(len, text.splitlines(True)))][: len(self.lines)]
-        return self.starts
+            self.known_starts = [0, *ends] if self.text.endswith((b"\n", b"\r")) or not self.text else [0, *ends][:-1]
+        return self.known_starts
+
+    def line_at(self, place: int) -> "tuple[int, int]":
+        """The line that a place is on, and its first byte."""
+        if not self.has_returns:
+            return self.feeds.before(place), self.text.rfind(b"\n", 0, place) + 1
+        starts = self.line_starts()
+        line = bisect.bisect_right(starts, place) - 1
+        return line, starts[line]
+
+    def line_of(self, number: int) -> "tuple[int, int]":
+        """The first byte of a line and the one after its last. A line past the last one is the end of the text."""
+        if not self.has_returns:
+            return self.feeds.after(number), self.feeds.after(number + 1)
+        starts, end = self.line_starts(), len(self.text)
+        return (starts[number] if number < len(starts) else end), (starts[number + 1] if number + 1 < len(starts) else end)
+
+    # ---- places ----
+
+    def place(self, position: Position) -> int:
+        """The byte of a position. A line before the first one is the first."""
+        start, end = self.line_of(max(position["line"], 0))
+        line = self.text[start:end].decode("utf8", "surrogatepass")
+        return start + len(line[: index_of(line, position["character"])].encode("utf8", "surrogatepass"))
 
     def position(self, place: int) -> Position:
         """The position of a byte. What is before it on its line is counted once, where positions are asked for in their order."""
-        starts = self.line_starts()
-        line = bisect.bisect_right(starts, place) - 1
-        _, at, column = self.passed if self.passed[0] == line and starts[line] <= self.passed[1] <= place else (line, starts[line], 0)
+        line, start = self.line_at(place)
+        _, at, column = self.passed if self.passed[0] == line and start <= self.passed[1] <= place else (line, start, 0)
         column += units(self.text[at:place])
         self.passed = line, place, column
         return {"line": line, "character": column}
@@ -131,9 +159,7 @@ class Document:
         return {"start": self.position(start), "end": self.position(end)}
 
     def line_range(self, line: int) -> "tuple[int, int]":
-        """The bytes of a line as a log counts it, from 1: lines end at line feeds alone."""
-        text = self.text
-        if not self.feeds:
-            self.feeds = [-1, *(found.start() for found in FEED.finditer(text)), len(text)]
-        last = min(line, len(self.feeds) - 1)
-        return min(self.feeds[last - 1] + 1, len(text)), self.feeds[last]
+        """The bytes of a line as a log counts it, from 1: lines end at line feeds alone. One past the last line is the last."""
+        feeds, last = self.feeds, self.feeds.sums[-1] + 1
+        line = min(line, last)
+        return feeds.after(line - 1), feeds.after(line) - (line < last)

@@ -131,9 +131,11 @@ def definitions_in(document: Document, named: Named, workspace: Workspace) -> It
             if word.name == named.name and (word.kind == "string") == (named.kind == "macro"):
                 yield Place(document, word.start, word.end)
     elif document.uri.endswith(".bib"):
-        for item in workspace.base(document).items:
-            if item.key and item.is_entry == (named.kind == "key") and shown(item.key.lower()) == named.name:
-                yield Place(document, item.key_end - len(item.key), item.key_end)
+        database = workspace.base(document)
+        strings = ((item.key, item.key_end) for item in database.items if item.key and not item.is_entry) if named.kind == "string" else ()
+        for key, end in database.keys() if named.kind == "key" else strings:
+            if key and shown(key.lower()) == named.name:
+                yield Place(document, end - len(key), end)
 
 
 def definition(named: Named, workspace: Workspace) -> List[Place]:
@@ -201,8 +203,7 @@ def hover_of_entry(workspace: Workspace, named: Named) -> Optional[str]:
         value = own if used is None else used[1].strings.get(named.name.encode("utf8", "surrogatepass"))
         return None if value is None else f"string `{named.name}` = {shown(value)}"
     for place in definition(named, workspace):
-        base = workspace.base(place.document)
-        for item in base.items:
+        for item in workspace.base(place.document).items_at(place.start):
             if item.is_entry and item.key_end == place.end:
                 values = {field.name: field.value for field in reversed(item.fields)}
                 rows = [f"{name}: {shown(values[name.encode()].strip())}" for name in ("author", "editor", "title", "year") if name.encode() in values]

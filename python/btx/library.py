@@ -5,27 +5,32 @@ interpreter run during a call."""
 
 from __future__ import annotations
 
+import contextlib
 import ctypes
 import mmap
 import os
 import pathlib
 import struct
-from typing import List, Mapping, Optional, Tuple
+from typing import Callable, List, Mapping, Optional, Tuple, Union
 
 from .events import EVENT, Events
 from .options import Options
 from .refusals import FileUnknown, LibraryMissing, MemoryRefused, OutputTooLong, Refusal
 from .results import End, Report, Result
 
-__all__ = ["RECORD", "Checked", "checked_style", "needed_names", "read_records", "run_over"]
+__all__ = ["RECORD", "Buffer", "Checked", "checked_style", "needed_names", "read_job_records", "read_records", "run_over"]
 
 # What is said of each file: its bytes, or None where there is no such file.
 Known = Mapping[bytes, Optional[bytes]]
+# Bytes as the library has written them.
+Buffer = Union[bytes, mmap.mmap]
 
 DONE, REFUSED, MEMORY, ASKS, FULL, ENDS = range(6)
 # How many bytes of names are asked for at first, of outputs at least.
 FIRST_NAMES = 4096
 LEAST_ROOM = 1 << 16
+# How many bytes of an output stay where the library has written them, and in how large a room the system is asked for large pages.
+LEAST_KEPT = 1 << 22
 # How many bytes the names of a style's types and the notes of a check are given room for at first.
 FIRST_TYPES, FIRST_NOTES = 1 << 16, 1 << 20
 # How many lines of a log have room for their events at first.
@@ -76,22 +81,33 @@ class Checked(ctypes.Structure):
     ]
 
 
+class Bounded(ctypes.Structure):
+    _fields_ = [
+        *((name, ctypes.c_uint64) for name in ("once", "each")),
+        *((name, ctypes.c_size_t) for name in ("types_len", "notes_len")),
+        ("ends", ctypes.c_bool),
+    ]
+
+
 def found_library() -> ctypes.CDLL:
     """The library: the file that BTX_LIBRARY names, the one that lies in this package, or the system's."""
     beside = pathlib.Path(__file__).parent / "libbtx.so.1"
     path = os.environ.get("BTX_LIBRARY") or (str(beside) if beside.exists() else "libbtx.so.1")
     try:
         library = ctypes.CDLL(path)
-        needs, run, check, read = library.btx_needs, library.btx_run_events, library.btx_check, library.btx_read
+        needs, run, check, check_ends = library.btx_needs, library.btx_run_events, library.btx_check, library.btx_check_ends
+        read, read_job = library.btx_read, library.btx_read_job
     except (OSError, AttributeError) as error:
         raise LibraryMissing(path, str(error)) from error
-    needs.restype = run.restype = check.restype = read.restype = ctypes.c_uint32
+    needs.restype = run.restype = check.restype = check_ends.restype = read.restype = read_job.restype = ctypes.c_uint32
     size = ctypes.c_size_t
     text, files, room = (ctypes.c_char_p, size), (ctypes.POINTER(File), size), (ctypes.c_void_p, size)
     needs.argtypes = (*text, *files, *room, ctypes.POINTER(size))
     run.argtypes = (*text, *files, ctypes.POINTER(Asked), *room, *room, ctypes.POINTER(Answered), *room, ctypes.POINTER(size))
     read.argtypes = (*text, *text, ctypes.POINTER(String), size, *room, *room, ctypes.POINTER(Sizes))
+    read_job.argtypes = (*text, *files, ctypes.POINTER(Asked), *room, *room, ctypes.POINTER(Sizes))
     check.argtypes = (*text, *text, ctypes.c_uint64, *room, *room, ctypes.POINTER(Checked))
+    check_ends.argtypes = (*text, *text, ctypes.c_uint32, *room, *room, ctypes.POINTER(Bounded))
     return library
 
 
@@ -111,11 +127,24 @@ class Room:
                 size //= 2
                 if size < LEAST_ROOM:
                     raise MemoryRefused("there is no memory for an output") from error
+        if size >= LEAST_KEPT and hasattr(mmap, "MADV_HUGEPAGE"):
+            with contextlib.suppress(OSError):
+                self.memory.madvise(mmap.MADV_HUGEPAGE)
         self.bytes = (ctypes.c_char * size).from_buffer(self.memory)
         self.size = min(wanted, size)
 
     def prefix(self, length: int) -> bytes:
         return self.memory[: min(length, self.size)]
+
+    def kept(self, length: int) -> Buffer:
+        """The first bytes, and the end of the room: a great many stay where they are, and of fewer there is a copy, as a process has a limited number of such rooms."""
+        if length < LEAST_KEPT:
+            copied = self.prefix(length)
+            self.close()
+            return copied
+        del self.bytes
+        self.memory.resize(length)
+        return self.memory
 
     def close(self) -> None:
         del self.bytes
@@ -155,6 +184,11 @@ def needed_names(job: bytes, known: Known) -> List[bytes]:
         room = length.value
 
 
+def asked_of(options: Options) -> Asked:
+    """The options as the library takes them."""
+    return Asked(options.budget, options.min_crossrefs, options.line, options.entry_max, options.global_max, options.utf8)
+
+
 def run_over(job: bytes, known: Known, options: Options, most_events: Optional[int] = None) -> Result:
     """Runs the job over these files, and keeps the events of the log's first `most_events` lines. Where None is said, all are kept: a log with more lines than have room at first
     takes a second run."""
@@ -186,8 +220,7 @@ def run_once(job: bytes, known: Known, options: Options, most_events: int) -> Re
 
 def call(job: bytes, known: Known, options: Options, bbl: Room, log: Room, events: Room) -> Tuple[int, Answered, int]:
     """The library's answer, its report, and how many events there are."""
-    asked = Asked(options.budget, options.min_crossrefs, options.line, options.entry_max, options.global_max, options.utf8)
-    answered, total = Answered(), ctypes.c_size_t()
+    asked, answered, total = asked_of(options), Answered(), ctypes.c_size_t()
     outputs = [word for room in (bbl, log) for word in (ctypes.byref(room.bytes), room.size)]
     answer = LIBRARY.btx_run_events(
         *(job, len(job), array_of(known), len(known), ctypes.byref(asked)),
@@ -214,26 +247,48 @@ def checked_style(name: bytes, style: bytes, steps: int) -> Optional[Tuple[Check
         types_room, notes_room = max(types_room, checked.types_len), max(notes_room, checked.notes_len)
 
 
-def read_records(file: bytes, text: bytes, strings: Mapping[bytes, bytes]) -> Optional[Tuple[bytes, bytes]]:
+def bounded_style(name: bytes, style: bytes, kept: int) -> Optional[Tuple[Bounded, bytes]]:
+    """What is said of a style's steps, and the names of its types. None where the style is longer than a file may be."""
+    room = FIRST_TYPES
+    while True:
+        types, notes, bounded = ctypes.create_string_buffer(room), ctypes.create_string_buffer(room), Bounded()
+        answer = LIBRARY.btx_check_ends(name, len(name), style, len(style), kept, types, room, notes, room, ctypes.byref(bounded))
+        if answer == REFUSED:
+            return None
+        if answer not in (DONE, FULL):
+            raise refusal_of(answer)
+        if answer == DONE:
+            return bounded, types.raw[: bounded.types_len]
+        room = max(bounded.types_len, bounded.notes_len)
+
+
+def read_records(file: bytes, text: bytes, strings: Mapping[bytes, bytes]) -> Optional[Tuple[Buffer, Buffer]]:
     """The records of a database before which these strings are known, and their texts. None where the database is longer than a file may be."""
     known = (String * max(len(strings), 1))()
     for place, (name, value) in zip(known, strings.items()):
         place.name.at, place.name.len, place.text.at, place.text.len = name, len(name), value, len(value)
-    wanted = Sizes(len(text) // BYTES_OF_A_RECORD + 1024, 2 * len(text) + FIRST_NAMES)
+    return records_in_rooms(len(text), REFUSED, lambda *rooms: int(LIBRARY.btx_read(file, len(file), text, len(text), known, len(strings), *rooms)))
+
+
+def read_job_records(job: bytes, known: Known, options: Options) -> Optional[Tuple[Buffer, Buffer]]:
+    """The records of the library of a job over these files, and their texts. None where its run ends before it has a library."""
+    array, asked = array_of(known), asked_of(options)
+    size = sum(len(content) for name, content in known.items() if content and name.endswith(b".bib"))
+    return records_in_rooms(size, ENDS, lambda *rooms: int(LIBRARY.btx_read_job(job, len(job), array, len(known), ctypes.byref(asked), *rooms)))
+
+
+def records_in_rooms(length: int, nothing: int, read: Callable[..., int]) -> Optional[Tuple[Buffer, Buffer]]:
+    """The records that a call writes of `length` bytes of databases, and their texts, in rooms that grow as they need to. None where it answers `nothing`."""
+    wanted = Sizes(length // BYTES_OF_A_RECORD + 1024, 2 * length + FIRST_NAMES)
     while True:
         sizes, records, texts = Sizes(), Room(wanted.records * RECORD.size), Room(wanted.texts)
-        try:
-            answer = LIBRARY.btx_read(
-                *(file, len(file), text, len(text), known, len(strings)),
-                *(ctypes.byref(records.bytes), records.size // RECORD.size, ctypes.byref(texts.bytes), texts.size, ctypes.byref(sizes)),
-            )
-            if answer == DONE:
-                return records.prefix(sizes.records * RECORD.size), texts.prefix(sizes.texts)
-            is_as_wanted = records.size == wanted.records * RECORD.size and texts.size == wanted.texts
-        finally:
-            records.close()
-            texts.close()
-        if answer == REFUSED:
+        answer = read(ctypes.byref(records.bytes), records.size // RECORD.size, ctypes.byref(texts.bytes), texts.size, ctypes.byref(sizes))
+        if answer == DONE:
+            return records.kept(sizes.records * RECORD.size), texts.kept(sizes.texts)
+        is_as_wanted = records.size == wanted.records * RECORD.size and texts.size == wanted.texts
+        records.close()
+        texts.close()
+        if answer == nothing:
             return None
         if answer != FULL:
             raise refusal_of(answer)

@@ -16,7 +16,7 @@ import re
 from types import MappingProxyType
 from typing import Any, Dict, FrozenSet, Iterator, List, Mapping, NamedTuple, Optional, Sequence, Tuple, Union, overload
 
-from .library import RECORD, read_records
+from .library import RECORD, Buffer, read_records
 from .messages import decoded
 from .refusals import DatabaseTooLong
 
@@ -144,9 +144,18 @@ class Entry(Mapping[str, str]):
 class Entries(Sequence[Entry]):
     """The entries of a database, in their order, and by their keys, whose case doesn't matter. Of entries with the same key a run takes the first."""
 
-    def __init__(self, entries: List[Entry]) -> None:
-        self._entries = entries
+    def __init__(self, base: "Bibliography") -> None:
+        self._base = base
+        self._made: Optional[List[Entry]] = None
         self._by_key: Optional[Dict[str, Entry]] = None
+
+    @property
+    def _entries(self) -> List[Entry]:
+        """They are made when somebody asks for one."""
+        if self._made is None:
+            with without_collection():
+                self._made = [Entry(self._base, found.start()) for found in AN_ENTRY.finditer(self._base._kinds)]
+        return self._made
 
     @overload
     def __getitem__(self, at: Union[int, str]) -> Entry: ...
@@ -175,7 +184,7 @@ class Entries(Sequence[Entry]):
         return iter(self._entries)
 
     def __len__(self) -> int:
-        return len(self._entries)
+        return self._base._kinds.count(ENTRY)
 
     def __repr__(self) -> str:
         return f"<btx.Entries: {len(self)}>"
@@ -186,7 +195,7 @@ class Bibliography:
 
     file: the name of its file, for messages. text: its bytes. entries: in their order and by key, also those that are repeated."""
 
-    def __init__(self, file: str, text: bytes, known: FrozenSet[bytes], records: bytes, texts: bytes) -> None:
+    def __init__(self, file: str, text: bytes, known: FrozenSet[bytes], records: Buffer, texts: Buffer) -> None:
         self.file = file
         self.text = text
         self._known = known
@@ -194,7 +203,10 @@ class Bibliography:
         self._texts = texts
         self._kinds = records[::SIZE]
         self._names = LowerNames()
-        self.entries = Entries([Entry(self, found.start()) for found in AN_ENTRY.finditer(self._kinds)])
+        self.entries = Entries(self)
+
+    def __getstate__(self) -> Dict[str, Any]:
+        return {**self.__dict__, "_records": self._records[:], "_texts": self._texts[:]}
 
     # ---- what is asked of it ----
 
@@ -324,8 +336,7 @@ def read_text(text: bytes, file: str, strings: Mapping[str, str]) -> Bibliograph
     found = read_records(encoded(file), text, known)
     if found is None:
         raise DatabaseTooLong(len(text))
-    with without_collection():
-        return Bibliography(file, text, frozenset(name.lower() for name in known), *found)
+    return Bibliography(file, text, frozenset(name.lower() for name in known), *found)
 
 
 @contextlib.contextmanager

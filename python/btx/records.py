@@ -9,7 +9,7 @@ from array import array
 from operator import not_
 from typing import Dict, Iterator, List, Optional, Tuple
 
-from .library import RECORD
+from .library import RECORD, Buffer
 from .reading import COMMENT, END, ENTRY, FIELD, PREAMBLE, STRING, WRONG
 
 __all__ = ["LowerNames", "Records"]
@@ -32,10 +32,11 @@ class LowerNames(Dict[bytes, bytes]):
 class Records:
     """The records of a database, or of a piece of it that begins at `base` and ends at `limit`.
 
-    kinds: of each record its kind, as a byte. starts, ends: the bytes of the database between which it is. names: its name, in lower case."""
+    kinds: of each record its kind, as a byte. starts, ends: the bytes of the database between which it is. names: its name, in lower case; they are made when somebody asks for them."""
 
-    def __init__(self, text: bytes, base: int, limit: int, data: bytes, texts: bytes, lowered: LowerNames) -> None:
-        words = array("Q", data)
+    def __init__(self, text: bytes, base: int, limit: int, data: Buffer, texts: Buffer, lowered: LowerNames) -> None:
+        words = array("Q")
+        words.frombytes(data)
         self.text = text
         self.base = base
         self.limit = limit
@@ -44,34 +45,50 @@ class Records:
         self.is_whole = data[4 :: RECORD.size]
         self.starts, self.ends = words[START::WORDS], words[END_PLACE::WORDS]
         self.name_len, self.text_at, self.text_len = words[NAME_LEN::WORDS], words[TEXT_AT::WORDS], words[TEXT_LEN::WORDS]
-        self.names = [lowered[texts[at : at + length]] for at, length in zip(words[NAME_AT::WORDS], self.name_len)]
+        self.name_at, self.lowered = words[NAME_AT::WORDS], lowered
+        self.known_names: Optional[List[bytes]] = None
         if base:
             self.starts, self.ends = array("Q", [it + base for it in self.starts]), array("Q", [it + base for it in self.ends])
-        self.may_lack: Optional[bytes] = None
+        self.known_marks: Optional[bytes] = None
 
     def items(self) -> List[Tuple[int, int]]:
         """The numbers of the first and of the last record of each item."""
         return [(found.start(), found.end() - 1) for found in ITEM.finditer(self.kinds)]
+
+    @property
+    def names(self) -> List[bytes]:
+        """The names of all records."""
+        if self.known_names is None:
+            lowered, texts = self.lowered, self.texts
+            self.known_names = [lowered[texts[at : at + length]] for at, length in zip(self.name_at, self.name_len)]
+        return self.known_names
+
+    def name(self, number: int) -> bytes:
+        """The name of a record, in lower case."""
+        at = self.name_at[number]
+        return self.lowered[self.texts[at : at + self.name_len[number]]]
 
     def value(self, number: int) -> bytes:
         """The text of a record."""
         at = self.text_at[number]
         return self.texts[at : at + self.text_len[number]]
 
-    def lacks_string(self, first: int, last: int) -> bool:
-        """Whether one of these values may use a string that isn't defined. Then it is empty, or has a `#`."""
-        if self.may_lack is None:
-            self.may_lack = self.which_may_lack()
-        return self.may_lack.find(1, first, last) >= 0
+    @property
+    def marks(self) -> bytes:
+        """For each record, as a byte, whether its value may use a string that isn't defined. Then it is empty, or has a `#`."""
+        if self.known_marks is None:
+            self.known_marks = self.which_may_lack()
+        return self.known_marks
 
     def lacking(self, first: int, last: int) -> Iterator[int]:
         """Those of these values that may use a string that isn't defined."""
-        while self.lacks_string(first, last):
-            first = self.may_lack.index(1, first, last) + 1  # type: ignore[union-attr]
-            yield first - 1
+        first = self.marks.find(1, first, last)
+        while first >= 0:
+            yield first
+            first = self.marks.find(1, first + 1, last)
 
     def which_may_lack(self) -> bytes:
-        """For each record whether its value is empty or has a `#`, as a byte."""
+        """For each record, as a byte, whether its value is empty or has a `#`."""
         marks = bytearray(map(not_, self.text_len))
         find, starts, ends, limit = self.text.find, self.starts, self.ends, self.limit
         place = find(b"#", self.base, limit)

@@ -6,7 +6,7 @@ from __future__ import annotations
 
 from typing import Optional, Tuple, Union
 
-__all__ = ["Refusal", "OptionRefused", "LettersRefused", "MemoryRefused", "FileUnknown", "OutputTooLong", "NameRefused", "FinderRefused", "LibraryMissing", "StyleTooLong", "DatabaseTooLong", "NamesRefused"]
+__all__ = ["Refusal", "OptionRefused", "LettersRefused", "MemoryRefused", "FileUnknown", "OutputTooLong", "NameRefused", "FinderRefused", "LibraryMissing", "StyleTooLong", "DatabaseTooLong", "NamesRefused", "NoLibrary"]
 
 
 class Refusal(Exception):
@@ -109,6 +109,17 @@ class DatabaseTooLong(Refusal, ValueError):
 
     def __str__(self) -> str:
         return f"the database has {self.length:,} bytes, and a file may have 2,147,483,647"
+
+
+class NoLibrary(Refusal, LookupError):
+    """A run ends before it has a library: there is no top file or no style, or a limit is met. job: its name. The run's log says why."""
+
+    def __init__(self, job: str) -> None:
+        super().__init__(job)
+        self.job = job
+
+    def __str__(self) -> str:
+        return f"the run of the job {self.job} ends before it has a library: its log says why"
 
 
 class NamesRefused(Refusal, ValueError):

@@ -4,7 +4,7 @@ from __future__ import annotations
 
 import difflib
 import re
-from typing import Dict, Iterable, List, Optional
+from typing import Dict, Iterable, List, Optional, Tuple
 
 from .bibtext import REPEATED, Item, Lines
 
@@ -41,6 +41,11 @@ SEEN = {
     "OfBiblatexField": "call it `$2`: `$1` is a field of `biblatex`. Programs can export as BibTeX, not as BibLaTeX",
     "AlikeName": "write the name once more, with the `$1` of the keyboard: `$2`",
     "SpaceInName": "write the name once more, without that space: `$1`",
+    "NoHashBefore": "join the parts of the value of `$1` by `#`: write one before $2",
+    "LetterForDigit": "write `$1`: the `$2` is a letter in the place of a digit",
+    "CommasOfOneName": "write `$1`: a name has at most two commas, `von Last, Jr, First`",
+    "SemicolonInCite": "write `$1` in the `\\cite`, with a comma between two keys, and run LaTeX",
+    "OfSomeInclude": "run it on the whole document: $1 is of a part that `\\include` names there",
     "OfBiblatex": "run `biber $1` in the place of BibTeX, or give `biblatex` the option `backend=bibtex` and run LaTeX",
 }
 
@@ -91,6 +96,15 @@ OF_OTHER_TYPES = {"booktitle": ["journal"], "journal": ["booktitle"], "school": 
 ALIKE = str.maketrans({**dict.fromkeys("\xad\u2010\u2011\u2012\u2013\u2014\u2212", "-"), "\xa0": " "})
 
 
+# What comes after a last name, and what stands after a name and is no part of it; front/src/doubts.rs and explain.rs have the same.
+SUFFIX = re.compile(r"(?i:jr|sr)\.?|III?|IV")
+DEGREES = ("PhD", "Ph.D.", "Ph.D", "MD", "M.D.", "MSc", "Dr.", "Prof.")
+# Letters that look like digits.
+DIGITS = str.maketrans("OolI", "0011")
+MONTH = re.compile(rb"(?i:jan|feb|mar|apr|may|jun|jul|aug|sep|oct|nov|dec)")
+TEXTS = re.compile(rb"\"[^\"]*\"|\{[^{}]*\}")
+
+
 def said(words: str, *names: str) -> str:
     for number, name in enumerate(names):
         words = words.replace(f"${number + 1}", name)
@@ -119,6 +133,8 @@ def remedy_of(text: str, keys: Iterable[str] = (), strings: Iterable[str] = ()) 
     """What to do about a message; the keys and the strings are those that it may have meant."""
     found = re.fullmatch(r'I didn\'t find a database entry for "(.*)"', text, re.DOTALL)
     near = nearest(found[1], keys) if found else None
+    if found and has_key(found[1].split(";"), keys):
+        return said(SEEN["SemicolonInCite"], ",".join(part.strip() for part in found[1].split(";") if part.strip()))
     if found and near:
         return said(SEEN["NearKey"], found[1], near)
     found = re.fullmatch(r'A bad cross reference--entry ".*" refers to entry "(.*)", which doesn\'t exist', text, re.DOTALL)
@@ -128,14 +144,43 @@ def remedy_of(text: str, keys: Iterable[str] = (), strings: Iterable[str] = ()) 
         return f"move `{near}` below all entries that name it, or cite it" if is_there else said(SEEN["NearParent"], near)
     found = re.fullmatch(r'string name "(.*)" is undefined', text, re.DOTALL)
     near = nearest(found[1], strings) if found else None
+    number = number_meant(found[1]) if found else None
+    if number:
+        return said(SEEN["LetterForDigit"], *number)
     found = re.fullmatch(r'Too many commas in name [0-9]+ of "(.*)"', text, re.DOTALL)
-    names = names_by_commas(found[1]) if found else None
-    return f"is it `{near}`?" if near else said(SEEN["NamesByCommas"], names) if names else general(text)
+    one, names = (one_name(found[1]), names_by_commas(found[1])) if found else (None, None)
+    if one or names:
+        return said(SEEN["CommasOfOneName"], one) if one else said(SEEN["NamesByCommas"], names or "")
+    return f"is it `{near}`?" if near else general(text)
+
+
+def has_key(parts: List[str], keys: Iterable[str]) -> bool:
+    """Whether several keys stand here, of which an entry has one."""
+    known = {key.lower() for key in keys} if len(parts) > 1 else set()
+    return sum(bool(part.strip()) for part in parts) > 1 and any(part.strip().lower() in known for part in parts)
+
+
+def number_meant(word: str) -> Optional[Tuple[str, str]]:
+    """A number with letters that look like digits: the number, and the first such letter; None where it isn't one."""
+    letters, count = re.findall("[A-Za-z]", word), len(re.findall("[0-9]", word))
+    is_it = letters and count > 1 and 2 * count >= len(word) and re.fullmatch("[0-9OolI]+", word)
+    return (word.translate(DIGITS), letters[0]) if is_it else None
+
+
+def one_name(quoted: str) -> Optional[str]:
+    """A name with what comes after it, as `Underwood, Paul, Jr., PhD`: as BibTeX has it, without its degrees."""
+    parts = [part for part in map(str.strip, quoted.split(",")) if part not in DEGREES]
+    others = [part for part in parts if not SUFFIX.fullmatch(part)]
+    suffixes = [part for part in parts if SUFFIX.fullmatch(part)]
+    is_one = len(others) == 2 and len(suffixes) < 2 and not re.search(" and ", quoted, re.IGNORECASE)
+    return ", ".join([others[0], *suffixes, others[1]]) if is_one else None
 
 
 def names_by_commas(quoted: str) -> Optional[str]:
     """Names that are parted by commas, with `and` between them; None where it isn't seen which parts are one name."""
     parts = [part.strip() for part in quoted.split(",")]
+    if any(SUFFIX.fullmatch(part) or part in DEGREES for part in parts):
+        return None
     if re.search(r"[{}]| and ", quoted, re.IGNORECASE) or not all(parts) or not 4 <= len(parts) <= 8:
         return None
     if all(" " in part for part in parts):
@@ -206,7 +251,18 @@ class Slipped:
         is_field = name is not None and bool(name[0]) and self.text[name.end() : name.end() + 20].lstrip().startswith(b"=")
         if is_field or not is_in_line:
             return said(SEEN["NoComma"], owner, self.at(field.end - 1))
-        return said(SEEN["BareValue"], owner) if self.text[field.after : field.end].lstrip()[:1] not in (b"{", b'"') else None
+        return self.after_value(owner, self.text[field.after : field.end].lstrip(b" \t\r\n="), b"" if name is None else name[0])
+
+    def after_value(self, owner: str, value: bytes, name: bytes) -> Optional[str]:
+        """After a value something stands in its line that can't belong to it."""
+        number = number_meant(word(value + name)) if value.isdigit() and self.text[self.place - 1 : self.place].isdigit() else None
+        if number is not None:
+            return said(SEEN["LetterForDigit"], *number)
+        here = {b"{": "`{`", b'"': "the quote"}.get(self.text[self.place : self.place + 1], f"`{word(name)}`" if name else "")
+        is_on_its_own = self.text[self.place - 1 : self.place].isspace() or not value[-1:].isalnum()
+        if here and is_on_its_own and (b"#" in TEXTS.sub(b"", value) or owner.lower() == "month" and MONTH.fullmatch(name)):
+            return said(SEEN["NoHashBefore"], owner, here)
+        return said(SEEN["BareValue"], owner) if value[:1] not in (b"{", b'"') else None
 
     def after_quote(self, owner: str, start: int) -> str:
         """A quote ends the value earlier than it was meant."""

@@ -13,10 +13,14 @@ __all__ = ["Part", "has_names", "parts_of", "value_of"]
 WHITE = b" \t\r\n"
 NOT_WHITE = re.compile(rb"[^ \t\r\n]")
 BRACE = re.compile(rb"[{}]")
-BRACE_OR_QUOTE = re.compile(rb"[{}\"]")
+QUOTE = re.compile(b'"')
+ENDS_BRACED = re.compile(rb"\}(?=[ \t\r\n]*(?:#|\Z))")
 NAME = re.compile(rb"[^\x00- \"#%'(),={}]+")
 DIGITS = b"0123456789"
 BEGINS_TEXT = b'{"0123456789'
+NO_BRACE, NO_DELIMITER = (bytes(byte for byte in range(256) if byte not in signs) for signs in (b"{}", b'{}"'))
+# How often braces, and quotes in them, are taken out, to see whether all go.
+MOST_TURNS = 20
 
 
 class Part(NamedTuple):
@@ -36,7 +40,21 @@ def value_of(text: bytes, start: int, end: int, signs: bytes = b"=") -> Tuple[in
 
 def has_names(text: bytes, start: int, end: int) -> bool:
     """Whether a value may have names of strings. It has none where it is one text or number."""
-    return text[start] not in BEGINS_TEXT or text.find(b"#", start, end) >= 0
+    return text[start] not in BEGINS_TEXT or (text.find(b"#", start, end) >= 0 and not is_one_text(text, start, end))
+
+
+def is_one_text(text: bytes, start: int, end: int) -> bool:
+    """Whether it is soon seen that a value is one text, which may have a `#`: what is between its delimiters has braces that match, and no quote outside of them where it is in quotes."""
+    is_braced = text.startswith(b"{", start) and text.startswith(b"}", end - 1)
+    is_quoted = text.startswith(b'"', start) and text.startswith(b'"', end - 1)
+    if end - start < 2 or not (is_braced or is_quoted):
+        return False
+    signs = text[start + 1 : end - 1].translate(None, NO_BRACE if is_braced else NO_DELIMITER)
+    turns = MOST_TURNS
+    while signs and turns > 0:
+        signs = signs.replace(b'""', b'"').replace(b'{"', b"{").replace(b"{}", b"")
+        turns -= 1
+    return not signs
 
 
 def parts_of(text: bytes, start: int, end: int) -> Iterator[Part]:
@@ -66,13 +84,13 @@ def part_at(text: bytes, at: int, end: int) -> Tuple[Part, int]:
 
 
 def closing(text: bytes, at: int, end: int) -> int:
-    """Where the delimiter is that ends the text which begins here."""
-    pattern, depth = (BRACE, 0) if text[at] == ord("{") else (BRACE_OR_QUOTE, 1)
-    for found in pattern.finditer(text, at if depth == 0 else at + 1, end):
-        if found[0] == b'"':
-            depth -= depth == 1
-        else:
-            depth += 1 if found[0] == b"{" else -1
+    """Where the delimiter is that ends the text which begins here: before it the braces match, and after one that is a brace a `#` follows, or nothing."""
+    is_braced = text.startswith(b"{", at)
+    depth, passed = (-1, at) if is_braced else (0, at + 1)
+    for found in (ENDS_BRACED if is_braced else QUOTE).finditer(text, passed, end):
+        place = found.start()
+        depth += text.count(b"{", passed, place) - text.count(b"}", passed, place)
         if depth == 0:
-            return found.start()
+            return place
+        passed = place
     return end

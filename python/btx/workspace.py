@@ -11,6 +11,7 @@ from .bibtext import Database, read
 from .bsttext import StyleText, read_style
 from .documents import Document
 from .doctor import Style
+from .pieces import Pieces
 from .searching import Search, content_of, found_search
 
 __all__ = ["Workspace", "path_of", "uri_of"]
@@ -41,6 +42,7 @@ class Workspace:
         self.open: Dict[str, Document] = {}
         self.files: Dict[str, Tuple[Tuple[int, int], Document]] = {}
         self.known: Dict[str, Dict[str, Tuple[bytes, Any]]] = {}
+        self.pieces_of: Dict[str, Pieces] = {}
         self.search: Optional[Search] = None
 
     def document(self, path: str) -> Optional[Document]:
@@ -83,6 +85,10 @@ class Workspace:
 
     def base(self, document: Document) -> Database:
         return self.made("database", document, read)  # type: ignore[no-any-return]
+
+    def pieces(self, document: Document) -> Pieces:
+        """What was found in a database, piece by piece; it is kept until the text is closed."""
+        return self.pieces_of.setdefault(document.uri, Pieces())
 
     def style(self, document: Document) -> StyleText:
         return self.made("style", document, read_style)  # type: ignore[no-any-return]
@@ -132,3 +138,4 @@ class Workspace:
     def forget(self, uri: str) -> None:
         self.open.pop(uri, None)
         self.known.pop(uri, None)
+        self.pieces_of.pop(uri, None)

@@ -33,6 +33,11 @@ def entries_by_run(text, types, fields, options=btx.Options(most_log=400_000_000
     result = btx.run("j", files, options)
     messages = result.messages
     assert not [message for message in messages if message.met is Met.STYLE], result.log[-300:]
+    return shown_entries(messages)
+
+
+def shown_entries(messages):
+    """The entries that the made style shows in a run with these messages: key, type and fields of each."""
     shown = [(message.number, message.text[1:-1]) for message in messages if message.kind is Kind.SHOWN]
     entries = []
     for _, group in itertools.groupby(shown, lambda it: it[0]):

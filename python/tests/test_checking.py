@@ -45,6 +45,15 @@ class Styles(unittest.TestCase):
         self.assertIn(Fault.LEFT_OVER, [warning.fault for warning in verdict.warnings])
         self.assertEqual([cause.place.line for cause in verdict.causes], [1] * len(verdict.causes))
 
+    def test_the_bound_of_one_that_ends(self):
+        text = b"ENTRY {title}{}{} STRINGS {s}\nFUNCTION {not} {{#0} {#1} if$}\nFUNCTION {misc} {title 's := {s empty$ not} {s #2 global.max$ substring$ 's :=} while$}\nREAD\nITERATE {call.type$}\n"
+        self.assertEqual(btx.check(text).ends, btx.Bound(0, 320_024, 20_000, ["misc"]))
+        self.assertEqual(btx.check(text, kept=100).ends.steps(entries=3), 3 * 1_624)
+        self.assertIsNone(btx.check(text.replace(b"#2", b"#1")).ends)
+        faulty = btx.check(text.replace(b"title 's", b"title write$ title 's"))
+        self.assertFalse(faulty.is_clean)
+        self.assertEqual(faulty.ends.types, ["misc"])
+
     def test_few_steps_are_no_verdict(self):
         self.assertIs(btx.check(CLEAN, steps=0).answer, btx.Answer.INCOMPLETE)
 
@@ -88,6 +97,9 @@ class Refused(unittest.TestCase):
         for steps in (-1, 2**64, 1.5, True):
             with self.subTest(steps=steps), self.assertRaises(ValueError):
                 btx.check(CLEAN, steps=steps)
+        for kept in (-1, 2**32, "5", True):
+            with self.subTest(kept=kept), self.assertRaises(ValueError):
+                btx.check(CLEAN, kept=kept)
 
     def test_its_exception_can_be_pickled(self):
         again = pickle.loads(pickle.dumps(btx.StyleTooLong(7)))

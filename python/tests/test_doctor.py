@@ -16,10 +16,11 @@ from btx.checkup import Remedies
 from btx.diagnosing import diagnose
 from btx.doctor import CHECKS, NO_TEXTS, ORGANIZATIONS, SAID, Citation, Source, Style, examine, hide_braces
 from btx.documents import Document
-from btx.remedies import GENERAL, SEEN
+from btx.pieces import Pieces
+from btx.remedies import GENERAL, SEEN, remedy_of
 from btx.workspace import Workspace
 from tests.jobs import SOURCES
-from tests.spoilt import SEEDS, SIGNS, logged, run_module, spoilt
+from tests.spoilt import SEEDS, SIGNS, logged, run_module, seeds, spoilt
 
 STYLE = b"ENTRY {author title year} {} {}\nMACRO {acm} {\"ACM\"}\nFUNCTION {book} {}\nFUNCTION {misc} {}\nREAD\n"
 TITLE = b"title = {A Title That Is Long}, year = 2000"
@@ -142,6 +143,37 @@ class Edited(unittest.TestCase):
                     line = maker.randrange(len(document.lines))
                     places = [{"line": line, "character": maker.randrange(12)} for _ in range(2)]
                     document.edit(dict(zip(("start", "end"), places)), maker.choice([it.decode("latin1") for it in SIGNS] + ["@misc{a}"]))
+
+    def test_pieces_find_what_is_found_in_the_whole_text(self):
+        """500 edits by chance of texts whose pieces are one item each: strings, keys and mistakes that change what is said further on, and texts that end in the middle of an item."""
+        styles = (None, Style(b"ENTRY {title author year note doi}{}{}\nMACRO {zz} {\"Z\"}\nFUNCTION {misc} {}\n"))
+        put = [*SIGNS, b"@misc{a}", b"\n@string{s = 1}\n", b"@book{Kay}", b"@string{S = {x@y}}"]
+        for seed in range(20):
+            maker, pieces = random.Random(seed), Pieces()
+            text = b"\n".join(maker.choice(seeds()) for _ in range(maker.randrange(1, 6)))
+            with unittest.mock.patch("btx.pieces.LEAST_BYTES", 1), unittest.mock.patch("btx.pieces.MOST_PIECES", maker.choice((1000, 5))):
+                for edit in range(25):
+                    with self.subTest(seed=seed, edit=edit):
+                        source, most = Source("d.bib", text), maker.choice((None, None, 5))
+                        self.assertEqual(pieces.examine(source, styles[seed % 2], most), examine([source], styles[seed % 2], most=most))
+                        self.assertEqual(b"".join(piece.text for piece in pieces.all), text)
+                    at, other = maker.randrange(len(text) + 1), maker.randrange(len(text) + 1)
+                    to = min(len(text), at + maker.randrange(30))
+                    text = text[:at] + maker.choice((maker.choice(put), b"", text[at:to] * 2, text[other : other + 100])) + text[to if edit % 2 else at :]
+
+    def test_few_bytes_are_read_again(self):
+        text = b"@string{s = {x}}\n" + b"".join(b"@misc{k%d, title = {A Title That Is Long}, note = s, year = %d}\n" % (number, number) for number in range(20_000))
+        pieces, read = Pieces(), []
+        real = btx.bibtext.read_records
+        with unittest.mock.patch("btx.bibtext.read_records", lambda name, part, strings: read.append(len(part)) or real(name, part, strings)):
+            other = text.replace(b"{k9,", b"{kk9,")
+            repeated = other + b"@misc{K5}"
+            for what, edited, most in (("all", text, len(text)), ("nothing", text, 0), ("a key", other, 100_000), ("a repeated key", repeated, 100_000), ("a string", repeated.replace(b"{x}", b"{y}"), len(repeated))):
+                with self.subTest(edited=what):
+                    read.clear()
+                    found = pieces.examine(Source("d.bib", edited), None)
+                    self.assertLessEqual(sum(read), most)
+                    self.assertEqual(found, examine([Source("d.bib", edited)]))
 
     def test_the_first_findings_are_the_first_of_all(self):
         source = Source("d.bib", b"".join(SEEDS))
@@ -279,9 +311,19 @@ ITERATE {call.type$}
 
     def test_aux_files_that_break_off_and_those_of_biblatex(self):
         database = {"d.bib": b"@misc{k, author = {A. B}}"}
-        for aux, remedy in ((b"\\citation{k}\n\\citation{on", "AuxBreaksOff"), (b"\\abx@aux@cite{0}{k}\n", "OfBiblatex")):
+        rows = ((b"\\citation{k}\n\\citation{on", "AuxBreaksOff", "j.aux"), (b"\\abx@aux@cite{0}{k}\n", "OfBiblatex", "j"))
+        for aux, remedy, name in rows:
             _, lines = self.said(database, aux)
-            self.assertEqual([line for line in lines if "what to do" in line], ["    what to do: " + SEEN[remedy].replace("$1", "j.aux" if remedy == "AuxBreaksOff" else "j")])
+            self.assertEqual([line for line in lines if "what to do" in line], ["    what to do: " + SEEN[remedy].replace("$1", name)])
+        _, lines = self.said(database, b"\\citation{k}\n\\@setckpt{j}{\n}\n")
+        self.assertIn("    what to do: " + SEEN["OfSomeInclude"].replace("$1", "j.aux"), lines)
+
+    def test_keys_and_names_with_other_signs(self):
+        _, lines = self.said({"d.bib": b"@misc{k} @misc{l}"}, b"\\citation{k;l}\n\\bibdata{d}\n\\bibstyle{plain}\n")
+        self.assertIn("    what to do: " + SEEN["SemicolonInCite"].replace("$1", "k,l"), lines)
+        for names, meant in (("Underwood, Paul, Jr., PhD", "Underwood, Jr., Paul"), ("Lee, Ann, MD, PhD", "Lee, Ann")):
+            self.assertEqual(remedy_of(f'Too many commas in name 1 of "{names}"'), SEEN["CommasOfOneName"].replace("$1", meant))
+        self.assertEqual(remedy_of('Too many commas in name 1 of "A, B, C, D"'), SEEN["NamesByCommas"].replace("$1", "A, B and C, D"))
 
     def test_parents_and_fields(self):
         rows = [
@@ -321,6 +363,10 @@ class WhatToDo(unittest.TestCase):
         (b"@misc{k, month = sept}", "is it `sep`?"),
         (b"@misc{k, note = s}\n\n@string{s = {A}}", "move the `@string` of `s` (d.bib:3) above its first use"),
         (b"@misc{k} @misc{k}", "remove one of the two"),
+        (b'@misc{k, month = 12 # " " jun}', SEEN["NoHashBefore"].replace("$1", "month").replace("$2", "`jun`")),
+        (b'@misc{k, note = {A} # {B} "C"}', SEEN["NoHashBefore"].replace("$1", "note").replace("$2", "the quote")),
+        (b"@misc{k, year = 2O12}", SEEN["LetterForDigit"].replace("$1", "2012").replace("$2", "O")),
+        (b"@misc{k, year = l998}", SEEN["LetterForDigit"].replace("$1", "1998").replace("$2", "l")),
     ]
 
     def test_each(self):

@@ -26,6 +26,7 @@ REFUSALS = {
     btx.OutputTooLong: (b"list", b"log"),
     btx.StyleTooLong: (7,),
     btx.DatabaseTooLong: (7,),
+    btx.NoLibrary: ("paper",),
     btx.NamesRefused: ("}", "has braces that don't match, so no field has it"),
 }
 
