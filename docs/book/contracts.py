@@ -8,8 +8,8 @@ from definitions import CRATES, Definition, Module
 
 FUNCTION = re.compile(r"^(\s*)((?:pub(?:\([\w ]+\))? )?)(?:const |unsafe )*fn (\w+)")
 HEADLINE = ("btx_run", "run")
-# A crate beside the program, with laws of its own.
-BESIDE = ("btx_check::", "btx_read::", "btx_ends::")
+# A crate beside the program, with laws of its own, and a law that joins the promises of two.
+BESIDE = ("btx_check::", "btx_read::", "btx_ends::", "btx_c::clean_styles_end_well")
 # The traits of the headline's finder and sinks.
 TRAITS = (("btx_aux", "Finder"), ("btx_out", "Sink"))
 

@@ -73,7 +73,7 @@ FIGURES = [
     ("docs/DECISIONS.md", rf"has {NUMBER} lines, of them {NUMBER} its heart", "lines"),
     ("docs/ASSUMPTIONS.md", rf"clean styles {NUMBER} definitions of {NUMBER} lines", "clause-check"),
     *(("README.md", rf"{promise} {NUMBER} of {NUMBER}", clause)
-      for promise, clause in (("devices' faults", "clause-counts"), ("larger budgets", "clause-budget"), ("clean styles", "clause-check"))),
+      for promise, clause in (("devices' faults", "clause-counts"), ("larger budgets", "clause-budget"), ("clean styles", "clause-check"), ("ending styles", "clause-ends"))),
 ]
 # An anchor of a woven page, and a link; most have no quotes. And how many bytes a page may have.
 ANCHOR = re.compile(r"""<[^<>]* id=("[^"]*"|[^\s>]+)""")

@@ -17,6 +17,7 @@ PROMISES = {
     "clause-bound": ("btx_run::run", ("bound",)),
     "clause-budget": ("btx_run::budget_law", ()),
     "clause-check": ("btx_check::check", ()),
+    "clause-ends": ("btx_ends::check", ()),
 }
 # Files of definitions that a public call beside `run` promises by (`read_placed_style` of `btx_bst`, `run_noted`): they are read like laws, with all that they name.
 PLACES = ("btx_bst.Recorded", "btx_bst.StylePlaces", "btx_machine.Noting", "btx_run.Noted")
