@@ -111,7 +111,9 @@ impl<'a> Sources<'a> {
         }
         let name = aux_text::name_in_error(text)?;
         let named = self.names().file(name)?;
-        self.spot_of_name(named, name.len())
+        // (`.bst` and `.bib` aren't written in the `.aux` file)
+        let written = name.strip_suffix(b".bst").or(name.strip_suffix(b".bib")).unwrap_or(name);
+        self.spot_of_name(named, written.len())
     }
 
     /// Where a name stands that ends there.

@@ -38,3 +38,14 @@ status=0
 (start_search -json job) </dev/null >/dev/full 2>"$folder/stderr" || status=$?
 wants_status 6
 end
+
+# A style or a database that isn't there stands where its name is written, which has no ending there.
+begin json_of_a_name_without_its_ending
+echo 'READ' >reads.bst
+printf '%s\n' '\bibstyle{nosuch}' '\bibdata{x}' '\citation{*}' >style.aux
+printf '%s\n' '\bibstyle{reads}' '\bibdata{nor.this}' '\citation{*}' >database.aux
+for part in 'style "line": 1, "column": 11, "column_bytes": 11, "end": {"line": 1, "column": 17,' 'database "line": 2, "column": 10, "column_bytes": 10, "end": {"line": 2, "column": 18,'; do
+    run_search -json "${part%% *}"
+    grep -qF -- "${part#* }" "$folder/stdout" || complaints+=("no message has $part: $(cat "$folder/stdout")")
+done
+end
