@@ -208,6 +208,9 @@ pub enum Seen {
     OtherWork,
     StyleMisnames,
     LoopWithoutEnd,
+    SecondQuote,
+    PlusForHash,
+    IntegerWithoutSign,
 }
 
 impl Seen {
@@ -234,6 +237,8 @@ impl Seen {
             Seen::BareCommand => "put the value into braces: `{$1..}`",
             Seen::BraceTooMany => "count the braces in the value of `$1`: a `}` too many ends it before this place",
             Seen::NoHash => "join the parts of the value of `$1` by `#`; a quote within quotes stands in braces",
+            Seen::PlusForHash => "write `#` in the place of the `+`: it joins the parts of the value of `$1`",
+            Seen::SecondQuote => "close the value of `$1`, which begins at $2: its second quote is missing",
             Seen::QuoteTooEarly => "close the value of `$1`, which begins at $2: the quote before this place ends it",
             Seen::QuoteInText => "put the quote in the value of `$1` into braces, as in `{\\\"o}`: it ends the value",
             Seen::RunsOn => "close the value of `$1`, which begins at $2: it has taken in what looks like the field `$3` ($4)",
@@ -306,6 +311,7 @@ impl Seen {
             Seen::LetterForDigit => "write `$1`: the `$2` is a letter in the place of a digit",
             Seen::CommasOfOneName => "write `$1`: a name has at most two commas, `von Last, Jr, First`",
             Seen::FieldNotInEntry => "put `$1` into the first list of ENTRY ($2): a style knows only the fields of that list",
+            Seen::IntegerWithoutSign => "write `#$1`: an integer begins with `#`",
             Seen::IntegerInQuotes => "write `$1` for `$2`: an integer begins with `#`, and what stands in quotes is a string",
             Seen::CommandLosesCase => "put `$1` into braces, as `{$1}`: this style makes `$2` of it",
             Seen::OtherWork => "give the second another key, such as `$1`, and cite it by that: its title is another one",

@@ -620,6 +620,9 @@ impl<'a, W: Write> Explainer<'a, W> {
         if let Some(word) = word {
             self.put_place(&format!("is it {}?", word.to_uppercase()))?;
         }
+        if let Some(number) = unknown(message.text).filter(|name| is_number(name)) {
+            return self.put_advice(&Seen::IntegerWithoutSign.with(&[&plain(number)]));
+        }
         if let Some(name) = unknown(message.text).filter(|_| self.causes.len() < MOST_CAUSES) {
             self.unknown_name(name, style, spot.number, &text, &commands)?;
             let entry = commands.iter().find(|command| command.is("entry")).filter(|_| is_field(text.bytes, name));
@@ -1456,6 +1459,12 @@ const AT_END: &[u8] = b"Illegal end of style file";
 /// The name in the error of a function that isn't known.
 fn unknown(error: &[u8]) -> Option<&[u8]> {
     error.strip_suffix(b" is an unknown function")
+}
+
+/// Whether a name is an integer without its `#`.
+fn is_number(name: &[u8]) -> bool {
+    let digits = name.strip_prefix(b"-").unwrap_or(name);
+    !digits.is_empty() && digits.iter().all(u8::is_ascii_digit)
 }
 
 /// What to do about names that are parted by commas, with `and` between them; None where it isn't seen which parts are one name.

@@ -167,21 +167,29 @@ fn of_sort(style: &Read<'_>, text: &Text<'_>, uses: &HashMap<Folded<'_>, Uses>) 
     let is_left_out =
         |line: &[u8]| line.strip_prefix(b"%").is_some_and(|rest| rest.trim_ascii().eq_ignore_ascii_case(b"sort"));
     let has_sort = || style.bytes.split(|byte| *byte == b'\n').any(|line| is_left_out(line.trim_ascii()));
-    if !is_only_set || style.commands.iter().any(|command| command.is("sort")) || has_sort() {
+    let sort = style.commands.iter().rposition(|command| command.is("sort"));
+    if !is_only_set || sort.is_none() && has_sort() {
         return None;
     }
     let (loops, mut left) = (Loops::new(style), MOST_TOKENS);
-    let mut sets = |command: &&Command<'_>| {
+    let mut sets = |command: &Command<'_>| {
         let is_run = command.is("iterate") || command.is("reverse");
         let function = command.name.filter(|_| is_run).and_then(|name| loops.functions.get(&Folded(name)));
         function.is_some_and(|tokens| loops.may_change(tokens.clone(), key, &mut left))
     };
-    let command = style.commands.iter().rev().find(|command| sets(command))?;
+    let index = style.commands.iter().rposition(&mut sets)?;
+    // (keys that are set again after the entries are sorted may be meant for something else)
+    if sort.is_some_and(|sort| index < sort || style.commands[..sort].iter().any(sets)) {
+        return None;
+    }
+    let command = &style.commands[index];
+    let place = match sort {
+        Some(sort) => format!("below SORT in line {}: move it above that", text.line_of(style.commands[sort].start)),
+        None => "and there is no SORT: put it below this line".to_string(),
+    };
     let (word, name) = (plain(command.word), plain(command.name?));
-    let text_of = format!(
-        "{word} {{{name}}} sets sort.key$, and there is no SORT: put it below this line, or the list stays in the order of citation"
-    );
-    Some(Hint { line: text.line_of(command.start), text: text_of, is_of_loop: false })
+    let said = format!("{word} {{{name}}} sets sort.key$, {place}, or the list stays in the order of citation");
+    Some(Hint { line: text.line_of(command.start), text: said, is_of_loop: false })
 }
 
 /// The token's text.
@@ -740,6 +748,9 @@ mod tests {
         };
         let hint = "ITERATE {pre.sort} sets sort.key$, and there is no SORT: put it below this line, or the list stays in the order of citation";
         assert_eq!(style("ITERATE {pre.sort}\nITERATE {call.type$}\n"), [(4, hint.to_string())]);
+        let below = "ITERATE {pre.sort} sets sort.key$, below SORT in line 4: move it above that, or the list stays in the order of citation";
+        assert_eq!(style("SORT\nITERATE {pre.sort}\n"), [(5, below.to_string())]);
+        assert_eq!(style("ITERATE {pre.sort}\nSORT\nITERATE {pre.sort}\n"), []);
         assert_eq!([style("ITERATE {pre.sort}\nSORT\n"), style("ITERATE {pre.sort}\n%SORT\n")], [vec![], vec![]]);
         assert_eq!(style("FUNCTION {c.d} {sort.key$ write$}\nITERATE {pre.sort}\nITERATE {c.d}\n"), []);
     }

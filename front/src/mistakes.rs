@@ -34,19 +34,23 @@ pub fn what_to_do(file: &File, text: &Text<'_>, item: &Item<'_>, place: usize, e
         b"I was expecting a name" => place.not_closed().or_else(|| place.before_name()),
         b"I was expecting a }" | b"I was expecting a )" => place.after_text(),
         b"I was expecting a value" => place.before_value(),
-        b"Unbalanced braces" => place.runs_on(),
+        b"Unbalanced braces" => place.runs_on().or_else(|| place.second_quote()),
         b"Illegal end of database file" => place.at_end(),
         _ => None,
     }
 }
 
-/// What to do about an entry that was meant to be hidden: its line begins with a `%` or a `@comment`.
+/// What to do about an entry that was meant to be hidden.
 pub fn what_hides(file: &File, text: &Text<'_>, item: &Item<'_>) -> Option<String> {
+    is_hidden(text, item).then(|| Seen::NotHidden.with(&[&begins_item(file, text, item)]))
+}
+
+/// Whether an entry was meant to be hidden: its line begins with a `%` or a `@comment`.
+pub fn is_hidden(text: &Text<'_>, item: &Item<'_>) -> bool {
     let (line, _) = text.span(text.line_of(item.start));
-    let before = text.bytes[line..item.start].get(..MOST_BEFORE.min(item.start - line))?.trim_ascii_start();
-    let is_comment = before.get(..8).is_some_and(|word| word.eq_ignore_ascii_case(b"@comment"));
-    let is_meant = before.starts_with(b"%") || is_comment;
-    (is_meant && item.is_entry()).then(|| Seen::NotHidden.with(&[&begins_item(file, text, item)]))
+    let start = text.bytes[line..line + MOST_BEFORE.min(item.start - line)].trim_ascii_start();
+    let is_comment = start.get(..8).is_some_and(|word| word.eq_ignore_ascii_case(b"@comment"));
+    item.is_entry() && (start.starts_with(b"%") || is_comment)
 }
 
 /// Where the value begins that isn't closed.
@@ -181,6 +185,9 @@ impl<'a> Place<'_, 'a> {
             return Some(Seen::SemicolonForComma.with(&[&format!("value of `{owner}`")]));
         }
         let (word, after) = self.name();
+        if word == b"+" {
+            return Some(Seen::PlusForHash.with(&[&owner]));
+        }
         let is_field = !word.is_empty() && after == Some(b'=');
         if is_field || !self.is_on_one_line(value.end) {
             return Some(Seen::NoComma.with(&[&owner, &self.line(value.end.saturating_sub(1))]));
@@ -230,6 +237,15 @@ impl<'a> Place<'_, 'a> {
             true => Seen::QuotesInText.with(&[&owner]),
             false => Seen::QuoteTooEarly.with(&[&owner, &self.line(value.start)]),
         })
+    }
+
+    /// A value in quotes that ends with the item, and not with a second quote.
+    fn second_quote(&self) -> Option<String> {
+        let start = self.inside.last_value.filter(|_| self.byte() == Some(b'}'))?;
+        let (_, end) = self.text.span(self.text.line_of(self.place));
+        let has_more = self.text.bytes[self.place..end].contains(&b'"');
+        let is_it = self.text.bytes[start] == b'"' && !has_more;
+        is_it.then(|| Some(Seen::SecondQuote.with(&[&self.owner()?, &self.line(start)]))).flatten()
     }
 
     /// Another item begins in the line of the place, below the line of this one.
@@ -309,6 +325,7 @@ impl<'a> Place<'_, 'a> {
             b'{' | b'(' if self.item.kind.is_empty() => Some(Seen::NoType.with(&[])),
             b'%' if is_field => Some(Seen::CommentSign.with(&[])),
             b',' if is_field => Some(Seen::CommaTwice.with(&[])),
+            b'}' | b')' if is_field => self.other_brace(),
             _ => None,
         }
     }
@@ -406,6 +423,9 @@ mod tests {
         assert_eq!(advice("@misc{a, year = 2O12}"), Seen::LetterForDigit.with(&["2012", "O"]));
         assert_eq!(advice("@misc{a, year = 20l2, y = 1}"), Seen::LetterForDigit.with(&["2012", "l"]));
         assert_eq!(advice("@misc{a, x = {T} \"S\"}"), Seen::NoHash.with(&["x"]));
+        for text in ["jan + {T}", "{T} + s", "\"T\" +\n \"U\""] {
+            assert_eq!(advice(&format!("@misc{{a, x = {text}, y = 1}}")), Seen::PlusForHash.with(&["x"]), "{text}");
+        }
         assert_eq!(advice("@misc{a, x = {A {T}} S}, y = 1}"), Seen::BraceTooMany.with(&["x"]));
         for bare in ["1-2", "12A", "A title", "in press"] {
             assert_eq!(advice(&format!("@misc{{a, x = {bare}, y = 1}}")), Seen::BareValue.with(&["x"]), "{bare}");
@@ -431,6 +451,13 @@ mod tests {
             advice("@misc(a, x = 1}"),
             "close @misc{a}, which begins at d.bib:1 by `)`, since it is opened by `(`"
         );
+        assert_eq!(
+            advice("@misc(a, x = 1,\n}"),
+            "close @misc{a}, which begins at d.bib:1 by `)`, since it is opened by `(`"
+        );
+        let second = "close the value of `x`, which begins at d.bib:2: its second quote is missing";
+        assert_eq!(advice("@misc{a,\n x = \"1936,\n}\n"), second);
+        assert_eq!(advice("@misc{a,\n x = \"1 } 2\"}\n"), "");
         let runs_on =
             "close the value of `x`, which begins at d.bib:2: it has taken in what looks like the field `y` (d.bib:3)";
         assert_eq!(advice("@misc{a,\n x = {T {U},\n y = 1\n}\n@misc{b}"), runs_on);

@@ -13,6 +13,7 @@ use crate::hints::names_of_fields;
 use crate::job::{File, Files};
 use crate::letter_values::parts;
 use crate::missing_entry::LostField;
+use crate::mistakes::is_hidden;
 use crate::nearest::nearest;
 use crate::shown_line::ShownLine;
 use crate::terminal::{Terminal, plain};
@@ -163,6 +164,11 @@ impl<'b, 'a> Unsaid<'b, 'a> {
         let bytes = stored.database.text.bytes;
         let inside = Inside::of(bytes, stored.item);
         let has = |name: &[u8]| inside.fields.iter().any(|field| field.eq_ignore_ascii_case(name));
+        if is_hidden(&stored.database.text, stored.item) {
+            let names = vec![begins_item(stored.database.file, &stored.database.text, stored.item)];
+            let place = stored.item.start;
+            self.found.push(Found { stored, field: b"", text: place..place, place, seen: Seen::NotHidden, names });
+        }
         for (name, value) in inside.fields.iter().zip(&inside.values) {
             let is_read = known.read.iter().any(|known| known.eq_ignore_ascii_case(name));
             let text = whole_text(bytes, value);

@@ -10,7 +10,7 @@ wants_explained() {
     what to do: write no space in \`\\cite{..}\`, \`\\bibliography{..}\` or the name of a file
 Error--I couldn't open database file e.bib
     job.aux:3: \\bibdata{d,e}
-                      ^
+                          ^
     what to do: correct the name in \`\\bibliography\`, or put the database beside the \`.aux\` file. It is looked for there, along BIBINPUTS and in TeX's folders; may you read the file?
 Error--nosuch is an unknown function--line 4 of file s.bst
     $2s.bst:4:   nosuch }

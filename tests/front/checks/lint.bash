@@ -287,6 +287,12 @@ lints_with() {
 }
 
 # A field that stands for a number is wrong whether it is missing or not: no condition is named, and nothing that asks for it alone.
+begin lint_of_a_number_without_its_sign
+printf '%s\n' 'INTEGERS {i}' 'FUNCTION {f.g} {3 '"'"'i := i int.to.str$ write$}' 'EXECUTE {f.g}' >number.bst
+run_lint number.bst
+wants_words "$folder/stdout" 'write `#3`: an integer begins with `#`'
+end
+
 begin lint_of_a_field_for_a_number
 for row in "author { newline\$ } 'skip\$ if\$|a field is never a number: ask by \`author empty\$\`, which leaves 1 where it is missing or blank, and else 0" \
     'author #1 + pop$|a field is never a number: push NUMBER NUMBER in this order' \

@@ -55,6 +55,9 @@ mistake in_a_comment '@comment{k, author = {A. B}}\n@misc{m}' '`k` stands at d.b
 mistake no_equals '@misc{k,\n author {A. B}}\n' 'd.bib:2:' 'put an `=` after `author`'
 mistake colon '@misc{k,\n author : {A. B}}\n' 'write `author = ..`, with an `=` in the place of the `:`'
 mistake field_of_words '@misc{k,\n book title = {T}}\n' 'write the field'"'"'s name without whitespace: `booktitle = ..`'
+mistake plus_for_hash '@misc{k,\n title = {A} + {B},\n author = {A. B}}\n' 'write `#` in the place of the `+`: it joins the parts of the value of `title`'
+mistake second_quote '@misc{k,\n title = "A,\n}\n' 'close the value of `title`, which begins at d.bib:2: its second quote is missing'
+mistake other_brace_after_comma '@misc(k,\n title = {A},\n}\n' 'close @misc{k}, which begins at d.bib:1 by `)`, since it is opened by `(`'
 mistake bare_text '@misc{k,\n title = A title,\n year = 2000}\n' 'put the value of `title` into braces'
 mistake bare_pages '@misc{k,\n pages = 1-10}\n' 'put the value of `pages` into braces'
 mistake no_brace '@misc{k,\n author = A. B},\n title = {T}}\n' 'put the value of `author` into braces'
@@ -329,6 +332,14 @@ wants_error_like '\(JOB is a name without an ending: paper\)'
 end
 
 # What no message is about, though an author may not have meant it so.
+begin mistake_hidden_entry
+write_author_style
+cite k
+printf '%s\n' '@comment{@misc{k, author = {A. B}}}' >d.bib
+run_search -explain job
+wants_words "$folder/stdout" 'take out the `@` of @misc{k}, which begins at d.bib:1: neither `%` nor `@comment` hides an entry'
+end
+
 begin mistakes_without_a_message
 write_author_style
 printf '%s\n' '\citation{a,b,c,d,e,f,g}' '\bibdata{d}' '\bibstyle{s}' >job.aux
