@@ -107,6 +107,8 @@ pub fn what_is_odd(file: &File) -> Option<String> {
         Seen::FileIsUtf16
     } else if begins(b"<!DOCTYPE") || begins(b"<html") {
         Seen::FileIsHtml
+    } else if begins(b"%0 ") && first.windows(2).any(|pair| pair == b"\n%") {
+        Seen::FileIsEndNote
     } else if begins(b"TY  - ") {
         Seen::FileIsRis
     } else if without_mark.len() < start.len() && file.name.ends_with(b".bst") {
@@ -144,6 +146,8 @@ mod tests {
         let seen = |seen: Seen, name: &str| Some(seen.with(&[name]));
         assert_eq!(odd("a.bib", b"\xFF\xFE@\0m\0"), seen(Seen::FileIsUtf16, "a.bib"));
         assert_eq!(odd("a.bib", b"\n<!doctype html>\n"), seen(Seen::FileIsHtml, "a.bib"));
+        assert_eq!(odd("a.bib", b"%0 Book\n%A Knuth\n"), seen(Seen::FileIsEndNote, "a.bib"));
+        assert_eq!(odd("a.bib", b"%0 is my comment\n@misc{a}\n"), None);
         assert_eq!(odd("a.bib", b"TY  - JOUR\n"), seen(Seen::FileIsRis, "a.bib"));
         assert_eq!(odd("s.bst", b"\xEF\xBB\xBFENTRY\n"), seen(Seen::FileHasMark, "s.bst"));
         assert_eq!(odd("a.bib", b"@misc{a}\r@misc{b}\r"), seen(Seen::FileIsOneLine, "a.bib"));

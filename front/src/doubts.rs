@@ -310,8 +310,13 @@ fn initials(text: &[u8]) -> Option<Doubt> {
 /// Commands of letters, of which BibTeX changes the case as it does of the letters of ASCII.
 const LETTERS: [&[u8]; 5] = [b"O", b"L", b"OE", b"AE", b"AA"];
 
-/// A command outside of braces whose name has a capital letter, where the style changes the case of the text.
+/// What loses its capital letters outside of braces, where the style changes the case of the text: a command, or else a word.
 pub fn lost_case(text: &[u8]) -> Option<Doubt> {
+    lost_command(text).or_else(|| lost_word(text))
+}
+
+/// A command whose name has a capital letter.
+fn lost_command(text: &[u8]) -> Option<Doubt> {
     let mut depth = 0_i64;
     for (at, byte) in text.iter().enumerate() {
         depth += i64::from(*byte == b'{') - i64::from(*byte == b'}');
@@ -326,10 +331,44 @@ pub fn lost_case(text: &[u8]) -> Option<Doubt> {
             let end = if text.get(behind) == Some(&b'{') { after_group(text, behind) } else { behind };
             let (argument, command) = (plain(&text[behind..end]), plain(&text[at..behind]));
             let names = vec![command.clone() + &argument, command.to_ascii_lowercase() + &argument];
-            return Some(Doubt { place: at, seen: Seen::CommandLosesCase, names });
+            return Some(Doubt { place: at, seen: Seen::LosesCase, names });
         }
     }
     None
+}
+
+/// A word with a capital letter after its first one, as `IBM`, in a text that has words in small letters.
+fn lost_word(text: &[u8]) -> Option<Doubt> {
+    let mut words = bare_words(text).filter(|(_, word)| word.len() > 1);
+    let is_lost = |(_, word): &(usize, &[u8])| word[1..].iter().any(u8::is_ascii_uppercase);
+    let has_small = bare_words(text).any(|(_, word)| word.len() > 1 && word.iter().all(u8::is_ascii_lowercase));
+    let (place, word) = words.find(|word| has_small && is_lost(word))?;
+    let kept = usize::from(place == 0 || text[..place].ends_with(b": "));
+    let made = [word[..kept].to_vec(), word[kept..].to_ascii_lowercase()].concat();
+    Some(Doubt { place, seen: Seen::LosesCase, names: vec![plain(word), plain(&made)] })
+}
+
+/// The words of letters that stand outside of braces, formulas and commands, each with its place.
+fn bare_words(text: &[u8]) -> impl Iterator<Item = (usize, &[u8])> {
+    let (mut at, mut depth, mut is_formula) = (0, 0_i64, false);
+    std::iter::from_fn(move || {
+        while let Some(byte) = text.get(at) {
+            let start = at;
+            let length = text[at..].iter().take_while(|byte| byte.is_ascii_alphabetic()).count();
+            match byte {
+                b'{' => depth += 1,
+                b'}' => depth -= 1,
+                b'$' => is_formula = !is_formula,
+                b'\\' => at += command_at(text, at + 1).len().max(1),
+                _ => at += length.saturating_sub(1),
+            }
+            at += 1;
+            if length > 0 && depth == 0 && !is_formula {
+                return Some((start, &text[start..start + length]));
+            }
+        }
+        None
+    })
 }
 
 // ---- years ----
@@ -357,6 +396,18 @@ mod tests {
 
     fn seen(name: &str, text: &str) -> Option<(usize, Seen)> {
         doubt(name.as_bytes(), text.as_bytes(), true).map(|doubt| (doubt.place, doubt.seen))
+    }
+
+    #[test]
+    fn capital_letters_that_are_lost_are_seen() {
+        let lost = |text: &str| lost_case(text.as_bytes()).map(|doubt| (doubt.place, doubt.names[1].clone()));
+        assert_eq!(lost("The IBM PC and others"), Some((4, "ibm".into())));
+        assert_eq!(lost("IBM: DNA of it"), Some((0, "Ibm".into())));
+        assert_eq!(lost("a: DNA of it"), Some((3, "Dna".into())));
+        assert_eq!(lost("On iPhones, \\LaTeX"), Some((12, "\\latex".into())));
+        for text in ["The {IBM} of $AB$ and {\\TeX}", "ALL IN LARGE LETTERS", "On X-rays", "On A", "A \\emph{DNA} of it", "", "\\", "IBM"] {
+            assert_eq!(lost(text), None, "{text}");
+        }
     }
 
     #[test]

@@ -580,8 +580,21 @@ impl<'a, W: Write> Explainer<'a, W> {
             let dots = if lost.len() > MOST_OF_SCENE { ", .." } else { "" };
             let shown = lost[..lost.len().min(MOST_OF_SCENE)].join(", ");
             self.put_place(&format!("not taken from this line: {shown}{dots}"))?;
+            if let Some(keys) = self.keys_without_commas(spot.line) {
+                return self.put_advice_once(&Seen::CommasBetweenKeys.with(&[&keys]));
+            }
         }
         self.advise(&[Section::Aux], message.text)
+    }
+
+    /// The keys of entries that stand in one citation with whitespace between them, with commas in its place.
+    fn keys_without_commas(&mut self, line: &'a [u8]) -> Option<String> {
+        let entries = self.entries();
+        not_taken(line).into_iter().find_map(|name| {
+            let words: Vec<&[u8]> = name.split(u8::is_ascii_whitespace).filter(|word| !word.is_empty()).collect();
+            let are_keys = words.len() > 1 && words.iter().all(|word| entries.entry(word).is_some());
+            are_keys.then(|| plain(&words.join(&b","[..])))
+        })
     }
 
     // ---- styles ----
@@ -1646,7 +1659,7 @@ Error--nosuch is an unknown function--line 5 of file s.bst\n";
     s.bst:1: INTEGER {count}
              ^
     is it INTEGERS?
-    what to do: correct the word: the commands are ENTRY, INTEGERS, STRINGS, FUNCTION, MACRO, READ, EXECUTE, ITERATE, REVERSE and SORT
+    what to do: correct the word, or put `%` before a comment: the commands are ENTRY, INTEGERS, STRINGS, FUNCTION, MACRO, READ, EXECUTE, ITERATE, REVERSE and SORT
     (2 more errors follow from that)
 Error--x is an unknown function--line 5 of file s.bst\n";
         assert!(told.starts_with(begin), "{told}");

@@ -422,7 +422,7 @@ mod tests {
             b"ENTRY {title}{}{} FUNCTION {misc} {title \"t\" change.case$ write$} FUNCTION {book} {title write$}";
         let unsaid = Unsaid::new(&entries, &files, style, &[], None);
         let found: Vec<_> = unsaid.found.iter().map(|found| (found.place, found.seen)).collect();
-        assert_eq!(found, [(21, Seen::CommandLosesCase)]);
+        assert_eq!(found, [(21, Seen::LosesCase)]);
     }
 
     #[test]

@@ -332,6 +332,23 @@ wants_error_like '\(JOB is a name without an ending: paper\)'
 end
 
 # What no message is about, though an author may not have meant it so.
+begin mistake_letters_that_get_small
+write_author_style
+sed -i 's/^FUNCTION {misc} {/&title empty$ {""} {title "t" change.case$} if$ pop$ /' s.bst
+cite k
+printf '%s\n' '@misc{k, author = {A. B}, title = {The IBM of others}}' >d.bib
+run_search -explain job
+wants_words "$folder/stdout" 'put `IBM` into braces, as `{IBM}`: this style makes `ibm` of it'
+end
+
+begin mistake_no_comma_between_keys
+write_author_style
+printf '%s\n' '\citation{k l}' '\bibdata{d}' '\bibstyle{s}' >job.aux
+printf '%s\n' '@misc{k, author = {A. B}}' '@misc{l, author = {A. B}}' >d.bib
+run_search -explain job
+wants_words "$folder/stdout" 'write commas between the keys, and no space: `k,l`'
+end
+
 begin mistake_hidden_entry
 write_author_style
 cite k
