@@ -4,7 +4,7 @@ begin help
 run_search -help
 wants_status 0
 wants_error ''
-for option in -min-crossrefs -terse -strict -explain -no-explain -help -version -budget -text -line -entry-max -global-max -log-room -list-room; do
+for option in $(sed -n '/^# bibtex-search /,/^# bibtex-confined /s/^\(-[a-z-]*\).*/\1/p' "$sources/contrib/options.txt"); do
     wants_words "$folder/stdout" "$option"
 done
 awk 'length > 80' "$folder/stdout" | grep . && complaints+=('a line of the help is longer than 80')
