@@ -56,7 +56,7 @@ TEST_MODULE = re.compile(r"(?m)^#\[cfg\(test\)\]\n(?:pub )?mod (\w+);$")
 TESTS_IN_PLACE = re.compile(r"(?m)^#\[cfg\(test\)\]\nmod \w+ \{")
 FENCED = re.compile(r"```.*?```", re.S)
 # The recipes of docs/CONTRIBUTING.md that have an example, with its kind in places.py.
-RECIPES = {"A message": "a message", "A message of databases": "a message of databases", "A message of steps": "a message of steps", "An option": "an option",
+RECIPES = {"A message": "a message", "A message of databases": "a message of databases", "A message of steps": "a message of steps", "A rule of databases": "a rule of databases", "An option": "an option",
            "An option of the front end": "an option of the front end", "A built-in function": "a function of the language"}
 # The name of a lemma or of a definition, where it is declared; and how many lemmas may have names that break the rule: those that are older.
 DECLARED = re.compile(r"(?m)^(?:(?:abbrev|pub|unfoldable|abstract|data|record) )*([A-Za-z][\w'-]*) :")

@@ -25,6 +25,7 @@ KINDS = {
                   ("crates/btx_command", "tests/reference/wrong_bodies.txt", "crates/btx_machine/", "crates/btx_step", "crates/btx_bib", "crates/btx_c/", "crates/btx_check/")),
     "a message of steps": ("isn't an ASCII code", r"isn't an ASCII code|\bNotAscii\b|\b(?:push_)?not_ascii\b|\bgives_character\b|\bcharacter_of\b", ()),
     "a message of databases": ("is used in its own definition", r"OwnString|own definition", ()),
+    "a rule of databases": ("inheritance", r"[Ii]nherit(?!:)", ("web/", "docs/book/book.css", "docs/book/runs.js")),
     "a count": ("warnings", r"\bwarnings\b", ("crates/btx_step/specs/", "examples/", "CHANGELOG.md")),
     "a field of the report": ("deepest", r"\bdeepest\b", ("crates/btx_step/", "docs/book/chapters.py")),
     "a limit": ("4,096 open bodies", r"\b4096\b|4_096|4,096",
