@@ -769,8 +769,12 @@ mod tests {
     fn what_a_style_prints_is_no_message() {
         let error = "Error--x while executing pop$ for entry k";
         let printed = format!("\"a\" #10 int.to.chr$ * \"{error}\" * duplicate$ top$ warning$ \"a\" #1 =");
-        let ran = run(b"a.aux", &small_job(&STYLE.replace("title write$", &format!("{printed} pop$"))), &OPTIONS, &ROOMS);
-        let errors = ran.lines_of_log().lines().filter(|line| matches!(line.content, Content::Message(message) if message.severity == Severity::Error));
+        let ran =
+            run(b"a.aux", &small_job(&STYLE.replace("title write$", &format!("{printed} pop$"))), &OPTIONS, &ROOMS);
+        let errors = ran
+            .lines_of_log()
+            .lines()
+            .filter(|line| matches!(line.content, Content::Message(message) if message.severity == Severity::Error));
         let errors: Vec<&[u8]> = errors.map(|line| line.bytes).collect();
         assert!(matches!(ran.answer, Answer::Done(Report { warnings: 1, errors: 1, .. })), "{:?}", ran.answer);
         assert_eq!(errors, [b"Error--= needs two integers or two strings while executing = for entry k"]);

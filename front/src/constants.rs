@@ -79,10 +79,15 @@ fn calls<'a>(bytes: &[u8], tokens: &[Token], commands: &[Command<'a>]) -> Vec<(C
 
 /// A job whose style makes these calls, each after a warning with its number.
 fn job_of(calls: &[String]) -> Files {
-    let file = |name: &str, bytes: String| {
-        File { name: name.as_bytes().to_vec(), bytes: Some(bytes.into_bytes()), path: name.as_bytes().to_vec() }
+    let file = |name: &str, bytes: String| File {
+        name: name.as_bytes().to_vec(),
+        bytes: Some(bytes.into_bytes()),
+        path: name.as_bytes().to_vec(),
     };
-    let functions = calls.iter().enumerate().map(|(number, call)| format!("FUNCTION{{c{number}}}{{\"{number}\" warning$ {call}}}\n"));
+    let functions = calls
+        .iter()
+        .enumerate()
+        .map(|(number, call)| format!("FUNCTION{{c{number}}}{{\"{number}\" warning$ {call}}}\n"));
     let executed = (0..calls.len()).map(|number| format!("EXECUTE{{c{number}}}\n"));
     let style = functions.chain(["ENTRY{}{}{}\nREAD\n".to_string()]).chain(executed).collect();
     let top = file("calls.aux", "\\citation{*}\n\\bibdata{calls}\n\\bibstyle{calls}\n".to_string());

@@ -175,7 +175,9 @@ pub fn main(
         Asked::Job(job) => explain_job(job.clone()).unwrap_or_else(|failure| unexplained(name, &job, &failure)),
         Asked::Trace(traced) => {
             let found = files_of(&traced.job);
-            found.and_then(|(files, options)| trace_entry(name, &traced, &files, &options)).unwrap_or_else(|failure| unexplained(name, &traced.job, &failure))
+            found
+                .and_then(|(files, options)| trace_entry(name, &traced, &files, &options))
+                .unwrap_or_else(|failure| unexplained(name, &traced.job, &failure))
         }
         Asked::Check { how, styles } => check_all(name, how, &styles),
         Asked::Databases { as_json, databases } => lint_databases::examine(name, &databases, as_json),

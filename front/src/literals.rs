@@ -238,7 +238,9 @@ impl Shortage {
         let Shortage { called, line, takes, caller, pushed } = self;
         let plural = if *takes == 1 { "" } else { "s" };
         let pushed = if *pushed == 0 { "none".to_string() } else { format!("only {pushed}") };
-        format!("`{called}` in line {line} takes {takes} literal{plural} on this way, and {caller} has pushed {pushed}: push what is missing before that call")
+        format!(
+            "`{called}` in line {line} takes {takes} literal{plural} on this way, and {caller} has pushed {pushed}: push what is missing before that call"
+        )
     }
 }
 
@@ -248,7 +250,9 @@ mod tests {
     use crate::scene::Call;
 
     fn change(body: &str) -> Option<(usize, usize)> {
-        let style = format!("ENTRY {{title}} {{}} {{}}\nSTRINGS {{s}}\nFUNCTION {{two}} {{ * }}\nFUNCTION {{self}} {{ self }}\nFUNCTION {{f}} {{ {body} }}\n");
+        let style = format!(
+            "ENTRY {{title}} {{}} {{}}\nSTRINGS {{s}}\nFUNCTION {{two}} {{ * }}\nFUNCTION {{self}} {{ self }}\nFUNCTION {{f}} {{ {body} }}\n"
+        );
         let code = Code::new(style.as_bytes());
         Literals::new(&code).of_function(b"f").map(|change| (change.takes, change.leaves))
     }
@@ -278,9 +282,12 @@ mod tests {
 
     #[test]
     fn deep_and_long_styles_are_left() {
-        let calls: String = (1..100_000).map(|number| format!("FUNCTION {{f{number}}} {{f{}}}\n", number - 1)).collect();
+        let calls: String =
+            (1..100_000).map(|number| format!("FUNCTION {{f{number}}} {{f{}}}\n", number - 1)).collect();
         let deep = ["#1 {".repeat(50_000), "} 'skip$ if$".repeat(50_000)].concat();
-        for style in [format!("FUNCTION {{f0}} {{}}\n{calls}FUNCTION {{f}} {{f99999}}"), format!("FUNCTION {{f}} {{{deep}}}")] {
+        for style in
+            [format!("FUNCTION {{f0}} {{}}\n{calls}FUNCTION {{f}} {{f99999}}"), format!("FUNCTION {{f}} {{{deep}}}")]
+        {
             let code = Code::new(style.as_bytes());
             assert_eq!(Literals::new(&code).of_function(b"f"), None);
         }
@@ -296,7 +303,13 @@ mod tests {
     #[test]
     fn the_call_that_finds_too_few_is_named() {
         let code = Code::new(STYLE.as_bytes());
-        let places = [spot("nonnull", 3, 2), spot("{..} of check", 5, 0), spot("check", 5, 6), spot("{..} of misc", 8, 1), spot("misc", 8, 8)];
+        let places = [
+            spot("nonnull", 3, 2),
+            spot("{..} of check", 5, 0),
+            spot("check", 5, 6),
+            spot("{..} of misc", 8, 1),
+            spot("misc", 8, 8),
+        ];
         let wanted = Shortage { called: "check".into(), line: 8, takes: 3, caller: "misc".into(), pushed: 2 };
         assert_eq!(shortage(&code, &places, b"write$"), Some(wanted));
         assert_eq!(shortage(&code, &places[..1], b"write$"), None);

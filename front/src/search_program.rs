@@ -2,8 +2,8 @@
 //! a job, and writes nothing; called as `bibtex-lint` it checks styles.
 
 use crate::beside;
-use crate::exit::{Failure, Name, Status};
 use crate::btx::Options;
+use crate::exit::{Failure, Name, Status};
 use crate::job::{Files, Finder, NO_SUCH_FILE};
 use crate::lint_program;
 use crate::outputs::Outputs;

@@ -87,9 +87,13 @@ fn shown(held: &Held) -> String {
 fn needed(text: &[u8], key: &[u8]) -> Vec<u8> {
     let items: Vec<Item<'_>> = Items::new(text).collect();
     let is = |item: &Item<'_>, key: &[u8]| item.entry_key().is_some_and(|own| Folded(own.name) == Folded(key));
-    let parents: Vec<&[u8]> =
-        items.iter().filter(|item| is(item, key)).flat_map(|item| item.parents.iter().map(|parent| parent.key)).collect();
-    let is_needed = |item: &&Item<'_>| !item.is_entry() || is(item, key) || parents.iter().any(|parent| is(item, parent));
+    let parents: Vec<&[u8]> = items
+        .iter()
+        .filter(|item| is(item, key))
+        .flat_map(|item| item.parents.iter().map(|parent| parent.key))
+        .collect();
+    let is_needed =
+        |item: &&Item<'_>| !item.is_entry() || is(item, key) || parents.iter().any(|parent| is(item, parent));
     items.iter().filter(is_needed).flat_map(|item| [&text[item.start..item.end], b"\n"].concat()).collect()
 }
 
@@ -97,10 +101,14 @@ fn needed(text: &[u8], key: &[u8]) -> Vec<u8> {
 fn job_of(files: &Files, key: &[u8]) -> Option<Files> {
     let style = files.with_ending(".bst").next()?;
     let stem = style.name.strip_suffix(b".bst")?;
-    let text: Vec<u8> = files.with_ending(".bib").filter_map(|file| file.bytes.as_deref()).flat_map(|text| needed(text, key)).collect();
+    let text: Vec<u8> =
+        files.with_ending(".bib").filter_map(|file| file.bytes.as_deref()).flat_map(|text| needed(text, key)).collect();
     let top = [b"\\citation{", key, b"}\n\\bibdata{trace}\n\\bibstyle{", stem, b"}\n"].concat();
     let file = |name: &[u8], bytes| File { name: name.to_vec(), bytes: Some(bytes), path: name.to_vec() };
-    Some(Files { top: b"trace.aux".to_vec(), all: vec![file(b"trace.aux", top), style.clone(), file(b"trace.bib", text)] })
+    Some(Files {
+        top: b"trace.aux".to_vec(),
+        all: vec![file(b"trace.aux", top), style.clone(), file(b"trace.bib", text)],
+    })
 }
 
 // ---- the steps ----
@@ -113,7 +121,7 @@ fn stands(files: &Files, style: &[u8], options: &Options) -> Option<Note> {
 
 /// How many literals a built-in function takes; none of anything else.
 fn operands_of(name: &[u8]) -> usize {
-    advice::operands(name).map_or(0, |operands| operands.split(' ').filter(|word| !word.is_empty()).count())
+    advice::operands(name).map_or(0, |operands| operands.split_whitespace().count())
 }
 
 /// The functions of the style that are open at a place, the outermost first: their names, the lines of the tokens in them, and the numbers of the tokens.
@@ -160,7 +168,11 @@ impl Tracer {
         let left = stack.depth.saturating_sub(note.next.as_deref().map_or(0, operands_of));
         let spots = opened(&note);
         self.end_to(1 + spots.len(), &stack);
-        let before = self.last.as_ref().filter(|_| is_same).map(|last| (Stack::of(last), last.at.as_ref().map_or(0, |at| at.call.line)));
+        let before = self
+            .last
+            .as_ref()
+            .filter(|_| is_same)
+            .map(|last| (Stack::of(last), last.at.as_ref().map_or(0, |at| at.call.line)));
         let (before, line) = before.unwrap_or((stack.clone(), 0));
         for spot in spots.iter().skip(self.open.len().saturating_sub(1)) {
             self.begin(plain(spot.owner()), line, &before);
@@ -188,7 +200,8 @@ fn trace_to(most: u64, files: &Files, key: &[u8], options: &Options) -> Result<O
         Answer::Memory => return Err(MemoryRefused),
         Answer::ListFull | Answer::LogFull => (most, true),
     };
-    let mut tracer = Tracer { trace: Trace { left_at: goes_on.then_some(most), ..Trace::default() }, open: Vec::new(), last: None };
+    let mut tracer =
+        Tracer { trace: Trace { left_at: goes_on.then_some(most), ..Trace::default() }, open: Vec::new(), last: None };
     for at in 0..steps {
         let note = stands(&job, &style, &Options { budget: at, ..*options });
         if let Some(note) = note.filter(|note| note.entry.is_some()) {
@@ -249,10 +262,15 @@ mod tests {
 
     fn traced(style: &str, key: &str, function: Option<&str>) -> Option<String> {
         let file = |name: &str, text: &str| File { name: name.into(), bytes: Some(text.into()), path: name.into() };
-        let database = "@string{x = \"X\"}\n@book{a, title = x}\n@book{b, title = {B}, crossref = \"c\"}\n@book{c, title = 1}";
+        let database =
+            "@string{x = \"X\"}\n@book{a, title = x}\n@book{b, title = {B}, crossref = \"c\"}\n@book{c, title = 1}";
         let files = Files {
             top: b"p.aux".to_vec(),
-            all: vec![file("p.aux", "\\citation{a,b}\n\\bibdata{d}\n\\bibstyle{s}\n"), file("s.bst", style), file("d.bib", database)],
+            all: vec![
+                file("p.aux", "\\citation{a,b}\n\\bibdata{d}\n\\bibstyle{s}\n"),
+                file("s.bst", style),
+                file("d.bib", database),
+            ],
         };
         let trace = trace_to(300, &files, key.as_bytes(), &Options::usual(0)).unwrap()?;
         let mut out = Vec::new();
@@ -271,7 +289,10 @@ mod tests {
     #[test]
     fn each_token_of_a_function_is_shown() {
         let found = traced(STYLE, "a", Some("Twice")).unwrap();
-        assert!(found.contains("\n        duplicate$ (line 2), over \"X\"\n        * (line 2), over \"X\"  \"X\"\n"), "{found}");
+        assert!(
+            found.contains("\n        duplicate$ (line 2), over \"X\"\n        * (line 2), over \"X\"  \"X\"\n"),
+            "{found}"
+        );
     }
 
     #[test]
