@@ -405,7 +405,16 @@ mod tests {
         assert_eq!(lost("IBM: DNA of it"), Some((0, "Ibm".into())));
         assert_eq!(lost("a: DNA of it"), Some((3, "Dna".into())));
         assert_eq!(lost("On iPhones, \\LaTeX"), Some((12, "\\latex".into())));
-        for text in ["The {IBM} of $AB$ and {\\TeX}", "ALL IN LARGE LETTERS", "On X-rays", "On A", "A \\emph{DNA} of it", "", "\\", "IBM"] {
+        for text in [
+            "The {IBM} of $AB$ and {\\TeX}",
+            "ALL IN LARGE LETTERS",
+            "On X-rays",
+            "On A",
+            "A \\emph{DNA} of it",
+            "",
+            "\\",
+            "IBM",
+        ] {
             assert_eq!(lost(text), None, "{text}");
         }
     }
