@@ -298,6 +298,8 @@ pub struct Ran {
     pub answer: Answer,
     /// Whether text was read as UTF-8.
     pub utf8: bool,
+    /// Whether the list is known to be UTF-8.
+    pub is_utf8: bool,
     /// What became of the letters of a language.
     pub letters: Letters,
 }
@@ -311,7 +313,7 @@ impl Ran {
     /// The first line of the list that has half a letter of UTF-8; None where the run broke off.
     pub fn line_of_half_letter(&self) -> Option<usize> {
         match self.answer {
-            Answer::Done(report) => line_of_half_letter(&self.list, report.is_stopped()),
+            Answer::Done(report) if !self.is_utf8 => line_of_half_letter(&self.list, report.is_stopped()),
             _ => None,
         }
     }
@@ -421,6 +423,7 @@ pub fn run(job: &[u8], files: &[File], options: &Options, rooms: &Rooms) -> Ran 
             of_read: 0..0,
             answer: Answer::Memory,
             utf8: options.utf8,
+            is_utf8: true,
             letters: Letters::AsTheyAre,
         };
     };
@@ -465,7 +468,8 @@ pub fn run(job: &[u8], files: &[File], options: &Options, rooms: &Rooms) -> Ran 
     let printed = printed_parts(&log, &events);
     let long = events.iter().filter_map(|event| event.long_message(&log)).collect();
     let of_read = part_of_read(&log, &events);
-    Ran { list, log, printed, long, of_read, answer, utf8: options.utf8, letters: Letters::AsTheyAre }
+    let (utf8, letters) = (options.utf8, Letters::AsTheyAre);
+    Ran { list, log, printed, long, of_read, answer, utf8, is_utf8: false, letters }
 }
 
 /// The room for notes that is tried first.

@@ -218,10 +218,10 @@ fn head_at(text: &[u8], start: usize) -> Option<Head<'_>> {
 /// The head of an entry that is written as most are: `@type{key,`.
 fn plain_head_at(text: &[u8], start: usize) -> Option<Head<'_>> {
     let rest = &text[start + 1..];
-    let kind = &rest[..rest.iter().position(|byte| !byte.is_ascii_alphabetic())?];
+    let kind = &rest[..count_first(rest, |byte| byte.is_ascii_alphabetic())];
     let after = rest[kind.len()..].strip_prefix(b"{")?;
-    let key = &after[..after.iter().position(|byte| *byte == b',' || *byte <= b' ' || *byte == b'}')?];
-    let is_plain = !kind.is_empty() && !key.is_empty() && after[key.len()] == b',';
+    let key = &after[..count_first(after, |byte| byte != b',' && byte > b' ' && byte != b'}')];
+    let is_plain = !kind.is_empty() && !key.is_empty() && after.get(key.len()) == Some(&b',');
     (is_plain && is_kind_of_entries(kind)).then_some(Head { start, kind, key: Some(key) })
 }
 
@@ -274,8 +274,19 @@ const OF_NAME: [bool; 256] = {
     table
 };
 
+#[inline]
 fn is_of_name(byte: u8) -> bool {
     OF_NAME[usize::from(byte)]
+}
+
+/// How many bytes at the beginning of a text pass a test.
+#[inline]
+fn count_first(text: &[u8], test: impl Fn(u8) -> bool) -> usize {
+    let mut count = 0;
+    while count < text.len() && test(text[count]) {
+        count += 1;
+    }
+    count
 }
 
 /// The longest name that is looked at where none is expected.
@@ -284,7 +295,7 @@ const LONGEST_NAME: usize = 1_000;
 /// The name that begins at this place; empty where none does.
 pub fn name_at(text: &[u8], place: usize) -> &[u8] {
     let rest = &text[place.min(text.len())..text.len().min(place + LONGEST_NAME)];
-    &rest[..rest.iter().position(|byte| !is_of_name(*byte)).unwrap_or(rest.len())]
+    &rest[..count_first(rest, is_of_name)]
 }
 
 impl<'a> Reader<'a> {
@@ -305,7 +316,7 @@ impl<'a> Reader<'a> {
     #[inline]
     fn take(&mut self, test: impl Fn(u8) -> bool) -> &'a [u8] {
         let rest = &self.text[self.at..];
-        let taken = &rest[..rest.iter().position(|byte| !test(*byte)).unwrap_or(rest.len())];
+        let taken = &rest[..count_first(rest, test)];
         self.at += taken.len();
         taken
     }
@@ -398,7 +409,7 @@ impl<'a> Reader<'a> {
     /// Takes a field that is written as most are: `name = {text},` with no brace in the text. None where it isn't, and nothing is taken.
     fn plain_field(&mut self) -> Option<(&'a [u8], &'a [u8])> {
         let rest = &self.text[self.at..];
-        let name = &rest[..rest.iter().position(|byte| !is_of_name(*byte))?];
+        let name = &rest[..count_first(rest, is_of_name)];
         let text = rest[name.len()..].strip_prefix(b" = {")?;
         let length = memchr2(b'{', b'}', text)?;
         if !text[length..].starts_with(b"},") || !name.first()?.is_ascii_alphabetic() {

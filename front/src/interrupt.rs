@@ -155,6 +155,7 @@ mod tests {
             of_read: 0..0,
             answer: Answer::Done(report),
             utf8: false,
+            is_utf8: false,
             letters: Letters::AsTheyAre,
         }
     }

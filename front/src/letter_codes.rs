@@ -29,63 +29,78 @@ pub fn has_digits(text: &[u8]) -> bool {
     text.chunks(4096).any(|piece| piece.iter().fold(false, |has, byte| has | is_digit(*byte)))
 }
 
-/// Whether a byte is one of a code, or one that only keys have.
-const fn is_of_code(byte: u8) -> bool {
-    is_digit(byte) || byte >= MARK
-}
-
 /// The highest bit of each of eight bytes, and eight times a small number.
 const HIGH: u64 = 0x8080_8080_8080_8080;
 const fn eight(byte: u64) -> u64 {
     byte * 0x0101_0101_0101_0101
 }
 
-/// The highest bit of each of eight bytes that is less than this number. (Above the first of these it may be that of any.)
-const fn below(word: u64, least: u64) -> u64 {
-    word.wrapping_sub(eight(least)) & !word
+/// The highest bit of each of eight bytes that is a control character below the space, or none of ASCII.
+const fn marks(word: u64) -> u64 {
+    (!((word & !HIGH) + eight(0x80 - 0x20)) | word) & HIGH
 }
 
-/// The first byte from this place on that passes a test. Eight bytes are looked at at once: `marks` has the highest bit of each that may pass it. (Above the first of these it may have any.)
-fn find_by(text: &[u8], from: usize, marks: impl Fn(u64) -> u64, test: impl Fn(u8) -> bool) -> Option<usize> {
-    let mut at = from;
-    while let Some(word) = text[at..].first_chunk() {
-        let found = marks(u64::from_le_bytes(*word)) & HIGH;
-        at += found.trailing_zeros() as usize / 8;
-        if found != 0 {
-            if test(text[at]) {
-                return Some(at);
+/// Visits the bytes from this place on that are control characters below the space, or none of ASCII; eight are looked at at once. What `visit` answers is the place from which on bytes are
+/// visited again; None ends all. The answer is whether the end was reached.
+#[inline]
+fn visit_marked(text: &[u8], from: usize, mut visit: impl FnMut(usize) -> Option<usize>) -> bool {
+    let (words, _) = text[from..].as_chunks();
+    let (mut next, mut start) = (from, from);
+    for word in words {
+        let mut marked = marks(u64::from_le_bytes(*word));
+        while marked != 0 {
+            let place = start + marked.trailing_zeros() as usize / 8;
+            marked &= marked - 1;
+            if place >= next {
+                let Some(after) = visit(place) else { return false };
+                next = after;
             }
-            at += 1;
         }
+        start += word.len();
     }
-    text[at..].iter().position(|byte| test(*byte)).map(|after| at + after)
+    let is_marked = |place: &usize| !(0x20..0x80).contains(&text[*place]);
+    let mut rest = (start..text.len()).filter(is_marked);
+    rest.all(|place| place < next || visit(place).inspect(|after| next = *after).is_some())
 }
 
-/// The first byte from this place on that is one of a code, or that only keys have.
-fn find_of_code(text: &[u8], from: usize) -> Option<usize> {
-    find_by(text, from, |word| below(word, 0x20) | below(!word, 0x100 - u64::from(MARK)), is_of_code)
+/// A letter outside ASCII of a text, and where it begins.
+#[derive(Debug, Clone, Copy, PartialEq, Eq, PartialOrd, Ord)]
+pub struct Met {
+    pub start: usize,
+    pub letter: char,
 }
 
-/// The first byte from this place on that is one of a code, or none of ASCII.
-pub fn find_of_letters(text: &[u8], from: usize) -> Option<usize> {
-    find_by(text, from, |word| below(word, 0x20) | word, |byte| byte >= 0x80 || is_digit(byte))
+/// Adds the letters outside ASCII of a text from this place on; false where it has a byte of a code, or one that is of no letter.
+pub fn find_letters(text: &[u8], from: usize, met: &mut Vec<Met>) -> bool {
+    visit_marked(text, from, |start| {
+        if text[start] < 0x80 {
+            return Some(start + 1).filter(|_| !is_digit(text[start]));
+        }
+        let letter = first_letter(&text[start..])?;
+        met.push(Met { start, letter });
+        Some(start + letter.len_utf8())
+    })
 }
 
 fn value_of(digit: u8) -> Option<usize> {
     is_digit(digit).then(|| usize::from(digit) - if digit < 9 { 1 } else { 6 })
 }
 
+/// How many bytes a short text has at most.
+const SHORT: usize = 16;
+
 /// A text of a few bytes.
 #[derive(Debug, Clone, Copy, Default, PartialEq, Eq)]
 struct Short {
-    bytes: [u8; 16],
-    len: usize,
+    bytes: [u8; SHORT],
+    len: u8,
 }
 
 impl Short {
     fn push(&mut self, bytes: &[u8]) {
-        self.bytes[self.len..self.len + bytes.len()].copy_from_slice(bytes);
-        self.len += bytes.len();
+        let len = usize::from(self.len);
+        self.bytes[len..len + bytes.len()].copy_from_slice(bytes);
+        self.len += bytes.len() as u8;
     }
 
     fn of_letters(letters: impl Iterator<Item = char>) -> Short {
@@ -94,8 +109,27 @@ impl Short {
         short
     }
 
-    fn bytes(&self) -> &[u8] {
-        &self.bytes[..self.len]
+    /// Writes it. (All its room at once, and what is too much of that is taken back: a copy of another length would be a call.)
+    fn write(&self, out: &mut Vec<u8>) {
+        out.extend_from_slice(&self.bytes);
+        out.truncate(out.len() - (SHORT - usize::from(self.len)));
+    }
+}
+
+/// What stands in the place of the code of a letter that wasn't met.
+const NOT_MET: Short = Short { bytes: [0; SHORT], len: u8::MAX };
+
+/// How many bytes of a text are copied at once.
+const AT_ONCE: usize = 32;
+
+/// Writes a part of a text, as a rule one between two letters, in the same way as a short text.
+fn write_part(text: &[u8], part: Range<usize>, out: &mut Vec<u8>) {
+    match text[part.start..].first_chunk::<AT_ONCE>() {
+        Some(piece) if part.len() <= AT_ONCE => {
+            out.extend_from_slice(piece);
+            out.truncate(out.len() - (AT_ONCE - part.len()));
+        }
+        _ => out.extend_from_slice(&text[part]),
     }
 }
 
@@ -137,6 +171,8 @@ pub struct Turned {
     pub text: Vec<u8>,
     /// Whether nothing is left of a code that was cut, or of a key outside a code.
     pub is_whole: bool,
+    /// Whether all of it is UTF-8.
+    pub is_utf8: bool,
 }
 
 /// The letters of a job that have codes.
@@ -147,16 +183,17 @@ pub struct Codes {
     /// What ends each key.
     mark: &'static [u8],
     letters: Vec<Letter>,
-    /// Their numbers, by themselves; the `I` of a foreign text is another one.
+    /// The numbers of those of ASCII, by themselves; the `I` of a foreign text is another one.
     numbers: HashMap<(char, bool), usize>,
     /// The code of each letter outside ASCII that was met, by its place; empty where it has none.
-    codes: Vec<Option<Short>>,
+    codes: Vec<Short>,
     /// Those of letters that have no place.
     others: HashMap<char, Short>,
 }
 
 /// The letter outside ASCII with which this text begins; None where it begins with none in UTF-8.
-pub fn first_letter(text: &[u8]) -> Option<char> {
+#[inline]
+fn first_letter(text: &[u8]) -> Option<char> {
     let bits = |at: usize| text.get(at).filter(|byte| **byte & 0xC0 == 0x80).map(|byte| u32::from(byte & 0x3F));
     let first = u32::from(*text.first()?);
     let (letter, least) = match first {
@@ -177,18 +214,18 @@ impl Codes {
             mark,
             letters: Vec::new(),
             numbers: HashMap::new(),
-            codes: vec![None; PLACES],
+            codes: vec![NOT_MET; PLACES],
             others: HashMap::new(),
         }
     }
 
-    /// Writes a text up to the last letter of this part, which is UTF-8, that has a code, with the letters of the part coded; `letters` says where in the text those outside ASCII are. It is
-    /// written up to the place `written`; up to where it is then.
+    /// Writes a text up to the last letter of this part, which is UTF-8, that has a code, with the letters of the part coded. `letters` are those of the text outside ASCII that weren't
+    /// passed yet; those of the part are passed here. The text is written up to the place `written`; up to where it is then.
     pub fn code(
         &mut self,
         text: &[u8],
         part: Range<usize>,
-        letters: &[usize],
+        letters: &mut &[Met],
         written: usize,
         out: &mut Vec<u8>,
     ) -> usize {
@@ -196,14 +233,22 @@ impl Codes {
             return self.code_all(text, part, written, out);
         }
         let (mut depth, mut at, mut written) = (0, part.start, written);
-        for start in letters {
-            if self.in_braces == InBraces::AsTheyAre {
-                depth += depth_of(&text[at..*start]);
+        while let Some((met, after)) = letters.split_first().filter(|(met, _)| met.start < part.end) {
+            *letters = after;
+            if met.start < part.start {
+                continue;
             }
-            let Some(letter) = first_letter(&text[*start..]) else { break };
-            at = start + letter.len_utf8();
-            if depth <= 0 && self.put(letter, &text[written..*start], out) {
-                written = at;
+            if self.in_braces == InBraces::AsTheyAre {
+                depth += depth_of(&text[at..met.start]);
+                at = met.start;
+            }
+            if depth <= 0 {
+                let code = self.code_of_letter(met.letter);
+                if code.len > 0 {
+                    write_part(text, written..met.start, out);
+                    code.write(out);
+                    written = met.start + met.letter.len_utf8();
+                }
             }
         }
         written
@@ -219,53 +264,51 @@ impl Codes {
                 continue;
             }
             let start = part.start + at;
-            let before = &text[written..start];
-            let is_coded = match itself.is_ascii() {
-                true => self.put_of_ascii(itself, &value[at..], is_foreign, before, out),
-                false => self.put(itself, before, out),
+            let code = match itself.is_ascii() {
+                true => self.code_of_ascii(itself, &value[at..], is_foreign),
+                false => *self.code_of_letter(itself),
             };
-            if is_coded {
+            if code.len > 0 {
+                write_part(text, written..start, out);
+                code.write(out);
                 written = start + itself.len_utf8();
             }
         }
         written
     }
 
-    /// Writes a letter outside ASCII, and what comes before it; false where it has no code, and nothing is written.
-    fn put(&mut self, letter: char, before: &[u8], out: &mut Vec<u8>) -> bool {
-        let known = match place_of(u32::from(letter)) {
-            Some(place) => self.codes[place],
-            None => self.others.get(&letter).copied(),
-        };
-        let code = known.unwrap_or_else(|| self.met(letter));
-        if code.len > 0 {
-            out.extend_from_slice(before);
-            out.extend_from_slice(code.bytes());
+    /// The code of a letter outside ASCII; empty where it has none.
+    #[inline]
+    fn code_of_letter(&mut self, letter: char) -> &Short {
+        match place_of(u32::from(letter)) {
+            Some(place) => {
+                if self.codes[place].len == NOT_MET.len {
+                    self.codes[place] = self.met(letter);
+                }
+                &self.codes[place]
+            }
+            None => {
+                if !self.others.contains_key(&letter) {
+                    let code = self.met(letter);
+                    self.others.insert(letter, code);
+                }
+                &self.others[&letter]
+            }
         }
-        code.len > 0
     }
 
     /// The code of a letter outside ASCII that is met for the first time.
     fn met(&mut self, letter: char) -> Short {
-        let code = self.key(letter, "", false).and_then(|key| self.code_of((letter, false), &key)).unwrap_or_default();
-        match place_of(u32::from(letter)) {
-            Some(place) => self.codes[place] = Some(code),
-            None => {
-                self.others.insert(letter, code);
-            }
-        }
-        code
+        let key = self.key(letter, "", false);
+        let number = key.is_some().then(|| self.number_of_new(letter, false)).flatten();
+        key.zip(number).map_or(Short::default(), |(key, number)| self.code_of(number, &key))
     }
 
-    /// The same of a letter of ASCII with which `rest` begins: what it sorts as depends on those that follow.
-    fn put_of_ascii(&mut self, itself: char, rest: &str, is_foreign: bool, before: &[u8], out: &mut Vec<u8>) -> bool {
-        let key = self.key(itself, rest, is_foreign);
-        let Some(code) = key.and_then(|key| self.code_of((itself, is_foreign && itself == 'I'), &key)) else {
-            return false;
-        };
-        out.extend_from_slice(before);
-        out.extend_from_slice(code.bytes());
-        true
+    /// The code of a letter of ASCII with which `rest` begins: what it sorts as depends on those that follow.
+    fn code_of_ascii(&mut self, itself: char, rest: &str, is_foreign: bool) -> Short {
+        let Some(key) = self.key(itself, rest, is_foreign) else { return Short::default() };
+        let number = self.number_of_ascii(itself, is_foreign && itself == 'I');
+        number.map_or(Short::default(), |number| self.code_of(number, &key))
     }
 
     /// What a letter sorts as with which `rest` begins; None where that is itself.
@@ -281,20 +324,25 @@ impl Codes {
         }
     }
 
-    /// The number of a letter; None where there are too many.
-    fn number(&mut self, known: (char, bool)) -> Option<usize> {
-        if let Some(number) = self.numbers.get(&known) {
+    /// The number of a letter of ASCII; None where there are too many.
+    fn number_of_ascii(&mut self, letter: char, is_foreign: bool) -> Option<usize> {
+        if let Some(number) = self.numbers.get(&(letter, is_foreign)) {
             return Some(*number);
         }
-        let number = Some(self.letters.len()).filter(|number| *number < MOST_LETTERS)?;
-        self.letters.push(Letter::new(known.0, &self.language, known.1));
-        self.numbers.insert(known, number);
+        let number = self.number_of_new(letter, is_foreign)?;
+        self.numbers.insert((letter, is_foreign), number);
         Some(number)
     }
 
-    /// The code of a letter with this key.
-    fn code_of(&mut self, known: (char, bool), key: &[u8]) -> Option<Short> {
-        let number = self.number(known)?;
+    /// The number of a letter that has none yet; None where there are too many.
+    fn number_of_new(&mut self, letter: char, is_foreign: bool) -> Option<usize> {
+        let number = Some(self.letters.len()).filter(|number| *number < MOST_LETTERS)?;
+        self.letters.push(Letter::new(letter, &self.language, is_foreign));
+        Some(number)
+    }
+
+    /// The code of the letter of this number, with its key.
+    fn code_of(&self, number: usize, key: &[u8]) -> Short {
         let mut code = Short::default();
         code.push(&[b'{', b'\\', DIGITS[number / DIGITS.len()], DIGITS[number % DIGITS.len()], b'{']);
         code.push(key);
@@ -303,26 +351,32 @@ impl Codes {
         }
         code.push(self.mark);
         code.push(b"}}");
-        Some(code)
+        code
     }
 
     /// What a run wrote, with each code turned back into its letter, in the case that the run gave it.
     pub fn turn_back(&self, text: &[u8]) -> Turned {
-        let mut turned = Turned { text: Vec::with_capacity(text.len()), is_whole: true };
-        let (mut at, mut copied) = (0, 0);
-        while let Some(found) = find_of_code(text, at) {
+        let mut turned = Turned { text: Vec::with_capacity(text.len()), is_whole: true, is_utf8: true };
+        let mut copied = 0;
+        visit_marked(text, 0, |found| {
+            let byte = text[found];
+            if !is_digit(byte) {
+                turned.is_whole &= byte < MARK;
+                let letter = first_letter(&text[found..]);
+                turned.is_utf8 &= byte < 0x80 || letter.is_some();
+                return Some(found + letter.map_or(1, char::len_utf8));
+            }
             // (the first control character of a code stands after `{\`)
             let start = found.checked_sub(2).filter(|start| *start >= copied);
-            if let Some((start, code)) = start.and_then(|start| Some((start, self.code_at(&text[start..])?))) {
-                turned.text.extend_from_slice(&text[copied..start]);
-                turned.text.extend_from_slice(self.letter(&code));
-                copied = start + code.len;
-                at = copied;
-            } else {
+            let Some((start, code)) = start.and_then(|start| Some((start, self.code_at(&text[start..])?))) else {
                 turned.is_whole = false;
-                at = found + 1;
-            }
-        }
+                return Some(found + 1);
+            };
+            write_part(text, copied..start, &mut turned.text);
+            self.letter(&code).write(&mut turned.text);
+            copied = start + code.len;
+            Some(copied)
+        });
         turned.text.extend_from_slice(&text[copied..]);
         turned
     }
@@ -337,11 +391,11 @@ impl Codes {
     }
 
     /// The letter that a code stands for: in the other case where its key has another case than it was given.
-    fn letter(&self, code: &Code<'_>) -> &[u8] {
+    fn letter(&self, code: &Code<'_>) -> &Short {
         let letter = &self.letters[code.number];
         match code.key.iter().find(|byte| byte.is_ascii_alphabetic()) {
-            Some(byte) if byte.is_ascii_uppercase() != letter.is_capital => letter.other.bytes(),
-            _ => letter.itself.bytes(),
+            Some(byte) if byte.is_ascii_uppercase() != letter.is_capital => &letter.other,
+            _ => &letter.itself,
         }
     }
 }
@@ -365,9 +419,9 @@ mod tests {
 
     fn coded(codes: &mut Codes, text: &str) -> Vec<u8> {
         let mut out = Vec::new();
-        let letters: Vec<usize> =
-            text.char_indices().filter(|(_, letter)| !letter.is_ascii()).map(|(at, _)| at).collect();
-        let written = codes.code(text.as_bytes(), 0..text.len(), &letters, 0, &mut out);
+        let letters: Vec<Met> = text.char_indices().map(|(start, letter)| Met { start, letter }).collect();
+        let letters: Vec<Met> = letters.into_iter().filter(|met| !met.letter.is_ascii()).collect();
+        let written = codes.code(text.as_bytes(), 0..text.len(), &mut &letters[..], 0, &mut out);
         out.extend_from_slice(&text.as_bytes()[written..]);
         out
     }
@@ -402,10 +456,30 @@ mod tests {
         let bytes: Vec<u8> = (0..=255).flat_map(|byte| [byte, b'a', byte]).collect();
         for text in [&bytes[..], b"", b"ab\ncdefghijkl\tmn", b"abcdefgh", b"\n\n\n\n\n\n\n\n\n\x80\x01"] {
             for from in 0..=text.len() {
-                let first = |test: fn(u8) -> bool| (from..text.len()).find(|at| test(text[*at]));
-                assert_eq!(find_of_code(text, from), first(is_of_code));
-                assert_eq!(find_of_letters(text, from), first(|byte| byte >= 0x80 || is_digit(byte)));
+                let (wanted, mut found) = ((from..text.len()).filter(|at| is_digit(text[*at])), Vec::new());
+                assert!(visit_marked(text, from, |at| {
+                    found.extend(is_digit(text[at]).then_some(at));
+                    Some(at + 1)
+                }));
+                assert_eq!(found, wanted.collect::<Vec<_>>());
+                assert_eq!(visit_marked(text, from, |at| (!is_digit(text[at])).then_some(at + 1)), found.is_empty());
             }
+        }
+    }
+
+    #[test]
+    fn letters_are_found_with_their_places() {
+        let found = |text: &[u8]| {
+            let mut met = Vec::new();
+            let is_whole = find_letters(text, 1, &mut met);
+            (met.iter().map(|met| (met.start, met.letter)).collect::<Vec<_>>(), is_whole)
+        };
+        let letters = "\n\téß€\u{10000}\n ä b c d e f g h ü";
+        let wanted = letters.char_indices().filter(|(_, letter)| !letter.is_ascii()).collect();
+        assert_eq!(found(letters.as_bytes()), (wanted, true));
+        assert_eq!(found(b"\x01abcdefgh\r\n\t\x7F"), (vec![], true));
+        for odd in [b"a\xC3b", b"ab\xA9", b"ab\x01", b"ab\x1F"] {
+            assert_eq!(found(odd), (vec![], false));
         }
     }
 
@@ -455,6 +529,8 @@ mod tests {
         for part in [&list[..3], &list[..list.len() - 1], &list[3..], b"o\xFE", b"z\xFF", b"{\\\x01\x09{o}}"] {
             assert!(!codes.turn_back(part).is_whole, "{part:?}");
         }
-        assert_eq!(codes.turn_back(&list), Turned { text: "ö".into(), is_whole: true });
+        assert_eq!(codes.turn_back(&list), Turned { text: "ö".into(), is_whole: true, is_utf8: true });
+        let has_letters = |list: &[u8]| codes.turn_back(list).is_utf8;
+        assert_eq!([&b"\xC3\xA9\n"[..], b"\xC3{", b"\xA9", b"a\xE2\x82"].map(has_letters), [true, false, false, false]);
     }
 }

@@ -3,8 +3,8 @@
 use crate::btx::{Answer, Ran};
 use crate::job::{File, Files};
 use crate::languages::{AFTER, Language};
-use crate::letter_codes::{Codes, InBraces, MARK, has_digits};
-use crate::letter_values::{self, FIXED, is_one_text, parts, split_at_place};
+use crate::letter_codes::{Codes, InBraces, MARK, Met, has_digits};
+use crate::letter_values::{self, FIXED, is_one_text, parts};
 use crate::style_keys;
 use memchr::{memchr2_iter, memmem};
 use std::ops::Range;
@@ -112,11 +112,11 @@ fn moved(codes: &Codes, log: &[u8], parts: &[Range<usize>]) -> Vec<Range<usize>>
     parts.iter().map(|part| place(part.start)..place(part.end)).collect()
 }
 
-/// A job, the values of its files, where letters outside ASCII begin in these, and the language of the letters.
+/// A job, the values of its files, the letters outside ASCII of these, and the language of the letters.
 struct Job<'a> {
     files: &'a Files,
     values: Vec<Vec<Range<usize>>>,
-    letters: Vec<Vec<usize>>,
+    letters: Vec<Vec<Met>>,
     language: &'a Arc<Language>,
 }
 
@@ -124,7 +124,7 @@ impl Job<'_> {
     /// The job with coded letters.
     fn coded(&self, in_braces: InBraces, are_marked: bool) -> Coded {
         let mut codes = Codes::new(self.language, in_braces, are_marked);
-        let mut code = |((file, values), letters): ((&File, &Vec<Range<usize>>), &Vec<usize>)| {
+        let mut code = |((file, values), letters): ((&File, &Vec<Range<usize>>), &Vec<Met>)| {
             let bytes = match values[..] {
                 [] => file.bytes.clone(),
                 _ => file.bytes.as_deref().map(|bytes| coded_text(bytes, values, letters, &mut codes)),
@@ -146,11 +146,16 @@ impl Job<'_> {
         if !list.is_whole || !log.is_whole || !self.has_all_braces(&list.text, run) {
             return Err(LeftOut::CutsLetters);
         }
-        let moved = |parts: &[Range<usize>]| moved(&coded.codes, &ran.log, parts);
+        // (a code is longer than its letter, so a log that is as long as before has none)
+        let is_as_before = log.text.len() == ran.log.len();
+        let moved = |parts: &[Range<usize>]| match is_as_before {
+            true => parts.to_vec(),
+            false => moved(&coded.codes, &ran.log, parts),
+        };
         let (printed, long) = (moved(&ran.printed), moved(&ran.long));
         let of_read = moved(std::slice::from_ref(&ran.of_read)).into_iter().next().unwrap_or_default();
-        let (list, log, letters) = (list.text, log.text, Letters::Coded(Arc::new(coded)));
-        Ok(Ran { list, log, printed, long, of_read, letters, ..ran })
+        let (is_utf8, letters) = (list.is_utf8, Letters::Coded(Arc::new(coded)));
+        Ok(Ran { list: list.text, log: log.text, printed, long, of_read, is_utf8, letters, ..ran })
     }
 
     /// Whether no brace of a list is left over from a code that was cut. A style may leave out braces of its own.
@@ -170,17 +175,14 @@ impl Job<'_> {
 }
 
 /// A database whose values are coded.
-fn coded_text(text: &[u8], values: &[Range<usize>], letters: &[usize], codes: &mut Codes) -> Vec<u8> {
+fn coded_text(text: &[u8], values: &[Range<usize>], letters: &[Met], codes: &mut Codes) -> Vec<u8> {
     let mut out = Vec::with_capacity(text.len() + text.len() / 4);
     let (mut at, mut written, mut letters) = (0, 0, letters);
     let mut code = |part: Range<usize>| {
         // An entry that stands in another's value was coded with it.
         if part.start >= at {
             at = part.end;
-            let (_, after) = split_at_place(letters, part.start);
-            let (of_part, after) = split_at_place(after, part.end);
-            letters = after;
-            written = codes.code(text, part, of_part, written, &mut out);
+            written = codes.code(text, part, &mut letters, written, &mut out);
         }
     };
     for value in values {

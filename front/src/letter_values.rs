@@ -5,8 +5,9 @@ use crate::aux_text;
 use crate::database::{Folded, Head, Inside, Item, heads};
 use crate::job::Files;
 use crate::languages::Language;
-use crate::letter_codes::{find_of_letters, first_letter};
+use crate::letter_codes::{Met, find_letters};
 use crate::letter_run::LeftOut;
+use memchr::memchr;
 use std::collections::HashSet;
 use std::ops::Range;
 
@@ -33,8 +34,8 @@ fn is_fixed(name: &[u8]) -> bool {
 pub struct Chosen<'a> {
     /// The values of each file, in their order.
     pub values: Vec<Vec<Range<usize>>>,
-    /// Where in each file letters outside ASCII begin, at least those of the values.
-    pub letters: Vec<Vec<usize>>,
+    /// The letters outside ASCII of each file, at least those of the values.
+    pub letters: Vec<Vec<Met>>,
     /// The types of the entries that the list may have.
     pub types: HashSet<Folded<'a>>,
 }
@@ -115,8 +116,8 @@ struct Database<'a> {
     heads: Vec<Head<'a>>,
     /// The values of fields that may be coded, and have something to code.
     values: Vec<Range<usize>>,
-    /// Where letters outside ASCII begin in the items that were read.
-    letters: Vec<usize>,
+    /// The letters outside ASCII of the items that were read.
+    letters: Vec<Met>,
     /// The strings that it defines, and their values.
     strings: Vec<(&'a [u8], Range<usize>)>,
     /// The names of strings in fields that stay as they are.
@@ -153,7 +154,9 @@ impl<'a> Database<'a> {
     fn read_item(&mut self, head: Head<'a>, choice: &mut Choice<'a>) -> Result<usize, LeftOut> {
         let item = Item::read_at(self.text, head.start, &mut choice.inside);
         let (inside, met) = (&choice.inside, self.letters.len());
-        find_letters(&self.text[..item.end], item.start, &mut self.letters)?;
+        if !find_letters(&self.text[..item.end], item.start, &mut self.letters) {
+            return Err(why_not(&self.text[item.start..item.end]));
+        }
         if item.is_entry() {
             choice.types.add(item.kind);
             self.choose_fields(inside, met, choice.is_of_ascii);
@@ -179,19 +182,19 @@ impl<'a> Database<'a> {
     fn choose_fields(&mut self, inside: &Inside<'a>, met: usize, is_of_ascii: bool) {
         let (text, mut letters) = (self.text, &self.letters[met..]);
         for (name, value) in inside.fields.iter().zip(&inside.values) {
-            letters = split_at_place(letters, value.start).1;
+            letters = from_place(letters, value.start);
             if is_fixed(name) {
                 if !is_one_text(&text[value.clone()]) {
                     self.fixed.extend(names_in(&text[value.clone()]));
                 }
-            } else if is_of_ascii || letters.first().is_some_and(|letter| *letter < value.end) {
+            } else if is_of_ascii || letters.first().is_some_and(|met| met.start < value.end) {
                 self.values.push(value.clone());
             }
         }
     }
 
-    /// All its values that may be coded and have something to code, in their order, and where in it letters outside ASCII begin.
-    fn chosen(mut self, fixed: &HashSet<Folded<'a>>, is_of_ascii: bool) -> (Vec<Range<usize>>, Vec<usize>) {
+    /// All its values that may be coded and have something to code, in their order, and its letters outside ASCII.
+    fn chosen(mut self, fixed: &HashSet<Folded<'a>>, is_of_ascii: bool) -> (Vec<Range<usize>>, Vec<Met>) {
         let free = self.strings.into_iter().filter(|(name, _)| !fixed.contains(&Folded(name)));
         let has_some = |value: &Range<usize>| is_of_ascii || !self.text[value.clone()].is_ascii();
         self.values.extend(free.map(|(_, value)| value).filter(has_some));
@@ -205,23 +208,14 @@ impl<'a> Database<'a> {
     }
 }
 
-/// Those of some places, which are in their order, that are before this one, and the others. (The place is near.)
-pub fn split_at_place(places: &[usize], at: usize) -> (&[usize], &[usize]) {
-    places.split_at(places.iter().take_while(|place| **place < at).count())
+/// The letters that begin at this place or after it, which is near.
+fn from_place(letters: &[Met], place: usize) -> &[Met] {
+    &letters[letters.iter().take_while(|met| met.start < place).count()..]
 }
 
-/// Adds where the letters outside ASCII of an item begin, which is the end of this text; an error says why the item can't be coded.
-fn find_letters(text: &[u8], start: usize, letters: &mut Vec<usize>) -> Result<(), LeftOut> {
-    let mut at = start;
-    while let Some(found) = find_of_letters(text, at) {
-        let Some(letter) = first_letter(&text[found..]) else {
-            let is_utf8 = std::str::from_utf8(&text[start..]).is_ok();
-            return Err(if is_utf8 { LeftOut::ControlCharacters } else { LeftOut::NotUtf8 });
-        };
-        letters.push(found);
-        at = found + letter.len_utf8();
-    }
-    Ok(())
+/// Why an item can't be coded that has a byte of a code, or one that is of no letter.
+fn why_not(item: &[u8]) -> LeftOut {
+    if std::str::from_utf8(item).is_ok() { LeftOut::ControlCharacters } else { LeftOut::NotUtf8 }
 }
 
 /// Whether an item of this kind has a text and no key.
@@ -294,7 +288,7 @@ fn names_in(value: &[u8]) -> impl Iterator<Item = &[u8]> {
 
 /// Whether a whole value is certainly one text in braces or quotes, as most are.
 pub fn is_one_text(value: &[u8]) -> bool {
-    matches!(value, [b'{' | b'"', .., _]) && !value.contains(&b'#')
+    matches!(value, [b'{' | b'"', .., _]) && memchr(b'#', value).is_none()
 }
 
 /// The texts in a value, which stand in braces or quotes; round them stand numbers, names of strings and `#`.

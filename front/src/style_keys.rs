@@ -257,7 +257,11 @@ impl State {
         let (ours, theirs) = (self.stack.len, other.stack.len);
         let common = ours.min(theirs);
         let (deeper, tops) = other.stack.literals().split_at(theirs - common);
-        self.below |= other.below | held_of(deeper) | held_of(&self.stack.room[..ours - common]);
+        let lost = &self.stack.room[..ours - common];
+        if deeper.iter().chain(lost).any(|literal| !matches!(literal, Literal::Text(_))) {
+            return Err(NotFollowed);
+        }
+        self.below |= other.below | held_of(deeper) | held_of(lost);
         self.stack.room.copy_within(ours - common..ours, 0);
         self.stack.len = common;
         for (one, other) in self.stack.room[..common].iter_mut().zip(tops) {
@@ -282,15 +286,37 @@ impl State {
         self.keys = self.keys & !(1 << number) | u128::from(held & KEYS != 0) << number;
     }
 
-    /// Whether a literal may hold keys that another command may take.
-    fn leaves_keys(&self) -> bool {
-        (self.below | held_of(self.stack.literals())) & KEYS != 0
+    /// Whether a literal may hold keys that another command may take, or is one that it may execute.
+    fn leaves_more_than_letters(&self) -> bool {
+        let is_odd = |literal: &Literal| !matches!(literal, Literal::Text(held) if held & KEYS == 0);
+        self.below & KEYS != 0 || self.stack.literals().iter().any(is_odd)
+    }
+
+    /// Whether it is that of a command that begins, and no variable holds keys.
+    fn is_first_without_keys(&self) -> bool {
+        self.stack.len == 0 && self.below == LETTERS && self.keys == 0
     }
 }
 
 /// What any of these literals may hold.
 fn held_of(literals: &[Literal]) -> Held {
     literals.iter().fold(PLAIN, |held, literal| held | literal.held())
+}
+
+/// What a function, or one that it names, may do that keys may come of.
+#[derive(Debug, Clone, Copy, Default, PartialEq, Eq)]
+struct Reach {
+    /// Whether it may make some.
+    makes_keys: bool,
+    /// Which variables of an entry it reads: a bit for each.
+    of_entries: u128,
+}
+
+impl Reach {
+    fn join(&mut self, other: Reach) {
+        self.makes_keys |= other.makes_keys;
+        self.of_entries |= other.of_entries;
+    }
 }
 
 /// A style as it is read.
@@ -304,6 +330,10 @@ struct Style<'a> {
     steps: Vec<Step>,
     /// The bodies of the functions.
     functions: Vec<u32>,
+    /// What each of them may do.
+    reaches: Vec<Reach>,
+    /// What the one that is read may do, as far as it is read.
+    reach: Reach,
     /// What the commands execute.
     executed: Vec<Meaning>,
     /// The bodies that aren't closed yet.
@@ -393,7 +423,7 @@ impl<'a> Style<'a> {
     fn define_of_entry(&mut self, name: &'a [u8]) -> Followed<()> {
         self.define(name, Meaning::OfEntry(self.of_entries))?;
         self.of_entries += 1;
-        Ok(())
+        if self.of_entries as usize > MOST_TEXTS { Err(NotFollowed) } else { Ok(()) }
     }
 
     fn read_command(&mut self, word: &[u8], reading: &mut Reading<'a>, fixed: &[&str]) -> Followed<()> {
@@ -401,9 +431,11 @@ impl<'a> Style<'a> {
         if is("function") {
             let name = reading.name()?;
             reading.expect(Kind::Open)?;
+            self.reach = Reach::default();
             let body = self.read_body(reading)?;
             self.define(name, Meaning::Function(number_of(self.functions.len())?))?;
             self.functions.push(body);
+            self.reaches.push(self.reach);
         } else if is("macro") {
             reading.name()?;
             reading.expect(Kind::Open)?;
@@ -456,11 +488,29 @@ impl<'a> Style<'a> {
                     }
                 }
                 Kind::Text | Kind::Integer => self.steps.push(Step::Literal),
-                Kind::Name => self.steps.push(Step::Name(self.meaning(reading.word(&token))?)),
-                Kind::Quoted => self.steps.push(Step::Quoted(self.meaning(&reading.word(&token)[1..])?)),
+                Kind::Name => {
+                    let meaning = self.named(reading.word(&token))?;
+                    self.steps.push(Step::Name(meaning));
+                }
+                Kind::Quoted => {
+                    let meaning = self.named(&reading.word(&token)[1..])?;
+                    self.steps.push(Step::Quoted(meaning));
+                }
                 Kind::OpenText | Kind::NoInteger | Kind::Stuff => return Err(NotFollowed),
             }
         }
+    }
+
+    /// The meaning of a name in a body.
+    fn named(&mut self, name: &'a [u8]) -> Followed<Meaning> {
+        let meaning = self.meaning(name)?;
+        match meaning {
+            Meaning::Function(number) => self.reach.join(self.reaches[number as usize]),
+            Meaning::Builtin(Effect::Purify | Effect::Substring | Effect::CallType) => self.reach.makes_keys = true,
+            Meaning::OfEntry(number) => self.reach.of_entries |= 1 << number,
+            Meaning::Builtin(_) | Meaning::Field(_) | Meaning::Integer | Meaning::Text(_) => {}
+        }
+        Ok(meaning)
     }
 
     fn meaning(&self, name: &'a [u8]) -> Followed<Meaning> {
@@ -586,7 +636,7 @@ impl Following<'_> {
         for meaning in &self.style.executed {
             let mut state = *begun;
             self.call(*meaning, &mut state)?;
-            if state.leaves_keys() {
+            if state.leaves_more_than_letters() {
                 return Err(NotFollowed);
             }
             state.stack.len = 0;
@@ -664,12 +714,33 @@ impl Following<'_> {
         state.join(&after)
     }
 
+    /// Passes over what needs not be followed: a function of which no keys come. What it leaves is taken for letters.
+    fn pass_over(&mut self, way: Literal, state: &mut State) -> bool {
+        let Literal::Name(Meaning::Function(number)) = way else { return false };
+        let reach = self.style.reaches[number as usize];
+        let is_read = |number: usize| reach.of_entries >> number & 1 == 1;
+        let mut held = self.of_entries.iter().enumerate();
+        if reach.makes_keys
+            || !state.is_first_without_keys()
+            || held.any(|(number, held)| is_read(number) && held & KEYS != 0)
+        {
+            return false;
+        }
+        for (number, was_read) in self.are_read.iter_mut().enumerate() {
+            *was_read |= is_read(number);
+        }
+        state.letters = u128::MAX;
+        true
+    }
+
     /// Follows each of the types into one state.
     fn any_type(&mut self, state: &mut State) -> Followed<()> {
         let (types, before) = (self.types, *state);
         for (number, way) in types.iter().enumerate() {
             let mut after = before;
-            self.execute(*way, &mut after)?;
+            if !self.pass_over(*way, &mut after) {
+                self.execute(*way, &mut after)?;
+            }
             if number > 0 {
                 after.join(state)?;
             }
@@ -863,11 +934,27 @@ mod tests {
     }
 
     #[test]
+    fn a_type_without_keys_is_passed_over() {
+        let may_print = |first: &str, body: &str| {
+            let style = format!(
+                "ENTRY {{t}} {{}} {{label}} STRINGS {{s}}\nFUNCTION {{first}} {{ {first} }}\nFUNCTION {{misc}} {{ {body} }}\nFUNCTION {{book}} {{t purify$ pop$}}\nREAD\nITERATE {{first}}\nITERATE {{call.type$}}\n"
+            );
+            may_print_keys(style.as_bytes(), &[b"misc", b"book"], &[])
+        };
+        let key = "t purify$ 'sort.key$ :=";
+        assert!(!may_print(key, "#1 t 't if$") && !may_print(key, "label write$"));
+        assert!(may_print(key, "sort.key$ write$") && may_print("t purify$ 'label :=", "label write$"));
+        assert!(may_print("t purify$ 's :=", "s write$") && may_print("t purify$", "write$"));
+        assert!(may_print("'purify$", "t swap$ #1 swap$ 'skip$ if$ write$"));
+    }
+
+    #[test]
     fn what_cannot_be_followed_may_print() {
-        for body in ["t 'n write$ if$", "unknown", "t \"", "t 'misc :=", "#1 't 'n if$ if$"] {
-            assert!(may_print(body), "{body}");
+        for body in ["t 'n write$ if$", "unknown", "t \"", "t 'misc :=", "#1 't 'n if$ if$", "n {'t} 'skip$ if$", "'t"]
+        {
+            assert!(may_print(&format!("t purify$ pop$ {body}")), "{body}");
         }
-        let deep = format!("{}t write${}", "#1 { ".repeat(300), " } 'skip$ if$".repeat(300));
+        let deep = format!("t purify$ pop$ {}t write${}", "#1 { ".repeat(300), " } 'skip$ if$".repeat(300));
         assert!(may_print(&deep));
         assert!(may_print_keys(b"x", &[], &[]) && !may_print_keys(b"", &[], &[]));
     }
