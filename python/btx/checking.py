@@ -153,13 +153,23 @@ def check(style: bytes, name: str = "style.bst", steps: int = STEPS, kept: int =
     if isinstance(kept, bool) or not isinstance(kept, int) or not 0 <= kept < 2**32:
         raise ValueError(f"a variable keeps 0 to 2^32 - 1 bytes, and not {kept!r}")
     file = name.encode("utf8", "surrogateescape")
-    checked = library.checked_style(file, style, steps)
-    if checked is None:
-        raise StyleTooLong(len(style))
-    answered, types, notes = checked
+    answered, types, notes = checked_style(file, style, steps)
     warnings, causes, is_partial = read_notes(notes)
     ends = bound_of(file, style, kept)
     return Verdict(Answer(answered.verdict), answered.literals, answered.bodies, lines_of(types), warnings, causes, is_partial, ends)
+
+
+def warnings_of(style: bytes) -> List[StyleWarning]:
+    """The warnings of a style alone, which take less time than the whole verdict: nothing is said of its steps. Raises as `check` does."""
+    return read_notes(checked_style(b"style.bst", style, STEPS)[2])[0]
+
+
+def checked_style(file: bytes, style: bytes, steps: int) -> Tuple[library.Checked, bytes, bytes]:
+    """What the library's check answers of a style whose file has this name, the names of its types, and its notes."""
+    checked = library.checked_style(file, style, steps)
+    if checked is None:
+        raise StyleTooLong(len(style))
+    return checked
 
 
 def bound_of(file: bytes, style: bytes, kept: int) -> Optional[Bound]:

@@ -12,7 +12,7 @@ from typing import Callable, Dict, Iterator, List, NamedTuple, Optional, Set, Tu
 from .bibtext import REPEATED
 from .bsttext import COMMANDS, StyleText, Word, uses_between
 from .builtins import BUILT_IN
-from .checking import Fault, StyleWarning, check
+from .checking import Fault, StyleWarning, warnings_of
 from .doctor import JOURNALS, MONTHS, Finding, Source, Style
 from .documents import Document
 from .jobs import run
@@ -82,7 +82,7 @@ def of_style(document: Document, workspace: Workspace) -> Iterator[Diagnostic]:
     for message in logged_of_style(document.text):
         if message.kind is Kind.ERROR and message.file == "s.bst" and message.line is not None:
             yield style_mistake(document, workspace, message)
-    warnings = check(document.text).warnings
+    warnings = warnings_of(document.text)
     warnings = [it for it in warnings if it.is_first] or warnings
     # (the whole style is read only where it takes less than to look for each warning)
     uses = workspace.style(document).uses if len(warnings) > MOST_LOOKED_FOR else None

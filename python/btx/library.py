@@ -234,16 +234,22 @@ def checked_style(name: bytes, style: bytes, steps: int) -> Optional[Tuple[Check
     """What the check of a style answers, the names of its types and its notes. None where the style is longer than a file may be."""
     types_room, notes_room = FIRST_TYPES, FIRST_NOTES
     while True:
-        types, notes, checked = ctypes.create_string_buffer(types_room), ctypes.create_string_buffer(notes_room), Checked()
-        answer = LIBRARY.btx_check(
-            name, len(name), style, len(style), steps, types, types_room, notes, notes_room, ctypes.byref(checked)
-        )
+        types, notes, checked = Room(types_room), Room(notes_room), Checked()
+        try:
+            answer = LIBRARY.btx_check(
+                *(name, len(name), style, len(style), steps),
+                *(ctypes.byref(types.bytes), types.size, ctypes.byref(notes.bytes), notes.size),
+                ctypes.byref(checked),
+            )
+            if answer == DONE:
+                return checked, types.prefix(checked.types_len), notes.prefix(checked.notes_len)
+        finally:
+            types.close()
+            notes.close()
         if answer == REFUSED:
             return None
-        if answer not in (DONE, FULL):
+        if answer != FULL:
             raise refusal_of(answer)
-        if answer == DONE:
-            return checked, types.raw[: checked.types_len], notes.raw[: checked.notes_len]
         types_room, notes_room = max(types_room, checked.types_len), max(notes_room, checked.notes_len)
 
 
