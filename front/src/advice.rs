@@ -213,6 +213,8 @@ pub enum Seen {
     IntegerWithoutSign,
     FileIsEndNote,
     CommasBetweenKeys,
+    CallsItself,
+    WordsLoseCase,
 }
 
 impl Seen {
@@ -246,7 +248,7 @@ impl Seen {
             Seen::RunsOn => "close the value of `$1`, which begins at $2: it has taken in what looks like the field `$3` ($4)",
             Seen::NotClosed => "close $1: a `}` is missing above this line",
             Seen::NotClosedAtEnd => "close $1: its last `$2` is missing",
-            Seen::OtherBrace => "close $1 by `$2`, since it is opened by `$3`",
+            Seen::OtherBrace => "close this item by `$2`, since it is opened by `$3`: $1",
             Seen::CommentSign => "take this line out, or its `%`: a database has no comments inside an entry",
             Seen::CommaTwice => "take out one of the two commas",
             Seen::FieldAfterEnd => "take out what ends $1, before the field `$2`: a run ignores the fields after an entry's end",
@@ -261,6 +263,7 @@ impl Seen {
             Seen::FileIsHtml => "download $1 once more: what stands in it is a page of the web (HTML)",
             Seen::FileIsEndNote => "export $1 as BibTeX: what stands in it is EndNote's own form",
             Seen::CommasBetweenKeys => "write commas between the keys, and no space: `$1`",
+            Seen::CallsItself => "take `$1` out of its own body: a function can't call itself; a loop is made by `while$`",
             Seen::FileIsRis => "export $1 as BibTeX: what stands in it is RIS",
             Seen::FileHasMark => "save $1 without a byte order mark: it stands before the first word",
             Seen::FileIsOneLine => "save $1 with the line ends of Unix or Windows: it has none of them, so all of it is line 1",
@@ -317,6 +320,7 @@ impl Seen {
             Seen::FieldNotInEntry => "put `$1` into the first list of ENTRY ($2): a style knows only the fields of that list",
             Seen::IntegerWithoutSign => "write `#$1`: an integer begins with `#`",
             Seen::IntegerInQuotes => "write `$1` for `$2`: an integer begins with `#`, and what stands in quotes is a string",
+            Seen::WordsLoseCase => "put $1 and $2 each into braces, as `{$3}`: this style writes them in small letters",
             Seen::LosesCase => "put `$1` into braces, as `{$1}`: this style makes `$2` of it",
             Seen::OtherWork => "give the second another key, such as `$1`, and cite it by that: its title is another one",
             Seen::StyleMisnames => "call the style's function `$1` ($2) `$3`, as the type is called",
@@ -432,7 +436,7 @@ const ROWS: &[Row] = &[
     (Section::Style, "I was expecting a }", "open or close the argument; count the braces of the command above"),
     (Section::Style, "I was expecting a name", "write a name: letters, digits and signs other than `\" # % ( ) , = { }` and `'`, not beginning with a digit. Names in a list are parted by whitespace, not by commas"),
     (Section::Style, "~ is already defined", "give it another name, or remove one of the two"),
-    (Section::Style, "~ is an unknown function", "define it above its use; look for its spelling. A function's own name isn't known in its body"),
+    (Section::Style, "~ is an unknown function", "define it above its use, or correct its spelling"),
     (Section::Style, "Illegal integer", "write digits after `#`, with `-` before them if need be"),
     (Section::Style, "Illegal text after a literal", "put whitespace after the string or integer"),
     (Section::Style, "No \" to end string literal", "close the string on its line; two strings join by `*`"),

@@ -383,7 +383,12 @@ impl<'a> CodePlace<'_, 'a> {
 
     /// The name after the quote that stands directly before.
     pub fn quoted(self) -> Option<&'a [u8]> {
-        self.before(1).filter(|(kind, _)| *kind == Kind::Quoted).map(|(_, name)| &name[1..])
+        self.quoted_by(1)
+    }
+
+    /// The name after the quote that the token `back` tokens before is.
+    pub fn quoted_by(self, back: usize) -> Option<&'a [u8]> {
+        self.before(back).filter(|(kind, _)| *kind == Kind::Quoted).map(|(_, name)| &name[1..])
     }
 
     /// The lines of the two functions that stand before an `if$` here, from the first to the last line of each.

@@ -337,12 +337,21 @@ fn lost_command(text: &[u8]) -> Option<Doubt> {
     None
 }
 
-/// A word with a capital letter after its first one, as `IBM`, in a text that has words in small letters.
+/// How many words that lose their capital letters are named.
+const MOST_WORDS: usize = 4;
+
+/// Words with a capital letter after their first one, as `IBM`, in a text that has words in small letters.
 fn lost_word(text: &[u8]) -> Option<Doubt> {
-    let mut words = bare_words(text).filter(|(_, word)| word.len() > 1);
+    let words = || bare_words(text).filter(|(_, word)| word.len() > 1);
     let is_lost = |(_, word): &(usize, &[u8])| word[1..].iter().any(u8::is_ascii_uppercase);
-    let has_small = bare_words(text).any(|(_, word)| word.len() > 1 && word.iter().all(u8::is_ascii_lowercase));
-    let (place, word) = words.find(|word| has_small && is_lost(word))?;
+    let mut lost = words().filter(is_lost);
+    let has_small = || words().any(|(_, word)| word.iter().all(u8::is_ascii_lowercase));
+    let (place, word) = lost.next().filter(|_| has_small())?;
+    let more: Vec<String> = lost.map(|(_, word)| format!("`{}`", plain(word))).take(MOST_WORDS - 1).collect();
+    if let Some((last, others)) = more.split_last() {
+        let first = [&[format!("`{}`", plain(word))], others].concat().join(", ");
+        return Some(Doubt { place, seen: Seen::WordsLoseCase, names: vec![first, last.clone(), plain(word)] });
+    }
     let kept = usize::from(place == 0 || text[..place].ends_with(b": "));
     let made = [word[..kept].to_vec(), word[kept..].to_ascii_lowercase()].concat();
     Some(Doubt { place, seen: Seen::LosesCase, names: vec![plain(word), plain(&made)] })
@@ -401,8 +410,13 @@ mod tests {
     #[test]
     fn capital_letters_that_are_lost_are_seen() {
         let lost = |text: &str| lost_case(text.as_bytes()).map(|doubt| (doubt.place, doubt.names[1].clone()));
-        assert_eq!(lost("The IBM PC and others"), Some((4, "ibm".into())));
-        assert_eq!(lost("IBM: DNA of it"), Some((0, "Ibm".into())));
+        assert_eq!(lost("The IBM and others"), Some((4, "ibm".into())));
+        assert_eq!(lost("IBM: some of it"), Some((0, "Ibm".into())));
+        let seen = lost_case(b"The IBM PC and DNA of it").unwrap();
+        assert_eq!(
+            (seen.place, seen.seen, &seen.names[..]),
+            (4, Seen::WordsLoseCase, &["`IBM`, `PC`".into(), "`DNA`".into(), "IBM".into()][..])
+        );
         assert_eq!(lost("a: DNA of it"), Some((3, "Dna".into())));
         assert_eq!(lost("On iPhones, \\LaTeX"), Some((12, "\\latex".into())));
         for text in [

@@ -339,7 +339,7 @@ impl<'a, W: Write> Explainer<'a, W> {
         let shown: Vec<(Vec<String>, String)> =
             unsaid.shown().into_iter().map(|shown| (shown.lines(terminal), shown.advice)).collect();
         if !shown.is_empty() {
-            writeln!(self.out, "No message is about these, and they may not be meant so:")?;
+            writeln!(self.out, "BibTeX has no message on these, but they may not be meant so:")?;
         }
         for (lines, advice) in shown {
             lines.iter().try_for_each(|line| self.coloured(PLACE_COLOUR, &format!("{INDENT}{line}")))?;
@@ -635,6 +635,10 @@ impl<'a, W: Write> Explainer<'a, W> {
         }
         if let Some(number) = unknown(message.text).filter(|name| is_number(name)) {
             return self.put_advice(&Seen::IntegerWithoutSign.with(&[&plain(number)]));
+        }
+        let own = around.filter(|command| command.is("function")).and_then(|function| function.name);
+        if let Some(name) = unknown(message.text).filter(|name| own.map(Folded) == Some(Folded(name))) {
+            return self.put_advice(&Seen::CallsItself.with(&[&plain(name)]));
         }
         if let Some(name) = unknown(message.text).filter(|_| self.causes.len() < MOST_CAUSES) {
             self.unknown_name(name, style, spot.number, &text, &commands)?;
@@ -1496,7 +1500,8 @@ fn names_by_commas(error: &[u8]) -> Option<String> {
     let is_one_each = parts.iter().all(is_in_words);
     let names: Vec<String> = match is_one_each {
         true => parts.iter().map(|part| plain(part)).collect(),
-        false if parts.len().is_multiple_of(2) => {
+        // (`Hoare, Dijkstra, Dahl, Wirth` may be two names and may be four)
+        false if parts.len().is_multiple_of(2) && parts.iter().any(|part| part.contains(&b'.')) => {
             parts.chunks(2).map(|pair| format!("{}, {}", plain(pair[0]), plain(pair[1]))).collect()
         }
         false => return None,

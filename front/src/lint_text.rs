@@ -8,8 +8,8 @@ use crate::lint_warnings::{Cause, Fault, Growth, Operand, Value, Wanted, Warning
 use crate::literals::shortage;
 use crate::notes::Spot;
 use crate::operands::{
-    MEND_TEST, Said, TEST_LEAVES, assigned, assigned_without_entry, compared, exchanged, left_out, let_through, pushed,
-    tested, unquoted, without_entry,
+    MEND_TEST, Said, TEST_LEAVES, assigned, assigned_backwards, assigned_without_entry, compared, exchanged, left_out,
+    let_through, pushed, tested, unquoted, without_entry,
 };
 use crate::shown_line::ShownLine;
 use crate::terminal::{Terminal, plain};
@@ -198,7 +198,9 @@ pub fn said_of(warning: &Warning, code: &Code<'_>) -> (String, String) {
         }
         (Some(Fault::NotAssignable | Fault::WrongKind), None) if next == ":=" => {
             assigned(code, place, warning.operand.as_ref().map(|operand| &operand.value))
-                .map_or_else(usual, |(what, advice)| (format!("`{next}` takes VALUE 'VARIABLE: {what}"), advice))
+                .map(|(what, advice)| (format!("`{next}` takes VALUE 'VARIABLE: {what}"), advice))
+                .or_else(|| assigned_backwards(place).map(|advice| (what_of(warning), advice)))
+                .unwrap_or_else(usual)
         }
         (Some(Fault::Incomparable), None) => compared(place).map_or_else(usual, |(what, advice)| {
             (format!("`{next}` compares two strings or two numbers: {what}"), advice)
@@ -330,7 +332,7 @@ fn advice_on_kind(warning: &Warning, takes: &str) -> String {
             format!("write a ' before the variable{name}")
         }
         Some(Wanted::Function) => {
-            "put both functions in braces, or write a ' before the name of each; the number or test stands before them"
+            "write the test and then both functions before it, each in braces or with a ' before its name; `'skip$` is one that does nothing"
                 .to_string()
         }
         Some(Wanted::Integer | Wanted::Text) if is_function => {
@@ -338,6 +340,9 @@ fn advice_on_kind(warning: &Warning, takes: &str) -> String {
         }
         Some(Wanted::Text) if matches!(operand.value, Value::Integer(..)) => {
             format!("push {takes} in this order; `int.to.str$` makes a string of a number")
+        }
+        Some(Wanted::Integer) if matches!(warning.next[..], [b'<' | b'>']) => {
+            "compare two integers: `chr.to.int$` makes one of a letter".to_string()
         }
         Some(Wanted::Text) if may_be_missing(operand) => "choose by `empty$` before it, or by `missing$`".to_string(),
         _ => format!("push {takes} in this order"),

@@ -95,6 +95,14 @@ fn told_of_older(entries: &Entries<'_>, document: Option<&Document>, key: &[u8])
 /// What is said of the entry whose key differs least, or of one that has no key.
 fn told_of_nearest(entries: &Entries<'_>, key: &[u8]) -> Told {
     if let Some((near, stored)) = entries.meant(key).and_then(|stored| Some((stored.item.key?, stored))) {
+        let bytes = stored.database.text.bytes;
+        let after = bytes[near.end..].trim_ascii_start();
+        let word = name_at(bytes, bytes.len() - after.len());
+        if stored.item.fault.is_some() && [near.name, word].concat().eq_ignore_ascii_case(key) {
+            let at = line_of(stored.database.file, &stored.database.text, stored.item.start);
+            let place = format!("the entry that begins at {at} is meant to have this key");
+            return Told { place: Some(place), advice: Some(Seen::KeyOfWords.with(&[&plain(key)])) };
+        }
         let (near, written) = (plain(near.name), plain(key));
         let is_parent = entries.parent(key).is_some();
         let advice = if is_parent { Seen::NearParent.with(&[&near]) } else { Seen::NearKey.with(&[&written, &near]) };
@@ -207,7 +215,8 @@ const OF_BIBLATEX: [(&str, &str); 5] = [
 ];
 
 /// Fields that entries of one type have in the place of others.
-const OF_OTHER_TYPES: [(&str, &str); 6] = [
+const OF_OTHER_TYPES: [(&str, &str); 7] = [
+    ("editor", "author"),
     ("journal", "booktitle"),
     ("booktitle", "journal"),
     ("institution", "school"),
@@ -351,6 +360,13 @@ mod tests {
         assert_eq!(advice, "mend that item: a `}` or a quote is missing above `two`");
         let (place, _) = told_of("@misc{one, note = {x\n@misc{two, note = 1}}}\n", "two");
         assert_eq!(place, "`two` stands at d.bib:2, in a value of @misc{one}, which begins at d.bib:1");
+    }
+
+    #[test]
+    fn a_key_with_a_space_in_it_is_found() {
+        let (place, advice) = told_of("@misc{hoare 69, year = 2000}\n", "hoare69");
+        assert_eq!(place, "the entry that begins at d.bib:1 is meant to have this key");
+        assert_eq!(advice, Seen::KeyOfWords.with(&["hoare69"]));
     }
 
     #[test]

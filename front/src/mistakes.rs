@@ -449,11 +449,11 @@ mod tests {
         assert_eq!(advice("@misc(a, x = {1}"), "close @misc{a}, which begins at d.bib:1: its last `)` is missing");
         assert_eq!(
             advice("@misc(a, x = 1}"),
-            "close @misc{a}, which begins at d.bib:1 by `)`, since it is opened by `(`"
+            "close this item by `)`, since it is opened by `(`: @misc{a}, which begins at d.bib:1"
         );
         assert_eq!(
             advice("@misc(a, x = 1,\n}"),
-            "close @misc{a}, which begins at d.bib:1 by `)`, since it is opened by `(`"
+            "close this item by `)`, since it is opened by `(`: @misc{a}, which begins at d.bib:1"
         );
         let second = "close the value of `x`, which begins at d.bib:2: its second quote is missing";
         assert_eq!(advice("@misc{a,\n x = \"1936,\n}\n"), second);

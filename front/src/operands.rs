@@ -50,6 +50,14 @@ pub fn exchanged(place: CodePlace<'_, '_>, is_number_wanted: bool) -> Option<Str
     Some(format!("it takes what is pushed last, `{above}`, and `{below}` stands before that: are these two exchanged?"))
 }
 
+/// What to do about a `:=` before which the variable and its value are exchanged, as in `'t title :=`.
+pub fn assigned_backwards(place: CodePlace<'_, '_>) -> Option<String> {
+    let (variable, value) = (plain(place.quoted_by(2)?), place.value(1)?);
+    let (Left::Number(value) | Left::Text(value) | Left::Field(value)) = value;
+    let value = plain(value);
+    Some(format!("these two are exchanged: write `{value} '{variable} :=`"))
+}
+
 /// What is said of a `:=` that gets a value of another kind than its variable's; `value` is what the check knows of it.
 pub fn assigned(code: &Code<'_>, place: CodePlace<'_, '_>, value: Option<&Value>) -> Option<Said> {
     let (variable, declared) = place.variable()?;
@@ -61,6 +69,10 @@ pub fn assigned(code: &Code<'_>, place: CodePlace<'_, '_>, value: Option<&Value>
             let advice = "assign to a name that INTEGERS, STRINGS or ENTRY declares as a variable";
             return Some((format!("`{name}` is {sort}, and no variable"), advice.to_string()));
         }
+    };
+    let digits = match place.left_by(2) {
+        Some(Left::Text(text)) if other == "a string" => as_integer(text),
+        _ => None,
     };
     let what = match (place.left_by(2), value) {
         (Some(Left::Number(given)), _) if other == "an integer" => format!("`{}` is an integer", plain(given)),
@@ -77,7 +89,8 @@ pub fn assigned(code: &Code<'_>, place: CodePlace<'_, '_>, value: Option<&Value>
         Declared::Text { .. } => format!("write `int.to.str$` before `'{name}`: it makes a string of a number"),
         _ => "assign it to a variable that is declared as a string: no function makes a number of digits".to_string(),
     };
-    let advice = declare.map_or_else(|| convert.clone(), |declare| format!("{declare}; else {convert}"));
+    let advice =
+        digits.unwrap_or_else(|| declare.map_or(convert.clone(), |declare| format!("{declare}; else {convert}")));
     Some((format!("`{name}` is {sort}, and {what}"), advice))
 }
 
@@ -207,6 +220,9 @@ pub fn advice_at(code: &Code<'_>, scene: &Scene, message: &[u8], function: &[u8]
     }
     let place = place?;
     let said = match function {
+        b":=" if message.ends_with(b" is not a function") && assigned_backwards(place).is_some() => {
+            return assigned_backwards(place);
+        }
         b":=" if message.ends_with(b" is not a function") => {
             let (Left::Number(name) | Left::Text(name)) = place.variable_itself()? else { return None };
             return Some(format!("write a ' before the variable: `'{}`", plain(name)));

@@ -16,7 +16,7 @@ Error--nosuch is an unknown function--line 4 of file s.bst
     $2s.bst:4:   nosuch }
     ${3-}           ^
     in FUNCTION {misc}, which begins at $2s.bst:2
-    what to do: define it above its use; look for its spelling. A function's own name isn't known in its body
+    what to do: define it above its use, or correct its spelling
 Warning--string name \"zz\" is undefined--line 1 of file d.bib
     $2d.bib:1: @misc{k, title = {A} # zz}
     ${3-}                                ^

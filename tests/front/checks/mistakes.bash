@@ -57,7 +57,7 @@ mistake colon '@misc{k,\n author : {A. B}}\n' 'write `author = ..`, with an `=` 
 mistake field_of_words '@misc{k,\n book title = {T}}\n' 'write the field'"'"'s name without whitespace: `booktitle = ..`'
 mistake plus_for_hash '@misc{k,\n title = {A} + {B},\n author = {A. B}}\n' 'write `#` in the place of the `+`: it joins the parts of the value of `title`'
 mistake second_quote '@misc{k,\n title = "A,\n}\n' 'close the value of `title`, which begins at d.bib:2: its second quote is missing'
-mistake other_brace_after_comma '@misc(k,\n title = {A},\n}\n' 'close @misc{k}, which begins at d.bib:1 by `)`, since it is opened by `(`'
+mistake other_brace_after_comma '@misc(k,\n title = {A},\n}\n' 'close this item by `)`, since it is opened by `(`: @misc{k}, which begins at d.bib:1'
 mistake bare_text '@misc{k,\n title = A title,\n year = 2000}\n' 'put the value of `title` into braces'
 mistake bare_pages '@misc{k,\n pages = 1-10}\n' 'put the value of `pages` into braces'
 mistake no_brace '@misc{k,\n author = A. B},\n title = {T}}\n' 'put the value of `author` into braces'
@@ -89,7 +89,7 @@ for value in 'braces:{100% of {T}' 'quote:"T' 'two:{T {X}'; do
 done
 mistake value_runs_to_the_end '@misc{k,\n author = {A. B,\n title = {T}\n}\n' 'close the value of `author`, which begins at d.bib:2'
 mistake not_closed_at_end '@misc{k, author = {A. B},\n title = {T}\n' 'close @misc{k}, which begins at d.bib:1: its last `}` is missing'
-mistake other_brace '@misc(k, author = {A. B},\n title = {T}\n}\n' 'close @misc{k}, which begins at d.bib:1 by `)`, since it is opened by `(`'
+mistake other_brace '@misc(k, author = {A. B},\n title = {T}\n}\n' 'close this item by `)`, since it is opened by `(`: @misc{k}, which begins at d.bib:1'
 # comments
 mistake comment_in_entry '@misc{k,\n % old\n author = {A. B}}\n' 'take this line out, or its `%`: a database has no comments inside an entry'
 mistake comment_before_entry '% @misc{old, title = {T}\n@misc{k, author = {A. B}}\n' 'take out the `@` of @misc{old}, which begins at d.bib:1: neither `%` nor `@comment` hides an entry'
@@ -365,7 +365,7 @@ printf '%s\n' '@misc{a, author = {A. B}, month = {jan}, url = {u}, abstract = {x
     '@misc{g, author = {Lee, Jr, A. B. and Ray, C.}, month = jan}' '@misc{h, month = {jan}}' >d.bib
 run_search -explain job
 wants_status 0
-for words in 'No message is about these, and they may not be meant so:' 'd.bib:1: @misc{a, author = {A. B}, month = {jan}' 'write `month = jan`, without braces or quotes: then it is the string of this name' 'take out this `and`' \
+for words in 'BibTeX has no message on these, but they may not be meant so:' 'd.bib:1: @misc{a, author = {A. B}, month = {jan}' 'write `month = jan`, without braces or quotes: then it is the string of this name' 'take out this `and`' \
     'write `and others`, of which the style makes et al.' 'write ` and ` between two names' 'with two commas this is one' 'put `and others` after the last name' 'this style never prints `url`' \
     "(Of the cited entries the style doesn't read: \`tilte\`, is it \`title\`?; \`url\` (2 times))"; do
     wants_words "$folder/stdout" "$words"
