@@ -22,7 +22,7 @@ SEEN = {
     "NotClosed": "close $1: a `}` is missing above this line",
     "NotClosedAtEnd": "close $1: its last `$2` is missing",
     "BreaksOff": "export or copy the file once more: it breaks off in $1. Or write what is missing there, and close it by `$2`",
-    "OtherBrace": "close $1 by `$2`, since it is opened by `$3`",
+    "OtherBrace": "close this item by `$2`, since it is opened by `$3`: $1",
     "CommentSign": "take this line out, or its `%`: a database has no comments inside an entry",
     "CommaTwice": "take out one of the two commas",
     "BareValue": "put the value of `$1` into braces: outside braces and quotes only a number or the name of a `@string` may stand",

@@ -355,7 +355,7 @@ class WhatToDo(unittest.TestCase):
         (b"@misc{k, note = {1", SEEN["BreaksOff"].replace("$1", "@misc{k}, which begins at d.bib:1").replace("$2", "}")),
         (b'@misc{k, note = "A "b" c"}', SEEN["QuotesInText"].replace("$1", "note")),
         (b'@misc{k, note = "G\\"odel"}', SEEN["QuoteInText"].replace("$1", "note")),
-        (b"@misc(k, note = 1}", "close @misc{k}, which begins at d.bib:1 by `)`, since it is opened by `(`"),
+        (b"@misc(k, note = 1}", "close this item by `)`, since it is opened by `(`: @misc{k}, which begins at d.bib:1"),
         (b"@misc{k,\n % old\n note = 1}", SEEN["CommentSign"]),
         (b"@misc{k,, note = 1}", SEEN["CommaTwice"]),
         (b"@misc{k, note = in press}", SEEN["BareValue"].replace("$1", "note")),
