@@ -2,7 +2,7 @@
 
     python3 force_ends.py [--styles N] [--real N] [--jobs N] [--seed N] [--processes N] [--folder FOLDER] LIBRARY.so
 
-LIBRARY.so is the library for C (library/out/libbtx.so.1). Half of the styles are made from a seed, with loops that count a variable down or make a text shorter, and half of these have a token
+LIBRARY.so is the library for C (library/out/libbtx.so.1). Half of the styles are made from a seed, with loops that count a variable down, make a text shorter or walk along it, and half of these have a token
 changed. With --real N, N are of a folder (TeX Live's, if it is there), of which most have a token changed. Of each the bound is asked for with the number of bytes that the job's variables keep: 0
 to 20,000, where small numbers make it tight. A bound above MOST_STEPS is no budget: such a run gets MOST_STEPS, and may be stopped. The last line is 'N passed, M failed', of the styles that are
 said to end and of which a run had its bound as budget."""
@@ -21,6 +21,8 @@ STOPPED = 1
 KEPT = [1, 2, 3, 10, 100, 20_000]
 # How many entries a job's list has.
 ENTRIES = 3
+# What is added to a place in a text.
+STRIDES = [b"#1", b"#2", b"i", b"j", b"#2147483647"]
 COUNTERS = [b"#3", b"#0", b"#-2", b"s num.names$", b"u num.names$", b"i", b"j #1 -", b"i #2 -"]
 
 
@@ -31,6 +33,9 @@ class LoopMaker(Maker):
         if depth > 2 or self.random.random() < 0.5:
             return super().statement(depth)
         v, t = self.pick([b"i", b"j"]), self.pick([b"s", b"u"])
+        size = b"j" if v == b"i" else b"i"
+        part = t + b" " + v + b" " + size + b" substring$ "
+        stride, other = (v + b" " + self.pick(STRIDES) + b" + '" + v + b" :=" for _ in range(2))
         rest = b"#2 global.max$ substring$ '" + t + b" :="
         inside = self.body(depth + 1)
         return self.pick([
@@ -38,6 +43,8 @@ class LoopMaker(Maker):
             b"{" + t + b" empty$ not} {" + inside + b" " + t + b" " + rest + b"} while$",
             b"{" + t + b" #1 #1 substring$ \"A\" =} {" + t + b" " + rest + b" " + inside + b"} while$",
             b"#0 '" + v + b" := {" + v + b" not " + t + b" empty$ not and} {" + t + b" #1 #1 substring$ \"b\" = {#1 '" + v + b" :=} {" + t + b" " + rest + b"} if$} while$",
+            self.pick([b"#1", b"#-9", b"#2147483647"]) + b" '" + size + b" := #1 '" + v + b" := {" + part + b"\"\" = not} {" + inside + b" " + stride + b"} while$",
+            b"{" + part + b"\"\" = not} {" + part + b"\"A\" = {u write$ " + stride + b"} {" + other + b"} if$} while$",
             b"title empty$ {\"\"} 'title if$ '" + t + b" :=",
         ])
 

@@ -19,6 +19,8 @@ fn claims_in<'c>(found: &'c Certificate) -> Claims<'c> {
         counts: found.counts.as_slice(),
         ends: found.ends.as_slice(),
         shortens: found.shortens.as_slice(),
+        parts: found.parts.as_slice(),
+        moves: found.moves.as_slice(),
         integers: found.integers,
         kept: found.kept,
     }

@@ -22,8 +22,11 @@ use Rattle.btx_ends.specs.declared.measures.Effect.TheVariants as effect
 use Rattle.btx_ends.specs.declared.measures.Kind.{Kind}
 use Rattle.btx_ends.specs.declared.measures.Kind.TheVariants as kind
 use Rattle.btx_ends.specs.declared.measures.Tops.{Tops}
+use Rattle.btx_ends.specs.declared.measures.Walk.{Walk}
 use Rattle.btx_ends.specs.Shortening.{body_of, nothing_seen, tops_after, StepThrough, TokensThrough, EffectHolds, EffectsHold, KindHolds, KindsHold, kinds_by, effects_by, Tells, TellsBoth}
 use Rattle.btx_ends.specs.Certificates.{EndHolds, EndsHold, LessensBy, ShortenHolds, ShortensHold, FlagsHold, measures_by}
+use Rattle.btx_ends.specs.Certificates.{PartHolds, PartsHold, MovesBy, MoveHolds, AllMove}
+use Rattle.btx_ends.specs.Walking.{Moves, MovesHold}
 use Rattle.btx_ends.specs.Certificates.{TestHolds, TestsHold, CountHolds, CountsHold, top_after, below_after}
 use Rattle.btx_ends.specs.Keeping.{TokensKeep, StepKeeps, BodiesKeep, BodyCounts, said_by, pushed_after, pushed_below}
 
@@ -262,6 +265,12 @@ one (x ∷ []) d a l ea = ap (λ (t : Token). t ∷ []) ea
 one [] d a l ea = absurd (omega (arith, l))
 one (x ∷ y ∷ xs) d a l ea = absurd (omega (arith, l))
 
+pub four : (xs : List Token) (d a b c e : Token) → length xs ≡ 4 → get_or xs 0 d ≡ a → get_or xs 1 d ≡ b → get_or xs 2 d ≡ c → get_or xs 3 d ≡ e
+    → xs ≡ a ∷ b ∷ c ∷ e ∷ []
+four (x ∷ xs) d a b c e l ea eb ec ee =
+    ap (λ (t : Token). t ∷ xs) ea ∙ ap (λ (ts : List Token). a ∷ ts) (three xs d b c e (omega (arith, l)) eb ec ee)
+four [] d a b c e l ea eb ec ee = absurd (omega (arith, l))
+
 -- a list in three parts
 pub parted : (body a b c : List Token) (k n : ℕ) → take k body ≡ a → take n (drop k body) ≡ b → drop n (drop k body) ≡ c → body ≡ a ++ (b ++ c)
 parted body a b c k n ea eb ec =
@@ -393,6 +402,69 @@ shorten_by style measures kinds effects zero number m h e w = absurd (h refl)
 shorten_by style measures kinds effects (suc k) number m h e w =
     let of_k : suc k - 1 ≡ k = omega arith in
     (kinds, (effects, subst (λ n. LessensBy style (measures n) kinds effects number) of_k (subst (λ (a : Measure). LessensBy style a kinds effects number) e w)))
+
+-- ---- loops that walk along texts
+
+abbrev pub PartAt : Style → (ℕ → Walk) → ℕ → List ℕ → ℕ → Type 0
+PartAt style walks integers parts k = PartHolds style walks integers (slice_index_or parts k 0) k
+
+pub parts_more : (style : Style) (walks : ℕ → Walk) (integers : ℕ) (parts : List ℕ) (n claim : ℕ) → FirstHold (PartAt style walks integers parts) n
+    → claim ≡ slice_index_or parts n 0 → PartHolds style walks integers claim n → FirstHold (PartAt style walks integers parts) (n + 1)
+parts_more style walks integers parts n claim h e w =
+    first_more (PartAt style walks integers parts) n h (subst (λ c. PartHolds style walks integers c n) e w)
+
+pub parts_all : (style : Style) (walks : ℕ → Walk) (integers : ℕ) (parts : List ℕ) (n : ℕ) → length parts ≤ n
+    → FirstHold (PartAt style walks integers parts) n → PartsHold style walks integers parts
+parts_all style walks integers parts n l h =
+    all_hold (PartAt style walks integers parts) n h
+    (λ k j. subst (λ c. PartHolds style walks integers c k) (sym (get_or_past parts k 0 (omega (arith, l, j)))) tt)
+
+abbrev pub MoveAt : Style → (ℕ → Walk) → List ℕ → ℕ → Type 0
+MoveAt style walks moves k = MoveHolds style walks (slice_index_or moves k 0) k
+
+pub moves_more : (style : Style) (walks : ℕ → Walk) (moves : List ℕ) (n claim : ℕ) → FirstHold (MoveAt style walks moves) n
+    → claim ≡ slice_index_or moves n 0 → MoveHolds style walks claim n → FirstHold (MoveAt style walks moves) (n + 1)
+moves_more style walks moves n claim h e w = first_more (MoveAt style walks moves) n h (subst (λ c. MoveHolds style walks c n) e w)
+
+pub moves_all : (style : Style) (walks : ℕ → Walk) (moves : List ℕ) (n : ℕ) → length moves ≤ n → FirstHold (MoveAt style walks moves) n
+    → AllMove style walks moves
+moves_all style walks moves n l h =
+    all_hold (MoveAt style walks moves) n h
+    (λ k j. subst (λ c. MoveHolds style walks c k) (sym (get_or_past moves k 0 (omega (arith, l, j)))) tt)
+
+-- the test of a walk
+pub part_by : (style : Style) (walks : ℕ → Walk) (integers claim number : ℕ) (walk : Walk) → (claim ≡ 0 → ⊥) → walk ≡ walks (claim - 1)
+    → PartHolds style (λ k. walk) integers 1 number → PartHolds style walks integers claim number
+part_by style walks integers zero number walk h e w = absurd (h refl)
+part_by style walks integers (suc k) number walk h e w =
+    let of_k : suc k - 1 ≡ k = omega arith in
+    subst (λ (a : Walk). PartHolds style (λ j. a) integers 1 number) (e ∙ ap walks of_k) w
+
+-- what bears a claim on a body out
+pub move_by : (style : Style) (walks : ℕ → Walk) (kinds : ℕ → Kind) (places sizes : ℕ → Effect) (moves : ℕ → Bool) (claim number : ℕ) (walk : Walk)
+    → (claim ≡ 0 → ⊥) → walk ≡ walks (claim - 1) → MovesBy style walk kinds places sizes moves number → MoveHolds style walks claim number
+move_by style walks kinds places sizes moves zero number walk h e w = absurd (h refl)
+move_by style walks kinds places sizes moves (suc k) number walk h e w =
+    let of_k : suc k - 1 ≡ k = omega arith in
+    (kinds, (places, (sizes, (moves, subst (λ (a : Walk). MovesBy style a kinds places sizes moves number) (e ∙ ap walks of_k) w))))
+
+-- .. what is said of functions that move the place on
+abbrev pub MoverAt : Style → Walk → (ℕ → Kind) → (ℕ → Effect) → (ℕ → Effect) → List Bool → ℕ → Type 0
+MoverAt style walk kinds places sizes moves k =
+    slice_index_or moves k false ≡ true → Moves style walk kinds places sizes (said_by moves) (slice_index_or style.bodies k [])
+
+pub movers_more : (style : Style) (walk : Walk) (kinds : ℕ → Kind) (places sizes : ℕ → Effect) (moves : List Bool) (n : ℕ) (body : List Token) (is_mover : Bool)
+    → FirstHold (MoverAt style walk kinds places sizes moves) n → body ≡ slice_index_or style.bodies n [] → is_mover ≡ slice_index_or moves n false
+    → (is_mover ≡ true → Moves style walk kinds places sizes (said_by moves) body) → FirstHold (MoverAt style walk kinds places sizes moves) (n + 1)
+movers_more style walk kinds places sizes moves n body is_mover h eb em w =
+    first_more (MoverAt style walk kinds places sizes moves) n h
+    (λ e. subst (λ (xs : List Token). Moves style walk kinds places sizes (said_by moves) xs) eb (w (em ∙ e)))
+
+pub movers_all : (style : Style) (walk : Walk) (kinds : ℕ → Kind) (places sizes : ℕ → Effect) (moves : List Bool) (n : ℕ) → length moves ≤ n
+    → FirstHold (MoverAt style walk kinds places sizes moves) n → MovesHold style walk kinds places sizes (said_by moves)
+movers_all style walk kinds places sizes moves n l h =
+    all_hold (MoverAt style walk kinds places sizes moves) n h
+    (λ k m e. absurd (let q : slice_index_or moves k false ≡ false = get_or_past moves k false (omega (arith, l, m)) in true≢false (sym e ∙ q)))
 
 -- a test that looks at a flag too
 pub tells_flag : (style : Style) (t flag : ℕ) (body : List Token) → (flag ≡ 0 → ⊥) → TellsBoth style (flag - 1) t body → Tells style t flag body

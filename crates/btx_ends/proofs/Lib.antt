@@ -10,6 +10,7 @@ pub mod SumLemmas
 pub mod StackLemmas
 pub mod ShorterLemmas
 pub mod TellLemmas
+pub mod WalkLemmas
 pub mod RunLemmas
 pub mod StyleLemmas
 pub mod CodeLemmas

@@ -31,12 +31,15 @@ use Rattle.btx_ends.specs.declared.known.Known.{Known}
 use Rattle.btx_ends.specs.declared.known.Known.TheVariants as known
 use Rattle.btx_ends.specs.Costs.{Ended, EndsIn}
 use Rattle.btx_ends.specs.Counters.{value_in, above_zero}
-use Rattle.btx_ends.specs.Certificates.{Claims, CalleeWithin, ChoiceWithin, LoopWithin, CountedWithin, ShortenedWithin, TurnsWithin, AssignsWithin, StepWithin, TokensWithin, BodyWithin}
+use Rattle.btx_ends.specs.Certificates.{Claims, CalleeWithin, ChoiceWithin, LoopWithin, CountedWithin, ShortenedWithin, WalkedWithin, TurnsWithin, AssignsWithin, StepWithin, TokensWithin, BodyWithin}
 use Rattle.btx_ends.specs.declared.measures.Measure.{Measure}
 use Rattle.btx_ends.specs.declared.measures.Effect.{Effect}
 use Rattle.btx_ends.specs.declared.measures.Effect.TheVariants as effect
 use Rattle.btx_ends.specs.declared.measures.Kind.{Kind}
 use Rattle.btx_ends.specs.Shortening.{text_in, flag_in, left_in, Tells, KindsHold, EffectsHold}
+use Rattle.btx_ends.specs.declared.measures.Walk.{Walk}
+use Rattle.btx_ends.specs.Walking.{turns_from, turns_in, TellsPart, MovesHold, place_measure, size_measure}
+use Rattle.btx_ends.specs.Certificates.{PartHolds, MoveHolds, MovesBy, WalksHold}
 use Rattle.btx_ends.specs.Certificates.{EndHolds, ShortenHolds, TextsHold, TestsHold, CountsHold, TestHolds, CountHolds, top_after, below_after, known_value, known_names, known_sum, known_difference}
 use Rattle.btx_ends.proofs.EndLemmas.{then_ends, at_most, step_ends, loops_end_in}
 use Rattle.btx_ends.proofs.QuietLemmas.{IsQuiet, IsSingleToken, OneOf, OfType, step_quiet, choice_next, type_next}
@@ -48,6 +51,8 @@ use Rattle.btx_ends.proofs.DoneLemmas.{AnswerSo, one_to}
 use Rattle.btx_ends.proofs.SumLemmas.{Summed, small_at, plus_so, minus_so}
 use Rattle.btx_ends.proofs.ShorterLemmas.{flag_same, text_same, left_same, shortens_done}
 use Rattle.btx_ends.proofs.TellLemmas.{Told, tells_to, left_few}
+use Rattle.btx_ends.proofs.WalkLemmas.{PartTold, part_to, part_turns, part_long, walk_few, same_part, moves_done}
+use Rattle.btx_strings.specs.language.Positions.{substring_of}
 use Rattle.btx_ends.proofs.FineLemmas.{Fine, FineIn, IsKnown, Stands, fine_same, fine_assigned, names_few, pushed_on, text_of}
 
 -- what is executed under a name takes as many steps as a token
@@ -138,10 +143,17 @@ record LeftBefore (job : Job) (claims : Claims) (m : Measure) (k : ℕ) (t : Sta
   is : left_in m (turn_of job t).state ≡ k
   told : (turn_of job t).again ≡ true → 0 < k
 
+-- after the test of a loop that walks along a text, where so many turns were left before it
+record WalkBefore (job : Job) (claims : Claims) (walk : Walk) (k : ℕ) (t : State) : Type 0 where
+  turned : Fine claims (turn_of job t).state
+  is : turns_in walk (turn_of job t).state ≡ k
+  told : (turn_of job t).again ≡ true
+      → 0 < length (substring_of (text_in walk.text (turn_of job t).state) (value_in walk.place (turn_of job t).state) (value_in walk.size (turn_of job t).state))
+
 module _ (job : Job) (claims : Claims)
     (bodies_hold : (number : ℕ) → BodyWithin claims (slice_index_or job.style.bodies number []) (slice_index_or claims.costs number 0))
     (types_hold : (entry number : ℕ) → runner_of job (entry_type (entry_of job entry)) ≡ Some number → CalleeWithin claims claims.types (callee.User number))
-    (tests_hold : TestsHold claims.tests job.style) (counts_hold : CountsHold claims.counts job.style) (texts_hold : TextsHold claims job.style) (kept_holds : job.global_max ≤ claims.kept) where
+    (tests_hold : TestsHold claims.tests job.style) (counts_hold : CountsHold claims.counts job.style) (texts_hold : TextsHold claims job.style) (walks_hold : WalksHold claims job.style) (kept_holds : job.global_max ≤ claims.kept) where
   -- what is claimed of variables, and what is known of the literals on top of the stack
   abbrev Here : Known → Known → State → Type 0
   Here top below s = Fine claims s × Stands claims top below s.store.literals
@@ -309,11 +321,92 @@ module _ (job : Job) (claims : Claims)
       (slice_index_or claims.costs test 0) (slice_index_or claims.costs body 0) cost (w.1.1.0, omega arith) (w.1.1.1.0, omega arith) w.1.1.0 le lt
       more bodies loops left s h l
 
+  -- ---- loops that walk along a text
+
+  walked_by : (n : ℕ) → Level n → (test body : ℕ) (walk : Walk) (kinds : ℕ → Kind) (places sizes : ℕ → Effect) (moves : ℕ → Bool)
+      → MovesBy job.style walk kinds places sizes moves body → TellsPart job.style walk (slice_index_or job.style.bodies test [])
+      → walk.place < claims.integers → walk.size < claims.integers → (of_test of_body cost : ℕ) → CalleeWithin claims of_test (callee.User test)
+      → CalleeWithin claims of_body (callee.User body) → 0 < of_test → suc (2 * claims.kept) * (of_test + of_body) ≤ cost → cost < n → (yes : Bool)
+      (bodies loops left : ℕ) (s : State) → Fine claims s → cost ≤ left
+      → Ended cost (Fine claims) left (turns_if job yes n (act job n (Run (callee.User test))) (act job n (Run (callee.User body))) bodies loops left s)
+  walked_by n p test body walk kinds places sizes moves by tell place_there size_there ct cb cost wt wb some le lt false bodies loops left s h l = omega arith
+  walked_by n p test body walk kinds places sizes moves by tell place_there size_there ct cb cost wt wb some le lt true bodies loops left s h l =
+      at_most (suc (2 * claims.kept) * (ct + cb)) cost left (Fine claims) _ le
+      (loops_end_in job (act job n (Run (callee.User test))) (act job n (Run (callee.User body))) (Fine claims) (Fine claims) After (turns_in walk) ct cb tests again
+      (λ k t b no. b.turned) (2 * claims.kept) n bodies (loops + 1) left s h few_left few (omega (arith, le, l)))
+    where
+      After : ℕ → State → Type 0
+      After k t = WalkBefore job claims walk k t
+
+      few : 2 * claims.kept < n
+      few = let q = turns_some (2 * claims.kept) (ct + cb) (omega (arith, some)) in omega (arith, q, le, lt)
+
+      few_left : turns_in walk s ≤ 2 * claims.kept
+      few_left = let a = walk_few (value_in walk.place s) (length (text_in walk.text s)) in let b = h.1.0 walk.text in omega (arith, a, b)
+
+      cheap : (ct ≤ cost) × (cb ≤ cost)
+      cheap = let q = turn_few (2 * claims.kept) (ct + cb) in (omega (arith, q, le), omega (arith, q, le))
+
+      turns_same : (r q : Store) → q.integers ≡ r.integers → q.strings ≡ r.strings
+          → turns_from (unwrap_or (slice_get q.integers walk.place) (pos 0)) (length (unwrap_or (slice_get q.strings walk.text) []))
+          ≡ turns_from (unwrap_or (slice_get r.integers walk.place) (pos 0)) (length (unwrap_or (slice_get r.strings walk.text) []))
+      turns_same r q e k =
+          ap (λ (xs : List ℤ). turns_from (unwrap_or (slice_get xs walk.place) (pos 0)) (length (unwrap_or (slice_get q.strings walk.text) []))) e
+          ∙ ap (λ (ts : List (List ℕ)). turns_from (unwrap_or (slice_get r.integers walk.place) (pos 0)) (length (unwrap_or (slice_get ts walk.text) []))) k
+
+      tests : (k : ℕ) → EndsIn ct (λ t. Fine claims t × (turns_in walk t ≡ k)) (act job n (Run (callee.User test))) (After k)
+      tests k bodies loops left t g e =
+          weaker ct left (λ u. Fine claims u × PartTold job walk t u) (After k) _
+          (λ u q.
+          let same : SameVariables t.store (turn_of job u).state = ((turn_same job u).0 ∙ q.1.0.0, (turn_same job u).1 ∙ q.1.0.1) in
+          record {
+            turned = fine_same claims u.store (turn_of job u).state (turn_same job u) q.0;
+            is = turns_same t.store (turn_of job u).state.store same.0 same.1 ∙ g.1;
+            told = λ yes. subst (λ (z : List ℕ). 0 < length z) (sym (same_part walk t.store (turn_of job u).state.store same.0 same.1)) (q.1.1 yes);
+          })
+          (both_ended ct left (Fine claims) (PartTold job walk t) (act job n (Run (callee.User test)) bodies loops left t)
+          (call_within n p (callee.User test) ct wt (omega (arith, cheap.0, lt)) bodies loops left t g.0 e)
+          (part_to job n test walk tell bodies loops left t))
+
+      again : (k : ℕ) (t : State) → After k t → (turn_of job t).again ≡ true
+          → EndsIn cb (λ u. u ≡ (turn_of job t).state) (act job n (Run (callee.User body))) (λ u. Fine claims u × (turns_in walk u < k))
+      again k t b goes bodies loops left u eu e =
+          let fine : Fine claims u = subst (Fine claims) (sym eu) b.turned in
+          let size : turns_in walk u ≡ k = ap (turns_in walk) eu ∙ b.is in
+          let part : 0 < length (substring_of (text_in walk.text u) (value_in walk.place u) (value_in walk.size u)) =
+          subst (λ (v : State). 0 < length (substring_of (text_in walk.text v) (value_in walk.place v) (value_in walk.size v))) (sym eu) (b.told goes) in
+          let some_turns = part_turns (text_in walk.text u) (value_in walk.place u) (value_in walk.size u) part in
+          let long = part_long (text_in walk.text u) (value_in walk.place u) (value_in walk.size u) part in
+          weaker cb left (λ q. Fine claims q × (turns_in walk q ≤ turns_in walk u - 1)) (λ q. Fine claims q × (turns_in walk q < k)) _
+          (λ q g. (g.0, (let a = g.1 in omega (arith, size, a, some_turns))))
+          (both_ended cb left (Fine claims) (λ q. turns_in walk q ≤ turns_in walk u - 1) (act job n (Run (callee.User body)) bodies loops left u)
+          (call_within n p (callee.User body) cb wb (omega (arith, cheap.1, lt)) bodies loops left u fine e)
+          (moves_done job walk kinds places sizes moves by.0 by.1.0.0 by.1.0.1 by.1.1.0 (text_in walk.text u) (value_in walk.place u) (value_in walk.size u) some_turns long
+          n body by.1.1.1 bodies loops left u
+          (refl, (refl, (refl, ((let a = fine.1.1 in omega (arith, a, place_there)), (let a = fine.1.1 in omega (arith, a, size_there))))))))
+
+  walked_within : (n : ℕ) → Level n → (test body cost : ℕ) → WalkedWithin claims (suc cost) body test → cost < n → (yes : Bool) (bodies loops left : ℕ) (s : State)
+      → Fine claims s → cost ≤ left
+      → Ended cost (Fine claims) left (turns_if job yes n (act job n (Run (callee.User test))) (act job n (Run (callee.User body))) bodies loops left s)
+  walked_within n p test body cost w lt more bodies loops left s h l =
+      let walks = walks_hold.0 in
+      let k = some_more (slice_index_or claims.parts test 0) w.0 in
+      let part : PartHolds job.style walks claims.integers (suc k.0) test =
+      subst (λ c. PartHolds job.style walks claims.integers c test) k.1 (walks_hold.1.0 test) in
+      let move : MoveHolds job.style walks (suc k.0) body = subst (λ c. MoveHolds job.style walks c body) (w.1.0 ∙ k.1) (walks_hold.1.1 body) in
+      let le : suc (2 * claims.kept) * (slice_index_or claims.costs test 0 + slice_index_or claims.costs body 0) ≤ cost =
+      (let q = w.1.1.1.1 in let r : 2 * claims.kept + 1 ≡ suc (2 * claims.kept) = omega arith in
+      subst (λ j. j * (slice_index_or claims.costs test 0 + slice_index_or claims.costs body 0) ≤ cost) r (omega (arith, q))) in
+      walked_by n p test body (walks k.0) move.0 move.1.0 move.1.1.0 move.1.1.1.0 move.1.1.1.1 part.0 part.1.0 part.1.1
+      (slice_index_or claims.costs test 0) (slice_index_or claims.costs body 0) cost (w.1.1.0, omega arith) (w.1.1.1.0, omega arith) w.1.1.0 le lt
+      more bodies loops left s h l
+
   either_within : (n : ℕ) → Level n → (test body cost : ℕ) → TurnsWithin claims (suc cost) body test → cost < n → (yes : Bool) (bodies loops left : ℕ) (s : State)
       → Fine claims s → cost ≤ left
       → Ended cost (Fine claims) left (turns_if job yes n (act job n (Run (callee.User test))) (act job n (Run (callee.User body))) bodies loops left s)
   either_within n p test body cost (inl w) lt more bodies loops left s h l = loop_within n p test body cost w lt more bodies loops left s h l
-  either_within n p test body cost (inr w) lt more bodies loops left s h l = shortened_within n p test body cost w lt more bodies loops left s h l
+  either_within n p test body cost (inr (inl w)) lt more bodies loops left s h l = shortened_within n p test body cost w lt more bodies loops left s h l
+  either_within n p test body cost (inr (inr w)) lt more bodies loops left s h l = walked_within n p test body cost w lt more bodies loops left s h l
 
   -- ---- what follows
 
@@ -469,7 +562,8 @@ module _ (job : Job) (claims : Claims)
 
   turns_some_cost : (body test : ℕ) → TurnsWithin claims 0 body test → ⊥
   turns_some_cost body test (inl w) = absurd (let e = w.1.1.1.1 in omega (arith, e))
-  turns_some_cost body test (inr w) = absurd (let e = w.1.1.1.1 in omega (arith, e))
+  turns_some_cost body test (inr (inl w)) = absurd (let e = w.1.1.1.1 in omega (arith, e))
+  turns_some_cost body test (inr (inr w)) = absurd (let e = w.1.1.1.1 in omega (arith, e))
 
   counted_ends : (n : ℕ) → Level n → (body test cost : ℕ) → TurnsWithin claims cost body test → cost < suc n → (bodies loops left : ℕ) (s : State)
       → Here (known.Function (callee.User body)) (known.Function (callee.User test)) s → cost ≤ left

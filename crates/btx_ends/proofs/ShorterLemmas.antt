@@ -95,7 +95,7 @@ put_elsewhere (x ∷ xs) (suc w) zero n h = refl
 put_elsewhere (x ∷ xs) (suc w) (suc v) n h = put_elsewhere xs w v n (λ e. h (ap suc e))
 
 -- a variable that is there gets the value
-set_there : (xs : List ℤ) (v : ℕ) (n : ℤ) → v < length xs → unwrap_or (slice_get (slice_set xs v n) v) (pos 0) ≡ n
+pub set_there : (xs : List ℤ) (v : ℕ) (n : ℤ) → v < length xs → unwrap_or (slice_get (slice_set xs v n) v) (pos 0) ≡ n
 set_there [] v n l = absurd (omega (arith, l))
 set_there (x ∷ xs) zero n l = refl
 set_there (x ∷ xs) (suc v) n l = set_there xs v n (omega (arith, l))
@@ -368,7 +368,7 @@ module _ (job : Job) (m : Measure) (kinds : ℕ → Kind) (effects : ℕ → Eff
   unfolding step_of function_run built_in_run
   choice_step f g i ys s e = ap (λ xs. on_operands (row built_in.If).operands (row built_in.If).default kept_control.chooses xs s) e
 
-  choose_at : (e : ℕ) (f g : Callee) (i : ℤ) (ys : List Literal) (Q : State → Type 0) (bodies loops left : ℕ) (s : State)
+  pub choose_at : (e : ℕ) (f g : Callee) (i : ℤ) (ys : List Literal) (Q : State → Type 0) (bodies loops left : ℕ) (s : State)
       → s.store.literals ≡ literal.Function g ∷ literal.Function f ∷ literal.Integer i ∷ ys
       → ((less : ℕ) (t : State) → SameVariables s.store t → IfDone Q (act job e (Run (kept_control.chosen (is_positive i) f g)) bodies loops less t))
       → IfDone Q (act job (suc e) (Run (callee.BuiltIn built_in.If)) bodies loops left s)
@@ -917,3 +917,13 @@ module _ (job : Job) (m : Measure) (kinds : ℕ → Kind) (effects : ℕ → Eff
       if_weaker (Plain (text_in m.text s) (flag_in m.flag s) true) (λ t. left_in m t ≤ left_in m s - 1) (act job n (Run (callee.User number)) bodies loops left s)
       (callee_done n (level n) (callee.User number) false true (ap (lessens false) e) bodies loops left s (λ q. absurd (cc)) r)
       (λ t k. k.0)
+
+  -- tokens that change neither the text nor the flag
+  pub stays_done : (n : ℕ) (xs : List Token) → TokensThrough job.style m kinds effects false false nothing_seen xs false → (bodies loops left : ℕ) (s : State)
+      → Ranged s → IfDone (λ t. (text_in m.text t ≡ text_in m.text s) × ((flag_in m.flag t ≡ flag_in m.flag s) × Ranged t)) (in_turn (act job n) xs bodies loops left s)
+  stays_done n xs w bodies loops left s r =
+      if_weaker (Plain (text_in m.text s) (flag_in m.flag s) false)
+      (λ t. (text_in m.text t ≡ text_in m.text s) × ((flag_in m.flag t ≡ flag_in m.flag s) × Ranged t)) (in_turn (act job n) xs bodies loops left s)
+      (tokens_done n (level n) xs (text_in m.text s) (flag_in m.flag s) false false false nothing_seen (λ q. absurd (cc)) w bodies loops left s
+      (((refl, refl), r), nothing_on job.style m (text_in m.text s) s.store.literals))
+      (λ t k. (k.0.0, (k.0.1, k.1)))

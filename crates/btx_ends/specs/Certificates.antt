@@ -21,7 +21,9 @@ use Rattle.btx_ends.specs.declared.measures.Kind.{Kind}
 use Rattle.btx_ends.specs.Counters.{above_zero_test}
 use Rattle.btx_ends.specs.Ends.{is_among, StyleEnds}
 use Rattle.btx_ends.specs.Keeping.{BodiesKeep, BodyCounts}
+use Rattle.btx_ends.specs.declared.measures.Walk.{Walk}
 use Rattle.btx_ends.specs.Shortening.{Tells, body_of, KindsHold, EffectsHold}
+use Rattle.btx_ends.specs.Walking.{TellsPart, place_measure, size_measure, MovesHold}
 
 -- what a certificate claims of a style
 pub record Claims : Type 0 where
@@ -39,6 +41,10 @@ pub record Claims : Type 0 where
   pub ends : List ℕ
   -- of each function, by its number, one more than the number of the measure that it lessens; 0 claims nothing
   pub shortens : List ℕ
+  -- of each function, by its number, one more than the number of the walk of which it is the test; 0 claims nothing
+  pub parts : List ℕ
+  -- of each function, by its number, one more than the number of the walk whose place it moves on; 0 claims nothing
+  pub moves : List ℕ
   -- how many global integer variables there are at least
   pub integers : ℕ
   -- how many bytes a global string variable keeps at most
@@ -129,9 +135,19 @@ ShortenedWithin claims most body test =
     let of_body = slice_index_or claims.costs body 0 in
     (0 < ended) × ((slice_index_or claims.shortens body 0 ≡ ended) × ((0 < of_test) × ((0 < of_body) × ((claims.kept + 1) * (of_test + of_body) < most))))
 
--- a loop of either kind
+-- a loop that walks along a text takes at most `most` steps: its own step, and for each turn, of which there is one more than twice the bytes that a string
+-- variable keeps, those of the test and of the body
+abbrev pub WalkedWithin : Claims → ℕ → ℕ → ℕ → Type 0
+WalkedWithin claims most body test =
+    let told = slice_index_or claims.parts test 0 in
+    let of_test = slice_index_or claims.costs test 0 in
+    let of_body = slice_index_or claims.costs body 0 in
+    (0 < told) × ((slice_index_or claims.moves body 0 ≡ told) × ((0 < of_test) × ((0 < of_body) × ((2 * claims.kept + 1) * (of_test + of_body) < most))))
+
+-- a loop of one of these kinds
 abbrev pub TurnsWithin : Claims → ℕ → ℕ → ℕ → Type 0
-TurnsWithin claims most body test = CountedWithin claims most body test ⊎ ShortenedWithin claims most body test
+TurnsWithin claims most body test =
+    CountedWithin claims most body test ⊎ (ShortenedWithin claims most body test ⊎ WalkedWithin claims most body test)
 
 -- .. where its body and its test are known to stand on top of the stack
 abbrev pub LoopWithin : Claims → ℕ → Known → Known → Type 0
@@ -254,6 +270,44 @@ TextsHold claims style =
     (measures : ℕ → Measure) × (EndsHold style measures claims.ends × (ShortensHold style measures claims.shortens
     × (FlagsHold measures claims.integers × (claims.integers ≤ length style.names.global_integers))))
 
+-- a function is the test of the walk that is claimed, and the walk's place and size are variables that are there
+abbrev pub PartHolds : Style → (ℕ → Walk) → ℕ → ℕ → ℕ → Type 0
+PartHolds style walks integers zero number = Unit {0}
+PartHolds style walks integers (suc k) number =
+    TellsPart style (walks k) (body_of style number) × (((walks k).place < integers) × ((walks k).size < integers))
+
+-- functions do to the text, the place and the size of a walk what is said of them
+abbrev pub WalkEffectsHold : Style → Walk → (ℕ → Kind) → (ℕ → Effect) → (ℕ → Effect) → Type 0
+WalkEffectsHold style walk kinds places sizes =
+    EffectsHold style (place_measure walk) kinds places × EffectsHold style (size_measure walk) kinds sizes
+
+-- a function moves the place of a walk on, by what is said of all functions
+abbrev pub MovesBy : Style → Walk → (ℕ → Kind) → (ℕ → Effect) → (ℕ → Effect) → (ℕ → Bool) → ℕ → Type 0
+MovesBy style walk kinds places sizes moves number =
+    KindsHold style kinds × (WalkEffectsHold style walk kinds places sizes
+    × (MovesHold style walk kinds places sizes moves × (moves number ≡ true)))
+
+-- a function moves the place on of the walk that is claimed
+abbrev pub MoveHolds : Style → (ℕ → Walk) → ℕ → ℕ → Type 0
+MoveHolds style walks zero number = Unit {0}
+MoveHolds style walks (suc k) number =
+    (kinds : ℕ → Kind) × ((places : ℕ → Effect) × ((sizes : ℕ → Effect) × ((moves : ℕ → Bool) × MovesBy style (walks k) kinds places sizes moves number)))
+
+-- .. and so do all
+abbrev pub PartsHold : Style → (ℕ → Walk) → ℕ → List ℕ → Type 0
+PartsHold style walks integers parts = (number : ℕ) → PartHolds style walks integers (slice_index_or parts number 0) number
+
+abbrev pub AllMove : Style → (ℕ → Walk) → List ℕ → Type 0
+AllMove style walks moves = (number : ℕ) → MoveHolds style walks (slice_index_or moves number 0) number
+
+-- the walks of a list, by their numbers
+abbrev pub walks_by : List Walk → ℕ → Walk
+walks_by walks k = slice_index_or walks k (record { text = 0; place = 0; size = 0 })
+
+-- all claims on loops that walk along texts hold
+abbrev pub WalksHold : Claims → Style → Type 0
+WalksHold claims style = (walks : ℕ → Walk) × (PartsHold style walks claims.integers claims.parts × AllMove style walks claims.moves)
+
 -- nothing is claimed of `entry.max$` and `global.max$`, which don't begin with 0
 abbrev pub FirstUnclaimed : List ℕ → Type 0
 FirstUnclaimed bounds = (slice_index_or bounds 0 0 ≡ 0) × (slice_index_or bounds 1 0 ≡ 0)
@@ -264,7 +318,8 @@ FunctionsWithin claims allowed style = BodiesWithin claims style × (OwnWithin c
 
 -- all claims on loops and variables hold
 abbrev pub LoopsHold : Claims → Style → Type 0
-LoopsHold claims style = TestsHold claims.tests style × (CountsHold claims.counts style × (FirstUnclaimed claims.bounds × TextsHold claims style))
+LoopsHold claims style =
+    TestsHold claims.tests style × (CountsHold claims.counts style × (FirstUnclaimed claims.bounds × (TextsHold claims style × WalksHold claims style)))
 
 -- THE LAW: a style of which a certificate's claims hold ends
 abbrev pub ClaimsEnd : Type 0

@@ -11,6 +11,8 @@ claims_of given = record {
   counts = given.counts.now;
   ends = given.ends.now;
   shortens = given.shortens.now;
+  parts = given.parts.now;
+  moves = given.moves.now;
   integers = given.integers;
   kept = given.kept;
 }

@@ -10,9 +10,12 @@ ghost use Rattle.btx_ends.specs.Views.{claims_of};
 use crate::claims::{Claims, claim_of};
 use crate::costs::{Bound, body_cost, items_cost};
 use crate::keeping::{functions_keep, is_counting, is_test};
-use crate::measures::{Effect, Kind, Measure};
+use crate::kinds::kinds_hold;
+use crate::measures::{Effect, Kind, Measure, Walk};
 use crate::search::proposed;
-use crate::shortening::{effects_hold, kinds_hold, said_of, tells};
+use crate::shortening::{effects_hold, said_of};
+use crate::telling::tells;
+use crate::walks::walks_hold;
 use btx_bst::{Style, Token};
 use std::alloc::{AllocError, Global};
 
@@ -41,6 +44,18 @@ pub struct Certificate {
     pub kinds: Vec<Kind>,
     /// Of each measure, what each function does, by its number.
     pub effects: Vec<Vec<Effect>>,
+    /// What loops walk along.
+    pub walks: Vec<Walk>,
+    /// Of each function, by its number, one more than the number of the walk of which it is the test; 0 claims nothing.
+    pub parts: Vec<u32>,
+    /// Of each function, by its number, one more than the number of the walk whose place it moves on; 0 claims nothing.
+    pub moves: Vec<u32>,
+    /// Of each walk, what each function does to its text and its place.
+    pub places: Vec<Vec<Effect>>,
+    /// Of each walk, what each function does to its text and its size.
+    pub sizes: Vec<Vec<Effect>>,
+    /// Of each walk, which functions move its place on.
+    pub movers: Vec<Vec<bool>>,
     /// How many global integer variables there are at least.
     pub integers: u32,
     /// How many bytes a global string variable keeps at most.
@@ -60,6 +75,8 @@ impl Certificate {
             counts: self.counts.as_slice(),
             ends: self.ends.as_slice(),
             shortens: self.shortens.as_slice(),
+            parts: self.parts.as_slice(),
+            moves: self.moves.as_slice(),
             integers: self.integers,
             kept: self.kept,
         }
@@ -337,6 +354,7 @@ fn loops_hold(style: &Style, claims: Claims<'_>, certificate: &Certificate) -> b
         && counts_hold(style, claims.counts, certificate.keeps.as_slice())
         && first_unclaimed(claims.bounds)
         && texts_hold(style, claims, certificate)
+        && walks_hold(style, claims, certificate)
 }
 
 /// Judges a certificate: answers the bound of a style's runs, for entries of the types that are allowed or that the style doesn't know, where global string

@@ -18,6 +18,10 @@ pub struct Claims<'c> {
     pub ends: &'c [u32],
     /// Of each function, by its number, one more than the number of the measure that it lessens; 0 claims nothing.
     pub shortens: &'c [u32],
+    /// Of each function, by its number, one more than the number of the walk of which it is the test; 0 claims nothing.
+    pub parts: &'c [u32],
+    /// Of each function, by its number, one more than the number of the walk whose place it moves on; 0 claims nothing.
+    pub moves: &'c [u32],
     /// How many global integer variables there are at least.
     pub integers: u32,
     /// How many bytes a global string variable keeps at most.

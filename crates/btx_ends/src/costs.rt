@@ -1,5 +1,5 @@
 //! How many steps a token, a body and a style's items take at most, by the claims of a certificate.
-ghost use Rattle.std.specs.Prelude.{◌≡◌, ◌≤◌, IsTrue, true, IfSome, length};
+ghost use Rattle.std.specs.Prelude.{◌≡◌, ◌≤◌, ◌⊎◌, IsTrue, true, IfSome, length};
 ghost use Rattle.btx_bst.specs.declared.callee.Callee.TheVariants as callee;
 ghost use Rattle.btx_bst.specs.refinement.Views.{item_view, items_view};
 ghost use Rattle.btx_ends.specs.declared.known.Known.TheVariants as known;
@@ -113,13 +113,42 @@ fn shortened_cost(claims: Claims<'_>, body: u32, test: u32) -> Option<u64>
     all.checked_add(1)
 }
 
-// .. of either kind
+// .. whose turns walk along a text: its own step, and those of each turn.
+fn walked_cost(claims: Claims<'_>, body: u32, test: u32) -> Option<u64>
+    ensures { IfSome result (λ most. within.WalkedWithin (claims_of claims.entry) most body test) }
+{
+    let told = number_for(claims.parts, test as usize);
+    if told == 0 || number_for(claims.moves, body as usize) != told {
+        return None;
+    }
+    let of_test = claim_of(claims.costs, test as usize);
+    let of_body = claim_of(claims.costs, body as usize);
+    if of_test == 0 || of_body == 0 {
+        return None;
+    }
+    let turn = of_test.checked_add(of_body)?;
+    let turns = 2 * (claims.kept as u64) + 1;
+    let all = turns.checked_mul(turn)?;
+    all.checked_add(1)
+}
+
+// .. that make a text shorter or walk along it
+fn text_cost(claims: Claims<'_>, body: u32, test: u32) -> Option<u64>
+    ensures { IfSome result (λ most. within.ShortenedWithin (claims_of claims.entry) most body test ⊎ within.WalkedWithin (claims_of claims.entry) most body test) }
+{
+    match shortened_cost(claims, body, test) {
+        Some(cost) => Some(cost),
+        None => walked_cost(claims, body, test),
+    }
+}
+
+// .. of any of these kinds
 fn turns_cost(claims: Claims<'_>, body: u32, test: u32) -> Option<u64>
     ensures { IfSome result (λ most. within.TurnsWithin (claims_of claims.entry) most body test) }
 {
     match counted_cost(claims, body, test) {
         Some(cost) => Some(cost),
-        None => shortened_cost(claims, body, test),
+        None => text_cost(claims, body, test),
     }
 }
 

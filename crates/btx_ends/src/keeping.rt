@@ -1,11 +1,9 @@
 //! Which tokens leave a global integer variable no greater than it was, and which functions count one down.
 ghost use Rattle.std.specs.Prelude.{◌≡◌, IsTrue, true, None, false, [], slice_index_or};
-ghost use Rattle.btx_bst.specs.declared.built_in.BuiltIn.TheVariants as built_in;
-ghost use Rattle.btx_bst.specs.declared.callee.Callee.TheVariants as callee;
-ghost use Rattle.btx_bst.specs.declared.token.Token.TheVariants as tokens;
 ghost use Rattle.btx_ends.specs.Counters as counters;
 ghost use Rattle.btx_ends.specs.Keeping as keeping;
 
+use crate::tokens::{is_assign, is_greater, is_integer, is_minus, is_value, is_variable};
 use btx_bst::{BuiltIn, Callee, Style, Token};
 
 // Answers whether a function is said not to raise the variable.
@@ -155,66 +153,6 @@ pub(crate) fn functions_keep(style: &Style, keeps: &[bool], v: u32) -> bool
         }
     }
     true
-}
-
-// Answers whether a token pushes the value of the variable v.
-fn is_value(v: u32, token: Token) -> bool
-    ensures { IsTrue result → token ≡ tokens.Run (callee.GlobalInteger v) }
-{
-    match token {
-        Token::Run(Callee::GlobalInteger(w)) => w == v,
-        _ => false,
-    }
-}
-
-// .. the variable itself
-fn is_variable(v: u32, token: Token) -> bool
-    ensures { IsTrue result → token ≡ tokens.Quote (callee.GlobalInteger v) }
-{
-    match token {
-        Token::Quote(Callee::GlobalInteger(w)) => w == v,
-        _ => false,
-    }
-}
-
-// .. this integer
-fn is_integer(n: i32, token: Token) -> bool
-    ensures { IsTrue result → token ≡ tokens.Integer n }
-{
-    match token {
-        Token::Integer(m) => m == n,
-        _ => false,
-    }
-}
-
-// Answers whether a token is `>`.
-fn is_greater(token: Token) -> bool
-    ensures { IsTrue result → token ≡ tokens.Run (callee.BuiltIn built_in.Greater) }
-{
-    match token {
-        Token::Run(Callee::BuiltIn(BuiltIn::Greater)) => true,
-        _ => false,
-    }
-}
-
-// .. `-`
-fn is_minus(token: Token) -> bool
-    ensures { IsTrue result → token ≡ tokens.Run (callee.BuiltIn built_in.Minus) }
-{
-    match token {
-        Token::Run(Callee::BuiltIn(BuiltIn::Minus)) => true,
-        _ => false,
-    }
-}
-
-// .. `:=`
-fn is_assign(token: Token) -> bool
-    ensures { IsTrue result → token ≡ tokens.Run (callee.BuiltIn built_in.Assign) }
-{
-    match token {
-        Token::Run(Callee::BuiltIn(BuiltIn::Assign)) => true,
-        _ => false,
-    }
 }
 
 /// Answers whether a body is the test `{v #0 >}`.

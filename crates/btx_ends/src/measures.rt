@@ -1,4 +1,4 @@
-//! What a loop is measured by that makes a text shorter, and what is known of literals relative to that text.
+//! What a loop is measured by that makes a text shorter or walks along it, and what is known of literals relative to that text.
 use btx_bst::Callee;
 
 /// A loop goes on until a text is empty, or until a flag is set.
@@ -10,6 +10,17 @@ pub struct Measure {
     pub flag: u32,
     /// The number of the text of the style that the text is compared with, where that tells that it isn't empty.
     pub word: u32,
+}
+
+/// A loop goes on as long as a text has a part from a place on.
+#[derive(Clone, Copy, PartialEq, Eq)]
+pub struct Walk {
+    /// The number of the global string variable of the text.
+    pub text: u32,
+    /// The number of the global integer variable of the place, which each turn moves on.
+    pub place: u32,
+    /// The number of the global integer variable that says how long the part is.
+    pub size: u32,
 }
 
 /// What a call of a function does to the text and the flag.

@@ -3,10 +3,13 @@ use crate::checker::{Certificate, is_shortening};
 use crate::claims::{Claims, claim_of, number_for};
 use crate::costs::body_cost;
 use crate::keeping::{is_counting, is_test, tokens_keep};
+use crate::kinds::{is_not, is_or};
 use crate::known::Known;
 use crate::literals::{below_after, top_after};
 use crate::measures::{Effect, Kind, Measure};
-use crate::shortening::{begins_word, is_not, is_or, tells, tokens_through};
+use crate::shortening::tokens_through;
+use crate::telling::{begins_word, tells};
+use crate::walk_search::{movers_of, moves_of, parts_of, rows_by, walks_of};
 use btx_bst::{BuiltIn, Callee, Style, Token};
 use std::alloc::{AllocError, Global};
 
@@ -29,6 +32,12 @@ pub fn proposed(
     let effects = effects_of(alloc, style, &kinds, &measures)?;
     let ends = ends_of(alloc, style, &measures)?;
     let shortens = shortens_of(alloc, style, &loops, &ends, &effects)?;
+    let walks = walks_of(alloc, style)?;
+    let parts = parts_of(alloc, style, &walks)?;
+    let places = rows_by(alloc, style, &kinds, &walks, false)?;
+    let sizes = rows_by(alloc, style, &kinds, &walks, true)?;
+    let movers = movers_of(alloc, style, &kinds, &walks, &places, &sizes)?;
+    let moves = moves_of(alloc, style, &loops, &parts, &movers)?;
     let mut found = Certificate {
         costs: Vec::new(alloc),
         types: 0,
@@ -41,6 +50,12 @@ pub fn proposed(
         shortens,
         kinds,
         effects,
+        walks,
+        parts,
+        moves,
+        places,
+        sizes,
+        movers,
         integers: count_of(style.global_integers()),
         kept,
     };
@@ -100,6 +115,8 @@ fn raise_in(body: &[Token], bounds: &mut [u64], kept: u32, may_raise: bool) {
             counts: &[],
             ends: &[],
             shortens: &[],
+            parts: &[],
+            moves: &[],
             integers: 0,
             kept,
         };
@@ -140,8 +157,8 @@ fn more_than(number: u64) -> u64 {
     }
 }
 
-// .. of 32 bits
-fn next_number(number: u32) -> u32 {
+/// One more than a number of 32 bits; 0 where that has no room.
+pub(crate) fn next_number(number: u32) -> u32 {
     match number.checked_add(1) {
         None => 0,
         Some(next) => next,
@@ -245,8 +262,8 @@ fn add_loops(tokens: &[Token], loops: &mut Vec<(usize, usize)>) -> Result<(), Al
     Ok(())
 }
 
-// As many times 0 as a style has functions.
-fn no_claims(alloc: Global, style: &Style) -> Result<Vec<u32>, AllocError> {
+/// As many times 0 as a style has functions.
+pub(crate) fn no_claims(alloc: Global, style: &Style) -> Result<Vec<u32>, AllocError> {
     let mut claims: Vec<u32> = Vec::new(alloc);
     for _ in 0..style.functions() {
         claims.push(0)?;
@@ -280,8 +297,8 @@ fn counts_of(
 
 // ---- texts
 
-// How many measures are looked at.
-const MOST_MEASURES: usize = 16;
+/// How many measures, and how many walks, are looked at.
+pub(crate) const MOST_MEASURES: usize = 16;
 
 // A number of 32 bits, or the greatest one.
 fn count_of(number: usize) -> u32 {
@@ -397,8 +414,14 @@ fn effects_of(
     Ok(rows)
 }
 
-// .. of one body
-fn effect_for(style: &Style, m: Measure, kinds: &[Kind], row: &[Effect], body: &[Token]) -> Effect {
+/// Says what a function with this body does.
+pub(crate) fn effect_for(
+    style: &Style,
+    m: Measure,
+    kinds: &[Kind],
+    row: &[Effect],
+    body: &[Token],
+) -> Effect {
     match tokens_through(style, m, kinds, row, false, body) {
         Some(true) => Effect::Shortens,
         Some(false) => Effect::Keeps,

@@ -31,10 +31,12 @@ FUNCTION {f} {#3 'n := {n #0 >} {n #0 > {#1 'n :=} 'skip$ if$ n #1 - 'n :=} whil
 INTEGERS {m} FUNCTION {f} {#3 'n := {n #0 >} {n #1 - 'n := m #1 - 'm := \"a\" write$} while$} READ EXECUTE {f}
 INTEGERS {m} FUNCTION {f} {n #1 + 'n := {n #0 >} {n #1 - 'n :=} while$} READ EXECUTE {f}
 FUNCTION {not} {{#0} {#1} if$} FUNCTION {f} {title 's := {s empty$ not} {s #-2 global.max$ substring$ 's :=} while$} READ ITERATE {f}
-FUNCTION {not} {{#0} {#1} if$} FUNCTION {and} {'skip$ {pop$ #0} if$} FUNCTION {or} {{pop$ #1} 'skip$ if$} FUNCTION {f} {title 's := {s empty$ not s #1 #1 substring$ \"-\" = not and} {s #2 global.max$ substring$ 's :=} while$} READ ITERATE {f}";
+FUNCTION {not} {{#0} {#1} if$} FUNCTION {and} {'skip$ {pop$ #0} if$} FUNCTION {or} {{pop$ #1} 'skip$ if$} FUNCTION {f} {title 's := {s empty$ not s #1 #1 substring$ \"-\" = not and} {s #2 global.max$ substring$ 's :=} while$} READ ITERATE {f}
+INTEGERS {m} FUNCTION {not} {{#0} {#1} if$} FUNCTION {f} {title 's := #1 'n := #2 'm := {s n m substring$ \"\" = not} {n #1 + 'n :=} while$} READ ITERATE {f}
+INTEGERS {m} FUNCTION {not} {{#0} {#1} if$} FUNCTION {f} {title 's := #1 'n := #2 'm := {s n m substring$ \"\" = not} {s n m substring$ \"a\" = {n m + 'n :=} {n #1 + 'n :=} if$} while$} READ ITERATE {f}";
 
 // Their bounds: the steps of a run, and for each entry.
-const BOUNDS: [(u64, u64); 25] = [
+const BOUNDS: [(u64, u64); 27] = [
     (2, 0),
     (0, 9),
     (7, 3),
@@ -60,6 +62,8 @@ const BOUNDS: [(u64, u64); 25] = [
     (21474836499, 0),
     (0, 1623),
     (0, 3542),
+    (0, 3832),
+    (0, 5842),
 ];
 
 // .. and of styles that aren't known to end: for a loop whose test looks at no variable, a type that calls the entry's type, functions that don't stand just
@@ -104,7 +108,14 @@ INTEGERS {m} FUNCTION {f} {n #1 + 'n := {n #0 >} {n #1 - 'm :=} while$} READ EXE
 FUNCTION {not} {{#0} {#1} if$} FUNCTION {f} {title 's := {s empty$ not} {s #-1 global.max$ substring$ 's :=} while$} READ ITERATE {f}
 FUNCTION {not} {{#0} {#1} if$} FUNCTION {f} {title 's := {s empty$ not} {s #-2 global.max$ substring$ 'label :=} while$} READ ITERATE {f}
 FUNCTION {not} {{#0} {#1} if$} FUNCTION {and} {'skip$ {pop$ #0} if$} FUNCTION {or} {{pop$ #1} 'skip$ if$} FUNCTION {f} {title 's := {s empty$ not s #1 #1 substring$ \"-\" = not or} {s #2 global.max$ substring$ 's :=} while$} READ ITERATE {f}
-FUNCTION {not} {{#0} {#1} if$} FUNCTION {and} {'skip$ {pop$ #0} if$} FUNCTION {or} {{pop$ #1} 'skip$ if$} FUNCTION {f} {title 's := {s empty$ not s #1 #1 substring$ \"-\" = not and} {s #1 global.max$ substring$ 's :=} while$} READ ITERATE {f}";
+FUNCTION {not} {{#0} {#1} if$} FUNCTION {and} {'skip$ {pop$ #0} if$} FUNCTION {or} {{pop$ #1} 'skip$ if$} FUNCTION {f} {title 's := {s empty$ not s #1 #1 substring$ \"-\" = not and} {s #1 global.max$ substring$ 's :=} while$} READ ITERATE {f}
+INTEGERS {m} FUNCTION {not} {{#0} {#1} if$} FUNCTION {f} {title 's := #1 'n := #2 'm := {s n m substring$ \"\" = not} {n #0 + 'n :=} while$} READ ITERATE {f}
+INTEGERS {m} FUNCTION {not} {{#0} {#1} if$} FUNCTION {f} {title 's := #1 'n := #2 'm := {s n m substring$ \"\" = not} {n #1 - 'n :=} while$} READ ITERATE {f}
+INTEGERS {m} FUNCTION {not} {{#0} {#1} if$} FUNCTION {f} {title 's := #1 'n := #2 'm := {s n m substring$ \"a\" = not} {n #1 + 'n :=} while$} READ ITERATE {f}
+INTEGERS {m} FUNCTION {not} {{#0} {#1} if$} FUNCTION {f} {title 's := #1 'n := #2 'm := {s n m substring$ \"\" = not} {s n m substring$ \"a\" = {n m + 'n :=} 'skip$ if$} while$} READ ITERATE {f}
+INTEGERS {m} FUNCTION {not} {{#0} {#1} if$} FUNCTION {f} {title 's := #1 'n := #2 'm := {s n m substring$ \"\" = not} {s n m substring$ \"a\" = {n m + 'n :=} {m #1 + 'n :=} if$} while$} READ ITERATE {f}
+INTEGERS {m} FUNCTION {not} {{#0} {#1} if$} FUNCTION {f} {title 's := #1 'n := #2 'm := {s n m substring$ \"\" = not} {#0 'm := n m + 'n :=} while$} READ ITERATE {f}
+INTEGERS {m} FUNCTION {not} {{#0} {#1} if$} FUNCTION {f} {title 's := #1 'n := #2 'm := {s n m substring$ \"\" = not} {title 's := n #1 + 'n :=} while$} READ ITERATE {f}";
 
 // How many bytes a global string variable keeps in these tests.
 const KEPT: u32 = 100;
