@@ -77,7 +77,7 @@ wants_line_of_output 'clean.bst: ends: at most 0 steps, and 24 + 16*N for each e
 sed -i 's/rest #2/rest #1/' clean.bst
 run_lint clean.bst
 wants_status 0
-wants_line_of_output 'clean.bst: not known to end: `while$` in line 11, in default.type: its body isn'"'"'t known to count a variable down or to make a text shorter'
+wants_line_of_output 'clean.bst: not known to end: `while$` in line 11, in default.type: its body isn'"'"'t known to count a variable down, to make a text shorter or to walk along it'
 sed -i -e 's/rest #1/rest #2/' -e 's/title empty.*/title write$ }/' clean.bst
 run_lint clean.bst
 wants_status 2
