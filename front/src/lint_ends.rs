@@ -173,7 +173,9 @@ impl Reason {
                 let place = format!("`{}` in line {}, in {}", plain(next), spot.call.line, plain(spot.owner()));
                 match &next[..] {
                     b"while$" => {
-                        format!("{place}: its body isn't known to count a variable down, to make a text shorter or to walk along it")
+                        format!(
+                            "{place}: its body isn't known to count a variable down, to make a text shorter or to walk along it"
+                        )
                     }
                     b"if$" => format!("{place}: its functions don't stand quoted just before it"),
                     b":=" => format!("{place}: its variable doesn't stand quoted just before it"),
