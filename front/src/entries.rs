@@ -3,7 +3,7 @@
 use crate::alike::{Alike, alike};
 use crate::database::{Folded, Item, Items, key_at};
 use crate::job::{File, Files};
-use crate::missing_entry::Told;
+use crate::missing_entry::Clue;
 use crate::mistakes::field_for_key;
 use crate::nearest::nearest;
 use crate::text::{Text, find, split_first};
@@ -220,7 +220,7 @@ pub struct Entries<'a> {
     unreached: OnceCell<HashMap<Folded<'a>, Found>>,
     in_records: OnceCell<HashMap<Folded<'a>, InRecord>>,
     keyless: OnceCell<Option<Found>>,
-    lost: OnceCell<Option<Told>>,
+    lost: OnceCell<Option<Clue>>,
     /// For how many more keys one that may be meant is looked for.
     left: Cell<usize>,
 }
@@ -362,7 +362,7 @@ impl<'a> Entries<'a> {
     }
 
     /// What is said of every entry that no database has: it is looked for once.
-    pub fn lost(&self, find: impl FnOnce() -> Option<Told>) -> Option<&Told> {
+    pub fn lost(&self, find: impl FnOnce() -> Option<Clue>) -> Option<&Clue> {
         self.lost.get_or_init(find).as_ref()
     }
 

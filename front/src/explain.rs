@@ -506,7 +506,7 @@ impl<'a, W: Write> Explainer<'a, W> {
     fn texts_of_lost(&mut self) -> Vec<String> {
         let (count, files) = (std::mem::take(&mut self.lost_keys), self.files);
         let lost = missing_entry::lost(self.entries(), files);
-        let place = lost.and_then(|told| told.place.clone()).filter(|_| count > 1);
+        let place = lost.and_then(|clue| clue.place.clone()).filter(|_| count > 1);
         let keys =
             if count == 2 { "1 more key has".into() } else { format!("{} more keys have", count.saturating_sub(1)) };
         let place = place.map(|place| if count == 2 { place } else { place.replacen("it may", "they may", 1) });
@@ -1208,10 +1208,10 @@ impl<'a, W: Write> Explainer<'a, W> {
             return Ok(false);
         }
         let (files, document) = (self.files, self.document());
-        let told = missing_entry::told(self.entries(), files, document.as_ref().as_ref(), parent);
+        let clue = missing_entry::clue(self.entries(), files, document.as_ref().as_ref(), parent);
         self.said.insert(told_parent(parent));
-        told.place.map_or(Ok(()), |place| self.put_place(&place))?;
-        let Some(advice) = told.advice else { return Ok(false) };
+        clue.place.map_or(Ok(()), |place| self.put_place(&place))?;
+        let Some(advice) = clue.advice else { return Ok(false) };
         self.put_advice_once(&advice).map(|()| true)
     }
 
@@ -1293,9 +1293,9 @@ impl<'a, W: Write> Explainer<'a, W> {
             return Ok(());
         }
         let (files, document) = (self.files, self.document());
-        let told = missing_entry::told(self.entries(), files, document.as_ref().as_ref(), key);
-        told.place.map_or(Ok(()), |place| self.put_place(&place))?;
-        match told.advice {
+        let clue = missing_entry::clue(self.entries(), files, document.as_ref().as_ref(), key);
+        clue.place.map_or(Ok(()), |place| self.put_place(&place))?;
+        match clue.advice {
             Some(advice) => self.put_advice_once(&advice),
             None => self.advise(&[Section::Entries], text),
         }

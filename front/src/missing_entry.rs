@@ -18,62 +18,62 @@ use crate::unsaid::place_in;
 
 /// What is said of something that is missing: where it may be, and what to do. What isn't known is None.
 #[derive(Debug, Clone, Default, PartialEq, Eq)]
-pub struct Told {
+pub struct Clue {
     pub place: Option<String>,
     pub advice: Option<String>,
 }
 
 /// What is said of an entry that wasn't found.
-pub fn told(entries: &Entries<'_>, files: &Files, document: Option<&Document>, key: &[u8]) -> Told {
+pub fn clue(entries: &Entries<'_>, files: &Files, document: Option<&Document>, key: &[u8]) -> Clue {
     if key.is_empty() {
         let advice = "write a key in the empty `\\cite{}`, or take it out".into();
-        return Told { place: None, advice: Some(advice) };
+        return Clue { place: None, advice: Some(advice) };
     }
     if let Some(stored) = entries.entry(key) {
-        return told_of_known(entries, key, stored);
+        return clue_of_known(entries, key, stored);
     }
     if let Some(skipped) = entries.skipped(key) {
-        return told_of_skipped(key, skipped);
+        return clue_of_skipped(key, skipped);
     }
     if let Some((database, start)) = entries.unread(key) {
         let at = line_of(database.file, &database.text, start);
         let place = format!("`{}` stands at {at}, in text that isn't read", plain(key));
-        return Told { place: Some(place), advice: Some(Seen::NoAtSign.with(&[])) };
+        return Clue { place: Some(place), advice: Some(Seen::NoAtSign.with(&[])) };
     }
     let of_text = in_record(entries, key).or_else(|| with_semicolons(entries, key));
-    of_text.or_else(|| told_of_unreached(entries, key)).or_else(|| lost(entries, files).cloned()).unwrap_or_else(|| {
-        let alike = told_of_alike(entries, key);
-        alike.or_else(|| told_of_older(entries, document, key)).unwrap_or_else(|| told_of_nearest(entries, key))
+    of_text.or_else(|| clue_of_unreached(entries, key)).or_else(|| lost(entries, files).cloned()).unwrap_or_else(|| {
+        let alike = clue_of_alike(entries, key);
+        alike.or_else(|| clue_of_older(entries, document, key)).unwrap_or_else(|| clue_of_nearest(entries, key))
     })
 }
 
 /// What is said of a key that stands in a record of RIS between the items of a database.
-fn in_record(entries: &Entries<'_>, key: &[u8]) -> Option<Told> {
+fn in_record(entries: &Entries<'_>, key: &[u8]) -> Option<Clue> {
     let (database, (record, place)) = entries.in_record(key)?;
     let (at, from) = (line_of(database.file, &database.text, place), database.text.line_of(record));
     let place = format!("`{}` stands at {at}, in a record of RIS (from line {from}), which isn't read", plain(key));
-    Some(Told { place: Some(place), advice: Some(Seen::RecordIsRis.with(&[])) })
+    Some(Clue { place: Some(place), advice: Some(Seen::RecordIsRis.with(&[])) })
 }
 
 /// What is said of keys that are parted by semicolons, of which at least one is an entry's.
-fn with_semicolons(entries: &Entries<'_>, key: &[u8]) -> Option<Told> {
+fn with_semicolons(entries: &Entries<'_>, key: &[u8]) -> Option<Clue> {
     let keys: Vec<&[u8]> =
         key.split(|byte| *byte == b';').map(<[u8]>::trim_ascii).filter(|key| !key.is_empty()).collect();
     let is_it = keys.len() > 1 && keys.iter().any(|key| entries.entry(key).is_some());
     let advice = || Seen::SemicolonInCite.with(&[&plain(&keys.join(&b","[..]))]);
-    is_it.then(|| Told { place: None, advice: Some(advice()) })
+    is_it.then(|| Clue { place: None, advice: Some(advice()) })
 }
 
 /// What is said of a key that stands in an entry whose beginning can't be read.
-fn told_of_unreached(entries: &Entries<'_>, key: &[u8]) -> Option<Told> {
+fn clue_of_unreached(entries: &Entries<'_>, key: &[u8]) -> Option<Clue> {
     let (database, start) = entries.unreached(key)?;
     let at = line_of(database.file, &database.text, start);
     let place = format!("`{}` stands at {at}, in an entry that can't be read", plain(key));
-    Some(Told { place: Some(place), advice: Some(format!("mend the error at {at}: the entry is skipped after it")) })
+    Some(Clue { place: Some(place), advice: Some(format!("mend the error at {at}: the entry is skipped after it")) })
 }
 
 /// What is said of a key that looks like an entry's, but for characters that aren't those of the keyboard.
-fn told_of_alike(entries: &Entries<'_>, key: &[u8]) -> Option<Told> {
+fn clue_of_alike(entries: &Entries<'_>, key: &[u8]) -> Option<Clue> {
     let (stored, alike, is_cited_so) = entries.alike(key)?;
     let name = plain(stored.item.key?.name);
     let sign = alike.meant.to_string();
@@ -82,18 +82,18 @@ fn told_of_alike(entries: &Entries<'_>, key: &[u8]) -> Option<Told> {
     } else {
         (format!("`{name}`, {}, has {}: is it that one?", begins(stored), alike.what), Seen::AlikeName)
     };
-    Some(Told { place: Some(place), advice: Some(seen.with(&[&sign, &plain(&alike.name)])) })
+    Some(Clue { place: Some(place), advice: Some(seen.with(&[&sign, &plain(&alike.name)])) })
 }
 
 /// What is said of a key that the document doesn't have any more, and that no entry names as its parent.
-fn told_of_older(entries: &Entries<'_>, document: Option<&Document>, key: &[u8]) -> Option<Told> {
+fn clue_of_older(entries: &Entries<'_>, document: Option<&Document>, key: &[u8]) -> Option<Clue> {
     let document = document.filter(|document| document.lacks(key) && entries.parent(key).is_none())?;
     let advice = Seen::KeyNotInDocument.with(&[&plain(key), &plain(shown_path(&document.file))]);
-    Some(Told { place: None, advice: Some(advice) })
+    Some(Clue { place: None, advice: Some(advice) })
 }
 
 /// What is said of the entry whose key differs least, or of one that has no key.
-fn told_of_nearest(entries: &Entries<'_>, key: &[u8]) -> Told {
+fn clue_of_nearest(entries: &Entries<'_>, key: &[u8]) -> Clue {
     if let Some((near, stored)) = entries.meant(key).and_then(|stored| Some((stored.item.key?, stored))) {
         let bytes = stored.database.text.bytes;
         let after = bytes[near.end..].trim_ascii_start();
@@ -101,42 +101,42 @@ fn told_of_nearest(entries: &Entries<'_>, key: &[u8]) -> Told {
         if stored.item.fault.is_some() && [near.name, word].concat().eq_ignore_ascii_case(key) {
             let at = line_of(stored.database.file, &stored.database.text, stored.item.start);
             let place = format!("the entry that begins at {at} is meant to have this key");
-            return Told { place: Some(place), advice: Some(Seen::KeyOfWords.with(&[&plain(key)])) };
+            return Clue { place: Some(place), advice: Some(Seen::KeyOfWords.with(&[&plain(key)])) };
         }
         let (near, written) = (plain(near.name), plain(key));
         let is_parent = entries.parent(key).is_some();
         let advice = if is_parent { Seen::NearParent.with(&[&near]) } else { Seen::NearKey.with(&[&written, &near]) };
-        return Told { place: Some(format!("is it `{near}`, {}?", begins(stored))), advice: Some(advice) };
+        return Clue { place: Some(format!("is it `{near}`, {}?", begins(stored))), advice: Some(advice) };
     }
-    told_of_keyless(entries, key).unwrap_or_default()
+    clue_of_keyless(entries, key).unwrap_or_default()
 }
 
 /// What is said of an entry that has no key, which may be the one that is looked for.
-fn told_of_keyless(entries: &Entries<'_>, key: &[u8]) -> Option<Told> {
+fn clue_of_keyless(entries: &Entries<'_>, key: &[u8]) -> Option<Clue> {
     let stored = entries.keyless()?;
     let (kind, at) = (plain(stored.item.kind), line_of(stored.database.file, &stored.database.text, stored.item.start));
-    Some(Told {
+    Some(Clue {
         place: Some(format!("the @{kind} that begins at {at} has no key: is it that one?")),
         advice: Some(Seen::EntryOfNoKey.with(&[&kind, &plain(key)])),
     })
 }
 
 /// What is said of every entry that no database has, where a database isn't there or none has an entry.
-pub fn lost<'b>(entries: &'b Entries<'_>, files: &Files) -> Option<&'b Told> {
+pub fn lost<'b>(entries: &'b Entries<'_>, files: &Files) -> Option<&'b Clue> {
     entries.lost(|| lost_in(entries, files))
 }
 
 /// The same, looked for in the files.
-fn lost_in(entries: &Entries<'_>, files: &Files) -> Option<Told> {
+fn lost_in(entries: &Entries<'_>, files: &Files) -> Option<Clue> {
     if let Some(lost) = lost_database(files) {
         let name = plain(&lost.name);
         let place = format!("it may stand in {name}, which wasn't found");
-        return Some(Told { place: Some(place), advice: Some(format!("look for {name} first")) });
+        return Some(Clue { place: Some(place), advice: Some(format!("look for {name} first")) });
     }
     if let Some((name, named)) = unread_database(files) {
         let at = format!("{}:{}", plain(shown_path(named.file)), named.number);
         let place = format!("it may stand in {}, which wasn't read ({at})", plain(&name));
-        return Some(Told { place: Some(place), advice: Some(Seen::MendFirst.with(&[&at])) });
+        return Some(Clue { place: Some(place), advice: Some(Seen::MendFirst.with(&[&at])) });
     }
     if !entries.is_empty() {
         return None;
@@ -144,11 +144,11 @@ fn lost_in(entries: &Entries<'_>, files: &Files) -> Option<Told> {
     let mut databases = files.with_ending(".bib");
     let Some(first) = databases.next() else {
         let advice = "name a database by `\\bibliography`, and run LaTeX".into();
-        return Some(Told { place: Some("no database is named".into()), advice: Some(advice) });
+        return Some(Clue { place: Some("no database is named".into()), advice: Some(advice) });
     };
     let place = format!("no entry stands in {}", plain(shown_path(first)));
     let place = databases.next().map_or(place, |_| "no entry stands in any of the databases".into());
-    Some(Told { place: Some(place), advice: what_is_odd(first) })
+    Some(Clue { place: Some(place), advice: what_is_odd(first) })
 }
 
 /// Whether nothing more can be said of an entry that wasn't found than what [`lost`] says.
@@ -176,30 +176,30 @@ fn begins(stored: Stored<'_, '_>) -> String {
 }
 
 /// What is said of an entry that is there: an entry that comes after it names it as its parent.
-fn told_of_known(entries: &Entries<'_>, key: &[u8], stored: Stored<'_, '_>) -> Told {
+fn clue_of_known(entries: &Entries<'_>, key: &[u8], stored: Stored<'_, '_>) -> Clue {
     let (key, at) = (plain(key), line_of(stored.database.file, &stored.database.text, stored.item.start));
     let Some((below, end)) = entries.parent(key.as_bytes()) else {
-        return Told { place: Some(format!("`{key}` stands at {at}")), advice: None };
+        return Clue { place: Some(format!("`{key}` stands at {at}")), advice: None };
     };
     let child = line_of(below.file, &below.text, end.saturating_sub(1));
-    Told {
+    Clue {
         place: Some(format!("`{key}` stands at {at}, above an entry that names it as its parent ({child})")),
         advice: Some(format!("move `{key}` below all entries that name it, or cite it")),
     }
 }
 
 /// What is said of an entry that stands in the text of another item.
-fn told_of_skipped(key: &[u8], skipped: Skipped<'_, '_>) -> Told {
+fn clue_of_skipped(key: &[u8], skipped: Skipped<'_, '_>) -> Clue {
     let Stored { database, item } = skipped.around;
     let (key, at) = (plain(key), line_of(database.file, &database.text, skipped.start));
     let around = begins_item(database.file, &database.text, item);
     if item.fault.is_some() {
-        return Told {
+        return Clue {
             place: Some(format!("`{key}` stands at {at}; it was skipped with {around}")),
             advice: Some(format!("mend that item: a `}}` or a quote is missing above `{key}`")),
         };
     }
-    Told {
+    Clue {
         place: Some(format!("`{key}` stands at {at}, in a value of {around}")),
         advice: Some("close that value above it: count its braces".into()),
     }
@@ -239,7 +239,7 @@ fn by_table<'a>(word: &[u8], table: &[(&str, &str)], fields: &[Field<'a>]) -> Op
 }
 
 /// A field of an entry that may be meant by one that a style's warning names: the entry doesn't have that one, and the style doesn't know this one, or takes it in entries of other types.
-pub fn meant_field(style: &[u8], stored: Stored<'_, '_>, warning: &[u8]) -> Option<Told> {
+pub fn meant_field(style: &[u8], stored: Stored<'_, '_>, warning: &[u8]) -> Option<Clue> {
     let declared = names_of_fields(style);
     let knows = |name: &[u8]| declared.iter().any(|known| known.eq_ignore_ascii_case(name));
     let text = stored.database.text.bytes;
@@ -254,13 +254,13 @@ pub fn meant_field(style: &[u8], stored: Stored<'_, '_>, warning: &[u8]) -> Opti
 }
 
 /// What is said of a field that a style misses, where one of these may be meant by it; the style doesn't know the last ones.
-fn meant_by(word: &[u8], stored: Stored<'_, '_>, fields: &[Field<'_>], unread: &[Field<'_>]) -> Option<Told> {
+fn meant_by(word: &[u8], stored: Stored<'_, '_>, fields: &[Field<'_>], unread: &[Field<'_>]) -> Option<Clue> {
     let (file, text) = (stored.database.file, &stored.database.text);
     let at = |field: &[u8]| line_of(file, text, place_in(text.bytes, field));
     let missed = plain(word);
     let looks_so = |(field, _): &Field<'_>| {
         let alike = alike(field).filter(|alike| alike.name.eq_ignore_ascii_case(word))?;
-        Some(Told {
+        Some(Clue {
             place: Some(format!("the name of its field `{}` has {} ({})", plain(field), alike.what, at(field))),
             advice: Some(match alike.meant {
                 ' ' => Seen::SpaceInName.with(&[&missed]),
@@ -268,8 +268,8 @@ fn meant_by(word: &[u8], stored: Stored<'_, '_>, fields: &[Field<'_>], unread: &
             }),
         })
     };
-    if let Some(told) = unread.iter().find_map(looks_so) {
-        return Some(told);
+    if let Some(clue) = unread.iter().find_map(looks_so) {
+        return Some(clue);
     }
     let of_biblatex = by_table(word, &OF_BIBLATEX, unread);
     let near = nearest(word, unread.iter().map(|(field, _)| *field)).map(|field| (field, &b""[..]));
@@ -281,7 +281,7 @@ fn meant_by(word: &[u8], stored: Stored<'_, '_>, fields: &[Field<'_>], unread: &
         None => Seen::OtherField.with(&[&plain(field), &missed]),
     };
     let place = format!("it has `{}`: is it `{missed}`? ({})", plain(field), at(field));
-    Some(Told { place: Some(place), advice: Some(advice) })
+    Some(Clue { place: Some(place), advice: Some(advice) })
 }
 
 /// Text after an entry's end that looks like a field of it.
@@ -347,24 +347,24 @@ mod tests {
         Files { top: b"job.aux".to_vec(), all: vec![file] }
     }
 
-    fn told_of(text: &str, key: &str) -> (String, String) {
+    fn clue_of(text: &str, key: &str) -> (String, String) {
         let files = files(text);
-        let told = told(&Entries::new(&files), &files, None, key.as_bytes());
-        (told.place.unwrap_or_default(), told.advice.unwrap_or_default())
+        let clue = clue(&Entries::new(&files), &files, None, key.as_bytes());
+        (clue.place.unwrap_or_default(), clue.advice.unwrap_or_default())
     }
 
     #[test]
     fn an_entry_is_found_where_it_was_skipped() {
-        let (place, advice) = told_of("@misc{one, year = 2000,\n\n@misc{two, note = 1}\n", "two");
+        let (place, advice) = clue_of("@misc{one, year = 2000,\n\n@misc{two, note = 1}\n", "two");
         assert_eq!(place, "`two` stands at d.bib:3; it was skipped with @misc{one}, which begins at d.bib:1");
         assert_eq!(advice, "mend that item: a `}` or a quote is missing above `two`");
-        let (place, _) = told_of("@misc{one, note = {x\n@misc{two, note = 1}}}\n", "two");
+        let (place, _) = clue_of("@misc{one, note = {x\n@misc{two, note = 1}}}\n", "two");
         assert_eq!(place, "`two` stands at d.bib:2, in a value of @misc{one}, which begins at d.bib:1");
     }
 
     #[test]
     fn a_key_with_a_space_in_it_is_found() {
-        let (place, advice) = told_of("@misc{hoare 69, year = 2000}\n", "hoare69");
+        let (place, advice) = clue_of("@misc{hoare 69, year = 2000}\n", "hoare69");
         assert_eq!(place, "the entry that begins at d.bib:1 is meant to have this key");
         assert_eq!(advice, Seen::KeyOfWords.with(&["hoare69"]));
     }
@@ -372,7 +372,7 @@ mod tests {
     #[test]
     fn an_entry_is_found_where_it_cannot_be_read() {
         for text in ["@article smith,\n x = 1}", "@{smith, x = 1}", "@article[smith, x = 1]", "@misc{smith; x = 1}"] {
-            let (place, advice) = told_of(text, "Smith");
+            let (place, advice) = clue_of(text, "Smith");
             assert_eq!(place, "`Smith` stands at d.bib:1, in an entry that can't be read", "{text}");
             assert_eq!(advice, "mend the error at d.bib:1: the entry is skipped after it");
             let files = files(text);
@@ -382,46 +382,46 @@ mod tests {
 
     #[test]
     fn a_parent_stands_above_its_child() {
-        let (place, advice) = told_of("@misc{p}\n@misc{a,\n crossref = {p}}\n", "p");
+        let (place, advice) = clue_of("@misc{p}\n@misc{a,\n crossref = {p}}\n", "p");
         assert_eq!(place, "`p` stands at d.bib:1, above an entry that names it as its parent (d.bib:3)");
         assert_eq!(advice, "move `p` below all entries that name it, or cite it");
     }
 
     #[test]
     fn a_key_is_spelled_another_way() {
-        let (place, advice) = told_of("\n@misc{smith2010}", "smith210");
+        let (place, advice) = clue_of("\n@misc{smith2010}", "smith210");
         assert_eq!(place, "is it `smith2010`, which begins at d.bib:2?");
         assert_eq!(advice, "write `smith2010` in the place of `smith210` in the `\\cite`, and run LaTeX");
-        let (place, advice) = told_of("@misc{smith-2010}", "smith\u{2013}2010");
+        let (place, advice) = clue_of("@misc{smith-2010}", "smith\u{2013}2010");
         assert_eq!(place, "`smith\u{2013}2010` has an en dash (U+2013): is it `smith-2010`, which begins at d.bib:1?");
         assert_eq!(advice, "write `smith-2010` in the `\\cite`, with the `-` of the keyboard, and run LaTeX");
-        let (place, _) = told_of("@misc{smith\u{2013}2010}", "smith-2010");
+        let (place, _) = clue_of("@misc{smith\u{2013}2010}", "smith-2010");
         assert_eq!(place, "`smith\u{2013}2010`, which begins at d.bib:1, has an en dash (U+2013): is it that one?");
-        assert_eq!(told_of("@misc{a, crossref = {pra08}} @misc{pra2008}", "pra08").1, "write `crossref = {pra2008}`");
-        assert_eq!(told_of("@misc{k}", "nothing"), (String::new(), String::new()));
-        assert_eq!(told_of("@misc{k}", "").1, "write a key in the empty `\\cite{}`, or take it out");
+        assert_eq!(clue_of("@misc{a, crossref = {pra08}} @misc{pra2008}", "pra08").1, "write `crossref = {pra2008}`");
+        assert_eq!(clue_of("@misc{k}", "nothing"), (String::new(), String::new()));
+        assert_eq!(clue_of("@misc{k}", "").1, "write a key in the empty `\\cite{}`, or take it out");
     }
 
     #[test]
     fn a_database_that_is_not_there_is_named() {
         let mut files = files("@misc{k}");
         files.all.push(File { name: b"gone.bib".to_vec(), bytes: None, path: Vec::new() });
-        let told = told(&Entries::new(&files), &files, None, b"kk");
-        assert_eq!(told.place.as_deref(), Some("it may stand in gone.bib, which wasn't found"));
+        let clue = clue(&Entries::new(&files), &files, None, b"kk");
+        assert_eq!(clue.place.as_deref(), Some("it may stand in gone.bib, which wasn't found"));
     }
 
     #[test]
     fn an_entry_is_found_where_it_is_not_read() {
-        let (place, advice) = told_of("@misc{k}\narticle{a, x = 1}\n", "a");
+        let (place, advice) = clue_of("@misc{k}\narticle{a, x = 1}\n", "a");
         assert_eq!(
             (place, advice),
             ("`a` stands at d.bib:2, in text that isn't read".into(), Seen::NoAtSign.with(&[]))
         );
-        let (place, advice) = told_of("@misc{k}\n@misc{, x = 1}\n", "other");
+        let (place, advice) = clue_of("@misc{k}\n@misc{, x = 1}\n", "other");
         assert_eq!(place, "the @misc that begins at d.bib:2 has no key: is it that one?");
         assert_eq!(advice, "write the key into it: `@misc{other,`");
         for field in ["author={Smith}", "author = {Smith}"] {
-            let (place, advice) = told_of(&format!("@misc{{k}}\n@misc{{\n {field},\n x = 1}}\n"), "smith");
+            let (place, advice) = clue_of(&format!("@misc{{k}}\n@misc{{\n {field},\n x = 1}}\n"), "smith");
             assert_eq!(place, "the @misc that begins at d.bib:2 has no key: is it that one?");
             assert_eq!(advice, "write the key into it: `@misc{smith,`");
         }
@@ -430,26 +430,26 @@ mod tests {
     #[test]
     fn an_entry_is_found_in_a_record_of_ris() {
         let text = "@misc{k}\n\nTY  - JOUR\nID  - weir2014\nER  - \nID  - other\n";
-        let (place, advice) = told_of(text, "Weir2014");
+        let (place, advice) = clue_of(text, "Weir2014");
         assert_eq!(place, "`Weir2014` stands at d.bib:4, in a record of RIS (from line 3), which isn't read");
         assert_eq!(advice, Seen::RecordIsRis.with(&[]));
-        assert_eq!(told_of(text, "other"), (String::new(), String::new()));
-        assert_eq!(told_of("ID  - weir2014\n@misc{k}\n", "weir2014"), (String::new(), String::new()));
+        assert_eq!(clue_of(text, "other"), (String::new(), String::new()));
+        assert_eq!(clue_of("ID  - weir2014\n@misc{k}\n", "weir2014"), (String::new(), String::new()));
     }
 
     #[test]
     fn keys_are_parted_by_commas() {
-        let advice = |key: &str| told_of("@misc{a1} @misc{b}", key).1;
+        let advice = |key: &str| clue_of("@misc{a1} @misc{b}", key).1;
         assert_eq!(advice("a1;b"), "write `a1,b` in the `\\cite`, with a comma between two keys, and run LaTeX");
         assert_eq!([advice("no;no"), advice("a1;")].map(|advice| advice.contains("comma")), [false; 2]);
     }
 
     #[test]
     fn nothing_is_found_where_no_entry_is() {
-        assert_eq!(told_of("", "a"), ("no entry stands in d.bib".into(), String::new()));
-        assert_eq!(told_of("TY  - JOUR\n", "a").1, Seen::FileIsRis.with(&["d.bib"]));
+        assert_eq!(clue_of("", "a"), ("no entry stands in d.bib".into(), String::new()));
+        assert_eq!(clue_of("TY  - JOUR\n", "a").1, Seen::FileIsRis.with(&["d.bib"]));
         let none = Files { top: b"job.aux".to_vec(), all: Vec::new() };
-        assert_eq!(told(&Entries::new(&none), &none, None, b"a").place.as_deref(), Some("no database is named"));
+        assert_eq!(clue(&Entries::new(&none), &none, None, b"a").place.as_deref(), Some("no database is named"));
         assert!(is_lost(&Entries::new(&none), &none, b"a") && !is_lost(&Entries::new(&none), &none, b""));
     }
 
@@ -478,8 +478,8 @@ mod tests {
         }
     }
 
-    fn place_of(told: Option<Told>) -> Option<String> {
-        told.and_then(|told| told.place)
+    fn place_of(clue: Option<Clue>) -> Option<String> {
+        clue.and_then(|clue| clue.place)
     }
 
     #[test]
@@ -490,15 +490,15 @@ mod tests {
             meant_field(style.as_bytes(), entries.entry(b"k").unwrap(), warning.as_bytes()).unwrap()
         };
         let style = "ENTRY {journal booktitle year}{}{}";
-        let told = meant("@misc{k,\n journal\u{A0} = {J}}", style, "empty journal in k");
+        let clue = meant("@misc{k,\n journal\u{A0} = {J}}", style, "empty journal in k");
         assert_eq!(
-            told.place.as_deref(),
+            clue.place.as_deref(),
             Some("the name of its field `journal\u{A0}` has a no-break space (U+00A0) (d.bib:2)")
         );
-        let told = meant("@misc{k, date = {2016-01-28}}", style, "empty year in k");
-        assert_eq!(told.advice, Some(Seen::OfBiblatexDate.with(&["2016"])));
-        let told = meant("@misc{k,\n journal = {J}}", style, "empty booktitle in k");
-        assert_eq!(told.place.as_deref(), Some("it has `journal`: is it `booktitle`? (d.bib:2)"));
+        let clue = meant("@misc{k, date = {2016-01-28}}", style, "empty year in k");
+        assert_eq!(clue.advice, Some(Seen::OfBiblatexDate.with(&["2016"])));
+        let clue = meant("@misc{k,\n journal = {J}}", style, "empty booktitle in k");
+        assert_eq!(clue.place.as_deref(), Some("it has `journal`: is it `booktitle`? (d.bib:2)"));
     }
 
     #[test]
