@@ -41,8 +41,8 @@ fn kind_number(kind: LineKind) -> u32
 fn met_number(about: &About<'_>) -> u32 {
     match about {
         About::Files => 0,
-        About::Style => 1,
-        About::Databases => 2,
+        About::Style(_) => 1,
+        About::Databases(_) => 2,
         About::Execution(_) => 3,
         About::End => 4,
     }

@@ -34,7 +34,7 @@ pub use law::{
     meaning_is_unique, steps_law, worked_bodies_come_to_this, worked_reports_are_written_so,
 };
 pub use log_sink::LogSink;
-pub use notebook::{About, Executed, Notebook, Unnoted};
+pub use notebook::{About, Executed, Notebook, Standing, Unnoted};
 pub use noted_log::NotedLog;
 pub use report::{End, LogCounts, Report};
 pub use run::execute_style;

@@ -3,28 +3,47 @@ ghost use Rattle.std.specs.Prelude.{◌∷◌, [], List, Option, None};
 ghost use Rattle.btx_text.specs.language.LogLines.{Line};
 ghost use Rattle.btx_machine.specs.laws.Noting.{AddsLines};
 
+use crate::marks::Marks;
+use btx_bib::SourcePosition;
+use btx_bst::Style;
+use btx_code::Code;
 use btx_text::LogLine;
 
+/// Where a style stands while a token of it is executed.
+#[derive(Clone, Copy)]
+pub struct Standing<'e> {
+    /// The code of the style.
+    pub code: &'e Code,
+    /// The place of the code after the token: of a loop's test that after its `while$`, and the end of the code where a command runs its function itself.
+    pub place: usize,
+    /// What is open around the token.
+    pub marks: &'e Marks,
+}
+
 /// What is executed where a message is met.
-#[derive(Clone, Copy, Debug)]
+#[derive(Clone, Copy)]
 pub struct Executed<'e> {
+    /// The style that is executed.
+    pub style: &'e Style<'e>,
     /// The name of the function that is executed, or the word of the command whose function has ended.
     pub name: &'e [u8],
     /// The number of the current entry, if there is one.
     pub entry: Option<usize>,
     /// The key of the current entry, if there is one.
     pub key: Option<&'e [u8]>,
+    /// Where the style stands. None where a command's function has ended.
+    pub standing: Option<Standing<'e>>,
 }
 
 /// Where a message of a log is met.
-#[derive(Clone, Copy, Debug)]
+#[derive(Clone, Copy)]
 pub enum About<'e> {
     /// In the `.aux` files, or where the style and the databases are looked for.
     Files,
-    /// In the text of the style.
-    Style,
-    /// In the databases.
-    Databases,
+    /// In the text of this style.
+    Style(&'e Style<'e>),
+    /// In the databases, and the place that the message is about, if it is about one.
+    Databases(Option<&'e SourcePosition<'e>>),
     /// While the style is executed.
     Execution(Executed<'e>),
     /// At the end of the run, whose report the line gives.

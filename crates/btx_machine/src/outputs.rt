@@ -10,9 +10,9 @@ ghost use Rattle.btx_machine.specs.refinement.Saying.{current_key, wrote, pendin
 
 use crate::journal::Journal;
 use crate::log_sink::LogSink;
-use crate::notebook::{About, Executed};
+use crate::notebook::{About, Executed, Standing};
 use crate::report::{LogCounts, Report};
-use btx_bib::Message;
+use btx_bib::{Message, SourcePosition};
 use btx_out::{Breaker, LineLength, Sink};
 use btx_step::lines::line_of;
 use btx_step::{Job, Note, StepOutput};
@@ -92,13 +92,14 @@ impl<'s, W: Sink, L: LogSink> Outputs<'s, W, L> {
         self.log.counts()
     }
 
-    /// Writes and logs what `said` has, which came of the function named `executed`, in the entry `current` if there is one.
+    /// Writes and logs what `said` has, which came of the function named `executed` where the style stands so, in the entry `current` if there is one.
     pub fn say(
         &mut self,
         alloc: Global,
         job: &Job<'_>,
         executed: &[u8],
         current: Option<usize>,
+        standing: Option<Standing<'_>>,
         said: StepOutput<'_>,
     ) -> Result<(), Fault>
         requires { Writes self.old }
@@ -116,6 +117,7 @@ impl<'s, W: Sink, L: LogSink> Outputs<'s, W, L> {
                 job,
                 executed,
                 current,
+                standing,
                 notes.as_slice(),
             ),
         }
@@ -143,13 +145,14 @@ impl<'s, W: Sink, L: LogSink> Outputs<'s, W, L> {
         self.breaker.newline(self.bbl)
     }
 
-    // Logs what is noted while a function of this name is executed.
+    // Logs what is noted while a function of this name is executed and the style stands so.
     fn note_all(
         &mut self,
         alloc: Global,
         job: &Job<'_>,
         executed: &[u8],
         current: Option<usize>,
+        standing: Option<Standing<'_>>,
         notes: &[Note<'_>],
     ) -> Result<(), Fault>
         ensures ok { OnOk result (Becomes self.old self.new (λ out. lines_logged (note_lines job.now executed.now current notes.now) out)) }
@@ -158,13 +161,16 @@ impl<'s, W: Sink, L: LogSink> Outputs<'s, W, L> {
         ensures counts { CountsOfBoth result self.old self.new }
     {
         let key = key_at(job, current);
+        let style = job.style();
         let about = About::Execution(Executed {
+            style,
             name: executed,
             entry: current,
             key,
+            standing,
         });
         for note in notes {
-            let line = line_of(alloc, job.style(), executed, key, note)?;
+            let line = line_of(alloc, style, executed, key, note)?;
             self.log_one(&line, about)?;
         }
         Ok(())
@@ -179,7 +185,7 @@ impl<'s, W: Sink, L: LogSink> Outputs<'s, W, L> {
     {
         for message in messages {
             let line = message.log_line(alloc)?;
-            self.log_one(&line, About::Databases)?;
+            self.log_one(&line, About::Databases(position_of(message)))?;
         }
         Ok(())
     }
@@ -228,5 +234,17 @@ fn key_at<'a>(job: &Job<'a>, current: Option<usize>) -> Option<&'a [u8]>
     match current {
         Some(entry) => Some(job.key(entry)),
         None => None,
+    }
+}
+
+// The place of a database that a message is about, if it is about one.
+fn position_of<'m>(message: &'m Message<'m>) -> Option<&'m SourcePosition<'m>> {
+    match message {
+        Message::Wrong(_, position)
+        | Message::UnknownKind(_, position)
+        | Message::ExtraField(_, _, position)
+        | Message::UndefinedString(_, position)
+        | Message::OwnString(_, position) => Some(position),
+        Message::BadReference(_, _) | Message::NestedReference(_, _) | Message::NoEntry(_) => None,
     }
 }

@@ -9,7 +9,7 @@ pub mod runner;
 
 pub use btx_aux::{FetchFault, Fetched, Finder, History, MemoryFinder};
 pub use btx_core::Options;
-pub use btx_machine::{About, End, Executed, Notebook, Report, Unnoted};
+pub use btx_machine::{About, End, Executed, Notebook, Report, Standing, Unnoted};
 pub use btx_out::{LineLength, Over, Sink, SinkFault};
 pub use btx_step::KeptBytes;
 pub use btx_text::{Limit, TextMode};

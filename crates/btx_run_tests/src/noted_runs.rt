@@ -50,8 +50,8 @@ impl Kept {
         let place = match about {
             About::Execution(executed) => return self.keep_executed(&executed),
             About::Files => b'F',
-            About::Style => b'S',
-            About::Databases => b'D',
+            About::Style(_) => b'S',
+            About::Databases(_) => b'D',
             About::End => b'E',
         };
         Ok(self.places.push(place)?)
