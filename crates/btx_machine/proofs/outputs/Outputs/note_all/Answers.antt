@@ -30,7 +30,7 @@ loop-note-preserved g c = record {
       (note_lines c.args.job.now c.args.executed.now c.args.current (drop (c.loop-note.note-index + 1) c.args.notes.now))
       (note_lines c.args.job.now c.args.executed.now c.args.current c.args.notes.now)
       (noting_at c.args.job.now c.args.executed.now c.args.current c.args.notes.now c.loop-note.note-index c.note-item.result c.note-item.is (omega arith)
-      c.in_ok-line.line c.style.result.now c.style.ensures _ c.key_at-key.ensures c.in_ok-line.ensures) c.loop-note.invariant.same
+      c.in_ok-line.line c.style-style.result.now c.style-style.ensures _ c.key_at-key.ensures c.in_ok-line.ensures) c.loop-note.invariant.same
       c.in_ok-log_one.ensures.ok;
 }
 
@@ -42,7 +42,7 @@ returns-in_err-log_one-clause-err g c =
     (note_lines c.args.job.now c.args.executed.now c.args.current (drop (c.loop-note.note-index + 1) c.args.notes.now))
     (note_lines c.args.job.now c.args.executed.now c.args.current c.args.notes.now)
     (noting_at c.args.job.now c.args.executed.now c.args.current c.args.notes.now c.loop-note.note-index c.note-item.result c.note-item.is (omega arith)
-    c.in_ok-line.line c.style.result.now c.style.ensures _ c.key_at-key.ensures c.in_ok-line.ensures) c.loop-note.invariant.same
+    c.in_ok-line.line c.style-style.result.now c.style-style.ensures _ c.key_at-key.ensures c.in_ok-line.ensures) c.loop-note.invariant.same
     c.in_err-log_one.ensures.err)
 
 pub returns-clause-ok : goal.returns-clause-ok
