@@ -8,7 +8,7 @@ use crate::database::{Folded, Inside, Item};
 use crate::document::{Document, Named, job_that_includes};
 use crate::doubts::is_suffix;
 use crate::entries::{Entries, Stored};
-use crate::hints::{functions_above_read, is_usual_type, loop_without_end};
+use crate::hints::{is_usual_type, loop_without_end};
 use crate::job::{File, Files};
 use crate::log::{Content, Ended, Line, Log, Message, Place, Severity};
 use crate::missing_entry::{self, lost_fields, meant_field, meant_string};
@@ -331,10 +331,10 @@ impl<'a, W: Write> Explainer<'a, W> {
 
     /// What the run doesn't log of the entries that are cited.
     fn unsaid(&mut self) -> io::Result<()> {
-        let style = self.sources.style().and_then(|file| file.bytes.as_deref()).unwrap_or(b"");
+        let style = self.sources.style_names();
         let (strings, files, terminal) = (self.known_strings(), self.files, self.terminal);
         let document = self.document();
-        let unsaid = Unsaid::new(self.entries(), files, style, &strings, document.as_ref().as_ref());
+        let unsaid = Unsaid::new(self.entries(), files, &style, &strings, document.as_ref().as_ref());
         let (more, unread) = (unsaid.more(), unsaid.unread());
         let shown: Vec<(Vec<String>, String)> =
             unsaid.shown().into_iter().map(|shown| (shown.lines(terminal), shown.advice)).collect();
@@ -552,9 +552,10 @@ impl<'a, W: Write> Explainer<'a, W> {
     }
 
     /// Whether the style has a function for entries whose type it doesn't know; None where the style isn't there.
-    fn has_default_type(&self) -> Option<bool> {
-        let style = self.files.with_ending(".bst").next()?.bytes.as_deref()?;
-        Some(functions_above_read(style).any(|name| name.eq_ignore_ascii_case(DEFAULT_TYPE)))
+    fn has_default_type(&mut self) -> Option<bool> {
+        self.sources.style()?.bytes.as_deref()?;
+        let style = self.sources.style_names();
+        Some(style.functions_above_read().any(|name| name.eq_ignore_ascii_case(DEFAULT_TYPE)))
     }
 
     /// A line of a file, and a mark below the part of it that a message is about.
@@ -859,8 +860,8 @@ impl<'a, W: Write> Explainer<'a, W> {
     fn misnamed_type(&mut self, message: &[u8], item: &Item<'a>) -> Option<String> {
         let is_it = message.starts_with(b"entry type for ") && is_usual_type(item.kind);
         let style = self.sources.style().filter(|_| is_it)?;
-        let name =
-            nearest(item.kind, functions_above_read(style.bytes.as_deref()?)).filter(|name| !is_usual_type(name))?;
+        let near = nearest(item.kind, self.sources.style_names().functions_above_read());
+        let name = near.filter(|name| !is_usual_type(name))?;
         let (text, commands) = (self.sources.text(&style.name)?, self.sources.commands(&style.name));
         let command = commands.iter().find(|command| command.is("function") && command.name == Some(name))?;
         let at = format!("{}:{}", plain(shown_path(style)), text.line_of(command.start));
@@ -945,8 +946,8 @@ impl<'a, W: Write> Explainer<'a, W> {
     /// The name that may be meant by a type or a string that isn't known.
     fn meant_by(&mut self, text: &[u8], item: &Item<'a>) -> Option<Vec<u8>> {
         if text.starts_with(b"entry type for ") {
-            let style = self.sources.style()?.bytes.as_deref()?;
-            return nearest(item.kind, functions_above_read(style)).map(|name| [b"@", name].concat());
+            let style = self.sources.style_names();
+            return nearest(item.kind, style.functions_above_read()).map(|name| [b"@", name].concat());
         }
         let name = between(text, b"string name \"", b"\" is undefined")?;
         meant_string(name, &self.known_strings()).map(<[u8]>::to_vec)
@@ -1261,9 +1262,9 @@ impl<'a, W: Write> Explainer<'a, W> {
 
     /// What of an entry is lost, where a style's warning may come from that, and what to do: a field of another name, or text after its end.
     fn lost_of(&mut self, key: &[u8], warning: &[u8]) -> (Vec<String>, Option<String>) {
-        let style = self.sources.style().and_then(|file| file.bytes.as_deref()).unwrap_or(b"");
+        let style = self.sources.style_names();
         let Some(stored) = self.entries().entry(key) else { return (Vec::new(), None) };
-        let (meant, lost) = (meant_field(style, stored, warning).unwrap_or_default(), lost_fields(stored));
+        let (meant, lost) = (meant_field(&style, stored, warning).unwrap_or_default(), lost_fields(stored));
         ([meant.place, lost].into_iter().flatten().collect(), meant.advice)
     }
 

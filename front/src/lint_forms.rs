@@ -14,13 +14,6 @@ use crate::style_check::StyleCheck;
 use crate::terminal::{Terminal, plain};
 use std::io::{self, Write};
 
-/// A style with all that was found of it.
-pub struct Linted {
-    pub check: StyleCheck,
-    /// For which types of entries that is said, where anything is said of the whole style.
-    pub types: Option<Types>,
-}
-
 /// The path of the style, as it is to be shown.
 pub fn path_of(check: &StyleCheck) -> String {
     check.files.with_ending(".bst").next().map(|file| plain(explain::shown_path(file))).unwrap_or_default()
@@ -35,8 +28,8 @@ pub fn code_of(check: &StyleCheck) -> Code<'_> {
 // ---- for people ----
 
 /// Writes what is found of a style: what is wrong in its text, where a run may go wrong, hints, and the verdict.
-pub fn write_for_people(linted: &Linted, terminal: &Terminal, out: &mut impl Write) -> io::Result<()> {
-    let (check, path) = (&linted.check, path_of(&linted.check));
+pub fn write_for_people(check: &StyleCheck, terminal: &Terminal, out: &mut impl Write) -> io::Result<()> {
+    let path = path_of(check);
     if check.messages.count > 0 {
         explain::write(&Log::new(&check.messages.log), &check.files, Part::Mistakes, terminal, out)?;
     }
@@ -48,7 +41,7 @@ pub fn write_for_people(linted: &Linted, terminal: &Terminal, out: &mut impl Wri
         writeln!(out, "{path}:{}: hint: {}", hint.line, hint.text)?;
     }
     write_verdict(&style, check, out)?;
-    if let Some(uncovered) = types_said(linted).and_then(Types::uncovered_text) {
+    if let Some(uncovered) = check.types().and_then(Types::uncovered_text) {
         writeln!(out, "    not covered: {uncovered}")?;
     }
     write_ends(&path, check, out)?;
@@ -70,11 +63,6 @@ fn write_constants(style: &Style<'_, '_>, check: &StyleCheck, out: &mut impl Wri
         writeln!(out, "    do: {}", constant.advice)?;
     }
     Ok(())
-}
-
-/// For which types of entries the verdict is; None where it says nothing of the whole style.
-pub fn types_said(linted: &Linted) -> Option<&Types> {
-    linted.types.as_ref().filter(|_| matches!(linted.check.word(), "clean" | "warnings"))
 }
 
 fn write_verdict(style: &Style<'_, '_>, check: &StyleCheck, out: &mut impl Write) -> io::Result<()> {

@@ -2,9 +2,9 @@
 
 use crate::btx::{self, MemoryRefused, Verdict};
 use crate::database::Folded;
-use crate::hints::functions_above_read;
 use crate::style_check::usual_steps;
-use crate::style_text::{Command, commands};
+use crate::style_read::StyleNames;
+use crate::style_text::Command;
 use crate::terminal::plain;
 use std::collections::HashSet;
 
@@ -21,28 +21,31 @@ pub struct Types {
 }
 
 /// What the checker takes as types in a style that has this text and this verdict. None where nothing is said of the whole style.
-pub fn types_of(name: &[u8], text: &[u8], verdict: &Option<Verdict>) -> Result<Option<Types>, MemoryRefused> {
+pub fn types_of(
+    name: &[u8],
+    style: &StyleNames<'_>,
+    verdict: &Option<Verdict>,
+) -> Result<Option<Types>, MemoryRefused> {
     let taken = match verdict {
         Some(Verdict::Clean { types, .. }) => types.clone(),
-        Some(Verdict::Warnings(_)) => match btx::check(name, &without_runs(text), usual_steps(text) / PART)? {
+        Some(Verdict::Warnings(_)) => match btx::check(name, &without_runs(style), usual_steps(style) / PART)? {
             Some(Verdict::Clean { types, .. }) => types,
             _ => return Ok(None),
         },
         _ => return Ok(None),
     };
     let known: HashSet<Folded<'_>> = taken.iter().map(|name| Folded(name)).collect();
-    let uncovered = functions_above_read(text).filter(|name| !known.contains(&Folded(name))).map(<[u8]>::to_vec);
-    let uncovered = uncovered.collect();
+    let uncovered = style.functions_above_read().filter(|name| !known.contains(&Folded(name)));
+    let uncovered = uncovered.map(<[u8]>::to_vec).collect();
     Ok(Some(Types { taken, uncovered }))
 }
 
 /// A style's text without its commands EXECUTE, ITERATE and REVERSE. Such a style is clean, and which of its functions are taken as types doesn't
 /// depend on its commands.
-fn without_runs(text: &[u8]) -> Vec<u8> {
-    let mut rest = text.to_vec();
-    let commands = commands(text);
+fn without_runs(style: &StyleNames<'_>) -> Vec<u8> {
+    let (text, mut rest) = (style.bytes, style.bytes.to_vec());
     let is_run = |command: &&Command<'_>| ["execute", "iterate", "reverse"].iter().any(|word| command.is(word));
-    for command in commands.iter().filter(is_run) {
+    for command in style.commands.iter().filter(is_run) {
         let close = text[command.start..].iter().position(|byte| *byte == b'}');
         let end = close.map_or(text.len(), |close| command.start + close + 1);
         rest[command.start..end].fill(b' ');
@@ -87,7 +90,7 @@ mod tests {
     /// The types of a style, by the names of what is taken and of what isn't covered.
     fn types(style: &str) -> Option<Types> {
         let verdict = btx::check(b"s.bst", style.as_bytes(), 10_000).unwrap();
-        types_of(b"s.bst", style.as_bytes(), &verdict).unwrap()
+        types_of(b"s.bst", &StyleNames::new(style.as_bytes()), &verdict).unwrap()
     }
 
     #[test]
@@ -96,7 +99,7 @@ mod tests {
         let wanted = Some(Types { taken: names(&["misc"]), uncovered: names(&["lab", "a.b", "default.type"]) });
         assert_eq!(types(STYLE), wanted);
         assert_eq!(types(&STYLE.replace("title write$", "cite$ write$")), wanted);
-        assert_eq!(types_of(b"s.bst", STYLE.as_bytes(), &None), Ok(None));
+        assert_eq!(types_of(b"s.bst", &StyleNames::new(STYLE.as_bytes()), &None), Ok(None));
     }
 
     #[test]
