@@ -50,6 +50,9 @@ const LONGEST_LINE: usize = 2_000;
 /// For how many columns at least lines are broken at spaces.
 const NARROWEST: usize = 20;
 
+/// What is said of a line of an `.aux` file that isn't what an author edits.
+const OF_CITE: &str = "(LaTeX writes this line for a `\\cite` in the document)";
+
 const INDENT: &str = "    ";
 /// How a line begins that goes on with the one above it.
 const CONTINUED: &str = "      ";
@@ -146,6 +149,14 @@ impl Explained {
     }
 }
 
+/// A command of a style that is executed for an entry, or for none: the stack is empty before it.
+#[derive(Debug, Clone, Copy, PartialEq, Eq)]
+struct Visit<'a> {
+    entry: Option<&'a [u8]>,
+    /// The command's line.
+    command: usize,
+}
+
 /// Explains the lines of a log.
 struct Explainer<'a, W: Write> {
     files: &'a Files,
@@ -184,10 +195,14 @@ struct Explainer<'a, W: Write> {
     first_of_style: Option<String>,
     /// The line of the last message, if it is one of a style.
     last_of_style: usize,
+    /// Where the stack was empty, if that is the last error of the stack that was explained.
+    emptied: Option<Visit<'a>>,
     /// What was said last of a brace that is missing, or of one too many.
     said_of_braces: Option<String>,
     /// How many lines that are no messages stand directly above.
     others: u64,
+    /// What was said last to do: messages that follow from one mistake may have the same advice, which is given once.
+    last_advice: String,
     /// What was said to do about the line, where that is wanted apart.
     advice: Option<Vec<String>>,
     out: W,
@@ -221,8 +236,10 @@ impl<'a, W: Write> Explainer<'a, W> {
             code: None,
             first_of_style: None,
             last_of_style: 0,
+            emptied: None,
             said_of_braces: None,
             others: 0,
+            last_advice: String::new(),
             advice: None,
             out,
         }
@@ -246,7 +263,12 @@ impl<'a, W: Write> Explainer<'a, W> {
         self.indented(text).iter().try_for_each(|line| self.coloured(PLACE_COLOUR, line))
     }
 
+    /// What to do about the message; nothing where that was said of the one before.
     fn put_advice(&mut self, text: &str) -> io::Result<()> {
+        if self.last_advice == text {
+            return Ok(());
+        }
+        self.last_advice = text.to_string();
         if let Some(advice) = &mut self.advice {
             advice.push(text.to_string());
         }
@@ -990,7 +1012,7 @@ impl<'a, W: Write> Explainer<'a, W> {
 
     // ---- the execution of a style ----
 
-    fn executed(&mut self, message: &Message<'a>, function: &'a [u8], entry: Option<&[u8]>) -> io::Result<()> {
+    fn executed(&mut self, message: &Message<'a>, function: &'a [u8], entry: Option<&'a [u8]>) -> io::Result<()> {
         let shown = entry.and_then(|key| self.line_of_names(message.text, key));
         let lacked = entry.and_then(|key| self.lacked_field(message, function, key));
         if shown.is_some() || lacked.is_some() {
@@ -1003,10 +1025,31 @@ impl<'a, W: Write> Explainer<'a, W> {
         if let Some(missing) = self.missing_field(message, function) {
             self.put_place(&missing)?;
         }
+        self.put_origin(message, entry)?;
         self.teach(message, function)?;
         match self.advice_at(message, function) {
             Some(advice) => self.put_advice(&advice),
             None => self.advise(&[Section::Execution], message.text),
+        }
+    }
+
+    /// From which error above one of the stack may follow: one of the style's text, or an empty stack for the same entry.
+    fn put_origin(&mut self, message: &Message<'a>, entry: Option<&'a [u8]>) -> io::Result<()> {
+        const EMPTY: &[u8] = b"You can't pop an empty literal stack";
+        const LEFT: &[u8] = b"The literal stack isn't empty";
+        if message.text != EMPTY && message.text != LEFT {
+            return Ok(());
+        }
+        let command = message.scene.map_or(0, |scene| scene.callers.last().unwrap_or(&scene.at).line);
+        let visit = Visit { entry, command };
+        let is_behind_empty = self.emptied == Some(visit);
+        self.emptied = Some(visit).filter(|_| message.text == EMPTY);
+        match &self.first_of_style {
+            Some(place) => self.put_place(&format!("this may follow from the error above at {place}")),
+            None if is_behind_empty => {
+                self.put_place("this may follow from the error above, where the stack was empty")
+            }
+            None => Ok(()),
         }
     }
 
@@ -1330,8 +1373,9 @@ impl<'a, W: Write> Explainer<'a, W> {
             return Ok(());
         }
         if let Some(named) = self.sources.names().key(key) {
-            let spot = self.sources.spot_of_name(named, key.len());
-            return spot.map_or(Ok(()), |spot| self.show_line(&spot));
+            let Some(spot) = self.sources.spot_of_name(named, key.len()) else { return Ok(()) };
+            self.show_line(&spot)?;
+            return self.put_place_once(OF_CITE);
         }
         let Some((database, end)) = self.entries().parent(key) else { return Ok(()) };
         let (file, number) = (database.file, database.text.line_of(end.saturating_sub(1)));

@@ -56,28 +56,33 @@ fn without_runs(style: &StyleNames<'_>) -> Vec<u8> {
 impl Types {
     /// In words, entries of which types aren't covered.
     pub fn uncovered_text(&self) -> Option<String> {
+        let which = match &self.uncovered[..] {
+            [] => return None,
+            [_] => "of this function, which stands above READ and isn't taken as a type",
+            _ => "of one of these functions, which stand above READ and aren't taken as types",
+        };
+        Some(format!("entries whose type has the name {which}: {}", self.uncovered_names()))
+    }
+
+    /// The names of functions that aren't covered. Most styles have many helpers with a dot in their names, of which one is an example.
+    fn uncovered_names(&self) -> String {
         let (dotted, bare): (Vec<&Vec<u8>>, Vec<&Vec<u8>>) =
             self.uncovered.iter().partition(|name| name.contains(&b'.'));
-        let mut parts: Vec<String> = Vec::new();
-        if !bare.is_empty() {
-            let names: Vec<String> = bare.iter().map(|name| plain(name)).collect();
-            parts.push(format!("of the type{} {}", plural(names.len()), names.join(", ")));
+        let mut names: Vec<String> = bare.iter().map(|name| plain(name)).collect();
+        match &dotted[..] {
+            [] => {}
+            [one] => names.push(plain(one)),
+            [first, ..] => {
+                names.push(format!("{} with a dot in their names, such as {}", dotted.len(), plain(first)));
+            }
         }
-        if !dotted.is_empty() {
-            let its = if dotted.len() == 1 { "its name" } else { "their names" };
-            parts.push(format!("of {} type{} with a dot in {its}", dotted.len(), plural(dotted.len())));
+        match names.split_last() {
+            Some((last, others)) if dotted.len() > 1 && !others.is_empty() => {
+                format!("{}, and {last}", others.join(", "))
+            }
+            _ => names.join(", "),
         }
-        let why = match self.uncovered.len() {
-            0 => return None,
-            1 => "this function stands above READ and isn't taken as a type",
-            _ => "these functions stand above READ and aren't taken as types",
-        };
-        Some(format!("entries {}: {why}", parts.join(", and ")))
     }
-}
-
-fn plural(count: usize) -> &'static str {
-    if count == 1 { "" } else { "s" }
 }
 
 #[cfg(test)]
@@ -109,12 +114,15 @@ mod tests {
             Types { taken: Vec::new(), uncovered }.uncovered_text()
         };
         assert_eq!(said(&[]), None);
-        let one = "entries of the type lab: this function stands above READ and isn't taken as a type";
-        assert_eq!(said(&["lab"]).as_deref(), Some(one));
-        let both = "entries of the types lab, mid, and of 1 type with a dot in its name: these functions stand above READ and aren't taken as types";
-        assert_eq!(said(&["lab", "a.b", "mid"]).as_deref(), Some(both));
-        let dotted =
-            "entries of 2 types with a dot in their names: these functions stand above READ and aren't taken as types";
-        assert_eq!(said(&["a.b", "c.d"]).as_deref(), Some(dotted));
+        let one = "entries whose type has the name of this function, which stands above READ and isn't taken as a type";
+        assert_eq!(said(&["lab"]), Some(format!("{one}: lab")));
+        assert_eq!(said(&["a.b"]), Some(format!("{one}: a.b")));
+        let each = "entries whose type has the name of one of these functions, which stand above READ and aren't taken as types";
+        assert_eq!(said(&["lab", "a.b", "mid"]), Some(format!("{each}: lab, mid, a.b")));
+        assert_eq!(
+            said(&["lab", "a.b", "mid", "c.d"]),
+            Some(format!("{each}: lab, mid, and 2 with a dot in their names, such as a.b"))
+        );
+        assert_eq!(said(&["a.b", "c.d"]), Some(format!("{each}: 2 with a dot in their names, such as a.b")));
     }
 }
