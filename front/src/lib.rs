@@ -21,7 +21,7 @@
 //! | [`text`], [`aux_text`], [`style_text`], [`database`] | the texts of files: their lines, and where an error stands in them |
 //! | [`sources`] | the files of a job as its messages speak of them |
 //! | [`shapes`] | a log in the original's shapes |
-//! | [`explain`], [`entries`], [`shown_line`], [`advice`] | what follows a message for its reader: where it stands, and what to do |
+//! | [`explain`] and its modules, [`entries`], [`shown_line`], [`advice`] | what follows a message for its reader: where it stands, and what to do |
 //! | [`mistakes`] | what an author did where a database can't be read on |
 //! | [`beside`] | which file may be meant by one that isn't there, and what a file is that isn't what its name says |
 //! | [`unsaid`], [`doubts`] | what no run logs of the cited entries |

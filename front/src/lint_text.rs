@@ -553,11 +553,8 @@ fn write_group(
     if let Some(spot) = first.spot() {
         style.write_line(spot, &first.next, out)?;
     }
-    let mut lines: Vec<usize> = group[1..].iter().map(|warning| warning.line()).collect();
-    lines.sort_unstable();
-    lines.dedup();
-    lines.retain(|line| *line != first.line());
-    write_lines("and", &lines, out)?;
+    let lines = group[1..].iter().map(|warning| warning.line()).filter(|line| *line != first.line());
+    write_lines("and", &lines.collect::<Vec<_>>(), out)?;
     let tied = ties.of(first);
     let advice = advice_behind(&tied, advice);
     let here = Above::of(first, &advice);
