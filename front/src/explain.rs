@@ -21,6 +21,7 @@ use self::page::Page;
 use self::styles::StyleMistakes;
 use self::warnings::StyleWarnings;
 use crate::advice::{self, Section};
+use crate::beside::what_is_odd;
 use crate::code_places::{Code, DEFAULT_TYPE};
 use crate::database::Item;
 use crate::document::Document;
@@ -102,6 +103,8 @@ struct Explainer<'a, W: Write> {
     document: Option<Rc<Option<Document>>>,
     /// The kinds of messages of which it was said what to do.
     advised: HashSet<usize>,
+    /// The files of which it was looked whether they are what their names say.
+    examined: HashSet<&'a [u8]>,
     /// Which messages were explained, and how many weren't.
     explained: Explained,
     styles: StyleMistakes<'a>,
@@ -125,6 +128,7 @@ impl<'a, W: Write> Explainer<'a, W> {
             entries: None,
             document: None,
             advised: HashSet::new(),
+            examined: HashSet::new(),
             explained: Explained::default(),
             styles: StyleMistakes::default(),
             databases: DatabaseMistakes::default(),
@@ -287,6 +291,12 @@ impl<'a, W: Write> Explainer<'a, W> {
             }
             _ => Ok(()),
         }
+    }
+
+    /// What a file is that isn't what its name says; once.
+    fn odd_file(&mut self, file: &'a File) -> Option<String> {
+        let odd = if self.examined.insert(&file.name) { what_is_odd(file) } else { None };
+        odd.filter(|odd| self.page.said.insert(odd.clone()))
     }
 
     /// Whether the style has a function for entries whose type it doesn't know; None where the style isn't there.

@@ -2,7 +2,6 @@
 
 use super::{Explainer, begins_item, between, shown_path};
 use crate::advice::Seen;
-use crate::beside;
 use crate::database::{Inside, Item};
 use crate::entries::Stored;
 use crate::hints::is_usual_type;
@@ -76,7 +75,7 @@ impl<'a, W: Write> Explainer<'a, W> {
 
     /// What to do about a message of a database, where its text shows what was meant.
     fn seen_in(&mut self, message: &Message<'a>, spot: &Spot<'a>, text: &Text<'a>, item: &Item<'a>) -> Option<String> {
-        let odd = beside::what_is_odd(spot.file).filter(|odd| self.page.said.insert(odd.clone()));
+        let odd = self.odd_file(spot.file);
         if odd.is_some() {
             self.databases.odd = Some((&spot.file.name, None));
             return odd;

@@ -2,7 +2,6 @@
 
 use super::{Explainer, MOST_OF_SCENE, shown_path};
 use crate::advice::{Section, Seen};
-use crate::beside;
 use crate::database::Folded;
 use crate::job::File;
 use crate::log::{Message, Place};
@@ -69,7 +68,7 @@ impl<'a, W: Write> Explainer<'a, W> {
         self.styles.last = spot.number;
         self.styles.first.get_or_insert_with(|| format!("{}:{}", plain(shown_path(spot.file)), spot.number));
         let (Some(text), commands) = (self.sources.text(style), self.sources.commands(style)) else { return Ok(()) };
-        if let Some(odd) = beside::what_is_odd(spot.file).filter(|odd| self.page.said.insert(odd.clone())) {
+        if let Some(odd) = self.odd_file(spot.file) {
             return self.page.put_advice(&odd);
         }
         let (start, end) = text.span(spot.number);
