@@ -2,6 +2,7 @@
 
 use crate::terminal::plain;
 use crate::text::split_first;
+use std::sync::LazyLock;
 
 /// Where messages come from. Two messages of one text may stand for two faults, one in each of two sections.
 #[derive(Debug, Clone, Copy, PartialEq, Eq)]
@@ -35,9 +36,9 @@ pub struct Advice<'a> {
 
 /// The advice for a message of one of these sections.
 pub fn find<'a>(sections: &[Section], text: &'a [u8]) -> Option<Advice<'a>> {
-    let may_fit = |(section, pattern, _): &Row| sections.contains(section) && may_match(pattern, text);
-    let rows = ROWS.iter().enumerate().filter(|(_, row)| may_fit(row));
-    let mut found = rows.filter_map(|(number, (_, pattern, _))| Some((number, matched(pattern, text)?)));
+    let rows = ROWS.iter().zip(ENDS.iter()).enumerate();
+    let fitting = rows.filter(|(_, ((section, ..), ends))| ends.may_match(text) && sections.contains(section));
+    let mut found = fitting.filter_map(|(number, ((_, pattern, _), _))| Some((number, matched(pattern, text)?)));
     found.next().map(|(number, names)| Advice { number, names })
 }
 
@@ -85,10 +86,25 @@ pub fn rows() -> &'static [Row] {
     ROWS
 }
 
-/// Whether a text begins as this pattern does, seen by the first byte.
-fn may_match(pattern: &str, text: &[u8]) -> bool {
-    let first = pattern.as_bytes().first();
-    matches!(first, Some(b'*' | b'~')) || first == text.first()
+/// What stands in a row's text before its first name, and after its last one. Each message is compared with all rows, so it is found once.
+struct Ends {
+    before: &'static [u8],
+    after: &'static [u8],
+}
+
+static ENDS: LazyLock<Vec<Ends>> = LazyLock::new(|| ROWS.iter().map(|(_, pattern, _)| Ends::of(pattern)).collect());
+
+impl Ends {
+    fn of(pattern: &'static str) -> Ends {
+        let before = pattern.split(['*', '~']).next().unwrap_or(pattern);
+        let after = pattern.rsplit(['*', '~']).next().unwrap_or(pattern);
+        Ends { before: before.as_bytes(), after: after.as_bytes() }
+    }
+
+    /// Whether a text begins and ends as the row's text does.
+    fn may_match(&self, text: &[u8]) -> bool {
+        text.starts_with(self.before) && text.ends_with(self.after)
+    }
 }
 
 /// The names (`*`) in a text that has this pattern. The first place that fits is taken for each piece of the pattern but the last, which

@@ -120,11 +120,6 @@ impl<'a> Code<'a> {
         Code { declared: declared(&text), assigned: assigned(bytes, &tokens), tokens, text }
     }
 
-    /// How many names the style declares.
-    pub fn names(&self) -> usize {
-        self.declared.len()
-    }
-
     /// What a style declares a name as.
     pub fn declared(&self, name: &[u8]) -> Option<Declared> {
         self.declared.get(&Folded(name)).map(|declaration| declaration.sort)

@@ -5,7 +5,8 @@ use crate::advice::{self, Section};
 use crate::btx::{self, Answer, MemoryRefused, Options, Rooms};
 use crate::job::{File, Files};
 use crate::log::{Content, Message, Severity};
-use crate::style_text::{Command, Kind, Token, Tokens, commands_among};
+use crate::style_read::StyleRead;
+use crate::style_text::Kind;
 use crate::terminal::plain;
 use crate::text::Text;
 use std::collections::HashMap;
@@ -57,23 +58,23 @@ struct Call {
 }
 
 /// The call of a function at this place of the tokens, if constants stand before it that can be tried.
-fn call_at(bytes: &[u8], tokens: &[Token], at: usize) -> Option<Call> {
-    let of = |token: &Token| &bytes[token.start..token.end];
-    let trial = TRIALS.iter().find(|trial| of(&tokens[at]).eq_ignore_ascii_case(trial.function.as_bytes()))?;
-    let before = tokens[..at].last().filter(|token| token.kind == trial.kind)?;
-    let constant = std::str::from_utf8(of(before)).ok()?;
+fn call_at(style: &StyleRead<'_>, at: usize) -> Option<Call> {
+    let name = style.of(&style.tokens[at]);
+    let trial = TRIALS.iter().find(|trial| name.eq_ignore_ascii_case(trial.function.as_bytes()))?;
+    let before = style.tokens[..at].last().filter(|token| token.kind == trial.kind)?;
+    let constant = std::str::from_utf8(style.of(before)).ok()?;
     let words = format!("{} {constant} {} pop$", trial.before, trial.function);
     Some(Call { start: before.start, words, function: trial.function })
 }
 
 /// The calls of a style's functions, each with the function in whose body it stands.
-fn calls<'a>(bytes: &[u8], tokens: &[Token], commands: &[Command<'a>]) -> Vec<(Call, &'a [u8])> {
+fn calls<'a>(style: &StyleRead<'a>) -> Vec<(Call, &'a [u8])> {
     let owner = |place: usize| {
-        let before = commands.partition_point(|command| command.start <= place);
-        commands[..before].last().filter(|command| command.is("function"))?.name
+        let before = style.names.commands.partition_point(|command| command.start <= place);
+        style.names.commands[..before].last().filter(|command| command.is("function"))?.name
     };
-    let names = (0..tokens.len()).filter(|at| tokens[*at].kind == Kind::Name);
-    let found = names.filter_map(|at| call_at(bytes, tokens, at));
+    let names = (0..style.tokens.len()).filter(|at| style.tokens[*at].kind == Kind::Name);
+    let found = names.filter_map(|at| call_at(style, at));
     found.filter_map(|call| Some((owner(call.start)?, call))).map(|(owner, call)| (call, owner)).collect()
 }
 
@@ -130,15 +131,13 @@ fn numbered(calls: &[(Call, &[u8])]) -> (HashMap<String, usize>, Vec<String>) {
 }
 
 /// The constants of a style that the functions after them can't take, in their order.
-pub fn constants(bytes: &[u8]) -> Result<Vec<Constant>, MemoryRefused> {
-    let tokens: Vec<Token> = Tokens::new(bytes).collect();
-    let commands = commands_among(bytes, tokens.iter().copied());
-    let calls = calls(bytes, &tokens, &commands);
+pub fn constants(style: &StyleRead<'_>) -> Result<Vec<Constant>, MemoryRefused> {
+    let calls = calls(style);
     let (numbers, different) = numbered(&calls);
     if different.is_empty() {
         return Ok(Vec::new());
     }
-    let (logged, text) = (logged(&different)?, Text::new(bytes));
+    let (logged, text) = (logged(&different)?, Text::new(style.names.bytes));
     let logs = |call: &Call| logged.get(numbers.get(&call.words)?);
     let found = calls.iter().filter_map(|(call, owner)| Some((call, owner, logs(call)?)));
     Ok(found.map(|(call, owner, logs)| constant_of(&text, call, owner, logs)).collect())
@@ -163,7 +162,7 @@ mod tests {
     use super::*;
 
     fn found(style: &str) -> Vec<(usize, usize, &'static str, String)> {
-        let found = constants(style.as_bytes()).unwrap();
+        let found = constants(&StyleRead::new(style.as_bytes())).unwrap();
         found.into_iter().map(|constant| (constant.line, constant.mark, constant.function, constant.text)).collect()
     }
 

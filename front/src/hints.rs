@@ -2,12 +2,13 @@
 //! that don't change what their test reads.
 
 use crate::advice::operands;
-use crate::code_places::DEFAULT_TYPE;
 use crate::database::Folded;
-use crate::style_text::{Command, Kind, Token, Tokens, commands, commands_among};
+use crate::style_read::{DeclaredName, Sort, StyleRead};
+use crate::style_text::{Command, Kind, Token};
 use crate::terminal::plain;
 use crate::text::Text;
 use std::collections::{HashMap, HashSet};
+use std::iter::Peekable;
 use std::ops::Range;
 
 /// A hint: the line of the name or of the loop, and what is to be said of it.
@@ -17,14 +18,6 @@ pub struct Hint {
     pub text: String,
     /// Whether it is about a loop, of which no verdict says that it ends.
     pub is_of_loop: bool,
-}
-
-/// What a name stands for.
-#[derive(Debug, Clone, Copy, PartialEq, Eq)]
-enum Sort {
-    Function,
-    Integer,
-    Text,
 }
 
 /// How a name is used.
@@ -45,72 +38,46 @@ impl Uses {
     }
 }
 
-/// A name that a style declares.
-struct Declared<'a> {
-    name: &'a [u8],
-    sort: Sort,
-    /// Where it stands.
-    start: usize,
-    /// Whether it is a function above READ: a run takes it as a type of entry.
-    is_type_to_a_run: bool,
-    /// Whether an entry's type may be meant by it: it is such a function without a dot, or `default.type`.
-    may_be_type: bool,
-}
-
-/// A style's text, read once.
-struct Read<'a> {
-    bytes: &'a [u8],
-    tokens: Vec<Token>,
-    commands: Vec<Command<'a>>,
-    /// In the order of the text.
-    declared: Vec<Declared<'a>>,
-}
-
-impl<'a> Read<'a> {
-    fn new(bytes: &'a [u8]) -> Read<'a> {
-        let tokens: Vec<Token> = Tokens::new(bytes).collect();
-        let commands = commands_among(bytes, tokens.iter().copied());
-        Read { declared: declared(bytes, &commands), bytes, tokens, commands }
-    }
-
-    /// A token's text.
-    fn of(&self, token: &Token) -> &'a [u8] {
-        of(self.bytes, token)
-    }
-}
-
-/// The hints for a style's text, in the order of its lines.
-pub fn hints(bytes: &[u8]) -> Vec<Hint> {
-    let (text, style) = (Text::new(bytes), Read::new(bytes));
-    let (none, uses) = (Uses::default(), uses(&style));
-    let found = style.declared.iter().filter_map(|declared| {
-        let said = said_of(declared, uses.get(&Folded(declared.name)).unwrap_or(&none))?;
-        Some(Hint { line: text.line_of(declared.start), text: said, is_of_loop: false })
+/// The hints for a style, in the order of its lines.
+pub fn hints(style: &StyleRead<'_>) -> Vec<Hint> {
+    let (text, uses) = (Text::new(style.names.bytes), uses(style));
+    let of_names = style.names.declared.iter().filter_map(|declared| {
+        let text_of = said_of(declared, &uses)?;
+        Some(Hint { line: text.line_of(declared.start), text: text_of, is_of_loop: false })
     });
-    let of_styles = of_sort(&style, &text, &uses).into_iter().chain(of_unused(&style, &text, &uses));
-    let others = of_pieces(&style, &text).into_iter().chain(of_loops(&style, &text)).chain(of_styles);
-    let mut hints: Vec<Hint> = found.chain(others).collect();
+    let of_styles = of_sort(style, &text, &uses).into_iter().chain(of_unused(style, &text, &uses));
+    let others = of_pieces(style, &text).into_iter().chain(of_loops(style, &text)).chain(of_styles);
+    let mut hints: Vec<Hint> = of_names.chain(others).collect();
     hints.sort_by_key(|hint| hint.line);
     hints
 }
 
-/// What is to be said of a name that is used so.
-fn said_of(declared: &Declared<'_>, uses: &Uses) -> Option<String> {
-    let name = plain(declared.name);
-    let is_unused = uses.taken + uses.quoted == 0;
+/// How the names of a style are used, by the names.
+type UsesOfNames<'a> = HashMap<Folded<'a>, Uses>;
+
+/// What is to be said of a name that a style declares.
+fn said_of(declared: &DeclaredName<'_>, uses: &UsesOfNames<'_>) -> Option<String> {
+    let never = match declared.sort {
+        Sort::Field => return None,
+        Sort::Function if declared.may_be_type => return None,
+        Sort::Function => "the function",
+        Sort::Integer | Sort::Text => "the variable",
+    };
+    let Some(uses) = uses.get(&Folded(declared.name)) else {
+        return Some(format!("{never} {} is never used", plain(declared.name)));
+    };
+    let name = || plain(declared.name);
     match declared.sort {
-        Sort::Function if is_unused && !declared.may_be_type => Some(format!("the function {name} is never used")),
-        Sort::Function => None,
-        _ if is_unused => Some(format!("the variable {name} is never used")),
-        _ if uses.taken == 0 => Some(format!("the variable {name} is assigned, and its value never used")),
-        Sort::Integer if uses.quoted == 0 => Some(format!("the integer {name} is always 0: nothing assigns to it")),
-        Sort::Integer if uses.is_always_0() => Some(format!("the integer {name} is always 0")),
+        Sort::Field | Sort::Function => None,
+        _ if uses.taken == 0 => Some(format!("the variable {} is assigned, and its value never used", name())),
+        Sort::Integer if uses.quoted == 0 => Some(format!("the integer {} is always 0: nothing assigns to it", name())),
+        Sort::Integer if uses.is_always_0() => Some(format!("the integer {} is always 0", name())),
         Sort::Integer | Sort::Text => None,
     }
 }
 
 /// The pieces of texts that are always empty: they have no byte, or start at 0, which is before the first one.
-fn of_pieces(style: &Read<'_>, text: &Text<'_>) -> Vec<Hint> {
+fn of_pieces(style: &StyleRead<'_>, text: &Text<'_>) -> Vec<Hint> {
     let is_integer = |token: &Token| token.kind == Kind::Integer;
     let value =
         |token: &Token| Some(token).filter(|token| is_integer(token)).and_then(|token| integer(style.of(token)));
@@ -133,41 +100,43 @@ fn of_pieces(style: &Read<'_>, text: &Text<'_>) -> Vec<Hint> {
 }
 
 /// Constants of a kind that the built-in function after them doesn't take, in functions that nothing uses: a check of runs doesn't come to these.
-fn of_unused(style: &Read<'_>, text: &Text<'_>, uses: &HashMap<Folded<'_>, Uses>) -> Vec<Hint> {
-    let is_unused = |declared: &&Declared<'_>| {
+fn of_unused(style: &StyleRead<'_>, text: &Text<'_>, uses: &UsesOfNames<'_>) -> Vec<Hint> {
+    let is_unused = |declared: &&DeclaredName<'_>| {
         declared.sort == Sort::Function && !declared.may_be_type && !uses.contains_key(&Folded(declared.name))
     };
-    let starts: HashSet<usize> = style.declared.iter().filter(is_unused).map(|declared| declared.start).collect();
-    let spans = spans_of(style)
-        .into_iter()
-        .filter(|span| style.tokens[span.clone()].iter().any(|token| starts.contains(&token.start)));
-    let said = |pair: &[Token]| {
-        let (constant, function) = (plain(style.of(&pair[0])), style.of(&pair[1]));
-        let takes = operands(function).filter(|_| pair[1].kind == Kind::Name)?;
-        let wanted = takes.rsplit(' ').next().unwrap_or(takes);
-        let is_other = match pair[0].kind {
-            Kind::Integer => ["TEXT", "CASE", "FORMAT", "CHARACTER", "NAMES", "FIELD"].contains(&wanted),
-            Kind::Text => ["NUMBER", "LENGTH"].contains(&wanted),
-            _ => false,
-        };
-        let said = format!(
-            "`{}` takes {takes}, pushed in this order, and gets {constant} as its {wanted}: no run shows that, since its function is never used",
-            plain(function)
-        );
-        is_other.then(|| Hint { line: text.line_of(pair[1].start), text: said, is_of_loop: false })
+    let mut starts = style.names.declared.iter().filter(is_unused).map(|declared| declared.start).peekable();
+    let mut spans = spans_of(style);
+    spans.retain(|span| stands_in(&mut starts, style.tokens[span.start - 1].start..style.tokens[span.end - 1].end));
+    let pairs = spans.into_iter().flat_map(|span| style.tokens[span].windows(2));
+    pairs.filter_map(|pair| of_constant(style, text, pair)).collect()
+}
+
+/// What is said of a constant and the token after it, if that is a built-in function which takes no such constant.
+fn of_constant(style: &StyleRead<'_>, text: &Text<'_>, pair: &[Token]) -> Option<Hint> {
+    let [constant, function] = pair else { return None };
+    let others: &[&str] = match constant.kind {
+        Kind::Integer => &["TEXT", "CASE", "FORMAT", "CHARACTER", "NAMES", "FIELD"],
+        Kind::Text => &["NUMBER", "LENGTH"],
+        _ => return None,
     };
-    spans.flat_map(|span| style.tokens[span].windows(2).filter_map(said).collect::<Vec<_>>()).collect()
+    let takes = operands(style.of(function)).filter(|_| function.kind == Kind::Name)?;
+    let wanted = takes.rsplit(' ').next().filter(|wanted| others.contains(wanted))?;
+    let (name, gets) = (plain(style.of(function)), plain(style.of(constant)));
+    let said = format!(
+        "`{name}` takes {takes}, pushed in this order, and gets {gets} as its {wanted}: no run shows that, since its function is never used"
+    );
+    Some(Hint { line: text.line_of(function.start), text: said, is_of_loop: false })
 }
 
 /// The hint on a style whose entries get keys to sort by, which nothing sorts by.
-fn of_sort(style: &Read<'_>, text: &Text<'_>, uses: &HashMap<Folded<'_>, Uses>) -> Option<Hint> {
+fn of_sort(style: &StyleRead<'_>, text: &Text<'_>, uses: &UsesOfNames<'_>) -> Option<Hint> {
     let key = Folded(b"sort.key$");
     let is_only_set = uses.get(&key).is_some_and(|uses| uses.quoted > 0 && uses.taken == 0);
     // (a designer may have made a comment of SORT, so that the list stays in that order)
     let is_left_out =
         |line: &[u8]| line.strip_prefix(b"%").is_some_and(|rest| rest.trim_ascii().eq_ignore_ascii_case(b"sort"));
-    let has_sort = || style.bytes.split(|byte| *byte == b'\n').any(|line| is_left_out(line.trim_ascii()));
-    let sort = style.commands.iter().rposition(|command| command.is("sort"));
+    let has_sort = || style.names.bytes.split(|byte| *byte == b'\n').any(|line| is_left_out(line.trim_ascii()));
+    let sort = style.names.commands.iter().rposition(|command| command.is("sort"));
     if !is_only_set || sort.is_none() && has_sort() {
         return None;
     }
@@ -177,53 +146,21 @@ fn of_sort(style: &Read<'_>, text: &Text<'_>, uses: &HashMap<Folded<'_>, Uses>) 
         let function = command.name.filter(|_| is_run).and_then(|name| loops.functions.get(&Folded(name)));
         function.is_some_and(|tokens| loops.may_change(tokens.clone(), key, &mut left))
     };
-    let index = style.commands.iter().rposition(&mut sets)?;
+    let index = style.names.commands.iter().rposition(&mut sets)?;
     // (keys that are set again after the entries are sorted may be meant for something else)
-    if sort.is_some_and(|sort| index < sort || style.commands[..sort].iter().any(sets)) {
+    if sort.is_some_and(|sort| index < sort || style.names.commands[..sort].iter().any(sets)) {
         return None;
     }
-    let command = &style.commands[index];
+    let command = &style.names.commands[index];
     let place = match sort {
-        Some(sort) => format!("below SORT in line {}: move it above that", text.line_of(style.commands[sort].start)),
+        Some(sort) => {
+            format!("below SORT in line {}: move it above that", text.line_of(style.names.commands[sort].start))
+        }
         None => "and there is no SORT: put it below this line".to_string(),
     };
     let (word, name) = (plain(command.word), plain(command.name?));
     let said = format!("{word} {{{name}}} sets sort.key$, {place}, or the list stays in the order of citation");
     Some(Hint { line: text.line_of(command.start), text: said, is_of_loop: false })
-}
-
-/// The token's text.
-fn of<'a>(bytes: &'a [u8], token: &Token) -> &'a [u8] {
-    &bytes[token.start..token.end]
-}
-
-/// The names that a style with these commands declares by FUNCTION, INTEGERS, STRINGS, and as variables of entries.
-fn declared<'a>(bytes: &'a [u8], commands: &[Command<'a>]) -> Vec<Declared<'a>> {
-    let read = commands.iter().find(|command| command.is("read")).map_or(bytes.len(), |command| command.start);
-    let ends = commands.iter().skip(1).map(|next| next.start).chain([bytes.len()]);
-    let mut found = Vec::new();
-    for (command, end) in commands.iter().zip(ends) {
-        let begin = command.start + command.word.len();
-        let inside = &bytes[begin..end];
-        let mut add = |sort, token: &Token| {
-            let name = of(inside, token);
-            let is_type_to_a_run = sort == Sort::Function && command.start < read;
-            let is_meant = !name.contains(&b'.') || name.eq_ignore_ascii_case(DEFAULT_TYPE);
-            let may_be_type = is_type_to_a_run && is_meant;
-            found.push(Declared { name, sort, start: begin + token.start, is_type_to_a_run, may_be_type });
-        };
-        if command.is("function") {
-            names(inside, 0).iter().take(1).for_each(|token| add(Sort::Function, token));
-        } else if command.is("entry") {
-            names(inside, 1).iter().for_each(|token| add(Sort::Integer, token));
-            names(inside, 2).iter().for_each(|token| add(Sort::Text, token));
-        } else if command.is("integers") {
-            names(inside, 0).iter().for_each(|token| add(Sort::Integer, token));
-        } else if command.is("strings") {
-            names(inside, 0).iter().for_each(|token| add(Sort::Text, token));
-        }
-    }
-    found
 }
 
 /// The types that styles usually know.
@@ -260,73 +197,47 @@ pub fn is_usual_type(name: &[u8]) -> bool {
 }
 
 /// The functions that are meant as types of entries, as far as can be seen: first those with the name of a usual type, then those above READ without a dot that nothing uses.
-pub fn types_meant(bytes: &[u8]) -> Vec<Vec<u8>> {
-    let style = Read::new(bytes);
-    let uses = uses(&style);
-    let functions = style.declared.iter().filter(|declared| declared.may_be_type).map(|declared| declared.name);
+pub fn types_meant(style: &StyleRead<'_>) -> Vec<Vec<u8>> {
+    let uses = uses(style);
+    let functions = style.names.declared.iter().filter(|declared| declared.may_be_type).map(|declared| declared.name);
     let (usual, others): (Vec<&[u8]>, Vec<&[u8]>) = functions.partition(|name| is_usual_type(name));
     let unused = others.into_iter().filter(|name| !uses.contains_key(&Folded(name)) && !name.contains(&b'.'));
     usual.into_iter().chain(unused).map(<[u8]>::to_vec).collect()
 }
 
-/// The functions of a style that stand above READ, in its order: to a run each of them is a type of entry.
-pub fn functions_above_read(bytes: &[u8]) -> impl Iterator<Item = &[u8]> {
-    declared(bytes, &commands(bytes))
-        .into_iter()
-        .filter(|declared| declared.is_type_to_a_run)
-        .map(|declared| declared.name)
-}
-
-/// The fields that a style declares.
-pub fn names_of_fields(bytes: &[u8]) -> Vec<Vec<u8>> {
-    let commands = commands(bytes);
-    let Some(entry) = commands.iter().find(|command| command.is("entry")) else { return Vec::new() };
-    let inside = &bytes[entry.start + entry.word.len()..];
-    names(inside, 0).iter().map(|token| of(inside, token).to_vec()).collect()
-}
-
-/// The names in the braces of this number, counted from 0.
-fn names(text: &[u8], number: usize) -> Vec<Token> {
-    let mut closed = 0;
-    let mut inside = Vec::new();
-    for token in Tokens::new(text) {
-        match token.kind {
-            Kind::Close => closed += 1,
-            Kind::Name if closed == number => inside.push(token),
-            _ => {}
-        }
-        if closed > number {
-            break;
-        }
-    }
-    inside
+/// Whether one of these places, which only rise, stands in a part of a text that comes after those which were asked for before.
+fn stands_in(places: &mut Peekable<impl Iterator<Item = usize>>, part: Range<usize>) -> bool {
+    while places.next_if(|place| *place < part.start).is_some() {}
+    places.peek().is_some_and(|place| *place < part.end)
 }
 
 /// How each name is used in the bodies of functions, and by EXECUTE, ITERATE and REVERSE.
-fn uses<'a>(style: &Read<'a>) -> HashMap<Folded<'a>, Uses> {
-    let mut uses: HashMap<Folded<'a>, Uses> = HashMap::new();
-    let mut declared = style.declared.iter().map(|declared| declared.start).peekable();
+fn uses<'a>(style: &StyleRead<'a>) -> UsesOfNames<'a> {
+    let mut uses = UsesOfNames::new();
+    let mut declared = style.names.declared.iter().map(|declared| declared.start).peekable();
+    let mut commands = style.names.commands.iter().map(|command| command.start).peekable();
     for (index, token) in style.tokens.iter().enumerate() {
-        while declared.next_if(|start| *start < token.start).is_some() {}
-        match token.kind {
-            Kind::Name if declared.peek() != Some(&token.start) => {
-                uses.entry(Folded(style.of(token))).or_default().taken += 1;
-            }
-            Kind::Quoted => {
-                let found = uses.entry(Folded(&style.of(token)[1..])).or_default();
-                found.quoted += 1;
-                let is_assigned = style.tokens.get(index + 1).is_some_and(|next| style.of(next) == b":=");
-                let before = index.checked_sub(1).and_then(|before| style.tokens.get(before));
-                let given = before.filter(|before| is_assigned && before.kind == Kind::Integer);
-                found.given.extend(given.and_then(|given| integer(style.of(given))));
-            }
-            _ => {}
+        let part = token.start..token.end;
+        if token.kind == Kind::Quoted {
+            add_quoted(&mut uses, style, index);
+        } else if token.kind == Kind::Name && !stands_in(&mut commands, part.clone()) && !stands_in(&mut declared, part)
+        {
+            uses.entry(Folded(style.of(token))).or_default().taken += 1;
         }
     }
-    for name in style.commands.iter().filter_map(|command| name_that_touches(style.bytes, command)) {
-        uses.entry(Folded(name)).or_default().taken += 1;
-    }
+    let of_commands = style.names.commands.iter().filter_map(|command| name_that_touches(style.names.bytes, command));
+    of_commands.for_each(|name| uses.entry(Folded(name)).or_default().taken += 1);
     uses
+}
+
+/// Adds the use of a name that comes after a quote, which is the token of this number.
+fn add_quoted<'a>(uses: &mut UsesOfNames<'a>, style: &StyleRead<'a>, index: usize) {
+    let found = uses.entry(Folded(&style.of(&style.tokens[index])[1..])).or_default();
+    found.quoted += 1;
+    let is_assigned = style.tokens.get(index + 1).is_some_and(|next| style.of(next) == b":=");
+    let before = index.checked_sub(1).and_then(|before| style.tokens.get(before));
+    let given = before.filter(|before| is_assigned && before.kind == Kind::Integer);
+    found.given.extend(given.and_then(|given| integer(style.of(given))));
 }
 
 /// The function that EXECUTE, ITERATE or REVERSE names, where its brace touches the command's word, so that both are one token.
@@ -365,7 +276,7 @@ const MOST_TOKENS: usize = 2_000_000;
 
 /// The tokens of a style, as its loops need them.
 struct Loops<'a> {
-    style: &'a Read<'a>,
+    style: &'a StyleRead<'a>,
     /// For each closing brace the opening one, by their numbers, in the order of the closing ones.
     opened: Vec<(usize, usize)>,
     variables: HashSet<Folded<'a>>,
@@ -386,7 +297,7 @@ struct Loop {
 }
 
 /// The loops that don't change what their test reads: such a loop isn't entered, or doesn't end. And those in which a counter doesn't count.
-fn of_loops<'a>(style: &'a Read<'a>, text: &Text<'_>) -> Vec<Hint> {
+fn of_loops<'a>(style: &'a StyleRead<'a>, text: &Text<'_>) -> Vec<Hint> {
     let ends: Vec<usize> = (0..style.tokens.len()).filter(|end| is_while(style, *end)).collect();
     if ends.is_empty() {
         return Vec::new();
@@ -407,7 +318,7 @@ fn of_loops<'a>(style: &'a Read<'a>, text: &Text<'_>) -> Vec<Hint> {
 
 /// Of the loop whose `while$` is the one of this line, where it changes nothing that its test reads: the variables that it reads, and the lines of its body. Once such a loop is entered, it never ends.
 pub fn loop_without_end(bytes: &[u8], line: usize) -> Option<(String, String)> {
-    let (text, style) = (Text::new(bytes), Read::new(bytes));
+    let (text, style) = (Text::new(bytes), StyleRead::new(bytes));
     let line_of = |token: usize| text.line_of(style.tokens[token].start);
     let mut ends = (0..style.tokens.len()).filter(|end| is_while(&style, *end) && line_of(*end) == line);
     let end = ends.next().filter(|_| ends.next().is_none())?;
@@ -418,7 +329,7 @@ pub fn loop_without_end(bytes: &[u8], line: usize) -> Option<(String, String)> {
 }
 
 /// Whether the token of this number is `while$`.
-fn is_while(style: &Read<'_>, number: usize) -> bool {
+fn is_while(style: &StyleRead<'_>, number: usize) -> bool {
     style.of(&style.tokens[number]).eq_ignore_ascii_case(b"while$")
 }
 
@@ -446,12 +357,17 @@ fn opened(tokens: &[Token]) -> Vec<(usize, usize)> {
     opened
 }
 
-/// The tokens of each function, its name included.
-fn spans_of(style: &Read<'_>) -> Vec<Range<usize>> {
-    let place = |start: usize| style.tokens.partition_point(|token| token.start < start);
-    let ends = style.commands.iter().skip(1).map(|next| next.start).chain([style.bytes.len()]);
-    let functions = style.commands.iter().zip(ends).filter(|(command, _)| command.is("function"));
-    functions.map(|(command, end)| place(command.start) + 1..place(end)).collect()
+/// The tokens of each function, its name included, in the order of the text.
+fn spans_of(style: &StyleRead<'_>) -> Vec<Range<usize>> {
+    let mut at = 0;
+    // (the places that are asked for only rise)
+    let mut first_from = |place: usize| {
+        at += style.tokens[at..].iter().take_while(|token| token.start < place).count();
+        at
+    };
+    let ends = style.names.commands.iter().skip(1).map(|next| next.start).chain([style.names.bytes.len()]);
+    let functions = style.names.commands.iter().zip(ends).filter(|(command, _)| command.is("function"));
+    functions.map(|(command, end)| first_from(command.start) + 1..first_from(end)).collect()
 }
 
 /// Where the function that was looked at last assigns to its variables.
@@ -465,7 +381,7 @@ struct Given<'a> {
 
 impl<'a> Given<'a> {
     /// Looks at a function, if it isn't the one that was looked at last.
-    fn look_at(&mut self, style: &Read<'a>, function: Range<usize>) {
+    fn look_at(&mut self, style: &StyleRead<'a>, function: Range<usize>) {
         if self.function == function {
             return;
         }
@@ -478,16 +394,16 @@ impl<'a> Given<'a> {
     }
 
     /// Whether the function assigns once to a variable: a number, before this token.
-    fn is_once(&self, style: &Read<'_>, name: Folded<'_>, before: usize) -> bool {
+    fn is_once(&self, style: &StyleRead<'_>, name: Folded<'_>, before: usize) -> bool {
         let is_number = |place: usize| place > 0 && style.tokens[place - 1].kind == Kind::Integer;
         self.places.get(&name).is_some_and(|(place, again)| !again && *place < before && is_number(*place))
     }
 }
 
 impl<'a> Loops<'a> {
-    fn new(style: &'a Read<'a>) -> Loops<'a> {
+    fn new(style: &'a StyleRead<'a>) -> Loops<'a> {
         let of_sort = |is_it: fn(Sort) -> bool| {
-            let declared = style.declared.iter().filter(move |declared| is_it(declared.sort));
+            let declared = style.names.declared.iter().filter(move |declared| is_it(declared.sort));
             declared.map(|declared| Folded(declared.name)).collect()
         };
         let spans = spans_of(style);
@@ -498,7 +414,7 @@ impl<'a> Loops<'a> {
         Loops {
             style,
             opened: opened(&style.tokens),
-            variables: of_sort(|sort| sort != Sort::Function),
+            variables: of_sort(|sort| matches!(sort, Sort::Integer | Sort::Text)),
             counters: of_sort(|sort| sort == Sort::Integer),
             functions: named.collect(),
             spans,
@@ -643,7 +559,7 @@ mod tests {
     use super::*;
 
     fn said(style: &str) -> Vec<(usize, String)> {
-        hints(style.as_bytes()).into_iter().map(|hint| (hint.line, hint.text)).collect()
+        hints(&StyleRead::new(style.as_bytes())).into_iter().map(|hint| (hint.line, hint.text)).collect()
     }
 
     #[test]

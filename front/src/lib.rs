@@ -21,7 +21,7 @@
 //! | [`text`], [`aux_text`], [`style_text`], [`database`] | the texts of files: their lines, and where an error stands in them |
 //! | [`sources`] | the files of a job as its messages speak of them |
 //! | [`shapes`] | a log in the original's shapes |
-//! | [`explain`], [`entries`], [`shown_line`], [`advice`] | what follows a message for its reader: where it stands, and what to do |
+//! | [`explain`] and its modules, [`entries`], [`shown_line`], [`advice`] | what follows a message for its reader: where it stands, and what to do |
 //! | [`mistakes`] | what an author did where a database can't be read on |
 //! | [`beside`] | which file may be meant by one that isn't there, and what a file is that isn't what its name says |
 //! | [`unsaid`], [`doubts`] | what no run logs of the cited entries |
@@ -34,7 +34,7 @@
 //! | [`exit`] | the exit statuses |
 //! | [`code_places`], [`operands`], [`origins`] | what stands at a place of a style's code, and what that says of a wrong operand and of where it was pushed |
 //! | [`repeats`] | errors of an execution that repeat |
-//! | [`style_check`], [`hints`] | what can be said of a style before any document uses it |
+//! | [`style_check`], [`style_read`], [`hints`] | what can be said of a style before any document uses it |
 //! | [`constants`] | constants that the function after them can't take |
 //! | [`lint_types`] | for entries of which types that is said |
 //! | [`lint_warnings`], [`lint_entry`] | where a style may go wrong, and an entry that shows it |
@@ -105,6 +105,7 @@ pub mod shown_line;
 pub mod sources;
 pub mod style_check;
 pub mod style_keys;
+pub mod style_read;
 pub mod style_text;
 #[allow(unsafe_code)]
 pub mod system;

@@ -59,16 +59,28 @@ pub fn ends_of(name: &[u8], style: &[u8]) -> Result<Option<Ends>, MemoryRefused>
             Ok(Some(Ends::Unproved(if is_too_great { Reason::TooGreat } else { reason })))
         }
         Some(Steps::Bounded(bound, types)) => {
-            let mut found = Vec::new();
-            for kept in ASKED {
-                match asked(kept)? {
-                    Some(Steps::Bounded(bound, _)) => found.push(bound),
-                    _ => break,
-                }
-            }
+            let found = bounds_at_few(asked, bound)?;
             Ok(Some(Ends::Proved(Proved { bound, grows: grows(&found, bound), types })))
         }
     }
+}
+
+/// The bounds at the numbers of bytes that are asked for. Where one is the same as `at_most`, that of the usual number, no terms are to be shown, and no further one is asked for.
+fn bounds_at_few(
+    asked: impl Fn(u32) -> Result<Option<Steps>, MemoryRefused>,
+    at_most: Bound,
+) -> Result<Vec<Bound>, MemoryRefused> {
+    let mut found = Vec::new();
+    for kept in ASKED {
+        match asked(kept)? {
+            Some(Steps::Bounded(bound, _)) if (bound.once, bound.each) == (at_most.once, at_most.each) => {
+                return Ok(vec![bound; ASKED.len()]);
+            }
+            Some(Steps::Bounded(bound, _)) => found.push(bound),
+            _ => break,
+        }
+    }
+    Ok(found)
 }
 
 /// How both numbers of a bound grow, by those at few bytes; None where that doesn't give those at `KEPT` bytes.
@@ -134,6 +146,21 @@ fn grouped(number: u64) -> String {
     text
 }
 
+/// From which number on only about how great it is is said, with the words for that.
+const GREAT: [(u64, &str); 4] = [
+    (1_000_000_000_000_000_000, "million million million"),
+    (1_000_000_000_000_000, "thousand million million"),
+    (1_000_000_000_000, "million million"),
+    (1_000_000_000, "thousand million"),
+];
+
+/// A number as a reader takes it in: `1,472`, `about 6.4 thousand million`.
+fn readable(number: u64) -> String {
+    let Some((unit, words)) = GREAT.iter().find(|(unit, _)| number >= *unit) else { return grouped(number) };
+    let tenths = (u128::from(number) * 10 + u128::from(*unit) / 2) / u128::from(*unit);
+    format!("about {}.{} {words}", tenths / 10, tenths % 10)
+}
+
 /// A polynomial in N.
 fn in_words(polynomial: &Polynomial) -> String {
     let term = |(power, coefficient): (usize, &u64)| match power {
@@ -149,7 +176,7 @@ fn in_words(polynomial: &Polynomial) -> String {
 impl Proved {
     /// The bound in words.
     pub fn in_words(&self) -> String {
-        let (once, each) = (grouped(self.bound.once), grouped(self.bound.each));
+        let (once, each) = (readable(self.bound.once), readable(self.bound.each));
         let kept = grouped(u64::from(KEPT));
         match &self.grows {
             Some(grows) if grows.iter().any(|its| its[1..] != [0; 3]) => {
@@ -216,6 +243,18 @@ mod tests {
             said(loop_of_title),
             format!("at most 0 steps, and 23 + 16*N {kept} N bytes (0 and 320,023 for N = 20,000)")
         );
+    }
+
+    #[test]
+    fn great_numbers_are_said_in_words() {
+        let numbers = [999_999_999, 6_405_921_472, 1_950_000_000_000, u64::MAX];
+        let words = [
+            "999,999,999",
+            "about 6.4 thousand million",
+            "about 2.0 million million",
+            "about 18.4 million million million",
+        ];
+        assert_eq!(numbers.map(readable), words);
     }
 
     #[test]

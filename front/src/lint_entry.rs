@@ -2,12 +2,13 @@
 
 use crate::btx::{self, Answer, MemoryRefused, Options, Ran, Rooms};
 use crate::database::Folded;
-use crate::hints::{names_of_fields, types_meant};
+use crate::hints::types_meant;
 use crate::job::{File, Files};
 use crate::lint_warnings::{Fault, Warning};
 use crate::log::{Content, Line, Log, Message, Place, Severity};
 use crate::notes::{self, Note, What};
 use crate::scene::Call;
+use crate::style_read::StyleRead;
 use std::cell::Cell;
 use std::collections::{HashMap, HashSet};
 
@@ -423,11 +424,12 @@ fn entries_by(style: &File, warnings: &[&Warning], most: u64) -> Result<Vec<Show
 impl Search<'_> {
     /// For each warning a case that shows it.
     fn find(&self, warnings: &[&Warning]) -> Vec<Found> {
-        let text = self.style.bytes.as_deref().unwrap_or_default();
-        let mut types = types_meant(text);
+        let style = StyleRead::new(self.style.bytes.as_deref().unwrap_or_default());
+        let mut types = types_meant(&style);
         types.truncate(MOST_TYPES);
         types.push(UNKNOWN_TYPE.to_vec());
-        let mut maker = Maker { types, fields: names_of_fields(text), numbers: Numbers(88_172_645_463_325_252) };
+        let fields = style.names.fields().map(<[u8]>::to_vec).collect();
+        let mut maker = Maker { types, fields, numbers: Numbers(88_172_645_463_325_252) };
         let mut found: Vec<Found> = vec![None; warnings.len()];
         self.try_each(&[&Case::default()], warnings, &mut found);
         for case in warnings.iter().flat_map(|warning| maker.said(warning)) {

@@ -14,13 +14,6 @@ use crate::style_check::StyleCheck;
 use crate::terminal::{Terminal, plain};
 use std::io::{self, Write};
 
-/// A style with all that was found of it.
-pub struct Linted {
-    pub check: StyleCheck,
-    /// For which types of entries that is said, where anything is said of the whole style.
-    pub types: Option<Types>,
-}
-
 /// The path of the style, as it is to be shown.
 pub fn path_of(check: &StyleCheck) -> String {
     check.files.with_ending(".bst").next().map(|file| plain(explain::shown_path(file))).unwrap_or_default()
@@ -35,8 +28,8 @@ pub fn code_of(check: &StyleCheck) -> Code<'_> {
 // ---- for people ----
 
 /// Writes what is found of a style: what is wrong in its text, where a run may go wrong, hints, and the verdict.
-pub fn write_for_people(linted: &Linted, terminal: &Terminal, out: &mut impl Write) -> io::Result<()> {
-    let (check, path) = (&linted.check, path_of(&linted.check));
+pub fn write_for_people(check: &StyleCheck, terminal: &Terminal, out: &mut impl Write) -> io::Result<()> {
+    let path = path_of(check);
     if check.messages.count > 0 {
         explain::write(&Log::new(&check.messages.log), &check.files, Part::Mistakes, terminal, out)?;
     }
@@ -48,7 +41,7 @@ pub fn write_for_people(linted: &Linted, terminal: &Terminal, out: &mut impl Wri
         writeln!(out, "{path}:{}: hint: {}", hint.line, hint.text)?;
     }
     write_verdict(&style, check, out)?;
-    if let Some(uncovered) = types_said(linted).and_then(Types::uncovered_text) {
+    if let Some(uncovered) = check.types().and_then(Types::uncovered_text) {
         writeln!(out, "    not covered: {uncovered}")?;
     }
     write_ends(&path, check, out)?;
@@ -67,14 +60,9 @@ fn write_constants(style: &Style<'_, '_>, check: &StyleCheck, out: &mut impl Wri
         let line = style.code.text.line(number);
         let shown = ShownLine { name: path, number, line, mark: Some(constant.mark) }.lines(style.terminal);
         shown.iter().try_for_each(|line| writeln!(out, "    {line}"))?;
-        writeln!(out, "    do: {}", constant.advice)?;
+        writeln!(out, "    what to do: {}", constant.advice)?;
     }
     Ok(())
-}
-
-/// For which types of entries the verdict is; None where it says nothing of the whole style.
-pub fn types_said(linted: &Linted) -> Option<&Types> {
-    linted.types.as_ref().filter(|_| matches!(linted.check.word(), "clean" | "warnings"))
 }
 
 fn write_verdict(style: &Style<'_, '_>, check: &StyleCheck, out: &mut impl Write) -> io::Result<()> {
@@ -117,11 +105,17 @@ fn constants_in_words(check: &StyleCheck) -> String {
     }
 }
 
+/// How a style can be clean that isn't known to end.
+const CLEAN_WITHOUT_END: &str = "it is clean all the same (status 0): a run that doesn't end is stopped at its budget, and logs no such fault before that";
+
 /// Writes whether each run of the style ends. The types of entries are those of the verdict, where it has some.
 fn write_ends(path: &str, check: &StyleCheck, out: &mut impl Write) -> io::Result<()> {
     match check.ends() {
         None => Ok(()),
-        Some(Ends::Unproved(reason)) => writeln!(out, "{path}: not known to end: {}", reason.in_words()),
+        Some(Ends::Unproved(reason)) => {
+            writeln!(out, "{path}: not known to end: {}", reason.in_words())?;
+            if check.is_clean() { writeln!(out, "    {CLEAN_WITHOUT_END}") } else { Ok(()) }
+        }
         Some(Ends::Proved(proved)) => {
             writeln!(out, "{path}: ends: {}", proved.in_words())?;
             if check.is_clean() { Ok(()) } else { write_types(&proved.types, out) }
@@ -158,7 +152,7 @@ fn write_unended(style: &Style<'_, '_>, steps: u64, out: &mut impl Write) -> io:
     writeln!(out, "    loops: {}", names.join(", "))?;
     writeln!(
         out,
-        "    do: let the body of each loop leave as many literals as it finds: a string that `format.name$` leaves has to be joined by `*`, written or assigned at each turn"
+        "    what to do: let the body of each loop leave as many literals as it finds: a string that `format.name$` leaves has to be joined by `*`, written or assigned at each turn"
     )
 }
 
@@ -221,7 +215,7 @@ mod tests {
         let with_loops =
             [begin, "a loop may leave more literals at each turn, ", rest, "    loops: f (line 1)"].concat();
         let found = unended(b"FUNCTION {f} { {} {} while$ }\n");
-        assert!(found.starts_with(&(with_loops.clone() + "\n    do: let the body of each loop")), "{found}");
+        assert!(found.starts_with(&(with_loops.clone() + "\n    what to do: let the body of each loop")), "{found}");
         let loops = "{} {} while$ ".repeat(7);
         let found = unended(format!("FUNCTION {{f}} {{ {loops}}}\n").as_bytes());
         assert!(found.starts_with(&(with_loops + &", f (line 1)".repeat(4) + ", 2 more\n")), "{found}");

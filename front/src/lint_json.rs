@@ -5,10 +5,11 @@ use crate::code_places::Code;
 use crate::constants::Constant;
 use crate::lint_ends::Ends;
 use crate::lint_entry::Shown;
-use crate::lint_forms::{Linted, code_of, path_of, types_said};
+use crate::lint_forms::{code_of, path_of};
 use crate::lint_text::said_of;
 use crate::lint_warnings::{Cause, Operand, Value, Warning};
 use crate::notes::Spot;
+use crate::style_check::StyleCheck;
 use crate::terminal::plain;
 use serde::Serialize;
 use serde_json::ser::{Formatter, Serializer};
@@ -229,13 +230,12 @@ impl Formatter for OnOneLine {
 }
 
 /// What is found of a style, as an object of JSON.
-pub fn json_of(linted: &Linted) -> String {
-    let check = &linted.check;
+pub fn json_of(check: &StyleCheck) -> String {
     let (literals, bodies) = match check.verdict.as_ref().filter(|_| check.is_clean()) {
         Some(Verdict::Clean { literals, bodies, .. }) => (Some(*literals), Some(*bodies)),
         _ => (None, None),
     };
-    let types = types_said(linted);
+    let types = check.types();
     let lines = check.messages.log.split(|byte| *byte == b'\n').filter(|line| !line.is_empty());
     let code = code_of(check);
     let entry = |number: usize| check.entries.as_ref().and_then(|entries| entries.get(number));

@@ -4,9 +4,8 @@ use crate::btx::Options;
 use crate::exit::{Failure, Name, Status};
 use crate::job::{File, Files, find_style, is_of_missing};
 use crate::lint_databases::{self, is_database};
-use crate::lint_forms::{Linted, line_of, write_for_people};
+use crate::lint_forms::{line_of, write_for_people};
 use crate::lint_json::json_of;
-use crate::lint_types::types_of;
 use crate::search::Search;
 use crate::style_check::StyleCheck;
 use crate::terminal::{Patient, Terminal, plain};
@@ -228,20 +227,20 @@ fn check_all(name: &Name, how: How, styles: &[Vec<u8>]) -> Status {
     let mut statuses = Vec::new();
     let mut shown = Vec::new();
     for style in styles {
-        let linted = match lint(&search, how, style) {
-            Ok(linted) => linted,
+        let check = match lint(&search, how, style) {
+            Ok(check) => check,
             Err(unchecked) => {
                 name.say(&unchecked);
                 statuses.push(unchecked.status());
                 continue;
             }
         };
-        statuses.push(status_of(&linted.check));
+        statuses.push(status_of(&check));
         let written = match how.form {
-            Form::People => write_for_people(&linted, &terminal, &mut out),
-            Form::Line => writeln!(out, "{}", line_of(&linted.check)),
+            Form::People => write_for_people(&check, &terminal, &mut out),
+            Form::Line => writeln!(out, "{}", line_of(&check)),
             Form::Json => {
-                shown.push(json_of(&linted));
+                shown.push(json_of(&check));
                 Ok(())
             }
         };
@@ -258,16 +257,12 @@ fn check_all(name: &Name, how: How, styles: &[Vec<u8>]) -> Status {
 }
 
 /// Finds, reads and checks a style; its ending may be left out.
-fn lint<'a>(search: &Search, how: How, name: &'a [u8]) -> Result<Linted, Unchecked<'a>> {
+fn lint<'a>(search: &Search, how: How, name: &'a [u8]) -> Result<StyleCheck, Unchecked<'a>> {
     let failed = |failure| Unchecked::Failed(name, failure);
     let whole = if name.ends_with(b".bst") { name.to_vec() } else { [name, b".bst"].concat() };
     let file = find_style(search, &whole).map_err(failed)?.map_err(|reason| Unchecked::Missing(name, reason))?;
     let last = whole.rsplit(|byte| *byte == b'/').next().unwrap_or_default().to_vec();
-    let check = StyleCheck::new(File { name: last, ..file }, how.steps, how.has_entries).map_err(failed)?;
-    let style = check.files.with_ending(".bst").next();
-    let (name, text) = style.map_or((&b""[..], &b""[..]), |file| (&file.name, file.bytes.as_deref().unwrap_or(b"")));
-    let types = types_of(name, text, &check.verdict).map_err(|refused| failed(refused.into()))?;
-    Ok(Linted { check, types })
+    StyleCheck::new(File { name: last, ..file }, how.steps, how.has_entries).map_err(failed)
 }
 
 /// Why a style of this name isn't checked.

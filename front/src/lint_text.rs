@@ -463,7 +463,7 @@ fn write_cause(style: &Style<'_, '_>, cause: &Cause, others: &[usize], out: &mut
     )?;
     style.write_line(&cause.spot, b"if$", out)?;
     write_lines("and, which may follow from it,", others, out)?;
-    writeln!(out, "    do: let both leave the same number; warnings below may follow from this")
+    writeln!(out, "    what to do: let both leave the same number; warnings below may follow from this")
 }
 
 /// Writes the causes that are shown. Those that may follow from another one of the same function are named with it.
@@ -512,12 +512,35 @@ fn advice_behind(causes: &[&Cause], advice: String) -> String {
     format!("mend {first} first; if the warning stays, {advice}")
 }
 
-/// Writes the warnings of one cause.
+/// What was written of a cause, for the one that comes after it.
+#[derive(Default)]
+struct Above {
+    advice: String,
+    /// The line of the command that runs it, where it is about the number of literals.
+    command: Option<usize>,
+}
+
+impl Above {
+    fn of(warning: &Warning, advice: &str) -> Above {
+        let is_of_stack = matches!(warning.fault, Some(Fault::EmptyStack | Fault::LeftOver));
+        let command = warning.item.as_ref().filter(|_| is_of_stack).map(|item| item.call.line);
+        Above { advice: advice.to_string(), command }
+    }
+
+    /// What a warning may follow from that comes after these: what is missing on the stack, or left on it, shows itself once more in the same command.
+    fn origin(&self, next: &Above) -> Option<String> {
+        self.command
+            .filter(|line| next.command == Some(*line))
+            .map(|_| "the warning above; mend that first".to_string())
+    }
+}
+
+/// Writes the warnings of one cause, after those of the cause `above`.
 fn write_group(
     style: &Style<'_, '_>,
     group: &[&Warning],
     ties: &Ties<'_, '_, '_>,
-    entry: Option<&Shown>,
+    above: &mut Above,
     out: &mut impl Write,
 ) -> io::Result<()> {
     let (first, path) = (group[0], style.path);
@@ -530,25 +553,27 @@ fn write_group(
     if let Some(spot) = first.spot() {
         style.write_line(spot, &first.next, out)?;
     }
-    let mut lines: Vec<usize> = group[1..].iter().map(|warning| warning.line()).collect();
-    lines.sort_unstable();
-    lines.dedup();
-    lines.retain(|line| *line != first.line());
-    write_lines("and", &lines, out)?;
+    let lines = group[1..].iter().map(|warning| warning.line()).filter(|line| *line != first.line());
+    write_lines("and", &lines.collect::<Vec<_>>(), out)?;
     let tied = ties.of(first);
+    let advice = advice_behind(&tied, advice);
+    let here = Above::of(first, &advice);
+    let origin = ties_of(&tied).or_else(|| above.origin(&here));
+    let advice = if above.advice == advice { "as above".to_string() } else { advice };
+    *above = here;
     let said = [
         ("for entries of type", types_of(group)),
         ("when", conditions_of(first)),
-        ("run by", way_of(first)),
-        ("may follow from", ties_of(&tied)),
-        ("do", Some(advice_behind(&tied, advice))),
+        ("called from", way_of(first)),
+        ("may follow from", origin),
+        ("what to do", Some(advice)),
     ];
     for (label, text) in said {
         if let Some(text) = text {
             writeln!(out, "    {label}: {text}")?;
         }
     }
-    entry.map_or(Ok(()), |entry| write_entry(entry, out))
+    Ok(())
 }
 
 /// Writes an entry that shows a warning.
@@ -621,13 +646,15 @@ pub fn write(
         all.flat_map(|warning| [ties.of(warning), ties.of_further_types(warning)].concat()).collect();
     let causes: Vec<&Cause> = found.causes.iter().filter(|cause| tied.contains(cause)).collect();
     write_causes(style, &found.causes, &causes, out)?;
+    let mut above = Above::default();
     for group in groups {
         let warnings: Vec<&Warning> = group.iter().map(|number| shown[*number]).collect();
         let entry = entries.and_then(|entries| {
             let mut of_group = group.iter().filter_map(|number| entries.get(*number));
             of_group.clone().find(|entry| matches!(entry, Shown::By { .. })).or_else(|| of_group.next())
         });
-        write_group(style, &warnings, &ties, entry, out)?;
+        write_group(style, &warnings, &ties, &mut above, out)?;
+        entry.map_or(Ok(()), |entry| write_entry(entry, out))?;
     }
     Ok(())
 }
@@ -768,12 +795,12 @@ mod tests {
         let style = Style { path: "s.bst", code: &code, terminal: &Terminal::NONE, has_mistakes: false };
         write(&style, &found, None, &mut out).unwrap();
         let wanted = "s.bst:7: in f: the branches of this `if$` leave different numbers of literals: the first leaves 0, the second leaves 1 to 2\n    \
-            do: let both leave the same number; warnings below may follow from this\n\
+            what to do: let both leave the same number; warnings below may follow from this\n\
             s.bst:4: in f: `write$` takes TEXT, and there may be no literal on the stack here\n    and in line 3\n    \
             for entries of type: book, types that the style doesn't know\n    when: title is given\n    \
-            run by: ITERATE {call.type$} (line 9) > book (line 8) > f (line 4)\n    \
+            called from: ITERATE {call.type$} (line 9) > book (line 8) > f (line 4)\n    \
             may follow from: the unequal `if$` in line 7\n    \
-            do: mend that `if$` first; if the warning stays, push what it takes, in this order; \
+            what to do: mend that `if$` first; if the warning stays, push what it takes, in this order; \
             let both branches of each `if$` on the way leave the same number of literals\n";
         assert_eq!(String::from_utf8(out).unwrap(), wanted);
         assert_eq!(verdict(&found), "2 places, 1 cause; 1 more after these");

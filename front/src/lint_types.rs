@@ -2,9 +2,9 @@
 
 use crate::btx::{self, MemoryRefused, Verdict};
 use crate::database::Folded;
-use crate::hints::functions_above_read;
 use crate::style_check::usual_steps;
-use crate::style_text::{Command, commands};
+use crate::style_read::StyleNames;
+use crate::style_text::Command;
 use crate::terminal::plain;
 use std::collections::HashSet;
 
@@ -21,28 +21,31 @@ pub struct Types {
 }
 
 /// What the checker takes as types in a style that has this text and this verdict. None where nothing is said of the whole style.
-pub fn types_of(name: &[u8], text: &[u8], verdict: &Option<Verdict>) -> Result<Option<Types>, MemoryRefused> {
+pub fn types_of(
+    name: &[u8],
+    style: &StyleNames<'_>,
+    verdict: &Option<Verdict>,
+) -> Result<Option<Types>, MemoryRefused> {
     let taken = match verdict {
         Some(Verdict::Clean { types, .. }) => types.clone(),
-        Some(Verdict::Warnings(_)) => match btx::check(name, &without_runs(text), usual_steps(text) / PART)? {
+        Some(Verdict::Warnings(_)) => match btx::check(name, &without_runs(style), usual_steps(style) / PART)? {
             Some(Verdict::Clean { types, .. }) => types,
             _ => return Ok(None),
         },
         _ => return Ok(None),
     };
     let known: HashSet<Folded<'_>> = taken.iter().map(|name| Folded(name)).collect();
-    let uncovered = functions_above_read(text).filter(|name| !known.contains(&Folded(name))).map(<[u8]>::to_vec);
-    let uncovered = uncovered.collect();
+    let uncovered = style.functions_above_read().filter(|name| !known.contains(&Folded(name)));
+    let uncovered = uncovered.map(<[u8]>::to_vec).collect();
     Ok(Some(Types { taken, uncovered }))
 }
 
 /// A style's text without its commands EXECUTE, ITERATE and REVERSE. Such a style is clean, and which of its functions are taken as types doesn't
 /// depend on its commands.
-fn without_runs(text: &[u8]) -> Vec<u8> {
-    let mut rest = text.to_vec();
-    let commands = commands(text);
+fn without_runs(style: &StyleNames<'_>) -> Vec<u8> {
+    let (text, mut rest) = (style.bytes, style.bytes.to_vec());
     let is_run = |command: &&Command<'_>| ["execute", "iterate", "reverse"].iter().any(|word| command.is(word));
-    for command in commands.iter().filter(is_run) {
+    for command in style.commands.iter().filter(is_run) {
         let close = text[command.start..].iter().position(|byte| *byte == b'}');
         let end = close.map_or(text.len(), |close| command.start + close + 1);
         rest[command.start..end].fill(b' ');
@@ -53,28 +56,33 @@ fn without_runs(text: &[u8]) -> Vec<u8> {
 impl Types {
     /// In words, entries of which types aren't covered.
     pub fn uncovered_text(&self) -> Option<String> {
+        let which = match &self.uncovered[..] {
+            [] => return None,
+            [_] => "of this function, which stands above READ and isn't taken as a type",
+            _ => "of one of these functions, which stand above READ and aren't taken as types",
+        };
+        Some(format!("entries whose type has the name {which}: {}", self.uncovered_names()))
+    }
+
+    /// The names of functions that aren't covered. Most styles have many helpers with a dot in their names, of which one is an example.
+    fn uncovered_names(&self) -> String {
         let (dotted, bare): (Vec<&Vec<u8>>, Vec<&Vec<u8>>) =
             self.uncovered.iter().partition(|name| name.contains(&b'.'));
-        let mut parts: Vec<String> = Vec::new();
-        if !bare.is_empty() {
-            let names: Vec<String> = bare.iter().map(|name| plain(name)).collect();
-            parts.push(format!("of the type{} {}", plural(names.len()), names.join(", ")));
+        let mut names: Vec<String> = bare.iter().map(|name| plain(name)).collect();
+        match &dotted[..] {
+            [] => {}
+            [one] => names.push(plain(one)),
+            [first, ..] => {
+                names.push(format!("{} with a dot in their names, such as {}", dotted.len(), plain(first)));
+            }
         }
-        if !dotted.is_empty() {
-            let its = if dotted.len() == 1 { "its name" } else { "their names" };
-            parts.push(format!("of {} type{} with a dot in {its}", dotted.len(), plural(dotted.len())));
+        match names.split_last() {
+            Some((last, others)) if dotted.len() > 1 && !others.is_empty() => {
+                format!("{}, and {last}", others.join(", "))
+            }
+            _ => names.join(", "),
         }
-        let why = match self.uncovered.len() {
-            0 => return None,
-            1 => "this function stands above READ and isn't taken as a type",
-            _ => "these functions stand above READ and aren't taken as types",
-        };
-        Some(format!("entries {}: {why}", parts.join(", and ")))
     }
-}
-
-fn plural(count: usize) -> &'static str {
-    if count == 1 { "" } else { "s" }
 }
 
 #[cfg(test)]
@@ -87,7 +95,7 @@ mod tests {
     /// The types of a style, by the names of what is taken and of what isn't covered.
     fn types(style: &str) -> Option<Types> {
         let verdict = btx::check(b"s.bst", style.as_bytes(), 10_000).unwrap();
-        types_of(b"s.bst", style.as_bytes(), &verdict).unwrap()
+        types_of(b"s.bst", &StyleNames::new(style.as_bytes()), &verdict).unwrap()
     }
 
     #[test]
@@ -96,7 +104,7 @@ mod tests {
         let wanted = Some(Types { taken: names(&["misc"]), uncovered: names(&["lab", "a.b", "default.type"]) });
         assert_eq!(types(STYLE), wanted);
         assert_eq!(types(&STYLE.replace("title write$", "cite$ write$")), wanted);
-        assert_eq!(types_of(b"s.bst", STYLE.as_bytes(), &None), Ok(None));
+        assert_eq!(types_of(b"s.bst", &StyleNames::new(STYLE.as_bytes()), &None), Ok(None));
     }
 
     #[test]
@@ -106,12 +114,15 @@ mod tests {
             Types { taken: Vec::new(), uncovered }.uncovered_text()
         };
         assert_eq!(said(&[]), None);
-        let one = "entries of the type lab: this function stands above READ and isn't taken as a type";
-        assert_eq!(said(&["lab"]).as_deref(), Some(one));
-        let both = "entries of the types lab, mid, and of 1 type with a dot in its name: these functions stand above READ and aren't taken as types";
-        assert_eq!(said(&["lab", "a.b", "mid"]).as_deref(), Some(both));
-        let dotted =
-            "entries of 2 types with a dot in their names: these functions stand above READ and aren't taken as types";
-        assert_eq!(said(&["a.b", "c.d"]).as_deref(), Some(dotted));
+        let one = "entries whose type has the name of this function, which stands above READ and isn't taken as a type";
+        assert_eq!(said(&["lab"]), Some(format!("{one}: lab")));
+        assert_eq!(said(&["a.b"]), Some(format!("{one}: a.b")));
+        let each = "entries whose type has the name of one of these functions, which stand above READ and aren't taken as types";
+        assert_eq!(said(&["lab", "a.b", "mid"]), Some(format!("{each}: lab, mid, a.b")));
+        assert_eq!(
+            said(&["lab", "a.b", "mid", "c.d"]),
+            Some(format!("{each}: lab, mid, and 2 with a dot in their names, such as a.b"))
+        );
+        assert_eq!(said(&["a.b", "c.d"]), Some(format!("{each}: 2 with a dot in their names, such as a.b")));
     }
 }

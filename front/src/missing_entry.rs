@@ -9,10 +9,10 @@ use crate::database::{Inside, name_at};
 use crate::document::Document;
 use crate::entries::{Entries, Skipped, Stored};
 use crate::explain::{begins_item, shown_path};
-use crate::hints::names_of_fields;
 use crate::job::{File, Files};
 use crate::mistakes::line_of;
 use crate::nearest::nearest;
+use crate::style_read::StyleNames;
 use crate::terminal::plain;
 use crate::unsaid::place_in;
 
@@ -239,17 +239,16 @@ fn by_table<'a>(word: &[u8], table: &[(&str, &str)], fields: &[Field<'a>]) -> Op
 }
 
 /// A field of an entry that may be meant by one that a style's warning names: the entry doesn't have that one, and the style doesn't know this one, or takes it in entries of other types.
-pub fn meant_field(style: &[u8], stored: Stored<'_, '_>, warning: &[u8]) -> Option<Clue> {
-    let declared = names_of_fields(style);
-    let knows = |name: &[u8]| declared.iter().any(|known| known.eq_ignore_ascii_case(name));
+pub fn meant_field(style: &StyleNames<'_>, stored: Stored<'_, '_>, warning: &[u8]) -> Option<Clue> {
     let text = stored.database.text.bytes;
     let inside = Inside::of(text, stored.item);
     let value = |at: usize| inside.values.get(at).map_or(&b""[..], |value| &text[value.clone()]);
     let fields: Vec<Field<'_>> = inside.fields.iter().enumerate().map(|(at, field)| (*field, value(at))).collect();
-    let words =
-        warning.split(|byte| !byte.is_ascii_alphanumeric() && !b"-_.".contains(byte)).filter(|word| knows(word));
+    let words = warning
+        .split(|byte| !byte.is_ascii_alphanumeric() && !b"-_.".contains(byte))
+        .filter(|word| style.has_field(word));
     let mut missing = words.filter(|word| !fields.iter().any(|(field, _)| field.eq_ignore_ascii_case(word)));
-    let unread: Vec<Field<'_>> = fields.iter().copied().filter(|(field, _)| !knows(field)).collect();
+    let unread: Vec<Field<'_>> = fields.iter().copied().filter(|(field, _)| !style.has_field(field)).collect();
     missing.find_map(|word| meant_by(word, stored, &fields, &unread))
 }
 
@@ -458,12 +457,16 @@ mod tests {
         let whole = files("@misc{white, jounral = {J}, title = {T}}, year = 2000}");
         let entries = Entries::new(&whole);
         let stored = entries.entry(b"white").unwrap();
-        let meant = meant_field(b"ENTRY {journal title year}{}{}", stored, b"empty journal in white");
+        let meant = meant_field(&StyleNames::new(b"ENTRY {journal title year}{}{}"), stored, b"empty journal in white");
         assert_eq!(place_of(meant), Some("it has `jounral`: is it `journal`? (d.bib:1)".into()));
-        assert_eq!(meant_field(b"ENTRY {journal title}{}{}", stored, b"empty title in white"), None);
+        assert_eq!(meant_field(&StyleNames::new(b"ENTRY {journal title}{}{}"), stored, b"empty title in white"), None);
         let of_biblatex = files("@misc{k, journaltitle = {J}}");
         let of_biblatex = Entries::new(&of_biblatex);
-        let meant = meant_field(b"ENTRY {journal}{}{}", of_biblatex.entry(b"k").unwrap(), b"empty journal in k");
+        let meant = meant_field(
+            &StyleNames::new(b"ENTRY {journal}{}{}"),
+            of_biblatex.entry(b"k").unwrap(),
+            b"empty journal in k",
+        );
         assert_eq!(place_of(meant), Some("it has `journaltitle`: is it `journal`? (d.bib:1)".into()));
         assert_eq!(lost_fields(stored).as_deref(), Some("the entry ends at d.bib:1; `year` stands after its end"));
         for text in ["@misc{k}},\n year = 2000}", "@misc{k}\n year = {2000}\n}", "@misc{k}\n,\nyear=y}"] {
@@ -487,7 +490,7 @@ mod tests {
         let meant = |database: &str, style: &str, warning: &str| {
             let files = files(database);
             let entries = Entries::new(&files);
-            meant_field(style.as_bytes(), entries.entry(b"k").unwrap(), warning.as_bytes()).unwrap()
+            meant_field(&StyleNames::new(style.as_bytes()), entries.entry(b"k").unwrap(), warning.as_bytes()).unwrap()
         };
         let style = "ENTRY {journal booktitle year}{}{}";
         let clue = meant("@misc{k,\n journal\u{A0} = {J}}", style, "empty journal in k");

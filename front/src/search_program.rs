@@ -172,12 +172,11 @@ fn may_write(search: &Search, names: &[&Vec<u8>]) -> Result<(), Failure> {
     }
 }
 
-/// Takes the limits of variables from TeX's set-up, where no option gives them.
+/// Takes the limits of variables from the words, or else from TeX's set-up, where that gives them.
 fn take_limits(search: &Search, words: &mut Words) {
-    if let Some(limit) = search.limit(c"ent_str_size").filter(|_| !words.has_entry_max) {
-        words.options.entry_max = limit;
-    }
-    if let Some(limit) = search.limit(c"glob_str_size").filter(|_| !words.has_global_max) {
-        words.options.global_max = limit;
-    }
+    let options = &mut words.options;
+    let entry_max = words.entry_max.or_else(|| search.limit(c"ent_str_size"));
+    let global_max = words.global_max.or_else(|| search.limit(c"glob_str_size"));
+    (options.entry_max, options.global_max) =
+        (entry_max.unwrap_or(options.entry_max), global_max.unwrap_or(options.global_max));
 }

@@ -5,6 +5,7 @@ use crate::aux_text::{self, Named, Names, without_white_at_end};
 use crate::database::{Faults, Folded, Item, Items};
 use crate::job::{File, Files};
 use crate::log::{Message, Place};
+use crate::style_read::StyleNames;
 use crate::style_text::{self, Command};
 use crate::text::Text;
 use std::collections::HashMap;
@@ -40,6 +41,8 @@ pub struct Sources<'a> {
     files: &'a Files,
     by_name: HashMap<&'a [u8], &'a File>,
     read: HashMap<&'a [u8], Source<'a>>,
+    /// What the job's style declares.
+    style: Option<Rc<StyleNames<'a>>>,
     names: Option<Names<'a>>,
     /// In which database each key stands first, counted from 0.
     first_databases: Option<HashMap<Folded<'a>, usize>>,
@@ -54,7 +57,7 @@ impl<'a> Sources<'a> {
         for file in files.all.iter().filter(|file| file.bytes.is_some()) {
             by_name.entry(&file.name).or_insert(file);
         }
-        Sources { files, by_name, read: HashMap::new(), names: None, first_databases: None, last: None }
+        Sources { files, by_name, read: HashMap::new(), style: None, names: None, first_databases: None, last: None }
     }
 
     /// The file of this name, if it was found.
@@ -65,6 +68,12 @@ impl<'a> Sources<'a> {
     /// The name of the job's style, if it was found.
     pub fn style(&self) -> Option<&'a File> {
         self.files.with_ending(".bst").next()
+    }
+
+    /// What the job's style declares; nothing where it wasn't found.
+    pub fn style_names(&mut self) -> Rc<StyleNames<'a>> {
+        let bytes = self.style().and_then(|file| file.bytes.as_deref()).unwrap_or(b"");
+        Rc::clone(self.style.get_or_insert_with(|| Rc::new(StyleNames::new(bytes))))
     }
 
     /// The file of this name, with its lines.

@@ -8,8 +8,10 @@ use crate::hints::{Hint, hints};
 use crate::job::{File, Files};
 use crate::lint_ends::{Ends, ends_of};
 use crate::lint_entry::{Shown, entries};
+use crate::lint_types::{Types, types_of};
 use crate::lint_warnings::{Warnings, read};
 use crate::log::{Content, Place};
+use crate::style_read::{StyleNames, StyleRead};
 use crate::style_text::{Kind, Token, Tokens, commands};
 use crate::system::trying;
 use std::io;
@@ -28,8 +30,8 @@ const LEAST_STEPS: u64 = 1000;
 
 /// How many steps a check of this style may take, where nothing else is said. With more names a check needs more steps, and a step takes longer, since it looks through what is known of all of them:
 /// so they are fewer by the square.
-pub fn usual_steps(text: &[u8]) -> u64 {
-    let names = (Code::new(text).names() as u64).max(NAMES);
+pub fn usual_steps(style: &StyleNames<'_>) -> u64 {
+    let names = (style.count() as u64).max(NAMES);
     (STEPS * NAMES / names * NAMES / names).max(LEAST_STEPS)
 }
 
@@ -56,6 +58,8 @@ pub struct StyleCheck {
     pub verdict: Option<Verdict>,
     /// Whether each run of it ends; None where the style is too long.
     ends: Option<Ends>,
+    /// For which types of entries the verdict is, where it says anything of the whole style.
+    types: Option<Types>,
     /// How many steps the check could take.
     pub steps: u64,
     /// Where it may go wrong, if it isn't clean.
@@ -73,17 +77,27 @@ impl StyleCheck {
     pub fn new(style: File, steps: Option<u64>, has_entries: bool) -> Result<StyleCheck, Failure> {
         let style = File { name: name_in_job(&style.name), ..style };
         let bytes = style.bytes.clone().unwrap_or_default();
-        let steps = steps.unwrap_or_else(|| usual_steps(&bytes));
+        // (the tokens of a long style take much room, and the check needs none of them)
+        let (constants, hints, names) = {
+            let style = StyleRead::new(&bytes);
+            (constants(&style)?, hints(&style), style.names)
+        };
+        let steps = steps.unwrap_or_else(|| usual_steps(&names));
         let (verdict, ends) = check_apart(&style, steps)?;
         let found = match &verdict {
             Some(Verdict::Warnings(notes) | Verdict::Incomplete(notes)) => read(notes, &style.name),
             _ => Warnings::default(),
         };
         let entries = if has_entries { Some(entries(&style, &found.shown())?) } else { None };
+        let types = types_of(&style.name, &names, &verdict)?;
         let files = job_of(style);
         let messages = messages_of(&files)?;
-        let constants = constants(&bytes)?;
-        Ok(StyleCheck { files, messages, verdict, ends, steps, found, entries, constants, hints: hints(&bytes) })
+        Ok(StyleCheck { files, messages, verdict, ends, types, steps, found, entries, constants, hints })
+    }
+
+    /// For which types of entries the verdict is; None where it says nothing of the whole style.
+    pub fn types(&self) -> Option<&Types> {
+        self.types.as_ref().filter(|_| matches!(self.word(), "clean" | "warnings"))
     }
 
     /// The verdict, in a word. A style whose text has mistakes isn't called clean, whatever is said of what could be read of it.

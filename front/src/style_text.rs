@@ -9,6 +9,7 @@ use crate::database::Folded;
 use crate::nearest::{distance, nearest};
 use crate::text::{Text, find_byte, is_white};
 use std::collections::HashSet;
+use std::ops::RangeInclusive;
 
 /// What a token is.
 #[derive(Debug, Clone, Copy, PartialEq, Eq)]
@@ -197,9 +198,12 @@ pub struct Command<'a> {
 const WORDS: [&str; 10] =
     ["entry", "integers", "strings", "function", "macro", "read", "execute", "iterate", "reverse", "sort"];
 
+/// How many letters a command's word has.
+const LENGTHS: RangeInclusive<usize> = 4..=8;
+
 /// Whether this is a command's word.
 pub fn is_command(word: &[u8]) -> bool {
-    WORDS.iter().any(|command| word.eq_ignore_ascii_case(command.as_bytes()))
+    LENGTHS.contains(&word.len()) && WORDS.iter().any(|command| word.eq_ignore_ascii_case(command.as_bytes()))
 }
 
 impl Command<'_> {
@@ -219,15 +223,18 @@ pub fn commands_among(text: &[u8], tokens: impl Iterator<Item = Token>) -> Vec<C
     let mut commands: Vec<Command<'_>> = Vec::new();
     let mut balance = 0;
     for token in tokens {
-        let inside = balance > 0 && !is_behind_empty_line(text, token.start);
-        let is_name = token.kind == Kind::Name && (!inside || begins_line(text, token.start));
-        if let Some(command) = Some(token).filter(|_| is_name).and_then(|token| command_at(text, token.start, inside)) {
-            commands.push(command);
-            balance = i64::from(
-                text.get(token.start + command.word.len()..token.end).is_some_and(|rest| rest.starts_with(b"{")),
-            );
+        match token.kind {
+            Kind::Open => balance += 1,
+            Kind::Close => balance -= 1,
+            Kind::Name => {
+                if let Some(command) = command_of(text, token.start, balance > 0) {
+                    // (a brace that touches the word is part of its token)
+                    balance = i64::from(text[token.start + command.word.len()..token.end].starts_with(b"{"));
+                    commands.push(command);
+                }
+            }
+            _ => {}
         }
-        balance += i64::from(token.kind == Kind::Open) - i64::from(token.kind == Kind::Close);
         if let Some(last) = commands.last_mut() {
             last.balance = balance;
         }
@@ -359,13 +366,21 @@ fn begins_line(text: &[u8], place: usize) -> bool {
     text[..place].iter().rev().find(|byte| !is_white(**byte)).is_none_or(|byte| *byte == b'\n')
 }
 
-/// The command that begins here. Inside of braces it has an argument, or stands alone in its line.
-fn command_at(text: &[u8], start: usize, is_inside: bool) -> Option<Command<'_>> {
-    let rest = &text[start..];
-    let word = &rest[..rest.iter().position(|byte| !byte.is_ascii_alphabetic()).unwrap_or(rest.len())];
-    let behind = &rest[word.len()..];
-    let ends = behind.first().is_none_or(|byte| ends_name(*byte) || *byte == b'{');
-    if !ends || !is_command(word) {
+/// The command whose word is the name that begins here, if it is one; `is_open` says that braces of the text above aren't closed. Most names are no words of commands, so that is looked at first.
+fn command_of(text: &[u8], start: usize, is_open: bool) -> Option<Command<'_>> {
+    let letters = text[start..].iter().take(LENGTHS.end() + 1).take_while(|byte| byte.is_ascii_alphabetic()).count();
+    let word = &text[start..start + letters];
+    if !is_command(word) {
+        return None;
+    }
+    let is_inside = is_open && !is_behind_empty_line(text, start);
+    if is_inside && !begins_line(text, start) { None } else { command_at(text, start, word, is_inside) }
+}
+
+/// The command of this word, which begins here. Inside of braces it has an argument, or stands alone in its line.
+fn command_at<'a>(text: &'a [u8], start: usize, word: &'a [u8], is_inside: bool) -> Option<Command<'a>> {
+    let behind = &text[start + word.len()..];
+    if !behind.first().is_none_or(|byte| ends_name(*byte) || *byte == b'{') {
         return None;
     }
     // (of the line no more is looked at than these need: a line may have many commands)

@@ -1,6 +1,6 @@
 //! The text of a file, by bytes and by lines.
 
-use memchr::memchr;
+use memchr::{memchr, memchr_iter};
 use std::collections::HashMap;
 use std::io::BufRead;
 
@@ -15,8 +15,8 @@ pub struct Text<'a> {
 impl<'a> Text<'a> {
     /// The lines of these bytes are found once.
     pub fn new(bytes: &'a [u8]) -> Text<'a> {
-        let behind_ends = bytes.iter().enumerate().filter(|(_, byte)| **byte == b'\n').map(|(at, _)| at + 1);
-        Text { bytes, starts: std::iter::once(0).chain(behind_ends).collect() }
+        let after_ends = memchr_iter(b'\n', bytes).map(|at| at + 1);
+        Text { bytes, starts: std::iter::once(0).chain(after_ends).collect() }
     }
 
     /// Where the line of this number begins and where it ends, without its end; an empty one at the end of the text where there is no

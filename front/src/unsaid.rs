@@ -9,13 +9,13 @@ use crate::document::Document;
 use crate::doubts::{doubt, has_label_of_year, lost_case};
 use crate::entries::{Entries, Stored};
 use crate::explain::{begins_item, shown_path};
-use crate::hints::names_of_fields;
 use crate::job::{File, Files};
 use crate::letter_values::parts;
 use crate::missing_entry::LostField;
 use crate::mistakes::is_hidden;
 use crate::nearest::nearest;
 use crate::shown_line::ShownLine;
+use crate::style_read::StyleNames;
 use crate::terminal::{Terminal, plain};
 use crate::text::find;
 use std::collections::{HashMap, HashSet};
@@ -107,8 +107,8 @@ pub struct Unsaid<'b, 'a> {
 
 /// What is known of a style and of the document.
 struct Known<'k> {
-    /// The fields that the style reads.
-    read: Vec<Vec<u8>>,
+    /// The style, which declares the fields that it reads.
+    style: &'k StyleNames<'k>,
     strings: HashSet<Folded<'k>>,
     /// Whether it takes a label from the end of the year.
     has_label: bool,
@@ -140,17 +140,17 @@ impl<'b, 'a> Unsaid<'b, 'a> {
     pub fn new(
         entries: &'b Entries<'a>,
         files: &'a Files,
-        style: &[u8],
+        style: &StyleNames<'_>,
         strings: &[&[u8]],
         document: Option<&Document>,
     ) -> Unsaid<'b, 'a> {
         let mut unsaid = Unsaid::default();
         let known = Known {
-            read: names_of_fields(style),
+            style,
             strings: strings.iter().map(|name| Folded(name)).collect(),
-            has_label: has_label_of_year(style),
+            has_label: has_label_of_year(style.bytes),
             is_utf8: is_in_utf8(files, document),
-            cased: Cased::new(style),
+            cased: Cased::new(style.bytes),
         };
         let mut cited = HashSet::new();
         let keys = cited_keys(files).filter(|key| cited.insert(Folded(key))).take(MOST_ENTRIES);
@@ -170,12 +170,12 @@ impl<'b, 'a> Unsaid<'b, 'a> {
             self.found.push(Found { stored, field: b"", text: place..place, place, seen: Seen::NotHidden, names });
         }
         for (name, value) in inside.fields.iter().zip(&inside.values) {
-            let is_read = known.read.iter().any(|known| known.eq_ignore_ascii_case(name));
+            let is_read = known.style.has_field(name);
             let text = whole_text(bytes, value);
             if is_read && let Some(text) = text {
                 self.look_at_text(stored, name, text, known);
-            } else if !is_read && !known.read.is_empty() && !is_one_of(name, &KEPT) {
-                let lacked = known.read.iter().map(Vec::as_slice).filter(|known| !has(known));
+            } else if !is_read && known.style.fields().next().is_some() && !is_one_of(name, &KEPT) {
+                let lacked = known.style.fields().filter(|known| !has(known));
                 let unread = self.unread.entry(Folded(name)).or_insert_with(|| (0, nearest(name, lacked).map(plain)));
                 unread.0 += 1;
                 if unread.0 == 1 && is_one_of(name, &ADDRESSES) {
@@ -400,7 +400,8 @@ mod tests {
         let top = file("a.aux", "\\citation{k,l}\n\\bibdata{d}\n\\bibstyle{s}\n");
         let files = Files { top: b"a.aux".to_vec(), all: vec![top, file("d.bib", database)] };
         let entries = Entries::new(&files);
-        look(&Unsaid::new(&entries, &files, b"ENTRY {author month pages title}{}{}", &[b"jan", b"cacm"], None))
+        let style = StyleNames::new(b"ENTRY {author month pages title}{}{}");
+        look(&Unsaid::new(&entries, &files, &style, &[b"jan", b"cacm"], None))
     }
 
     #[test]
@@ -420,7 +421,7 @@ mod tests {
         let entries = Entries::new(&files);
         let style =
             b"ENTRY {title}{}{} FUNCTION {misc} {title \"t\" change.case$ write$} FUNCTION {book} {title write$}";
-        let unsaid = Unsaid::new(&entries, &files, style, &[], None);
+        let unsaid = Unsaid::new(&entries, &files, &StyleNames::new(style), &[], None);
         let found: Vec<_> = unsaid.found.iter().map(|found| (found.place, found.seen)).collect();
         assert_eq!(found, [(21, Seen::LosesCase)]);
     }
@@ -514,7 +515,7 @@ mod tests {
             let database = file("d.bib", b"@misc{k, title = {Einf\xFChrung}} @misc{l, title = {\xE4}}");
             let files = Files { top: b"a.aux".to_vec(), all: vec![file("a.aux", aux), database] };
             let entries = Entries::new(&files);
-            let unsaid = Unsaid::new(&entries, &files, b"ENTRY {title}{}{}", &[], None);
+            let unsaid = Unsaid::new(&entries, &files, &StyleNames::new(b"ENTRY {title}{}{}"), &[], None);
             unsaid.found.iter().map(|found| (found.place, found.seen, found.names[1].clone())).collect::<Vec<_>>()
         };
         assert_eq!(found(b"\\citation{k,l}\n"), [(22, Seen::NotUtf8, "FC".to_string())]);

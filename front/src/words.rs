@@ -33,9 +33,9 @@ pub struct Words {
     pub text: TextMode,
     /// Whose letters are sorted and changed in case by rules of their own; None where all bytes are as the original takes them.
     pub language: Option<Arc<Language>>,
-    /// Whether the limits of variables were given; else TeX's set-up gives them.
-    pub has_entry_max: bool,
-    pub has_global_max: bool,
+    /// The limits of variables, where they were given; else TeX's set-up gives them.
+    pub entry_max: Option<u32>,
+    pub global_max: Option<u32>,
     pub rooms: Rooms,
     /// The options of bibtex8 that were given and have no object here.
     pub ignored: Vec<Vec<u8>>,
@@ -77,38 +77,56 @@ enum Choice {
     Folder,
 }
 
-/// An option: its name, what it chooses, and whether it has a value.
-type Row = (&'static str, Choice, bool);
+/// An option.
+#[derive(Debug, Clone, Copy)]
+struct Row {
+    name: &'static str,
+    choice: Choice,
+    has_value: bool,
+}
+
+/// An option that has a value.
+const fn with_value(name: &'static str, choice: Choice) -> Row {
+    Row { name, choice, has_value: true }
+}
+
+/// An option that has none.
+const fn alone(name: &'static str, choice: Choice) -> Row {
+    Row { name, choice, has_value: false }
+}
 
 /// The original's options. Their shortened forms come before those of all others.
 const ORIGINAL: [Row; 4] = [
-    ("terse", Choice::Terse, false),
-    ("min-crossrefs", Choice::MinCrossrefs, true),
-    ("help", Choice::Help, false),
-    ("version", Choice::Version, false),
+    alone("terse", Choice::Terse),
+    with_value("min-crossrefs", Choice::MinCrossrefs),
+    alone("help", Choice::Help),
+    alone("version", Choice::Version),
 ];
 
 /// Our own options.
 const OWN: [Row; 14] = [
-    ("explain", Choice::Explain, false),
-    ("no-explain", Choice::NoExplain, false),
-    ("explain-only", Choice::ExplainOnly, false),
-    ("budget", Choice::Budget, true),
-    ("text", Choice::Text, true),
-    ("letters", Choice::Letters, true),
-    ("line", Choice::Line, true),
-    ("entry-max", Choice::EntryMax, true),
-    ("global-max", Choice::GlobalMax, true),
-    ("log-room", Choice::LogRoom, true),
-    ("list-room", Choice::ListRoom, true),
-    ("strict", Choice::Strict, false),
-    ("json", Choice::Json, false),
-    ("dir", Choice::Folder, true),
+    alone("explain", Choice::Explain),
+    alone("no-explain", Choice::NoExplain),
+    alone("explain-only", Choice::ExplainOnly),
+    with_value("budget", Choice::Budget),
+    with_value("text", Choice::Text),
+    with_value("letters", Choice::Letters),
+    with_value("line", Choice::Line),
+    with_value("entry-max", Choice::EntryMax),
+    with_value("global-max", Choice::GlobalMax),
+    with_value("log-room", Choice::LogRoom),
+    with_value("list-room", Choice::ListRoom),
+    alone("strict", Choice::Strict),
+    alone("json", Choice::Json),
+    with_value("dir", Choice::Folder),
 ];
 
 /// The options of bibtex8 and bibtexu that ask for something. Their letters count only as they are.
-const EIGHT: [Row; 3] =
-    [("M", Choice::MinCrossrefs, true), ("min_crossrefs", Choice::MinCrossrefs, true), ("?", Choice::Help, false)];
+const EIGHT: [Row; 3] = [
+    with_value("M", Choice::MinCrossrefs),
+    with_value("min_crossrefs", Choice::MinCrossrefs),
+    alone("?", Choice::Help),
+];
 
 /// Their other options, without a value and with one.
 const IGNORED: [&str; 13] =
@@ -120,9 +138,9 @@ const IGNORED_WITH_VALUE: [&str; 12] = [
 
 /// All options of bibtex8 and bibtexu.
 fn all_of_eight() -> impl Iterator<Item = Row> {
-    let ignored = IGNORED.into_iter().map(|name| (name, Choice::Ignored, false));
-    let with_value = IGNORED_WITH_VALUE.into_iter().map(|name| (name, Choice::Ignored, true));
-    EIGHT.into_iter().chain(ignored).chain(with_value)
+    let ignored = IGNORED.into_iter().map(|name| alone(name, Choice::Ignored));
+    let ignored_with_value = IGNORED_WITH_VALUE.into_iter().map(|name| with_value(name, Choice::Ignored));
+    EIGHT.into_iter().chain(ignored).chain(ignored_with_value)
 }
 
 /// What is wrong with the name of an option.
@@ -136,16 +154,15 @@ enum Misnamed {
 /// or of bibtex8's.
 fn option_named(name: &[u8]) -> Result<Row, Misnamed> {
     let all = [ORIGINAL.to_vec(), OWN.to_vec(), all_of_eight().collect()];
-    if let Some(row) = all.iter().flatten().find(|(option, ..)| option.as_bytes() == name) {
+    if let Some(row) = all.iter().flatten().find(|row| row.name.as_bytes() == name) {
         return Ok(*row);
     }
     for rows in &all {
-        let beginning: Vec<Row> =
-            rows.iter().filter(|(option, ..)| option.as_bytes().starts_with(name)).copied().collect();
+        let beginning: Vec<Row> = rows.iter().filter(|row| row.name.as_bytes().starts_with(name)).copied().collect();
         match beginning[..] {
             [row] => return Ok(row),
             [] => {}
-            _ => return Err(Misnamed::Ambiguous(beginning.iter().map(|row| row.0).collect())),
+            _ => return Err(Misnamed::Ambiguous(beginning.iter().map(|row| row.name).collect())),
         }
     }
     Err(Misnamed::Unknown)
@@ -206,8 +223,8 @@ impl Words {
             options,
             text: TextMode::Auto,
             language: None,
-            has_entry_max: false,
-            has_global_max: false,
+            entry_max: None,
+            global_max: None,
             rooms: Rooms { list: 1 << 30, log: 64 << 20 },
             ignored: Vec::new(),
         }
@@ -215,8 +232,8 @@ impl Words {
 
     /// Takes an option that asks for something of a run.
     fn take(&mut self, row: Row, value: &[u8], word: &[u8]) -> Result<(), Vec<u8>> {
-        let name = row.0;
-        match row.1 {
+        let name = row.name;
+        match row.choice {
             Choice::Terse => self.terse = true,
             Choice::Strict => self.is_strict = true,
             Choice::Json => self.is_json = true,
@@ -227,12 +244,8 @@ impl Words {
             Choice::MinCrossrefs => self.options.min_crossrefs = loose_number(value).max(0) as u32,
             Choice::Budget => self.options.budget = number(name, value, 0..=1_000_000_000_000_000)?,
             Choice::Line => self.options.line = number(name, value, 20..=1000)? as u32,
-            Choice::EntryMax => {
-                (self.options.entry_max, self.has_entry_max) = (number(name, value, 1..=1_000_000)? as u32, true);
-            }
-            Choice::GlobalMax => {
-                (self.options.global_max, self.has_global_max) = (number(name, value, 1..=1_000_000)? as u32, true);
-            }
+            Choice::EntryMax => self.entry_max = Some(number(name, value, 1..=1_000_000)? as u32),
+            Choice::GlobalMax => self.global_max = Some(number(name, value, 1..=1_000_000)? as u32),
             Choice::LogRoom => self.rooms.log = size(name, value)?,
             Choice::ListRoom => self.rooms.list = size(name, value)?,
             Choice::Text => self.text = text_mode(value)?,
@@ -310,12 +323,12 @@ impl<'a> OptionWord<'a> {
                 named(self.name, &format!("is ambiguous; possibilities: {}", all.join(" ")))
             }
         })?;
-        match (row.2, self.value) {
-            (false, Some(_)) => Err(named(row.0.as_bytes(), "doesn't allow an argument")),
+        match (row.has_value, self.value) {
+            (false, Some(_)) => Err(named(row.name.as_bytes(), "doesn't allow an argument")),
             (false, None) => Ok((row, Vec::new())),
             (true, Some(value)) => Ok((row, value.to_vec())),
             (true, None) => {
-                let value = words.next().ok_or_else(|| named(row.0.as_bytes(), "requires an argument"))?;
+                let value = words.next().ok_or_else(|| named(row.name.as_bytes(), "requires an argument"))?;
                 Ok((row, value))
             }
         }
@@ -342,7 +355,7 @@ fn read_words(mut words: impl Iterator<Item = Vec<u8>>, explain: Explain, jobs_l
             continue;
         };
         let (row, value) = option.meaning(&mut words)?;
-        match row.1 {
+        match row.choice {
             Choice::Help => return Ok(Asked::Help),
             Choice::Version => return Ok(Asked::Version),
             _ => asked.take(row, &value, &word)?,

@@ -96,7 +96,7 @@ OF_OTHER_TYPES = {"booktitle": ["journal"], "journal": ["booktitle"], "school": 
 ALIKE = str.maketrans({**dict.fromkeys("\xad\u2010\u2011\u2012\u2013\u2014\u2212", "-"), "\xa0": " "})
 
 
-# What comes after a last name, and what stands after a name and is no part of it; front/src/doubts.rs and explain.rs have the same.
+# What comes after a last name, and what stands after a name and is no part of it; front/src/doubts.rs and explain/names.rs have the same.
 SUFFIX = re.compile(r"(?i:jr|sr)\.?|III?|IV")
 DEGREES = ("PhD", "Ph.D.", "Ph.D", "MD", "M.D.", "MSc", "Dr.", "Prof.")
 # Letters that look like digits.

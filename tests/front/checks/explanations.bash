@@ -40,6 +40,7 @@ Error--A bad cross reference--entry \"two\" refers to entry \"p\", which doesn't
 Warning--I didn't find a database entry for \"nosuch\"
     job.aux:2: \\citation{two,nosuch,bare}
                              ^
+    (LaTeX writes this line for a \`\\cite\` in the document)
     it may stand in e.bib, which wasn't found
 Error--\"A\" is not an integer while executing + for entry k
     in {..} of FUNCTION {misc}, $2s.bst:3; called from misc, s.bst:3; ITERATE {call.type\$}, s.bst:7

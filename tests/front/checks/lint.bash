@@ -57,7 +57,7 @@ wants_status 0
 wants_error ''
 wants_output 'clean.bst: clean: no run with a budget of at most 1,500,000,000 steps logs a fault of the stack or of kinds (at most 4 bodies are open; 3 literals were met)
     for entries of the types article, and of all that it doesn'"'"'t know
-    not covered: entries of 2 types with a dot in their names: these functions stand above READ and aren'"'"'t taken as types
+    not covered: entries whose type has the name of one of these functions, which stand above READ and aren'"'"'t taken as types: 2 with a dot in their names, such as output.title
 clean.bst: ends: at most 0 steps, and 13 for each entry, where a string variable keeps at most 20,000 bytes
 '
 run_lint --line clean
@@ -78,6 +78,7 @@ sed -i 's/rest #2/rest #1/' clean.bst
 run_lint clean.bst
 wants_status 0
 wants_line_of_output 'clean.bst: not known to end: `while$` in line 11, in default.type: its body isn'"'"'t known to count a variable down, to make a text shorter or to walk along it'
+wants_line_of_output "    it is clean all the same (status 0): a run that doesn't end is stopped at its budget, and logs no such fault before that"
 sed -i -e 's/rest #1/rest #2/' -e 's/title empty.*/title write$ }/' clean.bst
 run_lint clean.bst
 wants_status 2
@@ -147,7 +148,7 @@ end
 begin lint_of_types_that_are_not_covered
 write_clean
 sed -i 's/^FUNCTION {article}/FUNCTION {mid} { output.title }\n\n&/; s/^{ output.title }/{ mid }/' clean.bst
-uncovered="    not covered: entries of the type mid, and of 2 types with a dot in their names: these functions stand above READ and aren't taken as types"
+uncovered="    not covered: entries whose type has the name of one of these functions, which stand above READ and aren't taken as types: mid, and 2 with a dot in their names, such as output.title"
 for wanted in 0 2; do
     run_lint clean.bst
     wants_status $wanted
@@ -188,8 +189,8 @@ sed -i "s/{ title empty.*/{ author empty\$ 'skip\$\n   { title write\$ newline\$
 run_lint clean.bst
 wants_status 2
 wants_line_of_output 'clean.bst:5: in output.title: `write$` takes TEXT, and the field `title` may be missing here'
-grep -q '^    run by: .*article (line 9) > output.title (line 5)$' "$folder/stdout" || complaints+=("printed is $(cat "$folder/stdout")")
-wants_line_of_output '    do: choose by `title empty$` before it, or `title missing$`'
+grep -q '^    called from: .*article (line 9) > output.title (line 5)$' "$folder/stdout" || complaints+=("printed is $(cat "$folder/stdout")")
+wants_line_of_output '    what to do: choose by `title empty$` before it, or `title missing$`'
 grep -q '^clean.bst: warnings: 1 place' "$folder/stdout" || complaints+=("printed is $(cat "$folder/stdout")")
 run_lint --line clean.bst
 wants_status 2
@@ -206,8 +207,8 @@ echo 'EXECUTE {article}' >>clean.bst
 run_lint clean.bst
 wants_status 2
 grep -q 'needs a current entry, and ' "$folder/stdout" || complaints+=("printed is $(cat "$folder/stdout")")
-wants_line_of_output '    do: there is no current entry: take EXECUTE {article} in line 14 out, or run its function by ITERATE or REVERSE'
-wants_line_of_output '    run by: EXECUTE {article} (line 14) > article (line 7) > output.title (line 4)'
+wants_line_of_output '    what to do: there is no current entry: take EXECUTE {article} in line 14 out, or run its function by ITERATE or REVERSE'
+wants_line_of_output '    called from: EXECUTE {article} (line 14) > article (line 7) > output.title (line 4)'
 end
 
 # What the notes and the text say together: the line with a mark, what a variable is declared as, which function let a field through.
@@ -221,13 +222,13 @@ with_body() {
 }
 with_body "n 's :="
 wants_line_of_output 'clean.bst:9: in assigns: `:=` takes VALUE '"'VARIABLE: \`s\` is a string (STRINGS, line 6), and \`n\` is an integer"
-wants_line_of_output '    do: if `s` is to be a number, declare it in INTEGERS, and not in line 6; else write `int.to.str$` before `'"'s\`: it makes a string of a number"
+wants_line_of_output '    what to do: if `s` is to be a number, declare it in INTEGERS, and not in line 6; else write `int.to.str$` before `'"'s\`: it makes a string of a number"
 with_body "\"\" 's := n 's :="
-wants_line_of_output '    do: write `int.to.str$` before `'"'s\`: it makes a string of a number"
+wants_line_of_output '    what to do: write `int.to.str$` before `'"'s\`: it makes a string of a number"
 with_body "n 's :="
 grep -A1 -xF "    clean.bst:9: { n 's := }" "$folder/stdout" | grep -qx '                        ^' || complaints+=('the mark is missing')
 with_body 's s :='
-wants_line_of_output "    do: write a ' before the variable: \`'s\`"
+wants_line_of_output "    what to do: write a ' before the variable: \`'s\`"
 with_body 'title #0 = pop$'
 wants_line_of_output 'clean.bst:9: in assigns: `=` compares two strings or two numbers: a string and an integer are never equal: `title` is a field, and `#0` is a number'
 end
@@ -238,7 +239,7 @@ sed -i 's/^FUNCTION {article}/FUNCTION {text.of}\n{ duplicate$ empty$ { "" } '"'
 sed -i 's/^{ output.title }/{ sorts }/' clean.bst
 run_lint clean.bst
 wants_status 2
-wants_line_of_output '    do: `text.of` (line 6) is run on `title` just before: let it leave one string, and nothing else, where the field is missing'
+wants_line_of_output '    what to do: `text.of` (line 6) is run on `title` just before: let it leave one string, and nothing else, where the field is missing'
 wants_line_of_output 'clean.bst:7: in text.of: the branches of this `if$` leave different numbers of literals: the first leaves 1, the second leaves 0'
 wants_line_of_output '    may follow from: the unequal `if$` in line 7'
 head -n 1 "$folder/stdout" | grep -q 'the branches of this' || complaints+=("the cause isn't first in $(cat "$folder/stdout")")
@@ -298,7 +299,7 @@ for row in "author { newline\$ } 'skip\$ if\$|a field is never a number: ask by 
     'author #1 + pop$|a field is never a number: push NUMBER NUMBER in this order' \
     "author 'n :=|if \`n\` is to be a string, declare it in STRINGS, and not in line 6; else assign it to a variable that is declared as a string: no function makes a number of digits"; do
     lints_with "${row%%|*}" 'INTEGERS { n }\n\n'
-    wants_line_of_output "    do: ${row#*|}"
+    wants_line_of_output "    what to do: ${row#*|}"
     ! grep -q '^    when: ' "$folder/stdout" || complaints+=("a condition is named in $(cat "$folder/stdout")")
     run_lint --json clean.bst
     ! grep -q '"missing"' "$folder/stdout" || complaints+=("printed is $(cat "$folder/stdout")")

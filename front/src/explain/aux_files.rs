@@ -1,0 +1,89 @@
+//! Messages on `.aux` files: where they stand, and what to do in the document.
+
+use super::{Explainer, MOST_OF_SCENE, shown_path};
+use crate::advice::{Section, Seen};
+use crate::aux_text::{broken_off, not_taken};
+use crate::document::{Document, job_that_includes};
+use crate::log::Message;
+use crate::terminal::plain;
+use crate::text::find;
+use std::io::{self, Write};
+
+impl<'a, W: Write> Explainer<'a, W> {
+    pub(super) fn in_aux_file(&mut self, message: &Message<'a>) -> io::Result<()> {
+        let Some(spot) = self.sources.spot(message) else { return self.advise(&[Section::Aux], message.text) };
+        self.page.show_line(&spot)?;
+        let end = self.sources.text(&spot.file.name).map(|text| text.bytes.len() - text.span(spot.number).1);
+        let is_last = end == Some(0) && message.text == b"No \"}\"";
+        if let Some(broken) = broken_off(self.files).filter(|file| is_last && file.name == spot.file.name) {
+            return self.page.put_advice_once(&Seen::AuxBreaksOff.with(&[&plain(shown_path(broken))]));
+        }
+        if message.text == b"White space in argument" {
+            let lost: Vec<String> = not_taken(spot.line).iter().map(|name| format!("`{}`", plain(name))).collect();
+            let dots = if lost.len() > MOST_OF_SCENE { ", .." } else { "" };
+            let shown = lost[..lost.len().min(MOST_OF_SCENE)].join(", ");
+            self.page.put_place(&format!("not taken from this line: {shown}{dots}"))?;
+            if let Some(keys) = self.keys_without_commas(spot.line) {
+                return self.page.put_advice_once(&Seen::CommasBetweenKeys.with(&[&keys]));
+            }
+        }
+        self.advise(&[Section::Aux], message.text)
+    }
+
+    /// The keys of entries that stand in one citation with whitespace between them, with commas in its place.
+    fn keys_without_commas(&mut self, line: &'a [u8]) -> Option<String> {
+        let entries = self.entries();
+        not_taken(line).into_iter().find_map(|name| {
+            let words: Vec<&[u8]> = name.split(u8::is_ascii_whitespace).filter(|word| !word.is_empty()).collect();
+            let are_keys = words.len() > 1 && words.iter().all(|word| entries.entry(word).is_some());
+            are_keys.then(|| plain(&words.join(&b","[..])))
+        })
+    }
+
+    /// Which file was looked through for a command, whether it is of another program, and whether it is older than the document; whether it was said what to do.
+    pub(super) fn found_no_command(&mut self, text: &[u8]) -> io::Result<bool> {
+        let Some(top) = self.files.with_ending(".aux").next() else { return Ok(false) };
+        let name = plain(shown_path(top));
+        self.page.put_place_once(&format!("{name}: the whole file was read, and those that it includes"))?;
+        let stem = name.strip_suffix(".aux").unwrap_or(&name);
+        let advice = if let Some(broken) = broken_off(self.files) {
+            Some(Seen::AuxBreaksOff.with(&[&plain(shown_path(broken))]))
+        } else if let Some(whole) = job_that_includes(self.files) {
+            Some(of_include(&name, whole))
+        } else if self.is_of_biblatex() {
+            Some(Seen::OfBiblatex.with(&[stem]))
+        } else {
+            let document = self.document();
+            document.as_ref().as_ref().and_then(|document| advice_of_document(document, text))
+        };
+        advice.map_or(Ok(false), |advice| self.page.put_advice_once(&advice).map(|()| true))
+    }
+
+    /// Whether the job is of a document with `biblatex` whose bibliography another program makes.
+    fn is_of_biblatex(&self) -> bool {
+        let top = self.files.with_ending(".aux").next().and_then(|file| file.bytes.as_deref());
+        top.is_some_and(|bytes| find(bytes, b"\\abx@aux@").is_some())
+    }
+}
+
+/// What to do about an `.aux` file that `\include` has made: the job to run instead, where it is known.
+fn of_include(name: &str, whole: Option<Vec<u8>>) -> String {
+    let Some(whole) = whole else { return Seen::OfSomeInclude.with(&[name]) };
+    let whole = plain(&whole);
+    Seen::OfInclude.with(&[whole.strip_suffix(".aux").unwrap_or(&whole), &whole, name])
+}
+
+/// What to do about a command that the `.aux` file lacks, by the document: it has the command, or has its neighbour.
+fn advice_of_document(document: &Document, error: &[u8]) -> Option<String> {
+    let name = plain(shown_path(&document.file));
+    let command = match error {
+        b"I found no \\bibdata command" => "\\bibliography",
+        b"I found no \\bibstyle command" => "\\bibliographystyle",
+        _ => return None,
+    };
+    if let Some(line) = document.line_of(command.as_bytes()) {
+        return Some(Seen::OlderAux.with(&[&format!("{name}:{line}"), command]));
+    }
+    let line = document.line_of(b"\\bibliography").filter(|_| command == "\\bibliographystyle")?;
+    Some(Seen::NoStyleInDocument.with(&[&format!("{name}:{line}")]))
+}

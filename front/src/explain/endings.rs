@@ -1,0 +1,89 @@
+//! What is said after the messages of a run that came to its end: what no message is about.
+
+use super::{Explainer, MOST_OF_SCENE, shown_path};
+use crate::advice::Seen;
+use crate::aux_text::cited_keys;
+use crate::database::Folded;
+use crate::document::Document;
+use crate::shown_line::ShownLine;
+use crate::terminal::plain;
+use crate::text::Text;
+use crate::unsaid::{Unsaid, after_ends};
+use std::collections::HashSet;
+use std::io::{self, Write};
+
+impl<'a, W: Write> Explainer<'a, W> {
+    /// The fields after the end of an entry, of which the run logs nothing.
+    pub(super) fn after_ends(&mut self) -> io::Result<()> {
+        let (files, terminal) = (self.files, self.page.terminal);
+        let (shown, more) = after_ends(self.entries(), files);
+        let shown: Vec<(Vec<String>, String)> =
+            shown.into_iter().map(|shown| (shown.lines(terminal), shown.advice)).collect();
+        if !shown.is_empty() {
+            writeln!(self.page.out, "No message is about these fields, which stand after the end of their entry:")?;
+        }
+        for (lines, advice) in shown {
+            self.page.put_lines(&lines)?;
+            self.page.put_advice(&advice)?;
+        }
+        let entries = if more == 1 { "1 more entry has" } else { &format!("{more} more entries have") };
+        if more > 0 { self.page.put_place(&format!("({entries} fields after the end)")) } else { Ok(()) }
+    }
+
+    /// What the run doesn't log of the entries that are cited.
+    pub(super) fn unsaid(&mut self) -> io::Result<()> {
+        let style = self.sources.style_names();
+        let (strings, files, terminal) = (self.known_strings(), self.files, self.page.terminal);
+        let document = self.document();
+        let unsaid = Unsaid::new(self.entries(), files, &style, &strings, document.as_ref().as_ref());
+        let (more, unread) = (unsaid.more(), unsaid.unread());
+        let shown: Vec<(Vec<String>, String)> =
+            unsaid.shown().into_iter().map(|shown| (shown.lines(terminal), shown.advice)).collect();
+        if !shown.is_empty() {
+            writeln!(self.page.out, "BibTeX has no message on these, but they may not be meant so:")?;
+        }
+        for (lines, advice) in shown {
+            self.page.put_lines(&lines)?;
+            self.page.put_advice_once(&advice)?;
+        }
+        if more > 0 {
+            self.page.put_place(&format!("({more} more {} like these)", if more == 1 { "is" } else { "are" }))?;
+        }
+        unread.map_or(Ok(()), |unread| writeln!(self.page.out, "{unread}"))?;
+        document.as_ref().as_ref().map_or(Ok(()), |document| self.unsaid_of_document(document))
+    }
+
+    /// What no message is about in the document: a style that doesn't fit its package, and keys that aren't in it any more.
+    fn unsaid_of_document(&mut self, document: &Document) -> io::Result<()> {
+        let style = self.sources.style().and_then(|file| file.name.strip_suffix(b".bst")).unwrap_or(b"");
+        let name = plain(shown_path(&document.file));
+        if let Some(number) = document.line_of_unfit_style(style) {
+            let line = Text::new(document.file.bytes.as_deref().unwrap_or(b"")).line(number);
+            writeln!(self.page.out, "No message is about this, and LaTeX stops at it or prints `?`:")?;
+            let lines = ShownLine { name: &name, number, line, mark: None }.lines(self.page.terminal);
+            self.page.put_lines(&lines)?;
+            let style = plain(style);
+            let fit = if ["plain", "unsrt", "abbrv"].contains(&&style[..]) {
+                format!("{style}nat")
+            } else {
+                "plainnat".into()
+            };
+            self.page.put_advice_once(&Seen::NatbibStyle.with(&[&fit, &style]))?;
+        }
+        let (mut seen, files) = (HashSet::new(), self.files);
+        let new = cited_keys(files).filter(|key| *key != b"*" && seen.insert(Folded(key)));
+        let lacked: Vec<&[u8]> = new.filter(|key| document.lacks(key)).collect();
+        let entries = self.entries();
+        let lacked: Vec<String> =
+            lacked.iter().filter(|key| entries.entry(key).is_some()).map(|key| format!("`{}`", plain(key))).collect();
+        if lacked.is_empty() {
+            return Ok(());
+        }
+        let dots = if lacked.len() > MOST_OF_SCENE { ", .." } else { "" };
+        let shown = lacked[..lacked.len().min(MOST_OF_SCENE)].join(", ");
+        writeln!(
+            self.page.out,
+            "(The `.aux` file cites what isn't in {name}: {shown}{dots}. Run LaTeX again, if they aren't cited any more.)"
+        )
+    }
+}

@@ -1,0 +1,147 @@
+//! Messages on what was not found: entries, parents, and files.
+
+use super::{Explainer, between, missing_key, shown_path};
+use crate::advice::Section;
+use crate::document::Named;
+use crate::log::Message;
+use crate::shown_line::ShownLine;
+use crate::sources::Spot;
+use crate::terminal::plain;
+use crate::text::split_first;
+use crate::{beside, missing_entry};
+use std::collections::HashSet;
+use std::io::{self, Write};
+
+/// What is said of a line of an `.aux` file that isn't what an author edits.
+const OF_CITE: &str = "(LaTeX writes this line for a `\\cite` in the document)";
+
+/// What is known of entries that weren't found.
+#[derive(Default)]
+pub(super) struct Missing {
+    /// How many keys have no entry since a database isn't there or has none.
+    lost_keys: u64,
+    /// The entries whose parents weren't found.
+    pub(super) children: HashSet<Vec<u8>>,
+    /// The parents that weren't found, of which it was said where they may be.
+    parents: HashSet<Vec<u8>>,
+}
+
+impl<'a, W: Write> Explainer<'a, W> {
+    /// Whether a message is about a key without an entry of which no more can be said than of one before. Then it is counted.
+    pub(super) fn is_lost(&mut self, message: &Message<'a>) -> bool {
+        let Some(key) = missing_key(message.text) else { return false };
+        let files = self.files;
+        let is_lost = missing_entry::is_lost(self.entries(), files, key);
+        self.missing.lost_keys += u64::from(is_lost);
+        is_lost && self.missing.lost_keys > 1
+    }
+
+    /// What is said of the keys that were counted; once.
+    pub(super) fn texts_of_lost(&mut self) -> Vec<String> {
+        let (count, files) = (std::mem::take(&mut self.missing.lost_keys), self.files);
+        let lost = missing_entry::lost(self.entries(), files);
+        let place = lost.and_then(|clue| clue.place.clone()).filter(|_| count > 1);
+        let keys =
+            if count == 2 { "1 more key has".into() } else { format!("{} more keys have", count.saturating_sub(1)) };
+        let place = place.map(|place| if count == 2 { place } else { place.replacen("it may", "they may", 1) });
+        place.iter().map(|place| format!("({keys} no entry: {place})")).collect()
+    }
+
+    /// Says more of a message without a place; whether it was said what to do.
+    pub(super) fn unplaced(&mut self, message: &Message<'a>) -> io::Result<bool> {
+        let text = message.text;
+        if let Some(spot) = self.sources.spot(message) {
+            self.show_named_file(&spot, text)?;
+            let meant = beside::meant(text, self.files);
+            return meant.map_or(Ok(false), |meant| self.page.put_place(&meant).map(|()| false));
+        }
+        if let Some(child) = between(text, b"A bad cross reference--entry \"", b"\" refers to entry \"") {
+            return self.bad_parent(child, text);
+        }
+        let child = between(text, b"you've nested cross references--entry \"", b"\" refers to entry \"");
+        if let Some(key) = child {
+            return self.show_entry("for", key).map(|_| false);
+        }
+        if text.starts_with(b"I found no ") {
+            return self.found_no_command(text);
+        }
+        self.of_style(text).map(|()| false)
+    }
+
+    /// Says of a parent that wasn't found where it may be. The run logs a second message about it, of which nothing more is said then.
+    fn bad_parent(&mut self, child: &'a [u8], text: &'a [u8]) -> io::Result<bool> {
+        self.show_entry("for", child)?;
+        self.missing.children.insert(child.to_ascii_lowercase());
+        let Some((_, parent)) = bad_reference(text) else { return Ok(false) };
+        // (a run that says so has read the child)
+        if self.entries().is_empty() {
+            return Ok(false);
+        }
+        let (files, document) = (self.files, self.document());
+        let clue = missing_entry::clue(self.entries(), files, document.as_ref().as_ref(), parent);
+        self.missing.parents.insert(parent.to_ascii_lowercase());
+        clue.place.map_or(Ok(()), |place| self.page.put_place(&place))?;
+        let Some(advice) = clue.advice else { return Ok(false) };
+        self.page.put_advice_once(&advice).map(|()| true)
+    }
+
+    /// Says of an entry that wasn't found where its key is named, where the entry may be, and what to do.
+    pub(super) fn missing_entry(&mut self, key: &'a [u8], text: &[u8]) -> io::Result<()> {
+        self.cited(key)?;
+        if self.missing.parents.contains(&key.to_ascii_lowercase()) {
+            return Ok(());
+        }
+        let (files, document) = (self.files, self.document());
+        let clue = missing_entry::clue(self.entries(), files, document.as_ref().as_ref(), key);
+        clue.place.map_or(Ok(()), |place| self.page.put_place(&place))?;
+        match clue.advice {
+            Some(advice) => self.page.put_advice_once(&advice),
+            None => self.advise(&[Section::Entries], text),
+        }
+    }
+
+    /// Where the document names a key, a database or a style; whether that was found.
+    fn show_in_document(&mut self, named: Named, name: &[u8]) -> io::Result<bool> {
+        let document = self.document();
+        let found = document.as_ref().as_ref().and_then(|document| Some((document, document.place_of(named, name)?)));
+        let Some((document, (line, number, place))) = found else { return Ok(false) };
+        let name = plain(shown_path(&document.file));
+        let lines = ShownLine { name: &name, number, line, mark: Some(place) }.lines(self.page.terminal);
+        self.page.put_lines(&lines).map(|()| true)
+    }
+
+    /// The line of the document that names a file which wasn't found, or else that of the `.aux` file.
+    fn show_named_file(&mut self, spot: &Spot<'a>, message: &[u8]) -> io::Result<()> {
+        let is_style = message.starts_with(b"I couldn't open style file ");
+        let (named, ending) = if is_style { (Named::Style, &b".bst"[..]) } else { (Named::Database, &b".bib"[..]) };
+        let whole = split_first(message, b" file ").map_or(&b""[..], |(_, name)| name);
+        let stem = whole.strip_suffix(ending).unwrap_or(whole);
+        if self.show_in_document(named, stem)? || self.show_in_document(named, whole)? {
+            return Ok(());
+        }
+        self.page.show_line(spot)
+    }
+
+    /// Where a key is cited, or named as a parent.
+    fn cited(&mut self, key: &'a [u8]) -> io::Result<()> {
+        if self.sources.names().key(key).is_some() && self.show_in_document(Named::Key, key)? {
+            return Ok(());
+        }
+        if let Some(named) = self.sources.names().key(key) {
+            let Some(spot) = self.sources.spot_of_name(named, key.len()) else { return Ok(()) };
+            self.page.show_line(&spot)?;
+            return self.page.put_place_once(OF_CITE);
+        }
+        let Some((database, end)) = self.entries().parent(key) else { return Ok(()) };
+        let (file, number) = (database.file, database.text.line_of(end.saturating_sub(1)));
+        let line = database.text.line(number);
+        self.page.show_line(&Spot { file, number, line, part: None, item: None })
+    }
+}
+
+/// The child and the parent of the message on a parent that isn't there.
+fn bad_reference(text: &[u8]) -> Option<(&[u8], &[u8])> {
+    let rest = text.strip_prefix(b"A bad cross reference--entry \"")?;
+    let (child, rest) = split_first(rest, b"\" refers to entry \"")?;
+    Some((child, rest.strip_suffix(b"\", which doesn't exist")?))
+}

@@ -1,0 +1,206 @@
+//! Whole logs with their explanations.
+
+use super::page::LONGEST_LINE;
+use super::*;
+use crate::scene::{Call, Held, Scenes};
+use crate::terminal::{NO_COLOUR, PLACE_COLOUR};
+
+fn file(name: &str, bytes: &str) -> File {
+    File { name: name.into(), bytes: Some(bytes.into()), path: format!("./{name}").into() }
+}
+
+fn job(style: &str, database: &str) -> Files {
+    let aux = "\\citation{k,nosuch}\n\\bibdata{d}\n\\bibstyle{s}\n";
+    Files { top: b"job.aux".to_vec(), all: vec![file("job.aux", aux), file("s.bst", style), file("d.bib", database)] }
+}
+
+fn explained(log: &Log<'_>, files: &Files, terminal: &Terminal) -> String {
+    let mut out = Vec::new();
+    write(log, files, Part::Whole, terminal, &mut out).unwrap();
+    String::from_utf8(out).unwrap()
+}
+
+fn explain(log: &str, style: &str, database: &str) -> String {
+    explained(&Log::new(log.as_bytes()), &job(style, database), &Terminal::NONE)
+}
+
+#[test]
+fn errors_of_databases_have_a_mark_and_an_item() {
+    let log = "Error--I was expecting an =--line 2 of file d.bib\nError--Repeated entry--line 3 of file d.bib\n";
+    let wanted = "\
+Error--I was expecting an =--line 2 of file d.bib
+    d.bib:2:  note 1}
+                   ^
+    in @misc{k}, which begins at d.bib:1
+    what to do: put an `=` after `note`
+Error--Repeated entry--line 3 of file d.bib
+    d.bib:3: @misc{K}
+                    ^
+    in @misc{K}, which begins at d.bib:3
+    the first is @misc{k}, which begins at d.bib:1
+    what to do: remove the entry `K`: the document cites `k`, and case doesn't tell keys apart
+";
+    assert_eq!(explain(log, "", "@misc{k,\n note 1}\n@misc{K}\n"), wanted);
+}
+
+#[test]
+fn advice_is_given_once_a_kind() {
+    let error = "Error--\"A\" is not an integer while executing + for entry k\n";
+    let told = explain(&(error.repeat(3) + &error.replace('+', "-")), "", "@misc{k}");
+    assert_eq!(told.matches("what to do").count(), 1);
+    assert_eq!(told.matches("`+` takes NUMBER NUMBER, pushed in this order\n").count(), 1);
+    assert_eq!(told.matches("for @misc{k}, which begins at d.bib:1\n").count(), 2);
+    assert!(told.ends_with(&format!("(2 more errors are like `{}`; for k)\n", error.trim_end())), "{told}");
+    let assigned = explain("Error--0 is not a function while executing :=\n", "", "");
+    assert!(assigned.contains("`:=` takes VALUE 'VARIABLE: is there a `'` before the variable?"), "{assigned}");
+}
+
+#[test]
+fn a_missing_brace_is_named_once() {
+    let style = "FUNCTION {article} { #1 {skip$} {skip$ if$ }\n\nINTEGERS {i}\nFUNCTION {book} {i pop$}\nREAD\n";
+    let unknown = |name: &str, number| format!("Error--{name} is an unknown function--line {number} of file s.bst\n");
+    let all = [("INTEGERS", 3), ("i", 3), ("FUNCTION", 4), ("book", 4), ("i", 4), ("READ", 5), ("nosuch", 5)];
+    let log: String = all.iter().map(|(name, number)| unknown(name, *number)).collect();
+    let told = explain(&(log + "Error--Illegal end of style file--line 5 of file s.bst\n"), style, "");
+    let begin = "Error--INTEGERS is an unknown function--line 3 of file s.bst
+    s.bst:3: INTEGERS {i}
+             ^
+    what to do: a `}` is missing in FUNCTION {article}, which begins at s.bst:1
+    (5 more errors follow from that)
+Error--nosuch is an unknown function--line 5 of file s.bst\n";
+    assert!(told.starts_with(begin), "{told}");
+    assert_eq!(told.matches("a `}` is missing").count(), 1);
+}
+
+#[test]
+fn what_was_skipped_is_counted() {
+    let style = "INTEGER {count}\nSTRINGS {s}\n\nFUNCTION {f} {count s count}\nFUNCTION {g} {x}\n";
+    let unknown = |name: &str, number| format!("Error--{name} is an unknown function--line {number} of file s.bst\n");
+    let all = [("count", 4), ("s", 4), ("x", 5), ("count", 5)];
+    let log: String = all.iter().map(|(name, number)| unknown(name, *number)).collect();
+    let told = explain(&("Error--INTEGER isn't a command--line 1 of file s.bst\n".to_string() + &log), style, "");
+    let begin = "Error--INTEGER isn't a command--line 1 of file s.bst
+    s.bst:1: INTEGER {count}
+             ^
+    is it INTEGERS?
+    what to do: correct the word, or put `%` before a comment: the commands are ENTRY, INTEGERS, STRINGS, FUNCTION, MACRO, READ, EXECUTE, ITERATE, REVERSE and SORT
+    (2 more errors follow from that)
+Error--x is an unknown function--line 5 of file s.bst\n";
+    assert!(told.starts_with(begin), "{told}");
+    assert!(told.ends_with("    (1 more error follows from that in line 1)\n"), "{told}");
+}
+
+#[test]
+fn a_type_that_is_not_known_is_treated_by_what_there_is() {
+    let log = "Warning--entry type for \"k\" isn't style-file defined--line 1 of file d.bib\n";
+    let said = |style: &str| explain(log, style, "@odd{k}");
+    let advised = |advice: &str| format!("    what to do: {advice}\n");
+    assert!(said("FUNCTION {Default.Type} {}\nREAD\n").ends_with(&advised(by_default_type(true))));
+    for style in ["READ\n", "READ\nFUNCTION {default.type} {}\n"] {
+        assert!(said(style).ends_with(&advised(by_default_type(false))), "{}", said(style));
+    }
+    let without_style = Files { top: b"job.aux".to_vec(), all: vec![file("d.bib", "@odd{k}")] };
+    let general = explained(&Log::new(log.as_bytes()), &without_style, &Terminal::NONE);
+    assert!(general.ends_with(&advised(&(by_default_type(true).to_string() + ", if it has that"))), "{general}");
+}
+
+#[test]
+fn a_misspelt_name_of_a_command_is_named() {
+    let style = "READ\nFUNCTION {begin} {}\nEXECUTE {begn}\n\nITERATE {cal.type$}\n\nREVERSE {nosuch}\n\nEXECUTE {end}\n\nFUNCTION {end} {}\n";
+    let unknown = |name: &str, number| format!("Error--{name} is an unknown function--line {number} of file s.bst\n");
+    let said = |name: &str, number| explain(&unknown(name, number), style, "");
+    assert!(said("begn", 3).contains("    is it begin?\n"), "{}", said("begn", 3));
+    assert!(said("cal.type$", 5).contains("    is it call.type$?\n"), "{}", said("cal.type$", 5));
+    let of_none = said("nosuch", 7);
+    assert!(!of_none.contains("is it") && !of_none.contains("the style defines it"), "{of_none}");
+    let below = said("end", 9);
+    assert!(below.contains("    the style defines it, but not above this place, or in a command"), "{below}");
+}
+
+#[test]
+fn a_brace_too_many_is_named() {
+    let told = explain("Error--I was expecting a command--line 2 of file s.bst\n", "FUNCTION {f} {}}\n} x\n", "");
+    assert!(
+        told.ends_with("    what to do: there is a `}` too many in FUNCTION {f}, which begins at s.bst:1\n"),
+        "{told}"
+    );
+    let style = "FUNCTION {f}\n{ #1 { skip$ } } if$ }\nINTEGERS { n }\n\nFUNCTION {g} { n }\n";
+    let log =
+        "Error--if isn't a command--line 2 of file s.bst\nError--n is an unknown function--line 5 of file s.bst\n";
+    let closed_early = explain(log, style, "");
+    let end = "    what to do: there is a `}` too many in FUNCTION {f}, which begins at s.bst:1\n    (1 more error follows from that)\n";
+    assert!(closed_early.ends_with(end), "{closed_early}");
+}
+
+#[test]
+fn scenes_are_shown() {
+    let at = |function: &str, line| Call { function: function.into(), file: b"s.bst".to_vec(), line };
+    let callers = vec![at("book", 73), at("ITERATE {call.type$}", 100)];
+    let stack = vec![Held { literal: b"\"a\x1b\"".to_vec(), since: Some(at("FUNCTION {g}", 7)) }];
+    let scene = Scene { at: at("FUNCTION {f}", 28), token: None, callers, caller_tokens: vec![None; 2], stack };
+    let scenes = Scenes { errors: [(1, scene)].into(), ..Scenes::default() };
+    let log = "Error--Integer overflow while executing +\n".repeat(2);
+    let told = explained(&Log::new(log.as_bytes()).with_scenes(&scenes), &job("", ""), &Terminal::NONE);
+    let end = "Error--Integer overflow while executing +
+    left by FUNCTION {f}, s.bst:28; called from book, s.bst:73; ITERATE {call.type$}, s.bst:100
+    \"a?\" has been there since FUNCTION {g}, s.bst:7\n";
+    assert!(told.ends_with(end), "{told}");
+}
+
+#[test]
+fn equal_warnings_of_a_style_are_counted() {
+    let log = "Warning--x in k\n".repeat(5000)
+        + "Error--Integer overflow while executing + for entry k\n"
+        + "Warning--y in k\n";
+    let told = explain(&(log + "Ended: finished, warnings 5001, errors 1, steps 9\n"), "", "@misc{k}");
+    assert_eq!(told.matches("Warning--x in k\n    for @misc{k}").count(), 8, "{told}");
+    assert!(
+        told.contains("Error--Integer overflow while executing + for entry k\n") && told.contains("Warning--y in k\n")
+    );
+    let end = "(4992 more warnings are like `Warning--x in k`; for k)\nEnded: finished";
+    assert!(told.contains(end), "{told}");
+    let hinted = explain(&"Warning--empty title in k\n".repeat(20), "ENTRY {title}{}{}", "@misc{k, tilte = {T}}");
+    assert!(hinted.contains("it has `tilte`: is it `title`?") && hinted.contains("(11 more warnings are"), "{hinted}");
+}
+
+#[test]
+fn only_so_many_messages_are_explained() {
+    let log = "Warning--x of no entry\n".repeat(5000) + "Warning--I didn't find a database entry for \"nosuch\"\n";
+    let log = log
+        + "Error--Integer overflow while executing + for entry k\nEnded: finished, warnings 5000, errors 0, steps 9\n";
+    let told = explain(&log, "", "@misc{k}");
+    assert_eq!(told.matches("Warning--x of no entry").count(), 1000);
+    assert!(told.contains("for \"nosuch\"\n") && told.contains("Error--Integer overflow"), "{told}");
+    let end = "(4000 more messages stand in the .blg.)\nEnded: finished, warnings 5000, errors 0, steps 9\n";
+    assert!(told.ends_with(&format!("{end}(There were 5000 warnings)\n")), "{}", &told[told.len() - 200..]);
+}
+
+#[test]
+fn a_long_stack_and_long_lines_are_cut() {
+    let log = "Error--The literal stack isn't empty while executing EXECUTE\n".to_string()
+        + &"0\n".repeat(30)
+        + &"x".repeat(9000);
+    let told = explain(&(log + "\nWarning--" + &"y".repeat(9000) + "\n"), "", "");
+    assert_eq!(told.matches("\n0\n0").count(), 10);
+    assert!(told.contains("    (11 more lines stand in the .blg)\nWarning--yy"), "{told}");
+    assert!(told.lines().all(|line| line.len() <= LONGEST_LINE + 2));
+}
+
+#[test]
+fn nothing_acts_on_a_terminal() {
+    let terminal = Terminal { is_terminal: true, has_colours: true, width: 20 };
+    let log = b"Warning--\x1b]0;T\x07 in \xc2\x9bk\nError--I was expecting an =--line 1 of file d.bib\nx\x9b\n";
+    let told = explained(&Log::new(log), &job("", "@misc{\u{202e}k, note\u{1b}[2J 1}"), &terminal);
+    let colours = [ERROR_COLOUR, WARNING_COLOUR, PLACE_COLOUR, NO_COLOUR];
+    let bare = colours.iter().fold(told, |told, colour| told.replace(colour, ""));
+    assert!(!bare.contains(|found: char| found != '\n' && (found.is_control() || found == '\u{202e}')), "{bare:?}");
+}
+
+#[test]
+fn names_may_have_any_bytes() {
+    let database = File { name: b"\xe9.bib".to_vec(), bytes: Some(b"@misc{k 1}".to_vec()), path: b"\xe9.bib".to_vec() };
+    let files = Files { top: b"job.aux".to_vec(), all: vec![database] };
+    let told =
+        explained(&Log::new(b"Error--I was expecting a , or a }--line 1 of file \xe9.bib\n"), &files, &Terminal::NONE);
+    assert!(told.contains("    ?.bib:1: @misc{k 1}\n                     ^\n"), "{told}");
+}
