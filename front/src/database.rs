@@ -1,6 +1,7 @@
 //! The items of a database, read as far as they go: where each begins, and where it can't go on. `docs/RULES.md` has their grammar, under
 //! Databases.
 
+use crate::letter_places::{pass_ascii_letters, with_small_letters};
 use crate::text::{Text, find_byte};
 use memchr::{memchr2, memchr3};
 use std::collections::HashSet;
@@ -13,7 +14,8 @@ pub struct Folded<'a>(pub &'a [u8]);
 
 impl PartialEq for Folded<'_> {
     fn eq(&self, other: &Self) -> bool {
-        self.0.eq_ignore_ascii_case(other.0)
+        // (nearly each key is written in the same way wherever it stands)
+        self.0 == other.0 || self.0.eq_ignore_ascii_case(other.0)
     }
 }
 
@@ -21,12 +23,10 @@ impl Eq for Folded<'_> {}
 
 impl Hash for Folded<'_> {
     fn hash<H: Hasher>(&self, state: &mut H) {
-        for piece in self.0.chunks(32) {
-            let mut folded = [0; 32];
-            folded[..piece.len()].copy_from_slice(piece);
-            folded.make_ascii_lowercase();
-            state.write(&folded);
-        }
+        let (words, rest) = self.0.as_chunks::<8>();
+        words.iter().for_each(|word| state.write_u64(with_small_letters(u64::from_le_bytes(*word))));
+        let last = rest.iter().fold(self.0.len() as u64, |last, byte| last << 8 | u64::from(byte.to_ascii_lowercase()));
+        state.write_u64(last);
     }
 }
 
@@ -166,6 +166,8 @@ pub struct Head<'a> {
     pub kind: &'a [u8],
     /// Its key, or the name of a string; None where that may go on after what was read.
     pub key: Option<&'a [u8]>,
+    /// Where the comma after its key stands, if it is written as most are: `@type{key,`.
+    pub comma: Option<usize>,
 }
 
 /// How far a head is read.
@@ -209,20 +211,20 @@ fn head_at(text: &[u8], start: usize) -> Option<Head<'_>> {
     let is_cut = reader.at == read.len() && read.len() < text.len();
     match parts {
         Ok((kind, _)) if kind.eq_ignore_ascii_case(b"comment") => None,
-        Ok((kind, key)) => Some(Head { start, kind, key: Some(key).filter(|_| !is_cut) }),
-        Err(_) if is_cut => Some(Head { start, kind: b"", key: None }),
+        Ok((kind, key)) => Some(Head { start, kind, key: Some(key).filter(|_| !is_cut), comma: None }),
+        Err(_) if is_cut => Some(Head { start, kind: b"", key: None, comma: None }),
         Err(_) => None,
     }
 }
 
 /// The head of an entry that is written as most are: `@type{key,`.
 fn plain_head_at(text: &[u8], start: usize) -> Option<Head<'_>> {
-    let rest = &text[start + 1..];
-    let kind = &rest[..count_first(rest, |byte| byte.is_ascii_alphabetic())];
-    let after = rest[kind.len()..].strip_prefix(b"{")?;
+    let kind = &text[start + 1..pass_ascii_letters(text, start + 1)];
+    let after = text[start + 1 + kind.len()..].strip_prefix(b"{")?;
     let key = &after[..count_first(after, |byte| byte != b',' && byte > b' ' && byte != b'}')];
     let is_plain = !kind.is_empty() && !key.is_empty() && after.get(key.len()) == Some(&b',');
-    (is_plain && is_kind_of_entries(kind)).then_some(Head { start, kind, key: Some(key) })
+    let comma = Some(start + 1 + kind.len() + 1 + key.len());
+    (is_plain && is_kind_of_entries(kind)).then_some(Head { start, kind, key: Some(key), comma })
 }
 
 impl<'a> Item<'a> {
@@ -481,7 +483,7 @@ impl<'a> Reader<'a> {
 }
 
 /// A value without its delimiters and the whitespace round it.
-fn bare(value: &[u8]) -> &[u8] {
+pub fn bare(value: &[u8]) -> &[u8] {
     let is_bare = |byte: &u8| !b"{}\" \t\r\n".contains(byte);
     let start = value.iter().position(is_bare).unwrap_or(value.len());
     let end = value.iter().rposition(is_bare).map_or(start, |last| last + 1);

@@ -3,6 +3,7 @@
 //! special characters, `purify$` keeps the key as well. So a run over such values sorts and counts letters as the language does, and what it writes is turned back.
 
 use crate::languages::{Language, PLACES, place_of};
+use crate::letter_places::{Met, control_letter_or_brace, first_letter, from_place, is_digit, visit_marked};
 use std::collections::HashMap;
 use std::ops::Range;
 use std::sync::Arc;
@@ -19,75 +20,22 @@ pub const MARK: u8 = 0xFE;
 /// How many letters have a code.
 const MOST_LETTERS: usize = DIGITS.len() * DIGITS.len();
 
-/// Whether a byte is one of a code, so that a file which has it can't be coded.
-pub const fn is_digit(byte: u8) -> bool {
-    matches!(byte, 0x01..=0x08 | 0x0E..=0x1F)
-}
-
-/// Whether a text has a byte of a code. (Piece by piece, since that takes an eighth of the time.)
-pub fn has_digits(text: &[u8]) -> bool {
-    text.chunks(4096).any(|piece| piece.iter().fold(false, |has, byte| has | is_digit(*byte)))
-}
-
-/// The highest bit of each of eight bytes, and eight times a small number.
-const HIGH: u64 = 0x8080_8080_8080_8080;
-const fn eight(byte: u64) -> u64 {
-    byte * 0x0101_0101_0101_0101
-}
-
-/// The highest bit of each of eight bytes that is a control character below the space, or none of ASCII.
-const fn marks(word: u64) -> u64 {
-    (!((word & !HIGH) + eight(0x80 - 0x20)) | word) & HIGH
-}
-
-/// Visits the bytes from this place on that are control characters below the space, or none of ASCII; eight are looked at at once. What `visit` answers is the place from which on bytes are
-/// visited again; None ends all. The answer is whether the end was reached.
-#[inline]
-fn visit_marked(text: &[u8], from: usize, mut visit: impl FnMut(usize) -> Option<usize>) -> bool {
-    let (words, _) = text[from..].as_chunks();
-    let (mut next, mut start) = (from, from);
-    for word in words {
-        let mut marked = marks(u64::from_le_bytes(*word));
-        while marked != 0 {
-            let place = start + marked.trailing_zeros() as usize / 8;
-            marked &= marked - 1;
-            if place >= next {
-                let Some(after) = visit(place) else { return false };
-                next = after;
-            }
-        }
-        start += word.len();
+/// At the place of each control character of a code its number; more than there are letters at that of another byte.
+const NUMBERS: [u16; 32] = {
+    let (mut table, mut number) = ([MOST_LETTERS as u16; 32], 0);
+    while number < DIGITS.len() {
+        table[DIGITS[number] as usize] = number as u16;
+        number += 1;
     }
-    let is_marked = |place: &usize| !(0x20..0x80).contains(&text[*place]);
-    let mut rest = (start..text.len()).filter(is_marked);
-    rest.all(|place| place < next || visit(place).inspect(|after| next = *after).is_some())
+    table
+};
+
+fn value_of(digit: u8) -> usize {
+    NUMBERS.get(usize::from(digit)).map_or(MOST_LETTERS, |number| usize::from(*number))
 }
 
-/// A letter outside ASCII of a text, and where it begins.
-#[derive(Debug, Clone, Copy, PartialEq, Eq, PartialOrd, Ord)]
-pub struct Met {
-    pub start: usize,
-    pub letter: char,
-}
-
-/// Adds the letters outside ASCII of a text from this place on; false where it has a byte of a code, or one that is of no letter.
-pub fn find_letters(text: &[u8], from: usize, met: &mut Vec<Met>) -> bool {
-    visit_marked(text, from, |start| {
-        if text[start] < 0x80 {
-            return Some(start + 1).filter(|_| !is_digit(text[start]));
-        }
-        let letter = first_letter(&text[start..])?;
-        met.push(Met { start, letter });
-        Some(start + letter.len_utf8())
-    })
-}
-
-fn value_of(digit: u8) -> Option<usize> {
-    is_digit(digit).then(|| usize::from(digit) - if digit < 9 { 1 } else { 6 })
-}
-
-/// How many bytes a short text has at most.
-const SHORT: usize = 16;
+/// How many bytes a short text, such as a code, has at most.
+pub const SHORT: usize = 15;
 
 /// A text of a few bytes.
 #[derive(Debug, Clone, Copy, Default, PartialEq, Eq)]
@@ -110,6 +58,7 @@ impl Short {
     }
 
     /// Writes it. (All its room at once, and what is too much of that is taken back: a copy of another length would be a call.)
+    #[inline(always)]
     fn write(&self, out: &mut Vec<u8>) {
         out.extend_from_slice(&self.bytes);
         out.truncate(out.len() - (SHORT - usize::from(self.len)));
@@ -119,17 +68,19 @@ impl Short {
 /// What stands in the place of the code of a letter that wasn't met.
 const NOT_MET: Short = Short { bytes: [0; SHORT], len: u8::MAX };
 
-/// How many bytes of a text are copied at once.
-const AT_ONCE: usize = 32;
+/// How many bytes of a text are copied at once where it is short, and in each piece of a long one.
+pub const AT_ONCE: usize = 32;
+const PIECE: usize = 1024;
 
-/// Writes a part of a text, as a rule one between two letters, in the same way as a short text.
-fn write_part(text: &[u8], part: Range<usize>, out: &mut Vec<u8>) {
+/// Writes a part of a text, as a rule one between two letters, in the same way as a short text. (A long one in pieces: to copy many bytes at once is an instruction that is repeated for each of them.)
+#[inline(always)]
+pub fn write_part(text: &[u8], part: Range<usize>, out: &mut Vec<u8>) {
     match text[part.start..].first_chunk::<AT_ONCE>() {
         Some(piece) if part.len() <= AT_ONCE => {
             out.extend_from_slice(piece);
             out.truncate(out.len() - (AT_ONCE - part.len()));
         }
-        _ => out.extend_from_slice(&text[part]),
+        _ => text[part].chunks(PIECE).for_each(|piece| out.extend_from_slice(piece)),
     }
 }
 
@@ -168,11 +119,43 @@ pub enum InBraces {
 /// A text that was turned back.
 #[derive(Debug, PartialEq, Eq)]
 pub struct Turned {
-    pub text: Vec<u8>,
+    /// What it is then; None where it has no code, and stays as it is.
+    pub text: Option<Vec<u8>>,
     /// Whether nothing is left of a code that was cut, or of a key outside a code.
     pub is_whole: bool,
     /// Whether all of it is UTF-8.
     pub is_utf8: bool,
+    /// How many braces are open at its end, and at least anywhere in it.
+    pub depth: i64,
+    pub least_depth: i64,
+}
+
+impl Turned {
+    /// The text that it was made of, turned back.
+    pub fn text_or(self, text: Vec<u8>) -> Vec<u8> {
+        self.text.unwrap_or(text)
+    }
+
+    /// Notes a byte that is visited, and of no code; where the next one begins.
+    #[inline(always)]
+    fn pass_over(&mut self, text: &[u8], at: usize) -> usize {
+        let byte = text[at];
+        match byte {
+            b'{' => self.depth += 1,
+            b'}' => {
+                self.depth -= 1;
+                self.least_depth = self.least_depth.min(self.depth);
+            }
+            0x80.. => {
+                let letter = first_letter(&text[at..]);
+                self.is_whole &= byte < MARK;
+                self.is_utf8 &= letter.is_some();
+                return at + letter.map_or(1, char::len_utf8);
+            }
+            _ => self.is_whole &= !is_digit(byte),
+        }
+        at + 1
+    }
 }
 
 /// The letters of a job that have codes.
@@ -189,20 +172,6 @@ pub struct Codes {
     codes: Vec<Short>,
     /// Those of letters that have no place.
     others: HashMap<char, Short>,
-}
-
-/// The letter outside ASCII with which this text begins; None where it begins with none in UTF-8.
-#[inline]
-fn first_letter(text: &[u8]) -> Option<char> {
-    let bits = |at: usize| text.get(at).filter(|byte| **byte & 0xC0 == 0x80).map(|byte| u32::from(byte & 0x3F));
-    let first = u32::from(*text.first()?);
-    let (letter, least) = match first {
-        0xC0..=0xDF => ((first & 0x1F) << 6 | bits(1)?, 0x80),
-        0xE0..=0xEF => ((first & 0xF) << 12 | bits(1)? << 6 | bits(2)?, 0x800),
-        0xF0..=0xF7 => ((first & 7) << 18 | bits(1)? << 12 | bits(2)? << 6 | bits(3)?, 0x1_0000),
-        _ => return None,
-    };
-    char::from_u32(letter).filter(|_| letter >= least)
 }
 
 impl Codes {
@@ -232,23 +201,36 @@ impl Codes {
         if self.language.has_rules_for_ascii() {
             return self.code_all(text, part, written, out);
         }
-        let (mut depth, mut at, mut written) = (0, part.start, written);
-        while let Some((met, after)) = letters.split_first().filter(|(met, _)| met.start < part.end) {
-            *letters = after;
-            if met.start < part.start {
-                continue;
-            }
-            if self.in_braces == InBraces::AsTheyAre {
-                depth += depth_of(&text[at..met.start]);
-                at = met.start;
-            }
-            if depth <= 0 {
-                let code = self.code_of_letter(met.letter);
-                if code.len > 0 {
-                    write_part(text, written..met.start, out);
-                    code.write(out);
-                    written = met.start + met.letter.len_utf8();
-                }
+        let (from_part, after) = (from_place(letters, part.start), from_place(letters, part.end));
+        *letters = after;
+        let of_part = &from_part[..from_part.len() - after.len()];
+        if self.in_braces == InBraces::Coded {
+            return self.code_letters(text, of_part, written, out);
+        }
+        let (mut depth, mut at) = (0, part.start);
+        let is_coded = |met: &&Met| {
+            depth += depth_of(&text[at..met.start]);
+            at = met.start;
+            depth <= 0
+        };
+        let coded: Vec<Met> = of_part.iter().filter(is_coded).copied().collect();
+        self.code_letters(text, &coded, written, out)
+    }
+
+    /// Whether letters have codes by themselves, wherever they stand.
+    pub fn are_of_letters_alone(&self) -> bool {
+        self.in_braces == InBraces::Coded && !self.language.has_rules_for_ascii()
+    }
+
+    /// Writes a text from the place `written` on up to the last of these letters outside ASCII that has a code, with the letters coded; up to where it is written then.
+    pub fn code_letters(&mut self, text: &[u8], letters: &[Met], written: usize, out: &mut Vec<u8>) -> usize {
+        let mut written = written;
+        for met in letters {
+            let code = self.code_of_letter(met.letter);
+            if code.len > 0 {
+                write_part(text, written..met.start, out);
+                code.write(out);
+                written = met.start + met.letter.len_utf8();
             }
         }
         written
@@ -278,23 +260,26 @@ impl Codes {
     }
 
     /// The code of a letter outside ASCII; empty where it has none.
-    #[inline]
+    #[inline(always)]
     fn code_of_letter(&mut self, letter: char) -> &Short {
         match place_of(u32::from(letter)) {
-            Some(place) => {
-                if self.codes[place].len == NOT_MET.len {
-                    self.codes[place] = self.met(letter);
-                }
-                &self.codes[place]
-            }
-            None => {
-                if !self.others.contains_key(&letter) {
-                    let code = self.met(letter);
-                    self.others.insert(letter, code);
-                }
-                &self.others[&letter]
-            }
+            Some(place) if self.codes[place].len != NOT_MET.len => &self.codes[place],
+            place => self.code_of_rare(letter, place),
         }
+    }
+
+    /// The code of a letter outside ASCII that has no place, or is met there for the first time.
+    #[cold]
+    fn code_of_rare(&mut self, letter: char, place: Option<usize>) -> &Short {
+        if let Some(place) = place {
+            self.codes[place] = self.met(letter);
+            return &self.codes[place];
+        }
+        if !self.others.contains_key(&letter) {
+            let code = self.met(letter);
+            self.others.insert(letter, code);
+        }
+        &self.others[&letter]
     }
 
     /// The code of a letter outside ASCII that is met for the first time.
@@ -356,36 +341,36 @@ impl Codes {
 
     /// What a run wrote, with each code turned back into its letter, in the case that the run gave it.
     pub fn turn_back(&self, text: &[u8]) -> Turned {
-        let mut turned = Turned { text: Vec::with_capacity(text.len()), is_whole: true, is_utf8: true };
-        let mut copied = 0;
-        visit_marked(text, 0, |found| {
-            let byte = text[found];
-            if !is_digit(byte) {
-                turned.is_whole &= byte < MARK;
-                let letter = first_letter(&text[found..]);
-                turned.is_utf8 &= byte < 0x80 || letter.is_some();
-                return Some(found + letter.map_or(1, char::len_utf8));
+        let mut turned = Turned { text: None, is_whole: true, is_utf8: true, depth: 0, least_depth: 0 };
+        let (mut out, mut copied) = (Vec::new(), 0);
+        visit_marked(text, 0, control_letter_or_brace, |at| {
+            let Some(code) = self.code_at(&text[at..]) else { return Some(turned.pass_over(text, at)) };
+            if copied == 0 {
+                out.reserve(text.len());
             }
-            // (the first control character of a code stands after `{\`)
-            let start = found.checked_sub(2).filter(|start| *start >= copied);
-            let Some((start, code)) = start.and_then(|start| Some((start, self.code_at(&text[start..])?))) else {
-                turned.is_whole = false;
-                return Some(found + 1);
-            };
-            write_part(text, copied..start, &mut turned.text);
-            self.letter(&code).write(&mut turned.text);
-            copied = start + code.len;
+            write_part(text, copied..at, &mut out);
+            self.letter(&code).write(&mut out);
+            copied = at + code.len;
             Some(copied)
         });
-        turned.text.extend_from_slice(&text[copied..]);
+        if copied > 0 {
+            write_part(text, copied..text.len(), &mut out);
+            turned.text = Some(out);
+        }
         turned
     }
 
     /// The code with which a text begins.
+    #[inline(always)]
     fn code_at<'t>(&self, text: &'t [u8]) -> Option<Code<'t>> {
         let [b'{', b'\\', first, second, b'{', rest @ ..] = text else { return None };
-        let number = value_of(*first)? * DIGITS.len() + value_of(*second)?;
-        let len = rest.iter().take_while(|byte| byte.is_ascii_alphabetic() || **byte >= MARK).count();
+        let number = value_of(*first) * DIGITS.len() + value_of(*second);
+        let is_of_key = |byte: &u8| byte.is_ascii_alphabetic() || *byte >= MARK;
+        let len = match rest {
+            // (as most are)
+            [one, b'}', ..] if is_of_key(one) => 1,
+            _ => rest.iter().take_while(|byte| is_of_key(byte)).count(),
+        };
         let is_whole = number < self.letters.len() && rest[len..].starts_with(b"}}");
         is_whole.then_some(Code { number, key: &rest[..len], len: len + 7 })
     }
@@ -434,53 +419,7 @@ mod tests {
         change(&mut list);
         let turned = codes.turn_back(&list);
         assert!(turned.is_whole, "{text}");
-        String::from_utf8(turned.text).unwrap()
-    }
-
-    #[test]
-    fn letters_are_those_of_utf_8() {
-        let bytes = [
-            0x00, 0x7F, 0x80, 0x8F, 0x90, 0x9F, 0xA0, 0xBF, 0xC0, 0xC1, 0xC2, 0xDF, 0xE0, 0xED, 0xEF, 0xF0, 0xF4, 0xF5,
-            0xFF,
-        ];
-        for number in 0..bytes.len().pow(4) {
-            let text = [1, 19, 361, 6859].map(|place| bytes[number / place % 19]);
-            let letter = (1..=4).find_map(|len| std::str::from_utf8(&text[..len]).ok()?.chars().next());
-            assert_eq!(first_letter(&text), letter.filter(|letter| !letter.is_ascii()), "{text:?}");
-        }
-        assert_eq!(first_letter(&"ö".as_bytes()[..1]), None);
-    }
-
-    #[test]
-    fn bytes_are_found_wherever_they_are() {
-        let bytes: Vec<u8> = (0..=255).flat_map(|byte| [byte, b'a', byte]).collect();
-        for text in [&bytes[..], b"", b"ab\ncdefghijkl\tmn", b"abcdefgh", b"\n\n\n\n\n\n\n\n\n\x80\x01"] {
-            for from in 0..=text.len() {
-                let (wanted, mut found) = ((from..text.len()).filter(|at| is_digit(text[*at])), Vec::new());
-                assert!(visit_marked(text, from, |at| {
-                    found.extend(is_digit(text[at]).then_some(at));
-                    Some(at + 1)
-                }));
-                assert_eq!(found, wanted.collect::<Vec<_>>());
-                assert_eq!(visit_marked(text, from, |at| (!is_digit(text[at])).then_some(at + 1)), found.is_empty());
-            }
-        }
-    }
-
-    #[test]
-    fn letters_are_found_with_their_places() {
-        let found = |text: &[u8]| {
-            let mut met = Vec::new();
-            let is_whole = find_letters(text, 1, &mut met);
-            (met.iter().map(|met| (met.start, met.letter)).collect::<Vec<_>>(), is_whole)
-        };
-        let letters = "\n\téß€\u{10000}\n ä b c d e f g h ü";
-        let wanted = letters.char_indices().filter(|(_, letter)| !letter.is_ascii()).collect();
-        assert_eq!(found(letters.as_bytes()), (wanted, true));
-        assert_eq!(found(b"\x01abcdefgh\r\n\t\x7F"), (vec![], true));
-        for odd in [b"a\xC3b", b"ab\xA9", b"ab\x01", b"ab\x1F"] {
-            assert_eq!(found(odd), (vec![], false));
-        }
+        String::from_utf8(turned.text_or(list)).unwrap()
     }
 
     #[test]
@@ -529,7 +468,8 @@ mod tests {
         for part in [&list[..3], &list[..list.len() - 1], &list[3..], b"o\xFE", b"z\xFF", b"{\\\x01\x09{o}}"] {
             assert!(!codes.turn_back(part).is_whole, "{part:?}");
         }
-        assert_eq!(codes.turn_back(&list), Turned { text: "ö".into(), is_whole: true, is_utf8: true });
+        let whole = Turned { text: Some("ö".into()), is_whole: true, is_utf8: true, depth: 0, least_depth: 0 };
+        assert_eq!(codes.turn_back(&list), whole);
         let has_letters = |list: &[u8]| codes.turn_back(list).is_utf8;
         assert_eq!([&b"\xC3\xA9\n"[..], b"\xC3{", b"\xA9", b"a\xE2\x82"].map(has_letters), [true, false, false, false]);
     }

@@ -3,10 +3,11 @@
 use crate::btx::{Answer, Ran};
 use crate::job::{File, Files};
 use crate::languages::{AFTER, Language};
-use crate::letter_codes::{Codes, InBraces, MARK, Met, has_digits};
-use crate::letter_values::{self, FIXED, is_one_text, parts};
+use crate::letter_codes::{AT_ONCE, Codes, InBraces, MARK, SHORT, Turned, write_part};
+use crate::letter_places::{Met, has_digits};
+use crate::letter_values::{self, FIXED, texts};
 use crate::style_keys;
-use memchr::{memchr2_iter, memmem};
+use memchr::memmem;
 use std::ops::Range;
 use std::sync::Arc;
 use std::thread;
@@ -105,7 +106,7 @@ pub fn run(
 fn moved(codes: &Codes, log: &[u8], parts: &[Range<usize>]) -> Vec<Range<usize>> {
     let (mut at, mut turned) = (0, 0);
     let mut place = |end: usize| {
-        turned += codes.turn_back(&log[at..end]).text.len();
+        turned += codes.turn_back(&log[at..end]).text.map_or(end - at, |text| text.len());
         at = end;
         turned
     };
@@ -125,10 +126,7 @@ impl Job<'_> {
     fn coded(&self, in_braces: InBraces, are_marked: bool) -> Coded {
         let mut codes = Codes::new(self.language, in_braces, are_marked);
         let mut code = |((file, values), letters): ((&File, &Vec<Range<usize>>), &Vec<Met>)| {
-            let bytes = match values[..] {
-                [] => file.bytes.clone(),
-                _ => file.bytes.as_deref().map(|bytes| coded_text(bytes, values, letters, &mut codes)),
-            };
+            let bytes = file.bytes.as_deref().map(|bytes| coded_text(bytes, values, letters, &mut codes));
             File { name: file.name.clone(), bytes, path: file.path.clone() }
         };
         let all = self.files.all.iter().zip(&self.values).zip(&self.letters).map(&mut code).collect();
@@ -143,71 +141,64 @@ impl Job<'_> {
             return Err(LeftOut::Unfinished);
         }
         let (list, log) = (coded.codes.turn_back(&ran.list), coded.codes.turn_back(&ran.log));
-        if !list.is_whole || !log.is_whole || !self.has_all_braces(&list.text, run) {
+        if !list.is_whole || !log.is_whole || !self.has_all_braces(&coded.codes, &list, &ran.list, run) {
             return Err(LeftOut::CutsLetters);
         }
-        // (a code is longer than its letter, so a log that is as long as before has none)
-        let is_as_before = log.text.len() == ran.log.len();
-        let moved = |parts: &[Range<usize>]| match is_as_before {
-            true => parts.to_vec(),
-            false => moved(&coded.codes, &ran.log, parts),
+        let moved = |parts: &[Range<usize>]| match log.text {
+            None => parts.to_vec(),
+            Some(_) => moved(&coded.codes, &ran.log, parts),
         };
         let (printed, long) = (moved(&ran.printed), moved(&ran.long));
         let of_read = moved(std::slice::from_ref(&ran.of_read)).into_iter().next().unwrap_or_default();
         let (is_utf8, letters) = (list.is_utf8, Letters::Coded(Arc::new(coded)));
-        Ok(Ran { list: list.text, log: log.text, printed, long, of_read, is_utf8, letters, ..ran })
+        let (list, log) = (list.text_or(ran.list), log.text_or(ran.log));
+        Ok(Ran { list, log, printed, long, of_read, is_utf8, letters, ..ran })
     }
 
     /// Whether no brace of a list is left over from a code that was cut. A style may leave out braces of its own.
-    fn has_all_braces(&self, list: &[u8], run: impl Fn(&Files) -> Ran) -> bool {
+    fn has_all_braces(&self, codes: &Codes, list: &Turned, coded: &[u8], run: impl Fn(&Files) -> Ran) -> bool {
         const CUT: &[u8] = b"{\\}";
-        let is_cut = has(list, CUT) && !self.files.all.iter().any(|file| has(bytes_of(file), CUT));
-        let depths = depths(list);
-        !is_cut && (depths == (0, 0) || depths == self::depths(&run(self.files).list))
+        let is_cut = has(list.text.as_deref().unwrap_or(coded), CUT)
+            && !self.files.all.iter().any(|file| has(bytes_of(file), CUT));
+        let depths = |list: &Turned| (list.depth, list.least_depth);
+        !is_cut && (depths(list) == (0, 0) || depths(list) == depths(&codes.turn_back(&run(self.files).list)))
     }
 
     /// Whether the style prints what letters sort as.
     fn prints_keys(&self, run: impl Fn(&Files) -> Ran) -> bool {
         let coded = self.coded(InBraces::Coded, true);
-        let turned = coded.codes.turn_back(&run(&coded.files).list);
-        turned.text.iter().any(|byte| matches!(*byte, MARK | AFTER))
+        let list = run(&coded.files).list;
+        coded.codes.turn_back(&list).text_or(list).iter().any(|byte| matches!(*byte, MARK | AFTER))
     }
 }
 
-/// A database whose values are coded.
+/// A file whose values are coded, of whose texts these are the letters.
 fn coded_text(text: &[u8], values: &[Range<usize>], letters: &[Met], codes: &mut Codes) -> Vec<u8> {
-    let mut out = Vec::with_capacity(text.len() + text.len() / 4);
+    let mut out = Vec::with_capacity(text.len() + letters.len() * SHORT + AT_ONCE);
+    let written = match codes.are_of_letters_alone() {
+        true => codes.code_letters(text, letters, 0, &mut out),
+        false => code_values(text, values, letters, codes, &mut out),
+    };
+    write_part(text, written..text.len(), &mut out);
+    out
+}
+
+/// Writes a text up to its last letter that has a code, with its values coded; up to where it is written.
+fn code_values(text: &[u8], values: &[Range<usize>], letters: &[Met], codes: &mut Codes, out: &mut Vec<u8>) -> usize {
     let (mut at, mut written, mut letters) = (0, 0, letters);
-    let mut code = |part: Range<usize>| {
+    for part in values.iter().flat_map(|value| texts(text, value)) {
         // An entry that stands in another's value was coded with it.
         if part.start >= at {
             at = part.end;
-            written = codes.code(text, part, &mut letters, written, &mut out);
-        }
-    };
-    for value in values {
-        if is_one_text(&text[value.clone()]) {
-            code(value.start + 1..value.end - 1);
-        } else {
-            let parts = parts(&text[value.clone()]);
-            parts.into_iter().for_each(|part| code(value.start + part.start..value.start + part.end));
+            written = codes.code(text, part, &mut letters, written, out);
         }
     }
-    out.extend_from_slice(&text[written..]);
-    out
+    written
 }
 
 /// Whether a text has this one in it.
 fn has(text: &[u8], what: &[u8]) -> bool {
     memmem::find(text, what).is_some()
-}
-
-/// How many braces are open at the end of a text, and at least anywhere in it.
-fn depths(text: &[u8]) -> (i64, i64) {
-    memchr2_iter(b'{', b'}', text).fold((0, 0), |(depth, least), at| {
-        let depth = if text[at] == b'{' { depth + 1 } else { depth - 1 };
-        (depth, depth.min(least))
-    })
 }
 
 #[cfg(test)]

@@ -2,13 +2,14 @@
 //! their keys alone, since most of a large database is of that kind.
 
 use crate::aux_text;
-use crate::database::{Folded, Head, Inside, Item, heads};
+use crate::database::{Folded, Head, Inside, Item, bare, heads};
 use crate::job::Files;
+use crate::keyed_hash::{Keyed, KeyedSet};
 use crate::languages::Language;
-use crate::letter_codes::{Met, find_letters};
+use crate::letter_places::{Met, find_letters, from_place};
 use crate::letter_run::LeftOut;
+use crate::plain_entries::{self, Field};
 use memchr::memchr;
-use std::collections::HashSet;
 use std::ops::Range;
 
 /// Fields whose values stay as they are: the key of another entry, where something is found, and what styles print as they would sort it, or take apart byte by byte.
@@ -34,10 +35,10 @@ fn is_fixed(name: &[u8]) -> bool {
 pub struct Chosen<'a> {
     /// The values of each file, in their order.
     pub values: Vec<Vec<Range<usize>>>,
-    /// The letters outside ASCII of each file, at least those of the values.
+    /// The letters outside ASCII of the texts in these values, likewise.
     pub letters: Vec<Vec<Met>>,
     /// The types of the entries that the list may have.
-    pub types: HashSet<Folded<'a>>,
+    pub types: KeyedSet<Folded<'a>>,
 }
 
 /// How often the databases are looked through for parents: parents of parents are rare.
@@ -45,24 +46,27 @@ const MOST_ROUNDS: usize = 8;
 
 /// The keys of the entries that the list may have.
 struct Wanted<'a> {
-    keys: HashSet<Folded<'a>>,
+    keys: KeyedSet<Folded<'a>>,
     /// A bit for each number that such a key has. Most other keys have another one.
     numbers: Vec<u64>,
     /// Whether each entry is wanted.
     are_all: bool,
 }
 
+/// How many numbers keys have.
+const NUMBERS: usize = 1 << 14;
+
 /// A number of a key, the same in any case.
 fn number_of(key: &[u8]) -> usize {
-    key.iter().fold(key.len(), |number, byte| number.wrapping_mul(31).wrapping_add(usize::from(byte | 0x20))) & 0xFFFF
+    key.iter().fold(key.len(), |number, byte| number.wrapping_mul(31).wrapping_add(usize::from(byte | 0x20))) % NUMBERS
 }
 
 impl<'a> Wanted<'a> {
     fn new(files: &'a Files) -> Wanted<'a> {
         // (as many as fit: to make more room later would take as long as all else)
         let bytes: usize = files.with_ending(".aux").map(|file| file.bytes.as_deref().map_or(0, <[u8]>::len)).sum();
-        let keys = HashSet::with_capacity((bytes / 12).min(1 << 16));
-        let mut wanted = Wanted { keys, numbers: vec![0; 1024], are_all: false };
+        let keys = KeyedSet::with_capacity_and_hasher((bytes / 12).min(1 << 16), Keyed::default());
+        let mut wanted = Wanted { keys, numbers: vec![0; NUMBERS / 64], are_all: false };
         aux_text::cited_keys(files).for_each(|key| wanted.add(key));
         wanted
     }
@@ -84,7 +88,7 @@ impl<'a> Wanted<'a> {
 /// The types of the entries that the list may have.
 #[derive(Default)]
 struct Types<'a> {
-    all: HashSet<Folded<'a>>,
+    all: KeyedSet<Folded<'a>>,
     /// Some of them, each at the place of its length and first byte: most entries have one of these.
     met: [&'a [u8]; 32],
 }
@@ -105,61 +109,94 @@ struct Choice<'a> {
     types: Types<'a>,
     /// Whether values of ASCII have something to code, too.
     is_of_ascii: bool,
-    /// What stands in the item that was read last.
+    /// What stands in the item that was read last, and in the plain entry.
     inside: Inside<'a>,
+    fields: Vec<Field<'a>>,
+}
+
+/// A string that a database defines: its name, its value, and the letters outside ASCII of the texts in that.
+struct Defined<'a> {
+    name: &'a [u8],
+    value: Range<usize>,
+    letters: Vec<Met>,
 }
 
 /// A database while its values are chosen.
 struct Database<'a> {
     text: &'a [u8],
-    /// The heads of the items that weren't read yet.
-    heads: Vec<Head<'a>>,
+    /// The heads of the items that weren't read yet; None before the first round.
+    unread: Option<Vec<Head<'a>>>,
     /// The values of fields that may be coded, and have something to code.
     values: Vec<Range<usize>>,
-    /// The letters outside ASCII of the items that were read.
+    /// The letters outside ASCII of the texts in these.
     letters: Vec<Met>,
-    /// The strings that it defines, and their values.
-    strings: Vec<(&'a [u8], Range<usize>)>,
+    /// The strings that it defines.
+    strings: Vec<Defined<'a>>,
     /// The names of strings in fields that stay as they are.
     fixed: Vec<&'a [u8]>,
 }
 
 impl<'a> Database<'a> {
     fn new(text: &'a [u8]) -> Database<'a> {
-        let mut found = Vec::with_capacity(text.len() / 256);
-        found.extend(heads(text));
-        let (values, letters) = (Vec::new(), Vec::new());
-        Database { text, heads: found, values, letters, strings: Vec::new(), fixed: Vec::new() }
+        // (as many as fit most databases: a little room that grows is copied each time)
+        let values = Vec::with_capacity((text.len() / 64).min(1 << 14));
+        let letters = Vec::with_capacity((text.len() / 16).min(1 << 15));
+        Database { text, unread: None, values, letters, strings: Vec::new(), fixed: Vec::new() }
     }
 
     /// Reads the items that are wanted and weren't read yet, and adds their parents to what is wanted.
     fn read(&mut self, choice: &mut Choice<'a>) -> Result<(), LeftOut> {
-        let (mut unread, mut end) = (0, 0);
-        for number in 0..self.heads.len() {
-            let head = self.heads[number];
+        match self.unread.take() {
+            None => self.read_among(heads(self.text), choice),
+            Some(unread) => self.read_among(unread.into_iter(), choice),
+        }
+    }
+
+    /// Reads those of these items that are wanted.
+    fn read_among(&mut self, heads: impl Iterator<Item = Head<'a>>, choice: &mut Choice<'a>) -> Result<(), LeftOut> {
+        let (mut unread, mut end) = (Vec::with_capacity((self.text.len() / 256).min(1 << 14)), 0);
+        for head in heads {
             if head.start < end {
                 // (it stands in the text of an item)
             } else if is_text(head.kind) || choice.wanted.has(&head) {
                 end = self.read_item(head, choice)?;
             } else {
-                self.heads[unread] = head;
-                unread += 1;
+                unread.push(head);
             }
         }
-        self.heads.truncate(unread);
+        self.unread = Some(unread);
         Ok(())
+    }
+
+    /// Reads an entry that is written as most are; where it ends. None where it is another item, of which nothing is read then.
+    fn read_plain_entry(&mut self, head: &Head<'a>, choice: &mut Choice<'a>) -> Option<usize> {
+        let comma = head.comma.filter(|_| head.key.is_some_and(<[u8]>::is_ascii))?;
+        let counts = |name: &[u8]| !is_fixed(name);
+        let end = plain_entries::read(self.text, comma, counts, &mut choice.fields, &mut self.letters)?;
+        choice.types.add(head.kind);
+        for field in &choice.fields {
+            if field.name.eq_ignore_ascii_case(b"crossref") {
+                choice.wanted.add(bare(&self.text[field.value.clone()]));
+            } else if field.has_letters || choice.is_of_ascii && !is_fixed(field.name) {
+                self.values.push(field.value.clone());
+            }
+        }
+        Some(end)
     }
 
     /// Reads an item; where it ends.
     fn read_item(&mut self, head: Head<'a>, choice: &mut Choice<'a>) -> Result<usize, LeftOut> {
+        if let Some(end) = self.read_plain_entry(&head, choice) {
+            return Ok(end);
+        }
         let item = Item::read_at(self.text, head.start, &mut choice.inside);
-        let (inside, met) = (&choice.inside, self.letters.len());
-        if !find_letters(&self.text[..item.end], item.start, &mut self.letters) {
+        let (inside, mut letters) = (&choice.inside, Vec::new());
+        if !find_letters(&self.text[..item.end], item.start, &mut letters) {
             return Err(why_not(&self.text[item.start..item.end]));
         }
         if item.is_entry() {
             choice.types.add(item.kind);
-            self.choose_fields(inside, met, choice.is_of_ascii);
+            self.choose_fields(inside, &letters, choice.is_of_ascii);
         }
         for parent in &item.parents {
             choice.wanted.add(parent.key);
@@ -167,7 +204,8 @@ impl<'a> Database<'a> {
         if item.is_string()
             && let (Some(key), Some(value)) = (item.key, inside.values.first())
         {
-            self.strings.push((key.name, value.clone()));
+            let letters = of_texts(self.text, value, &letters).collect();
+            self.strings.push(Defined { name: key.name, value: value.clone(), letters });
         }
         // (what a parent is that strings say isn't known here)
         let mut of_fields = inside.fields.iter().zip(&inside.values);
@@ -178,9 +216,9 @@ impl<'a> Database<'a> {
         Ok(item.end)
     }
 
-    /// Chooses among the values of the fields of an entry, whose letters stand on the list from the place `met` on.
-    fn choose_fields(&mut self, inside: &Inside<'a>, met: usize, is_of_ascii: bool) {
-        let (text, mut letters) = (self.text, &self.letters[met..]);
+    /// Chooses among the values of the fields of an entry that has these letters.
+    fn choose_fields(&mut self, inside: &Inside<'a>, letters: &[Met], is_of_ascii: bool) {
+        let (text, mut letters) = (self.text, letters);
         for (name, value) in inside.fields.iter().zip(&inside.values) {
             letters = from_place(letters, value.start);
             if is_fixed(name) {
@@ -188,29 +226,29 @@ impl<'a> Database<'a> {
                     self.fixed.extend(names_in(&text[value.clone()]));
                 }
             } else if is_of_ascii || letters.first().is_some_and(|met| met.start < value.end) {
+                self.letters.extend(of_texts(text, value, letters));
                 self.values.push(value.clone());
             }
         }
     }
 
-    /// All its values that may be coded and have something to code, in their order, and its letters outside ASCII.
-    fn chosen(mut self, fixed: &HashSet<Folded<'a>>, is_of_ascii: bool) -> (Vec<Range<usize>>, Vec<Met>) {
-        let free = self.strings.into_iter().filter(|(name, _)| !fixed.contains(&Folded(name)));
-        let has_some = |value: &Range<usize>| is_of_ascii || !self.text[value.clone()].is_ascii();
-        self.values.extend(free.map(|(_, value)| value).filter(has_some));
+    /// All its values that may be coded and have something to code, and the letters outside ASCII of their texts, in their order.
+    fn chosen(mut self, fixed: &KeyedSet<Folded<'a>>, is_of_ascii: bool) -> (Vec<Range<usize>>, Vec<Met>) {
+        let is_free = |string: &Defined<'_>| !fixed.contains(&Folded(string.name));
+        for string in self.strings.into_iter().filter(is_free) {
+            self.letters.extend(string.letters);
+            if is_of_ascii || !self.text[string.value.clone()].is_ascii() {
+                self.values.push(string.value);
+            }
+        }
         self.values.sort_unstable_by_key(|value| value.start);
-        // (an item may have been read before one that it stands in)
+        // (strings stand elsewhere, and an item may have been read before one that it stands in)
         if !self.letters.is_sorted_by(|one, next| one < next) {
-            self.letters.sort_unstable();
+            self.letters.sort();
             self.letters.dedup();
         }
         (self.values, self.letters)
     }
-}
-
-/// The letters that begin at this place or after it, which is near.
-fn from_place(letters: &[Met], place: usize) -> &[Met] {
-    &letters[letters.iter().take_while(|met| met.start < place).count()..]
 }
 
 /// Why an item can't be coded that has a byte of a code, or one that is of no letter.
@@ -226,8 +264,8 @@ fn is_text(kind: &[u8]) -> bool {
 /// The values of a job's databases that may be coded.
 pub fn chosen<'a>(files: &'a Files, language: &Language) -> Result<Chosen<'a>, LeftOut> {
     let is_of_ascii = language.has_rules_for_ascii();
-    let mut choice =
-        Choice { wanted: Wanted::new(files), types: Types::default(), is_of_ascii, inside: Inside::default() };
+    let (wanted, types) = (Wanted::new(files), Types::default());
+    let mut choice = Choice { wanted, types, is_of_ascii, inside: Inside::default(), fields: Vec::new() };
     let text_of =
         |name: &[u8], bytes: &'a Option<Vec<u8>>| bytes.as_deref().filter(|_| name.ends_with(b".bib")).unwrap_or(b"");
     let mut databases: Vec<Database<'_>> =
@@ -248,15 +286,15 @@ pub fn chosen<'a>(files: &'a Files, language: &Language) -> Result<Chosen<'a>, L
 }
 
 /// The strings whose values stay as they are: those that a field has which stays as it is, and those in the values of these.
-fn fixed_strings<'a>(databases: &[Database<'a>]) -> HashSet<Folded<'a>> {
+fn fixed_strings<'a>(databases: &[Database<'a>]) -> KeyedSet<Folded<'a>> {
     let mut open: Vec<&[u8]> = databases.iter().flat_map(|database| database.fixed.iter().copied()).collect();
-    let mut fixed = HashSet::new();
+    let mut fixed = KeyedSet::default();
     if open.is_empty() {
         return fixed;
     }
     let defined = databases
         .iter()
-        .flat_map(|database| database.strings.iter().map(|(name, value)| (*name, &database.text[value.clone()])));
+        .flat_map(|database| database.strings.iter().map(|string| (string.name, &database.text[string.value.clone()])));
     let mut values: Vec<(Folded<'_>, &[u8])> = defined.map(|(name, value)| (Folded(name), value)).collect();
     values.sort_by_cached_key(|(name, _)| name.0.to_ascii_lowercase());
     while let Some(name) = open.pop() {
@@ -287,8 +325,26 @@ fn names_in(value: &[u8]) -> impl Iterator<Item = &[u8]> {
 }
 
 /// Whether a whole value is certainly one text in braces or quotes, as most are.
-pub fn is_one_text(value: &[u8]) -> bool {
+fn is_one_text(value: &[u8]) -> bool {
     matches!(value, [b'{' | b'"', .., _]) && memchr(b'#', value).is_none()
+}
+
+/// Where the texts in a value stand.
+pub fn texts(text: &[u8], value: &Range<usize>) -> Vec<Range<usize>> {
+    if is_one_text(&text[value.clone()]) {
+        return std::iter::once(value.start + 1..value.end - 1).collect();
+    }
+    let parts = parts(&text[value.clone()]);
+    parts.into_iter().map(|part| value.start + part.start..value.start + part.end).collect()
+}
+
+/// Those of these letters that stand in the texts of a value, which are near.
+fn of_texts(text: &[u8], value: &Range<usize>, letters: &[Met]) -> impl Iterator<Item = Met> {
+    let of_text = |part: Range<usize>| {
+        let from_part = from_place(letters, part.start);
+        from_part[..from_part.len() - from_place(from_part, part.end).len()].iter().copied()
+    };
+    texts(text, value).into_iter().flat_map(of_text)
 }
 
 /// The texts in a value, which stand in braces or quotes; round them stand numbers, names of strings and `#`.

@@ -27,7 +27,7 @@
 //! | [`unsaid`], [`doubts`] | what no run logs of the cited entries |
 //! | [`document`], [`alike`] | the document beside the `.aux` file; characters that look like one of the keyboard |
 //! | [`missing_entry`], [`nearest`] | where an entry may be that wasn't found, and which name may be meant by one that isn't known |
-//! | [`letters`], [`languages`], [`letter_codes`], [`letter_values`], [`style_keys`], [`letter_run`] | letters outside ASCII: half letters in a list, and the order of a language |
+//! | [`letters`], [`languages`], [`letter_places`], [`plain_entries`], [`letter_values`], [`letter_codes`], [`style_keys`], [`keyed_hash`], [`letter_run`] | letters outside ASCII: half letters in a list, and the order of a language |
 //! | [`run_log`] | the log of a run as it is written and printed |
 //! | [`run_json`], [`message_places`], [`kinds`] | what a run says as lines of JSON: where each message stands, and a name for its kind |
 //! | [`terminal`] | what is safe to print on a terminal, and how wide it is |
@@ -66,10 +66,12 @@ pub mod explain;
 pub mod hints;
 pub mod interrupt;
 pub mod job;
+pub mod keyed_hash;
 pub mod kinds;
 pub mod kpathsea;
 pub mod languages;
 pub mod letter_codes;
+pub mod letter_places;
 pub mod letter_run;
 pub mod letter_values;
 pub mod letters;
@@ -94,6 +96,7 @@ pub mod operands;
 pub mod origins;
 pub mod outputs;
 pub mod places;
+pub mod plain_entries;
 pub mod repeats;
 pub mod run_json;
 pub mod run_log;

@@ -194,7 +194,7 @@ impl Search<'_> {
     fn notes(&self, budget: u64, most: u64) -> Vec<Note> {
         let options = Options { budget, ..*self.options };
         let noted = btx::notes(&self.files.top, &self.files.all, &options, most as u32).unwrap_or_default();
-        let noted = self.codes.map_or_else(|| noted.clone(), |codes| codes.turn_back(&noted).text);
+        let noted = self.codes.map_or_else(|| noted.clone(), |codes| codes.turn_back(&noted).text_or(noted.clone()));
         notes::read(&noted, self.style)
     }
 

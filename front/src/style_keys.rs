@@ -1,8 +1,9 @@
 //! Whether a style may print what `purify$` made of letters, seen by its text alone: it is followed with what each literal and each variable may hold. What can't be followed may print it.
 
+use crate::keyed_hash::Keyed;
+use crate::letter_places::with_small_letters;
 use crate::style_text::{Kind, Token, Tokens};
-use std::collections::HashMap;
-use std::hash::{BuildHasherDefault, Hash, Hasher};
+use std::hash::{BuildHasher, Hasher};
 
 /// What a text may hold: bits.
 type Held = u8;
@@ -26,60 +27,115 @@ const MOST_LITERALS: usize = 48;
 /// How many states a function is known from.
 const MOST_KNOWN: usize = 32;
 
-/// A hash that is made quickly. (What a stranger can do with it is bounded by the number of names.)
-#[derive(Default)]
-struct Quick(u64);
-
-impl Hasher for Quick {
-    fn write(&mut self, bytes: &[u8]) {
-        bytes.iter().for_each(|byte| self.write_u64(u64::from(*byte)));
-    }
-
-    fn write_u64(&mut self, word: u64) {
-        self.0 = (self.0.rotate_left(5) ^ word).wrapping_mul(0x517C_C1B7_2722_0A95);
-    }
-
-    fn finish(&self) -> u64 {
-        self.0 ^ self.0 >> 32
-    }
-}
-
 /// A name of a style, of which the case of `A-Z` doesn't matter.
 #[derive(Debug, Clone, Copy)]
-struct Name<'a>(&'a [u8]);
+struct Name<'a> {
+    bytes: &'a [u8],
+    /// Its first eight bytes and its last eight, with small letters; twice all bytes of a shorter one.
+    first: u64,
+    last: u64,
+}
 
-impl PartialEq for Name<'_> {
-    fn eq(&self, other: &Self) -> bool {
-        // (nearly each name has the letters of its definition)
-        self.0 == other.0 || self.0.eq_ignore_ascii_case(other.0)
+/// Eight bytes with small letters.
+#[inline(always)]
+fn small(bytes: [u8; 8]) -> u64 {
+    // (with this bit a letter is a small one, and nearly each name has no others)
+    const SMALL: u64 = 0x2020_2020_2020_2020;
+    let word = u64::from_le_bytes(bytes);
+    if word & SMALL == SMALL { word } else { with_small_letters(word) }
+}
+
+impl<'a> Name<'a> {
+    #[inline(always)]
+    fn new(bytes: &'a [u8]) -> Name<'a> {
+        if let (Some(first), Some(last)) = (bytes.first_chunk(), bytes.last_chunk()) {
+            return Name { bytes, first: small(*first), last: small(*last) };
+        }
+        let word = match (bytes.first_chunk::<4>(), bytes.last_chunk::<4>()) {
+            (Some([a, b, c, d]), Some([e, f, g, h])) => [*a, *b, *c, *d, *e, *f, *g, *h],
+            _ => bytes.iter().fold(0u64, |word, byte| word << 8 | u64::from(*byte)).to_le_bytes(),
+        };
+        Name { bytes, first: small(word), last: small(word) }
     }
 }
 
-impl Eq for Name<'_> {}
+impl PartialEq for Name<'_> {
+    #[inline(always)]
+    fn eq(&self, other: &Self) -> bool {
+        let (len, words) = (self.bytes.len(), |name: &Self| (name.first, name.last));
+        len == other.bytes.len()
+            && words(self) == words(other)
+            && (len <= 16 || self.bytes.eq_ignore_ascii_case(other.bytes))
+    }
+}
 
-impl Name<'_> {
-    /// Its last eight bytes, or all of them.
-    fn last_word(&self) -> u64 {
-        let half = |bytes: &[u8; 4]| u64::from(u32::from_le_bytes(*bytes));
-        match (self.0.last_chunk(), self.0.first_chunk(), self.0.last_chunk()) {
-            (Some(last), ..) => u64::from_le_bytes(*last),
-            (_, Some(first), Some(last)) => half(first) << 32 | half(last),
-            _ => self.0.iter().fold(0, |word, byte| word << 8 | u64::from(*byte)),
+/// The names of a style with what they mean, in a table: each name is at the place that its hash says, or at the first free one after that.
+#[derive(Default)]
+struct Meanings<'a> {
+    hash: Keyed,
+    /// At each place the number of a name, counted from 1; 0 where there is none. At least half of them are free.
+    places: Vec<u16>,
+    all: Vec<(Name<'a>, Meaning)>,
+}
+
+impl<'a> Meanings<'a> {
+    /// A table with room for this number of names.
+    fn for_names(count: usize) -> Meanings<'a> {
+        let places = vec![0; (2 * count).next_power_of_two()];
+        Meanings { places, all: Vec::with_capacity(count), ..Meanings::default() }
+    }
+
+    /// The place of a name, or the one that it would get.
+    #[inline(always)]
+    fn place(&self, name: &Name<'a>) -> usize {
+        let last = self.places.len() - 1;
+        let mut hasher = self.hash.build_hasher();
+        hasher.write_u64(name.first ^ name.bytes.len() as u64);
+        hasher.write_u64(name.last);
+        let mut place = hasher.finish() as usize & last;
+        while let Some((other, _)) = self.at(place)
+            && other != name
+        {
+            place = (place + 1) & last;
+        }
+        place
+    }
+
+    #[inline(always)]
+    fn at(&self, place: usize) -> Option<&(Name<'a>, Meaning)> {
+        self.all.get(usize::from(self.places[place]).wrapping_sub(1))
+    }
+
+    #[inline(always)]
+    fn get(&self, name: &'a [u8]) -> Option<Meaning> {
+        self.at(self.place(&Name::new(name))).map(|(_, meaning)| *meaning)
+    }
+
+    /// Gives a name this meaning; false where there are too many.
+    fn define(&mut self, name: &'a [u8], meaning: Meaning) -> bool {
+        let name = Name::new(name);
+        let place = self.place(&name);
+        if let Some(number) = usize::from(self.places[place]).checked_sub(1) {
+            self.all[number].1 = meaning;
+            return true;
+        }
+        self.all.push((name, meaning));
+        self.places[place] = self.all.len() as u16;
+        if 2 * self.all.len() > self.places.len() {
+            self.make_room();
+        }
+        self.all.len() <= MOST_NAMES
+    }
+
+    /// Makes the table twice as long.
+    fn make_room(&mut self) {
+        self.places = vec![0; 2 * self.places.len()];
+        for number in 0..self.all.len() {
+            let place = self.place(&self.all[number].0);
+            self.places[place] = number as u16 + 1;
         }
     }
 }
-
-impl Hash for Name<'_> {
-    fn hash<H: Hasher>(&self, state: &mut H) {
-        // (with this bit two letters are the same that differ in their case)
-        const SMALL: u64 = 0x2020_2020_2020_2020;
-        let (words, _) = self.0.as_chunks::<8>();
-        words.iter().for_each(|word| state.write_u64(u64::from_le_bytes(*word) | SMALL));
-        state.write_u64((self.last_word() | SMALL) ^ self.0.len() as u64);
-    }
-}
-
-type QuickMap<K, V> = HashMap<K, V, BuildHasherDefault<Quick>>;
 
 /// A style that can't be followed.
 struct NotFollowed;
@@ -322,7 +378,7 @@ impl Reach {
 /// A style as it is read.
 #[derive(Default)]
 struct Style<'a> {
-    meanings: QuickMap<Name<'a>, Meaning>,
+    meanings: Meanings<'a>,
     /// How many variables it has, and how many each entry has.
     texts: u32,
     of_entries: u32,
@@ -387,9 +443,8 @@ impl<'a> Reading<'a> {
 impl<'a> Style<'a> {
     /// Reads a style; the values of the fields of these names have no codes.
     fn read(text: &'a [u8], fixed: &[&str]) -> Followed<Style<'a>> {
-        let mut style = Style::default();
-        style.meanings.reserve(text.len() / 64 + BUILTINS.len());
-        style.steps.reserve(text.len() / 8);
+        let meanings = Meanings::for_names(text.len() / 64 + BUILTINS.len());
+        let mut style = Style { meanings, steps: Vec::with_capacity(text.len() / 8), ..Style::default() };
         for (name, effect) in BUILTINS {
             style.define(name.as_bytes(), Meaning::Builtin(effect))?;
         }
@@ -410,8 +465,7 @@ impl<'a> Style<'a> {
     }
 
     fn define(&mut self, name: &'a [u8], meaning: Meaning) -> Followed<()> {
-        self.meanings.insert(Name(name), meaning);
-        if self.meanings.len() > MOST_NAMES { Err(NotFollowed) } else { Ok(()) }
+        if self.meanings.define(name, meaning) { Ok(()) } else { Err(NotFollowed) }
     }
 
     fn define_text(&mut self, name: &'a [u8]) -> Followed<()> {
@@ -513,8 +567,9 @@ impl<'a> Style<'a> {
         Ok(meaning)
     }
 
+    #[inline(always)]
     fn meaning(&self, name: &'a [u8]) -> Followed<Meaning> {
-        self.meanings.get(&Name(name)).copied().ok_or(NotFollowed)
+        self.meanings.get(name).ok_or(NotFollowed)
     }
 }
 
@@ -683,6 +738,7 @@ impl Following<'_> {
         Ok(())
     }
 
+    #[inline(always)]
     fn call(&mut self, meaning: Meaning, state: &mut State) -> Followed<()> {
         match meaning {
             Meaning::Field(held) => state.push(held)?,

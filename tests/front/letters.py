@@ -4,7 +4,8 @@
     python3 letters.py styles SEARCH FOLDER..    a database full of such letters by each style below the folders: in how many lists there is half a letter, and what else is odd
     python3 letters.py costs SEARCH [RUNS]       what -letters=de costs in `plain`, which kpsewhich finds: instructions, which valgrind counts, and the least processor time of RUNS runs each way, in turns
 
-SEARCH is the program bibtex-search. The last line of `orders` is the number of pairs.
+SEARCH is the program bibtex-search. The last line of `orders` is the number of pairs. That of `costs` says in how many jobs the instructions are within the bar, and the exit status is 1
+where they aren't in all.
 """
 
 import collections
@@ -147,6 +148,9 @@ def check_styles(search, folders):
         print(f"{odd}: {len(names)}" + (f" ({', '.join(names)})" if len(names) < 20 else ""))
 
 
+# How many times the instructions a run with -letters may take.
+MOST_TIMES = 1.15
+
 # What is measured: how many entries a database has and how many of them are cited, one in how many has such letters (0: none), and the fields beside author, title, booktitle and year.
 MOST_FIELDS = ("journal", "volume", "number", "pages", "publisher", "school", "institution", "address", "note")
 COSTS = [(80, 30, 1, MOST_FIELDS), (1_600, 30, 1, MOST_FIELDS), (1_000, 1_000, 1, MOST_FIELDS[:5]), (10_000, 10_000, 1, ("volume",)), (1_000, 300, 7, MOST_FIELDS), (1_600, 300, 0, MOST_FIELDS)]
@@ -184,7 +188,7 @@ def instructions(words):
 
 
 def check_costs(search, runs):
-    ways = [[str(search), "-terse", "-no-explain", *more, "job"] for more in ([], ["-letters=de"])]
+    ways, within = [[str(search), "-terse", "-no-explain", *more, "job"] for more in ([], ["-letters=de"])], 0
     for entries, cited, one_in, fields in COSTS:
         size = write_job(entries, cited, one_in, fields)
         counted = [instructions(words) for words in ways]
@@ -195,6 +199,9 @@ def check_costs(search, runs):
         least = [1000 * min(taken) for taken in times]
         shares = [with_letters / without for without, with_letters in (counted, least)]
         print(f"{cited:,} of {size / 1e6:.2f} MB, one in {one_in}: {counted[0] / 1e6:.1f} and {counted[1] / 1e6:.1f} million instructions, {shares[0]:.3f}; {least[0]:.2f} and {least[1]:.2f} ms, {shares[1]:.3f} times", flush=True)
+        within += shares[0] <= MOST_TIMES
+    print(f"{within} of {len(COSTS)} jobs take at most {MOST_TIMES} times the instructions")
+    return within < len(COSTS)
 
 
 def main(what, search, *folders):
@@ -202,9 +209,9 @@ def main(what, search, *folders):
         search, runs = pathlib.Path(search).resolve(), int(folders[0]) if folders else 100
         with tempfile.TemporaryDirectory() as room:
             os.chdir(room)
-            check_costs(search, runs)
+            is_above = check_costs(search, runs)
             os.chdir("/")
-        return
+        return is_above
     search, folders = pathlib.Path(search).resolve(), [pathlib.Path(folder).resolve() for folder in folders]
     with tempfile.TemporaryDirectory() as room:
         os.chdir(room)
@@ -213,4 +220,4 @@ def main(what, search, *folders):
 
 
 if __name__ == "__main__":
-    main(*sys.argv[1:])
+    sys.exit(main(*sys.argv[1:]))
