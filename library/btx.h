@@ -133,6 +133,31 @@ uint32_t btx_run_events(const unsigned char *job, size_t job_len, const btx_file
                         unsigned char *list, size_t list_room, unsigned char *log, size_t log_room, btx_report *report,
                         btx_event *events, size_t events_room, size_t *events_len);
 
+/* The place that a line of the log is about. */
+typedef struct {
+    uint64_t file;     /* the number of its file in `files`, from 0; BTX_NO_FILE where no place is known */
+    uint64_t start;    /* how many bytes of that file stand before the place, */
+    uint64_t end;      /* and before its end; the same as `start` where the place is a point */
+    uint64_t line;     /* the line of its first byte, from 1 up; 0 where no place is known */
+    uint32_t function; /* while a token of the style is executed: the number of its function, from 0 in the order in which functions end in the style, those in braces too;
+                          else BTX_NO_FUNCTION */
+    uint32_t token;    /* the number of the token in that function, from 0 */
+} btx_place;
+
+/* No file is known. */
+#define BTX_NO_FILE UINT64_MAX
+/* No token of the style is executed. */
+#define BTX_NO_FUNCTION UINT32_MAX
+
+/* Runs the job as btx_run_events does, and writes also the place that each line of the log is about: the first places, as many as there is room for in `places`, of
+   which place n is that of event n. Of an error of the style's execution, a warning or a text that it prints, it is the token that is executed; of a message of the
+   style's text the word that it is about, or the point where it was met; of a message of the databases the point where the reading stood. Other lines have none: those on files, those
+   on a reference without an entry, what a command says at its end of literals that are left, and the last line. After BTX_REFUSED, BTX_MEMORY, BTX_ASKS and BTX_FULL no
+   place is written. The style is read once more, if a line is about it. */
+uint32_t btx_run_places(const unsigned char *job, size_t job_len, const btx_file *files, size_t files_len, const btx_options *options,
+                        unsigned char *list, size_t list_room, unsigned char *log, size_t log_room, btx_report *report,
+                        btx_event *events, size_t events_room, btx_place *places, size_t places_room, size_t *events_len);
+
 /* Runs the job once more, and notes where its style stands: at each of the first `most` events that log errors in its execution, and where the run is stopped or
    meets a limit: the function and the line of the style, who called it, and the literals on the stack. The notes are lines, whose form the man page says; there is
    none where no error was logged and the run finished. As many bytes are written as there is room for, and in `*notes_len` how many there are in all; if that is

@@ -9,7 +9,7 @@ begin only_the_calls_are_visible
 wants_names() {
     local found
     found=$(nm "$@" | awk '$2 == "T" || $2 == "D" || $2 == "B" || $2 == "W" { sub("@.*", "", $3); print $3 }' | sort | tr '\n' ' ')
-    [ "$found" = 'btx_check btx_check_ends btx_needs btx_read btx_read_job btx_run btx_run_events btx_where ' ] || complaints+=("nm $1 shows $found")
+    [ "$found" = 'btx_check btx_check_ends btx_needs btx_read btx_read_job btx_run btx_run_events btx_run_places btx_where ' ] || complaints+=("nm $1 shows $found")
 }
 wants_names "$room/out/libbtx.a"
 wants_names -D "$room/out/libbtx.so.1"
@@ -31,7 +31,7 @@ readelf -d "$room/out/libbtx.so.1" | grep -qF 'Library soname: [libbtx.so.1]' ||
 end
 
 begin tests_are_compiled
-for name in job rooms threads stack needs edges many read read_job events; do
+for name in job rooms threads stack needs edges many read read_job events places; do
     compile "$name"
 done
 compile refused -Wl,--wrap=malloc,--wrap=realloc

@@ -1,5 +1,5 @@
 /* refused FOLDER JOB STEP OPTION..: refuses each STEP-th request for memory of a run in turn, once each. The run answers BTX_MEMORY with a beginning of the
-   list and of the log; or, where the request could be spared, what it answers without a refusal. Then the same of btx_needs, of btx_where and of btx_read_job. Linked with
+   list and of the log; or, where the request could be spared, what it answers without a refusal. Then the same of btx_run_places, of btx_needs, of btx_where and of btx_read_job. Linked with
    --wrap=malloc and --wrap=realloc. */
 #include "jobs.h"
 
@@ -95,6 +95,27 @@ static int check_read_job(const job *its, const btx_options *options, long numbe
     return 1;
 }
 
+/* Whether btx_run_places, whose request for memory number `number` is refused, has made that request. Either it has all places, or none. */
+static int check_places(const job *its, const btx_options *options, const outcome *whole, long number) {
+    static unsigned char list[1 << 16], log[1 << 16];
+    static btx_event events[1000];
+    static btx_place places[1000];
+    btx_report report;
+    size_t len = 77;
+    memset(places, 0xA5, sizeof places);
+    requests = 0;
+    refused = number;
+    is_counting = 1;
+    uint32_t answer = btx_run_places((const unsigned char *)its->name, strlen(its->name), its->files, its->count, options, list, sizeof list, log, sizeof log,
+                                     &report, events, 1000, places, 1000, &len);
+    is_counting = 0;
+    if (requests < number) return 0;
+    must(answer == BTX_DONE || (answer == BTX_MEMORY && len == 0), "without request %ld btx_run_places answers %u with %zu events", number, answer, len);
+    must(begins(whole->log, whole->report.log_len, log, report.log_len), "without request %ld the log of btx_run_places is no beginning", number);
+    for (size_t n = 0; n < len; n++) must(!is_untouched((const unsigned char *)&places[n], sizeof *places), "without request %ld place %zu is left out", number, n);
+    return 1;
+}
+
 int main(int count, char **words) {
     asked test;
     ask(&test, count, words, 1, "refused FOLDER JOB STEP OPTION..");
@@ -104,6 +125,7 @@ int main(int count, char **words) {
     must(test.whole.answer == BTX_DONE && is_same(&test.whole, &first), "two runs differ");
     for (long number = 1; number <= all; number += step, tried++) check_run(&test.its, &test.options, &test.whole, number, &spared);
     printf("%ld of %ld requests of btx_run refused, %ld of which it could spare\n", tried, all, spared);
+    for (long number = 1; check_places(&test.its, &test.options, &test.whole, number);) number += step;
     for (size_t known = 0; known <= test.its.count; known++) {
         long number = 1;
         while (check_needs(&test.its, known, number)) number += step;

@@ -15,7 +15,7 @@ What is proved is the library below, libbtx.so.1: that list, log and report are 
 that were handed in. This package is ordinary Python around its calls."""
 
 from .checking import Answer, Bound, Branches, Fault, Operand, Spot, StyleWarning, Verdict, check
-from .events import Event, Events, Met, Severity
+from .events import Event, Events, LogPlace, Met, Severity
 from .job_reading import Library, read_job
 from .jobs import Content, Files, Finder, Name, in_folder, needs, run, run_in, run_paper
 from .messages import Kind, Message, messages_of
@@ -48,6 +48,7 @@ __all__ = [
     "LettersRefused",
     "Library",
     "LibraryMissing",
+    "LogPlace",
     "MONTHS",
     "MemoryRefused",
     "Message",

@@ -11,7 +11,7 @@ from dataclasses import dataclass, replace
 from typing import Dict, List, Mapping, Match, NamedTuple, Optional, Sequence, Tuple
 
 from . import library
-from .events import EVENT, NO_ENTRY, Events
+from .events import EVENT, NO_ENTRY, NO_FILE, PLACE, Events
 from .languages import LANGUAGES, LONGER, ROOT
 from .letter_values import DIGIT, LeftOut, Span, is_whole, parts_of, values_of
 from .options import Options
@@ -195,8 +195,9 @@ def depths_of(text: bytes) -> Tuple[int, int]:
     return depth, least
 
 
-def moved(events: Events, log: bytes, codes: Codes) -> Events:
+def moved(events: Events, log: bytes, coded: Coded) -> Events:
     """Where the lines of a log are once it is turned back. No code has an end of a line in it."""
+    codes = coded.codes
     before = at = 0
     records: List[bytes] = []
     for event in events:
@@ -204,7 +205,25 @@ def moved(events: Events, log: bytes, codes: Codes) -> Events:
         length = len(codes.turned_back(log[event.offset : event.end]))
         records.append(EVENT.pack(at, length, NO_ENTRY if event.number is None else event.number, event.severity, event.met))
         at, before = at + length, event.end
-    return Events(b"".join(records), events.total)
+    return replace(events, records=b"".join(records), places=moved_places(events, coded))
+
+
+def moved_places(events: Events, coded: Coded) -> bytes:
+    """The places of lines once the files are turned back."""
+    places = [place for place in PLACE.iter_unpack(events.places) if place[0] != NO_FILE]
+    offsets = {file: turned_offsets(coded, events.files[file], [at for place in places if place[0] == file for at in place[1:3]]) for file in {place[0] for place in places}}
+    records = ((file, offsets[file][start], offsets[file][end], *rest) if file != NO_FILE else (file, start, end, *rest) for file, start, end, *rest in PLACE.iter_unpack(events.places))
+    return b"".join(PLACE.pack(*record) for record in records)
+
+
+def turned_offsets(coded: Coded, name: bytes, offsets: List[int]) -> Dict[int, int]:
+    """For each of these offsets in a coded file the one in the file as it was."""
+    content, found = coded.files[name] or b"", {}
+    before = at = 0
+    for offset in sorted(offsets):
+        at += len(coded.codes.turned_back(content[before:offset]))
+        found[offset], before = at, offset
+    return found
 
 
 def half_of(made: Result) -> int:
@@ -288,7 +307,7 @@ class Task:
         bbl, log = coded.codes.turned_back(made.bbl), coded.codes.turned_back(made.log)
         if REST.search(bbl) or REST.search(log) or not self.has_all_braces(bbl):
             raise LeftOut("CutsLetters")
-        return replace(made, bbl=bbl, log=log, events=moved(made.events, made.log, coded.codes))
+        return replace(made, bbl=bbl, log=log, events=moved(made.events, made.log, coded))
 
     def has_all_braces(self, bbl: bytes) -> bool:
         """Whether no brace of a list is left over from a code that was cut. A style may leave out braces of its own."""

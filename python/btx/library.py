@@ -13,7 +13,7 @@ import pathlib
 import struct
 from typing import Callable, List, Mapping, Optional, Tuple, Union
 
-from .events import EVENT, Events
+from .events import EVENT, PLACE, Events
 from .options import Options
 from .refusals import FileUnknown, LibraryMissing, MemoryRefused, OutputTooLong, Refusal
 from .results import End, Report, Result
@@ -95,7 +95,7 @@ def found_library() -> ctypes.CDLL:
     path = os.environ.get("BTX_LIBRARY") or (str(beside) if beside.exists() else "libbtx.so.1")
     try:
         library = ctypes.CDLL(path)
-        needs, run, check, check_ends = library.btx_needs, library.btx_run_events, library.btx_check, library.btx_check_ends
+        needs, run, check, check_ends = library.btx_needs, library.btx_run_places, library.btx_check, library.btx_check_ends
         read, read_job = library.btx_read, library.btx_read_job
     except (OSError, AttributeError) as error:
         raise LibraryMissing(path, str(error)) from error
@@ -103,7 +103,7 @@ def found_library() -> ctypes.CDLL:
     size = ctypes.c_size_t
     text, files, room = (ctypes.c_char_p, size), (ctypes.POINTER(File), size), (ctypes.c_void_p, size)
     needs.argtypes = (*text, *files, *room, ctypes.POINTER(size))
-    run.argtypes = (*text, *files, ctypes.POINTER(Asked), *room, *room, ctypes.POINTER(Answered), *room, ctypes.POINTER(size))
+    run.argtypes = (*text, *files, ctypes.POINTER(Asked), *room, *room, ctypes.POINTER(Answered), *room, *room, ctypes.POINTER(size))
     read.argtypes = (*text, *text, ctypes.POINTER(String), size, *room, *room, ctypes.POINTER(Sizes))
     read_job.argtypes = (*text, *files, ctypes.POINTER(Asked), *room, *room, ctypes.POINTER(Sizes))
     check.argtypes = (*text, *text, ctypes.c_uint64, *room, *room, ctypes.POINTER(Checked))
@@ -190,7 +190,7 @@ def asked_of(options: Options) -> Asked:
 
 
 def run_over(job: bytes, known: Known, options: Options, most_events: Optional[int] = None) -> Result:
-    """Runs the job over these files, and keeps the events of the log's first `most_events` lines. Where None is said, all are kept: a log with more lines than have room at first
+    """Runs the job over these files, and keeps the events and the places of the log's first `most_events` lines. Where None is said, all are kept: a log with more lines than have room at first
     takes a second run."""
     result = run_once(job, known, options, FIRST_EVENTS if most_events is None else most_events)
     if most_events is None and len(result.events) < result.events.total:
@@ -201,14 +201,14 @@ def run_over(job: bytes, known: Known, options: Options, most_events: Optional[i
 
 
 def run_once(job: bytes, known: Known, options: Options, most_events: int) -> Result:
-    """Runs the job over these files, with room for `most_events` events."""
-    bbl, log, events = Room(options.most_list), Room(options.most_log), Room(most_events * EVENT.size)
+    """Runs the job over these files, with room for `most_events` events and places."""
+    rooms = bbl, log, events, places = Room(options.most_list), Room(options.most_log), Room(most_events * EVENT.size), Room(most_events * PLACE.size)
     try:
-        answer, answered, total = call(job, known, options, bbl, log, events)
+        answer, answered, total = call(job, known, options, bbl, log, events, places)
         outputs = bbl.prefix(answered.list_len), log.prefix(answered.log_len)
-        kept = Events(events.prefix(total * EVENT.size), total)
+        kept = Events(events.prefix(total * EVENT.size), total, places.prefix(total * PLACE.size), tuple(known))
     finally:
-        for room in (bbl, log, events):
+        for room in rooms:
             room.close()
     if answer == FULL:
         raise OutputTooLong(*outputs)
@@ -218,14 +218,14 @@ def run_once(job: bytes, known: Known, options: Options, most_events: int) -> Re
     return Result(*outputs, report, kept)
 
 
-def call(job: bytes, known: Known, options: Options, bbl: Room, log: Room, events: Room) -> Tuple[int, Answered, int]:
+def call(job: bytes, known: Known, options: Options, bbl: Room, log: Room, events: Room, places: Room) -> Tuple[int, Answered, int]:
     """The library's answer, its report, and how many events there are."""
     asked, answered, total = asked_of(options), Answered(), ctypes.c_size_t()
     outputs = [word for room in (bbl, log) for word in (ctypes.byref(room.bytes), room.size)]
-    answer = LIBRARY.btx_run_events(
+    answer = LIBRARY.btx_run_places(
         *(job, len(job), array_of(known), len(known), ctypes.byref(asked)),
         *(*outputs, ctypes.byref(answered)),
-        *(ctypes.byref(events.bytes), events.size // EVENT.size, ctypes.byref(total)),
+        *(ctypes.byref(events.bytes), events.size // EVENT.size, ctypes.byref(places.bytes), places.size // PLACE.size, ctypes.byref(total)),
     )
     return answer, answered, total.value
 

@@ -20,7 +20,7 @@ import re
 from dataclasses import dataclass
 from typing import Iterator, List, NamedTuple, Optional, Tuple
 
-from .events import Event, Events, Met, Severity
+from .events import Event, Events, LogPlace, Met, Severity
 
 __all__ = ["Kind", "Message", "messages_of", "messages_with"]
 
@@ -46,8 +46,9 @@ class Message:
     file, line: the place in a file that it names, the line counted from 1. function: what was executed, in lower case (a command in capitals).
     entry: the cite key of the entry for which it was executed. Each is None where the line names none.
     raw: the line's bytes, without its end: `b"\\n".join(raw) + b"\\n"` over all messages is the log. offset: how many bytes of the log are before it.
-    severity: whether it is an error, a warning or neither. met: where a run met it. number: that of the current entry, counted from 0; None where there is none. (In a log
-    from a file `met` and `number` are None.)
+    severity: whether it is an error, a warning or neither. met: where a run met it. number: that of the current entry, counted from 0; None where there is none.
+    place: what it is about: a token of the style, a word of the style's text, or a point of a database; None where no place is known. (In a log from a file `met`, `number` and
+    `place` are None.)
 
     Texts are decoded as UTF-8; bytes that aren't stand for themselves, as in Python's file names (`surrogateescape`)."""
 
@@ -61,6 +62,7 @@ class Message:
     offset: int = 0
     met: Optional[Met] = None
     number: Optional[int] = None
+    place: Optional[LogPlace] = None
 
     @property
     def severity(self) -> Severity:
@@ -115,7 +117,7 @@ def message_with(line: bytes, event: Event) -> Message:
     """The message of a line. Its text is asked only for what the library writes there: a place, or what was executed."""
     kind, front = known_kind(line, event)
     parts = parts_with(line[front:], event) if kind in SEVERITIES else plain_parts(kind, line, front)
-    return Message(kind, parts.text, line, *parts[1:], event.offset, event.met, event.number)
+    return Message(kind, parts.text, line, *parts[1:], event.offset, event.met, event.number, event.place)
 
 
 def known_kind(line: bytes, event: Event) -> Tuple[Kind, int]:
@@ -132,9 +134,17 @@ def known_kind(line: bytes, event: Event) -> Tuple[Kind, int]:
 def parts_with(rest: bytes, event: Event) -> Parts:
     """What a warning or an error says. A style's own warning has neither a place nor a function, whatever its text is like."""
     if event.met is not Met.EXECUTION:
-        return placed(rest) or Parts(decoded(rest))
+        return placed_at(rest, event.place) or placed(rest) or Parts(decoded(rest))
     is_own = event.severity is Severity.WARNING and not CUT.match(rest)
     return (None if is_own else executed(rest)) or Parts(decoded(rest))
+
+
+def placed_at(rest: bytes, place: Optional[LogPlace]) -> Optional[Parts]:
+    """A text before the place that the library says of its line."""
+    if place is None:
+        return None
+    named = b"--line %d of file %s" % (place.line, place.file.encode("utf8", "surrogateescape"))
+    return Parts(decoded(rest[: -len(named)]), place.file, place.line) if rest.endswith(named) else None
 
 
 # ---- of a file ----

@@ -62,6 +62,14 @@ class Letters(unittest.TestCase):
         self.assertEqual(b"".join(result.log[event.offset : event.end] + b"\n" for event in result.events), result.log)
         self.assertEqual(result.notes, ())
 
+    def test_places_are_in_the_files_as_they_are(self):
+        database = "@misc{k, author = {Émile Zola}}\n@misc{l, author = {Äh} y}\n@misc{m, author = {Ö} # zola # }\n".encode("utf8")
+        files = {**job_of("author #1 * top$ author", database=database), "a.aux": AUX.replace("{k}", "{*}").encode("utf8")}
+        plain, sorted_by_letters = (btx.run("a", files, btx.Options(letters=letters)) for letters in ("no", "de"))
+        self.assertEqual(sorted_by_letters.notes, ())
+        self.assertEqual([message.place for message in sorted_by_letters.messages], [message.place for message in plain.messages])
+        self.assertEqual([message.place.line for message in plain.messages if message.met is btx.Met.DATABASES], [2, 3])
+
     def test_left_out(self):
         rows = [
             ("author purify$", None, "the style prints text that it made for sorting"), ("author #1 #3 substring$", None, "the style cuts text by bytes"),

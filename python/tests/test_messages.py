@@ -75,6 +75,25 @@ class Lines(unittest.TestCase):
             self.assertTrue(result.log.startswith(message.raw + b"\n", message.offset))
         self.assertEqual([message.offset for message in result.messages], [event.offset for event in result.events])
 
+    def test_places(self):
+        style = b'\nFUNCTION {f} {title #1 * "w" warning$\n  \xc3\xa4 #7 top$} ITERATE {f} EXECUTE {pop$}\n\nnonsense'
+        files = {**with_style(style), "d.bib": b"@misc{k, title = foo #\n}"}
+        result = btx.run("job", files)
+        shown = {message.text: message.place for message in result.messages}
+        self.assertEqual((shown["w"].file, shown["w"].line, shown["w"].function, shown["w"].token), ("s.bst", 2, 1, 4))
+        unknown = shown["\xe4 is an unknown function"]
+        self.assertEqual((unknown.line, unknown.function, unknown.token, unknown.column(files["s.bst"])), (3, None, None, 3))
+        shown_place = shown["7"]
+        self.assertEqual((files["s.bst"][slice(*shown_place.span)], shown_place.column(files["s.bst"])), (b"top$", 8))
+        database = shown["I was expecting a value"]
+        self.assertEqual((database.file, database.line, database.span, database.column(files["d.bib"])), ("d.bib", 2, (23, 23), 1))
+        self.assertIsNone(shown["You can't pop an empty literal stack"])
+        for message in result.messages:
+            if message.line is not None:
+                self.assertEqual((message.file, message.line), (message.place.file, message.place.line))
+        self.assertEqual([message.place for message in result.messages], [event.place for event in result.events])
+        self.assertEqual({message.place for message in btx.messages_of(result.log)}, {None})
+
     def test_more_lines_than_have_room_at_first(self):
         result = btx.run("job", with_style(b"INTEGERS {n} FUNCTION {f} {#70000 'n := {n #0 >} {n top$ n #1 - 'n :=} while$} EXECUTE {f} nonsense"))
         self.assertEqual((len(result.messages), result.messages[-2].severity), (70005, Severity.ERROR))

@@ -3,8 +3,8 @@
     python3 compare.py [--jobs N] [--programs N] [--entries N] [--seed N] [--styles FOLDER] LIBRARY.so
 
 LIBRARY.so is the library for C (library/out/libbtx.so.1). Runs the worked and corner jobs, the same with a brace too many in the style, those of functions between which some end in a fault, random
-jobs and programs, and a database of errors with each style of the folder (that of TeX Live, if it is there), and compares all notes of all errors, line by line. The last line is 'N passed, M failed', of jobs; the lines above it count the jobs
-with errors, and the events."""
+jobs and programs, and a database of errors with each style of the folder (that of TeX Live, if it is there), and compares all notes of all errors, line by line. Of each job it also compares the place of each error
+that `btx_run_places` writes with the token of the notes. The last line is 'N passed, M failed', of jobs; the lines above it count the jobs with errors, the events, and the places that were compared."""
 
 import argparse
 import collections
@@ -27,6 +27,8 @@ from worked_jobs import files_of  # noqa: E402
 
 MOST = 100
 DONE, FULL = 0, 4
+NO_FUNCTION = 2**32 - 1
+ERROR = 2
 TEX_LIVE = "/usr/share/texlive/texmf-dist/bibtex/bst"
 
 
@@ -43,10 +45,23 @@ class COptions(ctypes.Structure):
                 ("utf8", ctypes.c_bool)]
 
 
+class Report(ctypes.Structure):
+    _fields_ = [*((name, ctypes.c_uint32) for name in ("status", "end")), *((name, ctypes.c_uint64) for name in ("steps", "deepest", "warnings", "errors")),
+                *((name, ctypes.c_size_t) for name in ("list_len", "log_len"))]
+
+
+class Event(ctypes.Structure):
+    _fields_ = [*((name, ctypes.c_uint64) for name in ("at", "len", "entry")), *((name, ctypes.c_uint32) for name in ("kind", "met"))]
+
+
+class Place(ctypes.Structure):
+    _fields_ = [*((name, ctypes.c_uint64) for name in ("file", "start", "end", "line")), *((name, ctypes.c_uint32) for name in ("function", "token"))]
+
+
 class Library:
     def __init__(self, path):
         self.library = ctypes.CDLL(str(pathlib.Path(path).resolve()))
-        for call in ("btx_needs", "btx_where"):
+        for call in ("btx_needs", "btx_where", "btx_run_places"):
             getattr(self.library, call).restype = ctypes.c_uint32
 
     def handed(self, files, names):
@@ -73,7 +88,7 @@ class Library:
         """The notes, or the answer's number where there are none."""
         names = self.asked(files, job)
         array, length, room = self.handed(files, names), ctypes.c_size_t(), 1 << 20
-        given = COptions(options.budget, options.min_crossrefs, options.line, options.entry_max, options.global_max, options.utf8)
+        given = c_options(options)
         while True:
             notes = ctypes.create_string_buffer(room)
             answer = self.library.btx_where(job, ctypes.c_size_t(len(job)), array, ctypes.c_size_t(len(names)), ctypes.byref(given), ctypes.c_uint32(most),
@@ -82,6 +97,26 @@ class Library:
                 room = length.value
                 continue
             return notes.raw[:length.value].split(b"\n")[:-1] if answer == DONE else answer
+
+    def error_places(self, files, job, options, outputs=1 << 20, room=1 << 12):
+        """Of each error in the log, in order, its line, its function and its token; None where the run writes more than there is room for."""
+        names = self.asked(files, job)
+        array, given, report, length = self.handed(files, names), c_options(options), Report(), ctypes.c_size_t()
+        bbl, log = ctypes.create_string_buffer(outputs), ctypes.create_string_buffer(outputs)
+        events, places = (Event * room)(), (Place * room)()
+        answer = self.library.btx_run_places(job, ctypes.c_size_t(len(job)), array, ctypes.c_size_t(len(names)), ctypes.byref(given),
+                                             bbl, ctypes.c_size_t(outputs), log, ctypes.c_size_t(outputs), ctypes.byref(report),
+                                             events, ctypes.c_size_t(room), places, ctypes.c_size_t(room), ctypes.byref(length))
+        if answer != DONE:
+            return None
+        if length.value > room:
+            return self.error_places(files, job, options, outputs, length.value)
+        pairs = zip(events[:length.value], places[:length.value])
+        return [(place.line, place.function, place.token) for event, place in pairs if event.kind == ERROR]
+
+
+def c_options(options):
+    return COptions(options.budget, options.min_crossrefs, options.line, options.entry_max, options.global_max, options.utf8)
 
 
 # What is wrong in the entries that are executed by each style: names, numbers and fields that styles stumble on.
@@ -120,8 +155,34 @@ def seed_of_commit():
         return 1
 
 
+def noted_tokens(notes):
+    """For each event that logs errors the numbers of these in the log, and the line, the function and the number of its token, if it has one."""
+    found = []
+    for words in (line.split(b" ") for line in notes):
+        if words[0] == b"event":
+            found.append([range(int(words[3]), int(words[4])), None])
+        elif words[0] == b"at" and found:
+            found[-1][1] = tuple(int(word) for word in words[2:5])
+    return found
+
+
+def are_placed(library, files, options, notes, counts):
+    """Whether the place of each error is the token that the notes have of it."""
+    places = library.error_places(files, b"job", options) if isinstance(notes, list) else None
+    if places is None:
+        return True
+    for errors, token in noted_tokens(notes):
+        for number in errors:
+            line, *placed = places[number]
+            counts["places compared"] += 1
+            if (token is None and placed[0] != NO_FUNCTION) or (token is not None and (line, *placed) != token):
+                print("---- error %d is at %s, and in the notes at %s" % (number, (line, *placed), token), options, files)
+                return False
+    return True
+
+
 def compare(library, files, options, counts):
-    """Whether both note the same."""
+    """Whether both note the same, and the places of the errors are those of the notes."""
     there, (here, product) = library.notes(files, b"job", options), trace(files, b"job", options, MOST)
     counts["jobs with errors"] += any(line.startswith((b"event step", b"event test", b"event left")) for line in here)
     for line in here:
@@ -136,7 +197,7 @@ def compare(library, files, options, counts):
             if left != right:
                 print("line %d of the notes\n  library: %s\n  tracer:  %s" % (number, left, right))
                 break
-    return there == here
+    return are_placed(library, files, options, there, counts) and there == here
 
 
 def main():
@@ -158,6 +219,7 @@ def main():
     for files, given in made:
         results.append(compare(library, files, Options(**given), counts))
     print("%d jobs have errors of their execution" % counts.pop("jobs with errors"))
+    print("%d places of errors are those of the notes" % counts.pop("places compared"))
     print("events:", ", ".join("%d %s" % (counts[word], word) for word in sorted(counts)))
     print(f"{results.count(True)} passed, {results.count(False)} failed")
     return results.count(False)

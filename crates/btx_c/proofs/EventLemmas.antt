@@ -12,8 +12,10 @@ use Rattle.btx_run.specs.laws.Noted.{CountsOfNoted}
 use Rattle.btx_c.specs.declared.cause.Cause.{Cause}
 use Rattle.btx_c.specs.declared.event.BtxEvent.{BtxEvent}
 use Rattle.btx_c.specs.declared.noted.Events.{Events}
-use Rattle.btx_c.specs.Events.{Divided, Mark, kind_number, mark, marks, marks_from}
-use Rattle.btx_c.specs.Noted.{AreAll, AreInLog, AreOf, HasEvents, KeepsUp, PutsEvents, end_from}
+use Rattle.btx_c.specs.declared.noted.Noted.{Noted}
+use Rattle.btx_c.specs.declared.place.BtxPlace.{BtxPlace}
+use Rattle.btx_c.specs.Events.{ArePlaced, Divided, Mark, filled_places, kind_number, mark, marks, marks_from}
+use Rattle.btx_c.specs.Noted.{AreInLog, AreOf, end_from}
 
 -- the mark of a line that stands at `at`
 abbrev mark_at : ℕ → Line → Mark
@@ -119,4 +121,15 @@ divided_of log counts len events room into has len_is into_is =
       as_many = has.are_all.as_many ∙ ap (λ (n : ℕ). min n (length room)) (sym len_is);
       are_theirs = are.are_theirs;
       room_is = into_is ∙ ap (λ (front : List BtxEvent). front ++ drop (length items) room) (take_all (length room) items fits);
+    }
+
+-- places of lines, put into a room
+pub placed_of : (len count : ℕ) (places room into : List BtxPlace) → length places ≡ min count (length room) → len ≡ count → into ≡ filled_places room places
+    → ArePlaced len (room, into)
+placed_of len count places room into as_many len_is into_is =
+    let fits : length places ≤ length room = rw as_many (omega arith) in
+    record {
+      written = places;
+      as_many = as_many ∙ ap (λ (n : ℕ). min n (length room)) (sym len_is);
+      room_is = into_is ∙ ap (λ (front : List BtxPlace). front ++ drop (length places) room) (take_all (length room) places fits);
     }

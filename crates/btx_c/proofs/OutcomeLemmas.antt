@@ -14,11 +14,12 @@ use Rattle.btx_c.specs.declared.cause.Cause.{Cause}
 use Rattle.btx_c.specs.declared.cause.Cause.TheVariants as cause
 use Rattle.btx_c.specs.declared.cause.TheConstants.{LIST_FULL, LOG_FULL}
 use Rattle.btx_c.specs.declared.handed.BtxFile.{BtxFile}
-use Rattle.btx_c.specs.declared.noted.Events.{Events}
+use Rattle.btx_c.specs.declared.noted.Noted.{Noted}
+use Rattle.btx_c.specs.declared.noted.Wanted.{Wanted}
 use Rattle.btx_c.specs.declared.options.BtxOptions.{BtxOptions}
 use Rattle.btx_c.specs.declared.report.BtxReport.{BtxReport}
 use Rattle.btx_c.specs.CallerFiles.{OtherFiles}
-use Rattle.btx_c.specs.Noted.{AreAll, HasEvents}
+use Rattle.btx_c.specs.Noted.{AreAllNoted, HasNoted}
 use Rattle.btx_c.specs.Options.{asked}
 use Rattle.btx_c.specs.Outcomes.{Broke, Overflows, Wrote, all_files, filled, outcome}
 use Rattle.btx_c.proofs.FullLemmas.{list_length, log_length}
@@ -80,17 +81,20 @@ asks_of ended false true c is = cc
 asks_of ended false false true is = cc
 asks_of ended false false false is = is
 
--- events were left out of no run that ended
-pub events_of : (ended : Result Report Cause) (a b c : Bool) (events : Option Events) (log : List ℕ) (lines : List Line) (most : ℕ) → is_some events ≡ not c
-    → OnOk ended (log ≡ printed lines) → IfOk ended (λ report. log_counts report.warnings report.errors ≡ counts_of lines) → IfSome events (AreAll lines most)
-    → IfOk (outcome ended a b c) (λ report. HasEvents log (log_counts report.warnings report.errors) most events)
-events_of ended true b c events log lines most short whole counted are = tt
-events_of ended false true c events log lines most short whole counted are = tt
-events_of ended false false true events log lines most short whole counted are = tt
-events_of (Err cause) false false false events log lines most short whole counted are = tt
-events_of (Ok report) false false false None log lines most short whole counted are = cc
-events_of (Ok report) false false false (Some events) log lines most short whole counted are =
-    record { lines = lines; log_is = whole; counts_are = counted; are_all = are }
+-- events were left out of no run that ended, and no places
+pub noted_of : (ended : Result Report Cause) (a b c : Bool) (noted : Option Noted) (log : List ℕ) (lines : List Line) (wanted : Wanted) → is_some noted ≡ not c
+    → OnOk ended (log ≡ printed lines) → IfOk ended (λ report. log_counts report.warnings report.errors ≡ counts_of lines) → IfSome noted (AreAllNoted lines wanted)
+    → IfOk (outcome ended a b c) (λ report. HasNoted log (log_counts report.warnings report.errors) wanted noted)
+noted_of ended true b c noted log lines wanted short whole counted are = tt
+noted_of ended false true c noted log lines wanted short whole counted are = tt
+noted_of ended false false true noted log lines wanted short whole counted are = tt
+noted_of (Err cause) false false false noted log lines wanted short whole counted are = tt
+noted_of (Ok report) false false false None log lines wanted short whole counted are = cc
+noted_of (Ok report) false false false (Some noted) log lines wanted short whole counted are =
+    record {
+      events_are = record { lines = lines; log_is = whole; counts_are = counted; are_all = are.events_are };
+      places_are = are.places_are;
+    }
 
 -- ---- a room that is too small
 

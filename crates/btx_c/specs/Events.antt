@@ -7,6 +7,7 @@ use Rattle.btx_machine.specs.declared.report.LogCounts.{LogCounts}
 use Rattle.btx_machine.specs.laws.Noting.{printed}
 use Rattle.btx_core.specs.language.Files.Counts.{counts_of}
 use Rattle.btx_c.specs.declared.event.BtxEvent.{BtxEvent}
+use Rattle.btx_c.specs.declared.place.BtxPlace.{BtxPlace}
 
 -- what is promised of an event: where its line stands in the log, how long it is without its line feed, and the number of its kind
 pub record Mark : Type 0 where
@@ -45,4 +46,14 @@ pub record Divided (log : List ℕ) (counts : LogCounts) (len : ℕ) (room : Lis
   pub written : List BtxEvent
   pub as_many : length written ≡ min len (length room.0)
   pub are_theirs : map mark written ≡ take (length written) (marks lines)
+  pub room_is : room.1 ≡ written ++ drop (length written) room.0
+
+-- memory into which places were put, as many as there is room for; the rest stays
+abbrev pub filled_places : List BtxPlace → List BtxPlace → List BtxPlace
+filled_places room places = take (length room) places ++ drop (length places) room
+
+-- some places are written, one for each of the first of `len` lines, as many as there is room for. The rest of the room stays
+pub record ArePlaced (len : ℕ) (room : List BtxPlace × List BtxPlace) : Type 0 where
+  pub written : List BtxPlace
+  pub as_many : length written ≡ min len (length room.0)
   pub room_is : room.1 ≡ written ++ drop (length written) room.0

@@ -5,8 +5,11 @@ use Rattle.btx_machine.specs.declared.report.LogCounts.{LogCounts}
 use Rattle.btx_machine.specs.laws.Noting.{printed}
 use Rattle.btx_core.specs.language.Files.Counts.{counts_of}
 use Rattle.btx_c.specs.declared.noted.Events.{Events}
+use Rattle.btx_c.specs.declared.noted.Noted.{Noted}
+use Rattle.btx_c.specs.declared.noted.Wanted.{Wanted}
 use Rattle.btx_c.specs.declared.event.BtxEvent.{BtxEvent}
-use Rattle.btx_c.specs.Events.{Divided, mark, marks}
+use Rattle.btx_c.specs.declared.place.BtxPlace.{BtxPlace}
+use Rattle.btx_c.specs.Events.{ArePlaced, Divided, mark, marks}
 
 -- where a log ends that has these lines after its first `at` bytes
 abbrev pub end_from : ℕ → List Line → ℕ
@@ -36,11 +39,27 @@ pub record AreInLog (log : List ℕ) (counts : LogCounts) (most : ℕ) (events :
   pub counts_are : counts ≡ counts_of lines
   pub are_all : AreAll lines most events
 
--- there are events of the log's lines
-abbrev pub HasEvents : List ℕ → LogCounts → ℕ → Option Events → Type 0
-HasEvents log counts most None = ⊥
-HasEvents log counts most (Some events) = AreInLog log counts most events
+-- an event and a place are kept of each of these lines, or of as many as are wanted
+pub record AreAllNoted (lines : List Line) (wanted : Wanted) (noted : Noted) : Type 0 where
+  pub events_are : AreAll lines wanted.events noted.events
+  pub places_are : length noted.places.items ≡ min noted.events.count wanted.places
+
+-- the log is some lines, which are counted so, and these are their events; and there are as many places
+pub record AreNotedInLog (log : List ℕ) (counts : LogCounts) (wanted : Wanted) (noted : Noted) : Type 0 where
+  pub events_are : AreInLog log counts wanted.events noted.events
+  pub places_are : length noted.places.items ≡ min noted.events.count wanted.places
+
+-- there are events and places of the log's lines
+abbrev pub HasNoted : List ℕ → LogCounts → Wanted → Option Noted → Type 0
+HasNoted log counts wanted None = ⊥
+HasNoted log counts wanted (Some noted) = AreNotedInLog log counts wanted noted
 
 -- events are put into a room: where they are those of a log's lines, they divide it
-abbrev pub PutsEvents : Option Events → ℕ → List BtxEvent × List BtxEvent → Type 0
-PutsEvents events len room = (log : List ℕ) (counts : LogCounts) → HasEvents log counts (length room.0) events → Divided log counts len room
+abbrev pub PutsEvents : Events → ℕ → List BtxEvent × List BtxEvent → Type 0
+PutsEvents events len room = (log : List ℕ) (counts : LogCounts) → AreInLog log counts (length room.0) events → Divided log counts len room
+
+-- events and places are put into their rooms: where they are those of a log's lines, the events divide it, and there are as many places
+abbrev pub PutsNoted : Option Noted → ℕ → List BtxEvent × List BtxEvent → List BtxPlace × List BtxPlace → Type 0
+PutsNoted noted len events places =
+    (log : List ℕ) (counts : LogCounts) → HasNoted log counts (record { events = length events.0; places = length places.0 }) noted
+    → Divided log counts len events × ArePlaced len places

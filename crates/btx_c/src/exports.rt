@@ -4,10 +4,10 @@ ghost use Rattle.btx_machine.specs.language.Product.{log_of};
 ghost use Rattle.btx_core.specs.refinement.ComputedProduct.{product};
 ghost use Rattle.btx_c.specs.Checks.{SaidClean, SaidEnding};
 ghost use Rattle.btx_machine.specs.laws.Reports.{log_counts};
-ghost use Rattle.btx_c.specs.Events.{Divided};
+ghost use Rattle.btx_c.specs.Events.{ArePlaced, Divided, filled_places};
 ghost use Rattle.btx_c.specs.CallerFiles.{OtherFiles};
 ghost use Rattle.btx_c.specs.Needs.{EndsWithAuxFiles, NeedsAnother, NeedsNoOther, ReadsAuxFiles};
-ghost use Rattle.btx_c.specs.Noted.{PutsEvents};
+ghost use Rattle.btx_c.specs.Noted.{PutsEvents, PutsNoted};
 ghost use Rattle.btx_c.specs.Options.{IsInRange, asked};
 ghost use Rattle.btx_c.specs.Outcomes.{Broke, Overflows, Ran, Wrote, all_files, filled};
 
@@ -17,8 +17,9 @@ use crate::checked::check_style;
 use crate::event::BtxEvent;
 use crate::handed::BtxFile;
 use crate::needs::{MissingFiles, needed};
-use crate::noted::Events;
+use crate::noted::{Events, Noted, Wanted};
 use crate::options::{BtxOptions, read_options};
+use crate::place::BtxPlace;
 use crate::places::places;
 use crate::report::{BtxReport, broken_off, in_numbers};
 use crate::run::run_handed;
@@ -55,14 +56,31 @@ fn copy_out(bytes: &[u8], into: &mut [u8]) -> usize
 }
 
 // Copies `events`, as many as `into` has room for, and answers how many lines there are.
-fn put_events(events: Option<Events>, into: &mut [BtxEvent]) -> usize
-    ensures { PutsEvents events result (into.old, into.new) }
+fn put_events(events: &Events, into: &mut [BtxEvent]) -> usize
+    ensures count { result ≡ events.now.count }
+    ensures events { PutsEvents events.now result (into.old, into.new) }
 {
-    match events {
-        Some(events) => {
-            let fits = events.first.len().min(into.len());
-            into[..fits].copy_from_slice(&events.first.as_slice()[..fits]);
-            events.count
+    let fits = events.first.len().min(into.len());
+    into[..fits].copy_from_slice(&events.first.as_slice()[..fits]);
+    events.count
+}
+
+// Copies `places`, as many as `into` has room for.
+fn put_places(places: &[BtxPlace], into: &mut [BtxPlace])
+    ensures { into.new ≡ filled_places into.old places.now }
+{
+    let fits = places.len().min(into.len());
+    into[..fits].copy_from_slice(&places[..fits]);
+}
+
+// Copies the events and the places of lines, as many as there is room for, and answers how many lines there are.
+fn put_noted(noted: Option<Noted>, events: &mut [BtxEvent], places: &mut [BtxPlace]) -> usize
+    ensures { PutsNoted noted result (events.old, events.new) (places.old, places.new) }
+{
+    match noted {
+        Some(noted) => {
+            put_places(noted.places.as_slice(), places);
+            put_events(&noted.events, events)
         }
         None => 0,
     }
@@ -183,26 +201,79 @@ pub extern "C" fn btx_run_events(
         (log_counts report.new.warnings report.new.errors) events_len.new (events.old, events.new) }
     ensures no_events { REFUSED < result → (events.new ≡ events.old) × (events_len.new ≡ 0) }
 {
+    btx_run_places(
+        alloc,
+        job,
+        files,
+        options,
+        list,
+        log,
+        report,
+        events,
+        &mut [],
+        events_len,
+    )
+}
+
+/// Runs a job as `btx_run_events` does, and writes for each line of its log also the place that it is about.
+#[unsafe(no_mangle)]
+pub extern "C" fn btx_run_places(
+    alloc: Global,
+    job: &[u8],
+    files: &[BtxFile<'_>],
+    options: &BtxOptions,
+    list: &mut [u8],
+    log: &mut [u8],
+    report: &mut BtxReport,
+    events: &mut [BtxEvent],
+    places: &mut [BtxPlace],
+    events_len: &mut usize,
+) -> u32
+    ghost others: { OtherFiles }
+    ensures answers { result ≤ FULL }
+    ensures refused { result ≡ REFUSED → (¬ IsInRange options.now) × (report.new ≡ report.old) × (list.new ≡ list.old) × (log.new ≡ log.old)
+        × (events.new ≡ events.old) × (places.new ≡ places.old) × (events_len.new ≡ events_len.old) }
+
+    // Whatever other files there are: the report, the list and the log are those of the product.
+    ensures done { result ≡ DONE → Ran files.now others job.now options.now report.new (list.old, list.new) (log.old, log.new) }
+    ensures bound { result ≡ DONE → report.new.steps ≤ options.now.budget }
+    ensures fits { result ≡ DONE → (report.new.list_len ≤ length list.old) × (report.new.log_len ≤ length log.old) }
+    ensures deep { result ≡ DONE → report.new.deepest ≤ 4096 }
+
+    // A file is asked for only if the job needs one of which nothing was said, and a room is too small only for what the product has.
+    ensures asks { result ≡ ASKS → NeedsAnother files.now job.now }
+    ensures full { result ≡ FULL → Overflows files.now others job.now options.now report.new list.old log.old }
+
+    // If memory was refused, a file was asked for of which nothing was said, or the room was too small, list and log are prefixes of the product's
+    // and keep step.
+    ensures broke { REFUSED < result → Broke files.now others job.now options.now report.new (list.old, list.new) (log.old, log.new) }
+
+    // At `DONE` the log is the lines that the events divide it into, as many of them are warnings and errors as the report counts, and the first events are
+    // written, as many as there is room for. After a greater answer there is none.
+    ensures events { result ≡ DONE → Divided (log_of (product (all_files files.now others) job.now (asked options.now)))
+        (log_counts report.new.warnings report.new.errors) events_len.new (events.old, events.new) }
+    ensures no_events { REFUSED < result → (events.new ≡ events.old) × (events_len.new ≡ 0) }
+
+    // At `DONE` the first places are written, one for each line, as many as there is room for. After a greater answer there is none.
+    ensures places { result ≡ DONE → ArePlaced events_len.new (places.old, places.new) }
+    ensures no_places { REFUSED < result → places.new ≡ places.old }
+{
     let Some(options) = read_options(options) else {
         return REFUSED;
     };
     let list_room = list.len();
     let log_room = log.len();
-    let ran = run_handed(
-        alloc,
-        job,
-        files,
-        &options,
-        list_room,
-        log_room,
-        events.len(),
-    );
+    let wanted = Wanted {
+        events: events.len(),
+        places: places.len(),
+    };
+    let ran = run_handed(alloc, job, files, &options, list_room, log_room, wanted);
     let list_len = copy_out(ran.list.as_slice(), list);
     let log_len = copy_out(ran.log.as_slice(), log);
     match ran.outcome {
         Ok(answer) => {
             *report = in_numbers(answer, list_len, log_len);
-            *events_len = put_events(ran.events, events);
+            *events_len = put_noted(ran.noted, events, places);
             DONE
         }
         Err(cause) => {

@@ -7,14 +7,14 @@ ghost use Rattle.btx_run.specs.laws.Noted.{CountsOfNoted};
 ghost use Rattle.btx_core.specs.refinement.ComputedProduct.{product, product_with};
 ghost use Rattle.btx_c.specs.CallerFiles.{OtherFiles};
 ghost use Rattle.btx_c.specs.Needs.{NeedsAnother};
-ghost use Rattle.btx_c.specs.Noted.{HasEvents};
+ghost use Rattle.btx_c.specs.Noted.{HasNoted};
 ghost use Rattle.btx_c.specs.Outcomes.{all_files, outcome};
 
 use crate::cause::Cause;
 use crate::handed::{BtxFile, CallerFiles};
 use crate::index::Index;
 use crate::kept::Kept;
-use crate::noted::{Events, Notes};
+use crate::noted::{Noted, Notes, Wanted};
 use crate::supposed::needs_another;
 use btx_run::{Options, Report, RunFault, run_noted};
 use std::alloc::Global;
@@ -24,8 +24,8 @@ use std::alloc::Global;
 pub struct Ran {
     pub list: Vec<u8>,
     pub log: Vec<u8>,
-    /// The events of the log's lines, as many as were asked for, unless something was left out.
-    pub events: Option<Events>,
+    /// The events and the places of the log's lines, as many as were wanted, unless something was left out.
+    pub noted: Option<Noted>,
     pub outcome: Result<Report, Cause>,
 }
 
@@ -56,7 +56,7 @@ fn run_into(
     options: &Options,
     list: &mut Kept,
     log: &mut Kept,
-    notes: &mut Notes,
+    notes: &mut Notes<'_>,
 ) -> Result<Report, Cause>
     ghost others: { OtherFiles }
     ensures ok { IfOk result (λ report. Completes report (Some list.old.bytes.items, Some log.old.bytes.items)
@@ -103,7 +103,7 @@ fn outcome_of(
 }
 
 /// Runs the job `name` over `files`, whatever others there are, and keeps at most `most_list` bytes of the list and `most_log` of the log, and
-/// one more where there are more; and the events of the first `most_events` lines of the log.
+/// one more where there are more; and the events and the places of the first lines of the log, as many as are wanted.
 pub fn run_handed(
     alloc: Global,
     name: &[u8],
@@ -111,7 +111,7 @@ pub fn run_handed(
     options: &Options,
     most_list: usize,
     most_log: usize,
-    most_events: usize,
+    wanted: Wanted,
 ) -> Ran
     ghost others: { OtherFiles }
     ensures ok { IfOk result.outcome (λ report. Completes report (Some [], Some []) (Some result.list.items, Some result.log.items)
@@ -121,28 +121,28 @@ pub fn run_handed(
     ensures fits { OnOk result.outcome ((length result.list.items ≤ most_list) × (length result.log.items ≤ most_log)) }
     ensures list_full { result.outcome ≡ Err Cause.ListFull → most_list < length result.list.items }
     ensures log_full { result.outcome ≡ Err Cause.LogFull → most_log < length result.log.items }
-    ensures events { IfOk result.outcome (λ report. HasEvents result.log.items (log_counts report.warnings report.errors) most_events result.events) }
+    ensures events { IfOk result.outcome (λ report. HasNoted result.log.items (log_counts report.warnings report.errors) wanted result.noted) }
     ensures asks { result.outcome ≡ Err Cause.UnknownFile → NeedsAnother files.now name.now }
     ensures bound { IfOk result.outcome (λ report. report.steps ≤ options.now.budget) }
     ensures deep { IfOk result.outcome (λ report. report.deepest ≤ 4096) }
 {
     let mut list = Kept::new(alloc, most_list);
     let mut log = Kept::new(alloc, most_log);
-    let mut notes = Notes::new(alloc, most_events);
+    let mut notes = Notes::new(alloc, &*files, wanted);
     // The proof reads that the length of a line is in its range.
     let _line = options.line.get();
     let ended = run_into(alloc, name, files, options, &mut list, &mut log, &mut notes);
-    let events = notes.into_events(most_events);
+    let noted = notes.into_noted(wanted);
     let outcome = outcome_of(
         ended,
         list.bytes.len() > most_list,
         log.bytes.len() > most_log,
-        events.is_none(),
+        noted.is_none(),
     );
     Ran {
         list: list.bytes,
         log: log.bytes,
-        events,
+        noted,
         outcome,
     }
 }

@@ -1,4 +1,4 @@
 use Rattle.btx_c.proofs.exports.btx_run_events.Given as goal
 
-abbrev pub ghost-run_handed : goal.ghost-run_handed
-ghost-run_handed g a = g.others
+abbrev pub ghost-btx_run_places : goal.ghost-btx_run_places
+ghost-btx_run_places g a = g.others

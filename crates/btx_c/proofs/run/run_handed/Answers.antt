@@ -5,11 +5,11 @@ use Rattle.btx_machine.specs.language.KeepingStep.{AtFault, Completes, Received}
 use Rattle.btx_machine.specs.laws.Reports.{log_counts}
 use Rattle.btx_core.specs.refinement.ComputedProduct.{product, product_with}
 use Rattle.btx_c.specs.declared.cause.Cause.{Cause}
-use Rattle.btx_c.specs.Noted.{HasEvents}
+use Rattle.btx_c.specs.Noted.{HasNoted}
 use Rattle.btx_c.specs.Outcomes.{all_files}
 use Rattle.btx_c.proofs.FullLemmas.{whole_at_fault}
 use Rattle.btx_c.proofs.EventLemmas.{counted_of, logged_of}
-use Rattle.btx_c.proofs.OutcomeLemmas.{err_of, events_of, ok_of}
+use Rattle.btx_c.proofs.OutcomeLemmas.{err_of, noted_of, ok_of}
 use Rattle.btx_c.proofs.run.run_handed.Goals as goal
 
 pub returns-clause-ok : goal.returns-clause-ok
@@ -39,9 +39,9 @@ pub returns-clause-events : goal.returns-clause-events
 returns-clause-events g c =
     let log = c.run_into-ended.new.log.bytes.items in
     subst (λ (outcome : Result Report Cause).
-    IfOk outcome (λ report. HasEvents log (log_counts report.warnings report.errors) c.args.most_events c.into_events-events.result))
+    IfOk outcome (λ report. HasNoted log (log_counts report.warnings report.errors) c.args.wanted c.into_noted-noted.result))
     (sym c.outcome_of-outcome.ensures)
-    (events_of c.run_into-ended.result _ _ _ c.into_events-events.result log c.run_into-ended.new.notes c.args.most_events c.is_none.ensures
+    (noted_of c.run_into-ended.result _ _ _ c.into_noted-noted.result log c.run_into-ended.new.notes c.args.wanted c.is_none.ensures
     (logged_of c.run_into-ended.result _ c.run_into-ended.new.notes _ log c.run_into-ended.ensures.noted c.new-notes.ensures c.new-log.ensures)
     (counted_of c.run_into-ended.result _ c.run_into-ended.new.notes c.run_into-ended.ensures.counted c.new-notes.ensures)
-    c.into_events-events.ensures)
+    c.into_noted-noted.ensures)
