@@ -1,11 +1,13 @@
 //! The calls of the proved library, made safe. `library/btx.h` says what each call does; `crates/btx_c` has their contracts.
 
+use crate::event_places::{EventPlace, LogPlaces, Placed};
 use crate::job::File;
 use crate::letter_run::Letters;
 use crate::letters::line_of_half_letter;
 use crate::log::{Log, looks_like_message};
 use crate::system::trying;
 use crate::text::find_last;
+use memchr::memchr;
 use std::ffi::c_uchar;
 use std::ops::Range;
 
@@ -80,28 +82,64 @@ struct Event {
 /// The kind of a line that is neither a warning nor an error.
 const PLAIN: u32 = 0;
 
-/// Where the lines were met that READ logs.
+/// The kind of a line that is an error.
+const ERROR: u32 = 2;
+
+/// Where the lines were met that READ logs, and those of an execution.
 const DATABASES: u32 = 2;
+const EXECUTION: u32 = 3;
 
 /// Of how many lines of a log it is asked what they are: of the first ones. A style may print lines without end.
 const MOST_EVENTS: usize = 1 << 16;
 
 impl Event {
-    /// Those bytes of the log in this event's text that no message begins in: all that a style prints, and the further lines of a message's text.
-    fn printed(&self, log: &[u8]) -> Option<Range<usize>> {
-        let start = usize::try_from(self.at).ok()?;
-        let end = start.checked_add(usize::try_from(self.len).ok()?)?;
-        let text = log.get(start..end)?;
-        let first = if self.kind == PLAIN { 0 } else { text.iter().position(|byte| *byte == b'\n')? + 1 };
-        text[first..].split(|byte| *byte == b'\n').any(looks_like_message).then_some(start + first..end)
+    /// Whether it is an error that was met while the style was executed.
+    fn is_error_of_execution(&self) -> bool {
+        (self.kind, self.met) == (ERROR, EXECUTION)
     }
 
-    /// The bytes of the log that are this message, where it has more lines than one.
-    fn long_message(&self, log: &[u8]) -> Option<Range<usize>> {
+    /// The bytes of the log that are its line.
+    fn span(&self, log: &[u8]) -> Option<Range<usize>> {
         let start = usize::try_from(self.at).ok()?;
         let end = start.checked_add(usize::try_from(self.len).ok()?)?;
-        let is_long = self.kind != PLAIN && log.get(start..end)?.contains(&b'\n');
-        is_long.then_some(start..end)
+        (end <= log.len()).then_some(start..end)
+    }
+
+    /// Where the part of its line begins in which no message does: all that a style prints, and the further lines of a message's text.
+    fn text_of_style(&self, log: &[u8], span: &Range<usize>) -> Option<usize> {
+        if self.kind == PLAIN {
+            Some(span.start)
+        } else {
+            memchr(b'\n', &log[span.clone()]).map(|end| span.start + end + 1)
+        }
+    }
+}
+
+/// Where a line of the log was met, as C has it.
+#[repr(C)]
+#[derive(Debug, Clone, Copy)]
+struct CPlace {
+    /// The number of the file.
+    file: u64,
+    start: u64,
+    end: u64,
+    /// 0 where no place is known.
+    line: u64,
+    /// The numbers of the function and of its token; the first is `NO_FUNCTION` where no token was executed.
+    function: u32,
+    token: u32,
+}
+
+/// No function of a style was executed.
+const NO_FUNCTION: u32 = u32::MAX;
+
+impl CPlace {
+    /// The place, where one is known.
+    fn known(&self) -> Option<EventPlace> {
+        let [file, start, end, line] =
+            [self.file, self.start, self.end, self.line].map(|number| usize::try_from(number).ok());
+        let token = (self.function != NO_FUNCTION).then_some((self.function as usize, self.token as usize));
+        Some(EventPlace { file: file?, start: start?, end: end?, line: line.filter(|line| *line > 0)?, token })
     }
 }
 
@@ -115,7 +153,7 @@ unsafe extern "C" {
         names_room: usize,
         names_len: *mut usize,
     ) -> u32;
-    fn btx_run_events(
+    fn btx_run_places(
         job: *const u8,
         job_len: usize,
         files: *const CFile,
@@ -128,6 +166,8 @@ unsafe extern "C" {
         report: *mut Report,
         events: *mut Event,
         events_room: usize,
+        places: *mut CPlace,
+        places_room: usize,
         events_len: *mut usize,
     ) -> u32;
     fn btx_where(
@@ -293,6 +333,8 @@ pub struct Ran {
     pub printed: Vec<Range<usize>>,
     /// The messages of the log that have more lines than one.
     pub long: Vec<Range<usize>>,
+    /// Where the messages were met.
+    pub places: LogPlaces,
     /// The part of the log that READ wrote, as far as that is known: no warning outside of it is one of the databases.
     pub of_read: Range<usize>,
     pub answer: Answer,
@@ -307,7 +349,7 @@ pub struct Ran {
 impl Ran {
     /// The log, in which no line that the style printed is taken for a message.
     pub fn lines_of_log(&self) -> Log<'_> {
-        Log::new(&self.log).with_printed(&self.printed)
+        Log::new(&self.log).with_printed(&self.printed).with_places(&self.places)
     }
 
     /// The first line of the list that has half a letter of UTF-8; None where the run broke off.
@@ -396,9 +438,33 @@ fn room(len: usize) -> Result<Vec<u8>, MemoryRefused> {
     Ok(bytes)
 }
 
-/// The parts of a log that look like messages and are none, by these events of it.
-fn printed_parts(log: &[u8], events: &[Event]) -> Vec<Range<usize>> {
-    events.iter().filter_map(|event| event.printed(log)).collect()
+/// The parts of a log that look like messages and are none, and the messages that have more lines than one, by these events of it.
+fn printed_and_long(log: &[u8], events: &[Event]) -> (Vec<Range<usize>>, Vec<Range<usize>>) {
+    let (mut printed, mut long) = (Vec::new(), Vec::new());
+    for event in events {
+        let Some(span) = event.span(log) else { continue };
+        let Some(first) = event.text_of_style(log, &span) else { continue };
+        if log[first..span.end].split(|byte| *byte == b'\n').any(looks_like_message) {
+            printed.push(first..span.end);
+        }
+        if event.kind != PLAIN {
+            long.push(span);
+        }
+    }
+    (printed, long)
+}
+
+/// Where the messages of a log were met, by these events of it and the place of each.
+fn places_of(events: &[Event], places: &[CPlace]) -> LogPlaces {
+    let placed =
+        |event: &Event, place: &CPlace| Some(Placed { at: usize::try_from(event.at).ok()?, place: place.known()? });
+    let mut of_log = LogPlaces::default();
+    for (event, place) in events.iter().zip(places).filter(|(event, _)| event.kind != PLAIN) {
+        let known = placed(event, place);
+        of_log.has_unplaced |= known.is_none() && event.is_error_of_execution();
+        of_log.known.extend(known);
+    }
+    of_log
 }
 
 /// The part of a log that READ wrote, by the events of it. Where they end before the log does, what comes after them may be that part's.
@@ -420,6 +486,7 @@ pub fn run(job: &[u8], files: &[File], options: &Options, rooms: &Rooms) -> Ran 
             log: Vec::new(),
             printed: Vec::new(),
             long: Vec::new(),
+            places: LogPlaces::default(),
             of_read: 0..0,
             answer: Answer::Memory,
             utf8: options.utf8,
@@ -430,14 +497,18 @@ pub fn run(job: &[u8], files: &[File], options: &Options, rooms: &Rooms) -> Ran 
     let given = for_c(files);
     let (wanted, rooms) = (*rooms, Rooms { list: list.capacity().min(rooms.list), log: log.capacity().min(rooms.log) });
     let mut report = Report::default();
-    let mut events: Vec<Event> = Vec::new();
+    let (mut events, mut places): (Vec<Event>, Vec<CPlace>) = (Vec::new(), Vec::new());
     let wanted_events = MOST_EVENTS.min(rooms.log);
-    let events_room = trying(|| events.try_reserve_exact(wanted_events)).map_or(0, |()| wanted_events);
+    let reserved = trying(|| {
+        events.try_reserve_exact(wanted_events)?;
+        places.try_reserve_exact(wanted_events)
+    });
+    let events_room = reserved.map_or(0, |()| wanted_events);
     let mut events_len = 0;
-    // SAFETY: each pointer is that of a slice or a reference that outlives the call, with its length; list, log and events have that much room
-    // of their own, which is only written to; and as many of their bytes as the report says have been written, and as many events as the call says.
+    // SAFETY: each pointer is that of a slice or a reference that outlives the call, with its length; list, log, events and places have that much room
+    // of their own, which is only written to; and as many of their bytes as the report says have been written, and as many events and places as the call says.
     let code = unsafe {
-        let code = btx_run_events(
+        let code = btx_run_places(
             job.as_ptr(),
             job.len(),
             given.as_ptr(),
@@ -450,11 +521,14 @@ pub fn run(job: &[u8], files: &[File], options: &Options, rooms: &Rooms) -> Ran 
             &mut report,
             events.as_mut_ptr(),
             events_room,
+            places.as_mut_ptr(),
+            events_room,
             &mut events_len,
         );
         list.set_len(report.list_len.min(rooms.list));
         log.set_len(report.log_len.min(rooms.log));
         events.set_len(events_len.min(events_room));
+        places.set_len(events_len.min(events_room));
         code
     };
     debug_assert!(code != ASKS, "btx_needs names all files that a run asks for");
@@ -465,11 +539,12 @@ pub fn run(job: &[u8], files: &[File], options: &Options, rooms: &Rooms) -> Ran 
         FULL => Answer::LogFull,
         _ => Answer::Memory,
     };
-    let printed = printed_parts(&log, &events);
-    let long = events.iter().filter_map(|event| event.long_message(&log)).collect();
+    let (printed, long) = printed_and_long(&log, &events);
     let of_read = part_of_read(&log, &events);
+    let are_first = code != DONE || events_len > events.len();
+    let places = LogPlaces { are_first, ..places_of(&events, &places) };
     let (utf8, letters) = (options.utf8, Letters::AsTheyAre);
-    Ran { list, log, printed, long, of_read, answer, utf8, is_utf8: false, letters }
+    Ran { list, log, printed, long, places, of_read, answer, utf8, is_utf8: false, letters }
 }
 
 /// The room for notes that is tried first.
@@ -713,6 +788,23 @@ mod tests {
         let long: Vec<&[u8]> = ran.long.iter().map(|part| &ran.log[part.clone()]).collect();
         assert_eq!(long, [b"Error--\"a\n\" is not an integer while executing + for entry k"]);
         assert!(run(b"a.aux", &small_job(STYLE), &OPTIONS, &ROOMS).of_read.is_empty());
+    }
+
+    #[test]
+    fn messages_have_their_places() {
+        let mut files = small_job(&STYLE.replace("title write$", "#1 write$ title"));
+        files[2].bytes = Some(b"@misc{k, title = zz}\n@misc{j x}\n".to_vec());
+        let ran = run(b"a.aux", &files, &OPTIONS, &ROOMS);
+        let shown = |placed: &Placed| {
+            let place = placed.place;
+            let text = &files[place.file].bytes.as_deref().unwrap()[place.start..place.end];
+            (place.file, place.line, String::from_utf8_lossy(text).into_owned(), place.token.is_some())
+        };
+        let wanted = [(2, 1, String::new(), false), (2, 2, String::new(), false), (1, 2, "write$".into(), true)];
+        assert_eq!(ran.places.known.iter().map(shown).collect::<Vec<_>>(), wanted);
+        assert_eq!(ran.places.known[1].place.start, b"@misc{k, title = zz}\n@misc{j ".len());
+        // (the literal that is left was met where the command ends)
+        assert!(ran.places.has_unplaced && !ran.places.are_first);
     }
 
     #[test]

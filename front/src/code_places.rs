@@ -216,6 +216,49 @@ impl<'a> Code<'a> {
         of_number.next().filter(|_| all.len() <= MOST_OF_LINE && of_number.next().is_none()).copied()
     }
 
+    /// The token that begins at this place.
+    pub(crate) fn token_at(&self, place: usize) -> Option<usize> {
+        let index = self.tokens.partition_point(|token| token.start < place);
+        self.tokens.get(index).filter(|token| token.start == place).map(|_| index)
+    }
+
+    /// The brace that is open around a token.
+    fn brace_around(&self, index: usize) -> Option<usize> {
+        let mut depth = 0_usize;
+        for before in (0..index).rev() {
+            match self.tokens[before].kind {
+                Kind::Close => depth += 1,
+                Kind::Open if depth == 0 => return Some(before),
+                Kind::Open => depth -= 1,
+                _ => {}
+            }
+        }
+        None
+    }
+
+    /// The token that calls the function in whose outermost braces this token stands, if no other one may. A command does, too, but leaves it no operand.
+    pub(crate) fn only_call_of(&self, index: usize) -> Option<usize> {
+        let body = self.brace_around(index)?;
+        // (before the body stands the brace after the function's name)
+        let declared = body.checked_sub(2)?;
+        let name = Folded(self.of(declared));
+        self.function(name.0).filter(|(_, tokens)| tokens.start == body)?;
+        let may_call = |at: &usize| {
+            let text = Folded(self.of(*at).strip_prefix(b"'").unwrap_or(self.of(*at)));
+            *at != declared && (text == name || text == Folded(CALLS_TYPE)) && !self.is_argument(*at)
+        };
+        let mut calls = (0..self.tokens.len()).filter(may_call);
+        let call = calls.next().filter(|call| Folded(self.of(*call)) == name)?;
+        calls.next().is_none().then_some(call)
+    }
+
+    /// Whether a token is the argument of a command that executes it.
+    fn is_argument(&self, index: usize) -> bool {
+        const EXECUTING: [&[u8]; 3] = [b"execute", b"iterate", b"reverse"];
+        let before = self.brace_around(index).and_then(|brace| brace.checked_sub(1));
+        before.is_some_and(|word| EXECUTING.iter().any(|executing| Folded(self.of(word)) == Folded(executing)))
+    }
+
     /// The function in braces, or the one token, that ends directly before this token: its first token and its last one.
     pub(crate) fn operand_before(&self, index: usize) -> Option<(usize, usize)> {
         let last = index.checked_sub(1)?;

@@ -4,7 +4,6 @@
 use crate::letter_places::{pass_ascii_letters, with_small_letters};
 use crate::text::{Text, find_byte};
 use memchr::{memchr2, memchr3};
-use std::collections::HashSet;
 use std::hash::{Hash, Hasher};
 use std::ops::Range;
 
@@ -103,9 +102,20 @@ impl<'a> Items<'a> {
         items
     }
 
-    /// Where the next item begins.
-    pub fn next_start(&self) -> Option<usize> {
-        self.next
+    /// The next item that can't go on at this place, or whose key ends there and is repeated: what follows such a key isn't read. Those before it are passed over.
+    pub fn up_to(&mut self, place: usize) -> Option<Item<'a>> {
+        while self.next.is_some_and(|start| start < place) {
+            let mut item = self.next()?;
+            if item.fault.is_some() && item.end == place {
+                return Some(item);
+            }
+            if item.entry_key().is_some_and(|key| key.end == place) {
+                self.go_on_at(place);
+                (item.end, item.fault) = (place, None);
+                return Some(item);
+            }
+        }
+        None
     }
 
     /// Goes on with the first item that begins at this place or after it.
@@ -490,86 +500,6 @@ pub fn bare(value: &[u8]) -> &[u8] {
     &value[start..end]
 }
 
-/// Where an error of a database stands.
-#[derive(Debug, Clone, PartialEq, Eq)]
-pub struct Fault<'a> {
-    /// The first byte with which the item can't go on; of a repeated entry, the end of its key.
-    pub place: usize,
-    /// The item, as far as it was read.
-    pub item: Item<'a>,
-}
-
-/// How many items of the line of a repeated entry are looked at.
-const MOST_IN_A_LINE: usize = 100;
-
-/// Finds the errors of a database, in the order in which they were logged.
-#[derive(Debug, Clone)]
-pub struct Faults<'a> {
-    items: Items<'a>,
-    seen: HashSet<Folded<'a>>,
-}
-
-impl<'a> Faults<'a> {
-    /// The errors of this text.
-    pub fn new(text: &'a [u8]) -> Faults<'a> {
-        Faults { items: Items::new(text), seen: HashSet::new() }
-    }
-
-    /// Where the next error of this text in this line stands; not for repeated entries. Those before it are passed over: each item is read
-    /// once, so all errors of a log take a time that is linear in the database.
-    pub fn next(&mut self, text: &Text<'a>, error: &[u8], number: usize) -> Option<Fault<'a>> {
-        while self.begins_up_to(text, number) {
-            let item = self.items.next()?;
-            self.seen.extend(item.entry_key().map(|key| Folded(key.name)));
-            let is_it = item.fault.is_some_and(|fault| fault.as_bytes() == error);
-            if is_it && line_of_fault(text, item.end) == number {
-                return Some(Fault { place: item.end, item });
-            }
-        }
-        None
-    }
-
-    /// The next repeated entry whose key ends in this line: the first one that `is_known` to stand in an earlier database, or stood before
-    /// in this one; else the first one of that line. What follows its key isn't read.
-    pub fn next_repeated(
-        &mut self,
-        text: &Text<'a>,
-        number: usize,
-        mut is_known: impl FnMut(&[u8]) -> bool,
-    ) -> Option<Fault<'a>> {
-        let mut entries = Vec::new();
-        let mut stood_before = None;
-        while stood_before.is_none() && entries.len() < MOST_IN_A_LINE && self.begins_up_to(text, number) {
-            let item = self.items.next()?;
-            let Some(key) = item.entry_key() else { continue };
-            let (is_new, ends_here) = (self.seen.insert(Folded(key.name)), text.line_of(key.end) == number);
-            stood_before = (ends_here && !is_new).then_some(entries.len());
-            if ends_here || !entries.is_empty() {
-                entries.push((key, item, is_new, ends_here));
-            }
-        }
-        let known = entries.iter().position(|(key, _, is_new, ends_here)| *ends_here && *is_new && is_known(key.name));
-        let first = || entries.iter().position(|(.., ends_here)| *ends_here);
-        let chosen = known.or(stood_before).or_else(first)?;
-        for (key, ..) in entries.drain(chosen + 1..).filter(|(_, _, is_new, _)| *is_new) {
-            self.seen.remove(&Folded(key.name));
-        }
-        entries.pop().map(|(key, item, ..)| self.without_body(key, item))
-    }
-
-    /// Whether an item begins in this line or above it.
-    fn begins_up_to(&self, text: &Text<'a>, number: usize) -> bool {
-        self.items.next_start().is_some_and(|start| text.line_of(start) <= number)
-    }
-
-    /// A repeated entry, after whose key the reading goes on.
-    fn without_body(&mut self, key: Key<'a>, mut item: Item<'a>) -> Fault<'a> {
-        self.items.go_on_at(key.end);
-        (item.end, item.fault) = (key.end, None);
-        Fault { place: key.end, item }
-    }
-}
-
 /// The line of a fault: the end of the file has the number of its last line.
 pub fn line_of_fault(text: &Text<'_>, place: usize) -> usize {
     text.line_of(place.min(text.bytes.len().saturating_sub(1)))
@@ -578,6 +508,7 @@ pub fn line_of_fault(text: &Text<'_>, place: usize) -> usize {
 #[cfg(test)]
 mod tests {
     use super::*;
+    use std::collections::HashSet;
 
     fn faults(text: &[u8]) -> Vec<(&'static str, usize)> {
         Items::new(text).filter_map(|item| Some((item.fault?, item.end))).collect()
@@ -633,34 +564,14 @@ mod tests {
     }
 
     #[test]
-    fn errors_are_found_in_their_order() {
+    fn the_item_of_a_place_is_found() {
         let bytes = b"@misc{a, x 1} @misc{b, y 2}\n@misc{A, note = {@misc{c 1}}, z 3}\n@misc{d, z = {";
-        let text = Text::new(bytes);
-        let mut faults = Faults::new(bytes);
-        let mut places = |error: &[u8], number| faults.next(&text, error, number).map(|fault| fault.place);
-        assert_eq!(places(NO_EQUALS.as_bytes(), 1), Some(11));
-        assert_eq!(places(NO_EQUALS.as_bytes(), 1), Some(25));
-        assert_eq!(faults.next_repeated(&text, 2, |_| false).map(|fault| fault.place), Some(35));
-        let mut places = |error: &[u8], number| faults.next(&text, error, number).map(|fault| fault.place);
-        assert_eq!(places(b"I was expecting a , or a }", 2), Some(53));
-        assert_eq!(places(END_OF_FILE.as_bytes(), 3), Some(bytes.len()));
-        assert_eq!(places(END_OF_FILE.as_bytes(), 3), None);
-    }
-
-    #[test]
-    fn a_repeated_entry_is_the_one_that_stood_before() {
-        let bytes = b"@misc{a}\n@misc{b} @misc{A, x 1} @misc{c}";
-        let (text, mut faults) = (Text::new(bytes), Faults::new(bytes));
-        let found = faults.next_repeated(&text, 2, |_| false).unwrap();
-        assert_eq!((found.place, found.item.key.unwrap().name), (25, &b"A"[..]));
-    }
-
-    #[test]
-    fn a_repeated_entry_may_stand_in_an_earlier_database() {
-        let bytes = b"@misc{a} @misc{b} @misc{c} @misc{d, x 1}";
-        let (text, mut faults) = (Text::new(bytes), Faults::new(bytes));
-        let mut place = |known: &[u8]| faults.next_repeated(&text, 1, |key| known == key).map(|fault| fault.place);
-        assert_eq!([place(b"b"), place(b"d"), place(b"e")], [Some(16), Some(34), None]);
+        let mut items = Items::new(bytes);
+        let mut item = |place| items.up_to(place).map(|item| (item.start, item.end));
+        assert_eq!([item(11), item(25), item(35)], [Some((0, 11)), Some((14, 25)), Some((28, 35))]);
+        assert_eq!([item(53), item(bytes.len()), item(bytes.len())], [Some((45, 53)), Some((63, bytes.len())), None]);
+        let repeated = Items::new(b"@misc{a, x 1}").up_to(7).unwrap();
+        assert_eq!((repeated.end, repeated.fault), (7, None));
     }
 
     #[test]

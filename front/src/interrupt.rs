@@ -141,6 +141,7 @@ fn try_all(whole: u64, run: impl Fn(u64) -> Ran, done: &Sender<Try>) {
 mod tests {
     use super::*;
     use crate::btx::Report;
+    use crate::event_places::LogPlaces;
     use crate::letter_run::Letters;
 
     /// A run of this budget, which is stopped there.
@@ -152,6 +153,7 @@ mod tests {
             log: Vec::new(),
             printed: Vec::new(),
             long: Vec::new(),
+            places: LogPlaces::default(),
             of_read: 0..0,
             answer: Answer::Done(report),
             utf8: false,

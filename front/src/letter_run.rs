@@ -1,6 +1,7 @@
 //! The run of a job with the letters of a language: over databases whose letters are coded, and what it writes turned back.
 
 use crate::btx::{Answer, Ran};
+use crate::event_places::{EventPlace, LogPlaces, Placed};
 use crate::job::{File, Files};
 use crate::languages::{AFTER, Language};
 use crate::letter_codes::{AT_ONCE, Codes, InBraces, MARK, SHORT, Turned, write_part};
@@ -150,9 +151,27 @@ impl Job<'_> {
         };
         let (printed, long) = (moved(&ran.printed), moved(&ran.long));
         let of_read = moved(std::slice::from_ref(&ran.of_read)).into_iter().next().unwrap_or_default();
+        let begins: Vec<Range<usize>> = ran.places.known.iter().map(|placed| placed.at..placed.at).collect();
+        let begins = moved(&begins).into_iter().map(|begin| begin.start);
+        let known = begins.zip(self.places_in_files(&coded, &ran.places.known));
+        let places = LogPlaces { known: known.map(|(at, place)| Placed { at, place }).collect(), ..ran.places };
         let (is_utf8, letters) = (list.is_utf8, Letters::Coded(Arc::new(coded)));
         let (list, log) = (list.text_or(ran.list), log.text_or(ran.log));
-        Ok(Ran { list, log, printed, long, of_read, is_utf8, letters, ..ran })
+        Ok(Ran { list, log, printed, long, places, of_read, is_utf8, letters, ..ran })
+    }
+
+    /// Where these places of coded files are in the files as they are.
+    fn places_in_files(&self, coded: &Coded, places: &[Placed]) -> Vec<EventPlace> {
+        let mut turned: Vec<EventPlace> = places.iter().map(|placed| placed.place).collect();
+        for (number, file) in coded.files.all.iter().enumerate().filter(|(number, _)| !self.values[*number].is_empty())
+        {
+            let mut own: Vec<&mut EventPlace> = turned.iter_mut().filter(|place| place.file == number).collect();
+            own.sort_by_key(|place| place.start);
+            let parts: Vec<Range<usize>> = own.iter().map(|place| place.start..place.end).collect();
+            let moved = moved(&coded.codes, bytes_of(file), &parts);
+            own.iter_mut().zip(moved).for_each(|(place, part)| (place.start, place.end) = (part.start, part.end));
+        }
+        turned
     }
 
     /// Whether no brace of a list is left over from a code that was cut. A style may leave out braces of its own.
@@ -264,6 +283,17 @@ mod tests {
         let ran = run(&files, &language, |files| btx::run(&files.top, &files.all, &options, &rooms)).unwrap().unwrap();
         let plain = btx::run(&files.top, &files.all, &options, &rooms);
         assert_eq!(ran.list, plain.list);
+    }
+
+    #[test]
+    fn places_are_those_of_the_files_as_they_are() {
+        let rooms = Rooms { list: 1 << 16, log: 1 << 16 };
+        let options = Options { utf8: true, ..Options::usual(10_000) };
+        let language = Arc::new(Language::named(b"de").unwrap());
+        let job = job("title write$ #1 write$", "title = {Öä}, url = nosuch");
+        let ran = run(&job, &language, |files| btx::run(&files.top, &files.all, &options, &rooms)).unwrap().unwrap();
+        let plain = btx::run(&job.top, &job.all, &options, &rooms);
+        assert_eq!((ran.places.known.len(), &ran.places), (2, &plain.places));
     }
 
     #[test]

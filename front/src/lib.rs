@@ -17,7 +17,8 @@
 //! | [`outputs`] | the list and the log: opened before a run, written after it |
 //! | [`interrupt`], [`task`] | a run that a signal can end, and what becomes of what it gives |
 //! | [`log`] | the messages of a log |
-//! | [`places`], [`notes`], [`scene`] | where in a style they were met: the library notes it in a run of its own |
+//! | [`event_places`], [`command_places`] | where they were met: the library's events have it, but for a command of the style |
+//! | [`places`], [`notes`], [`scene`] | what was called and on the stack there: the library notes it in a run of its own |
 //! | [`text`], [`aux_text`], [`style_text`], [`database`] | the texts of files: their lines, and where an error stands in them |
 //! | [`sources`] | the files of a job as its messages speak of them |
 //! | [`shapes`] | a log in the original's shapes |
@@ -54,6 +55,7 @@ pub mod beside;
 pub mod btx;
 pub mod cased;
 pub mod code_places;
+pub mod command_places;
 pub mod confined_program;
 pub mod constants;
 pub mod database;
@@ -61,6 +63,7 @@ pub mod databases;
 pub mod document;
 pub mod doubts;
 pub mod entries;
+pub mod event_places;
 pub mod exit;
 pub mod explain;
 pub mod hints;

@@ -4,9 +4,11 @@
 //! text is one that has such a place, and a file is one that was found only where the log's beginning says so.
 
 use crate::advice::{self, Section};
+use crate::event_places::{EventPlace, LogPlaces, Placed, take_place};
+use crate::notes::Token;
 use crate::scene::{End, Scene, Scenes};
 use crate::text::{split_first, split_last, split_line};
-use std::collections::{BTreeMap, btree_map};
+use std::collections::{HashMap, btree_map};
 use std::iter::Peekable;
 use std::ops::Range;
 
@@ -47,9 +49,11 @@ pub struct Message<'a> {
     pub severity: Severity,
     /// What it says, without its place.
     pub text: &'a [u8],
-    /// Where it stands.
+    /// Where it stands, as far as its line says.
     pub place: Place<'a>,
-    /// Where in the style that was, if somebody found that out.
+    /// Where it was met, if the run's events have that.
+    pub met: Option<&'a EventPlace>,
+    /// What was called and on the stack, if somebody found that out.
     pub scene: Option<&'a Scene>,
 }
 
@@ -108,6 +112,8 @@ pub struct Log<'a> {
     bytes: &'a [u8],
     /// The parts that look like messages and are none, in their order.
     printed: &'a [Range<usize>],
+    /// Where the messages were met, if the run's events say so.
+    places: Option<&'a LogPlaces>,
     scenes: Option<&'a Scenes>,
     /// Whether a signal ended the run.
     pub is_interrupted: bool,
@@ -116,12 +122,17 @@ pub struct Log<'a> {
 impl<'a> Log<'a> {
     /// The log that these bytes are.
     pub fn new(bytes: &'a [u8]) -> Self {
-        Log { bytes, printed: &[], scenes: None, is_interrupted: false }
+        Log { bytes, printed: &[], places: None, scenes: None, is_interrupted: false }
     }
 
     /// The same log, in which no message begins in these parts, since a style printed them.
     pub fn with_printed(self, printed: &'a [Range<usize>]) -> Self {
         Log { printed, ..self }
+    }
+
+    /// The same log, whose messages were met at these places.
+    pub fn with_places(self, places: &'a LogPlaces) -> Self {
+        Log { places: Some(places), ..self }
     }
 
     /// The same log, of a run that a signal ended or didn't: it was stopped by that, and not by the budget that was asked for.
@@ -134,9 +145,14 @@ impl<'a> Log<'a> {
         Log { scenes: Some(scenes), ..self }
     }
 
-    /// Whether the scenes are those of the first errors alone.
-    pub fn has_first_scenes(&self) -> bool {
-        self.scenes.is_some_and(|scenes| scenes.are_first)
+    /// Whether the events have the places of the first messages alone.
+    pub fn has_places_of_first(&self) -> bool {
+        self.places.is_some_and(|places| places.are_first)
+    }
+
+    /// Whether it is known of the first errors alone where the style stood.
+    pub fn has_first_places(&self) -> bool {
+        self.has_places_of_first() || self.scenes.is_some_and(|scenes| scenes.are_first)
     }
 
     /// Where the style stood when the run ended early, if somebody found that out.
@@ -146,9 +162,8 @@ impl<'a> Log<'a> {
 
     /// The lines of the log, in their order. They aren't kept: a log may have millions.
     pub fn lines(&self) -> Lines<'a> {
-        let errors = Numbered::new(self.scenes.map(|scenes| &scenes.errors));
-        let warnings = Numbered::new(self.scenes.map(|scenes| &scenes.warnings));
-        Lines { rest: self.bytes, at: 0, printed: self.printed, part: Part::AuxFiles, errors, warnings }
+        let (places, errors) = (self.places.map_or(&[][..], |places| &places.known), Errors::of(self.scenes));
+        Lines { rest: self.bytes, at: 0, printed: self.printed, places, part: Part::AuxFiles, errors }
     }
 }
 
@@ -163,23 +178,26 @@ enum Part {
     Run,
 }
 
-/// Messages of one kind, counted as they come, and the scenes that are known of those that are still to come.
+/// The errors of a log, counted as they come, with what is known of those that are still to come.
 #[derive(Debug, Clone)]
-struct Numbered<'a> {
+struct Errors<'a> {
     count: usize,
     scenes: Peekable<btree_map::Iter<'a, usize, Scene>>,
+    by_token: Option<&'a HashMap<Token, Scene>>,
 }
 
-impl<'a> Numbered<'a> {
-    fn new(scenes: Option<&'a BTreeMap<usize, Scene>>) -> Self {
-        Numbered { count: 0, scenes: scenes.map(BTreeMap::iter).unwrap_or_default().peekable() }
+impl<'a> Errors<'a> {
+    fn of(scenes: Option<&'a Scenes>) -> Errors<'a> {
+        let first = scenes.map(|scenes| scenes.errors.iter()).unwrap_or_default().peekable();
+        Errors { count: 0, scenes: first, by_token: scenes.map(|scenes| &scenes.by_token) }
     }
 
-    /// The scene of the next message.
-    fn next_scene(&mut self) -> Option<&'a Scene> {
+    /// The scene of the next error, which was met at this place.
+    fn next_scene(&mut self, met: Option<&EventPlace>) -> Option<&'a Scene> {
         let number = self.count;
         self.count += 1;
-        self.scenes.next_if(|(of, _)| **of == number).map(|(_, scene)| scene)
+        let own = self.scenes.next_if(|(of, _)| **of == number).map(|(_, scene)| scene);
+        own.or_else(|| self.by_token?.get(&met?.token?))
     }
 }
 
@@ -191,9 +209,10 @@ pub struct Lines<'a> {
     at: usize,
     /// The parts without a message that don't end before that.
     printed: &'a [Range<usize>],
+    /// Those of messages that don't begin before that.
+    places: &'a [Placed],
     part: Part,
-    errors: Numbered<'a>,
-    warnings: Numbered<'a>,
+    errors: Errors<'a>,
 }
 
 impl<'a> Iterator for Lines<'a> {
@@ -207,7 +226,7 @@ impl<'a> Iterator for Lines<'a> {
         let (at, is_printed) = (self.at, self.is_printed());
         self.at += self.rest.len() - rest.len();
         self.rest = rest;
-        Some(Line { bytes, at, content: if is_printed { Content::Other } else { self.content(bytes) } })
+        Some(Line { bytes, at, content: if is_printed { Content::Other } else { self.content(bytes, at) } })
     }
 
     /// The last line. Those before it aren't read.
@@ -231,15 +250,16 @@ impl<'a> Lines<'a> {
         self.printed.first().is_some_and(|first| first.contains(&self.at))
     }
 
-    fn content(&mut self, line: &'a [u8]) -> Content<'a> {
+    fn content(&mut self, line: &'a [u8], at: usize) -> Content<'a> {
         if let Some(name) = self.found(line) {
             return Content::Found(name);
         }
         if let Some(text) = line.strip_prefix(b"Error--") {
-            return Content::Message(Message { scene: self.errors.next_scene(), ..error(text) });
+            let met = take_place(&mut self.places, at);
+            return Content::Message(Message { met, scene: self.errors.next_scene(met), ..error(text) });
         }
         if let Some(text) = line.strip_prefix(b"Warning--") {
-            return Content::Message(Message { scene: self.warnings.next_scene(), ..warning(text) });
+            return Content::Message(Message { met: take_place(&mut self.places, at), ..warning(text) });
         }
         let end = if self.rest.is_empty() { ended(line) } else { None };
         end.map_or(Content::Other, Content::Ended)
@@ -301,7 +321,7 @@ fn number(digits: &[u8]) -> Option<u64> {
 fn error(text: &[u8]) -> Message<'_> {
     let placed = in_line(text).or_else(|| in_execution(text));
     let (text, place) = placed.unwrap_or((text, Place::Nowhere));
-    Message { severity: Severity::Error, text, place, scene: None }
+    Message { severity: Severity::Error, text, place, met: None, scene: None }
 }
 
 /// The warning of this text. A style's own warning may end as others do, but has no place.
@@ -314,7 +334,7 @@ fn warning(text: &[u8]) -> Message<'_> {
         in_line(text).filter(|(text, _)| is_of_entries(text))
     };
     let (text, place) = placed.unwrap_or((text, Place::Nowhere));
-    Message { severity: Severity::Warning, text, place, scene: None }
+    Message { severity: Severity::Warning, text, place, met: None, scene: None }
 }
 
 /// A text that ends in `--line N of file F`, and that place.

@@ -39,7 +39,7 @@ impl<'a> MessagePlaces<'a> {
     pub fn of(&mut self, message: &Message<'a>) -> Stands<'a> {
         match message.place {
             Place::Line { number, file } => self.in_line(message, number, file),
-            Place::Execution { function, entry } => Stands { entry, ..self.executed(message.scene, function) },
+            Place::Execution { function, entry } => Stands { entry, ..self.executed(message, function) },
             Place::Nowhere => self.unplaced(message),
         }
     }
@@ -65,7 +65,19 @@ impl<'a> MessagePlaces<'a> {
     }
 
     /// Where the style stood.
-    fn executed(&mut self, scene: Option<&'a Scene>, function: &[u8]) -> Stands<'a> {
+    fn executed(&mut self, message: &Message<'a>, function: &[u8]) -> Stands<'a> {
+        let Some(met) = message.met else { return self.at_command(message.scene, function) };
+        let file = self.sources.name(met.file);
+        let part = self.sources.text(file).map(|text| {
+            let (start, end) = text.span(met.line);
+            let in_line = |place: usize| place.clamp(start, end) - start;
+            (text.line(met.line), (in_line(met.start), in_line(met.end)))
+        });
+        Stands { file: Some(file), number: Some(met.line), part, entry: None }
+    }
+
+    /// Where the command stands that met an error, if that is known.
+    fn at_command(&mut self, scene: Option<&'a Scene>, function: &[u8]) -> Stands<'a> {
         let style = self.sources.style().map(|file| &file.name[..]);
         let Some((scene, at)) = scene.and_then(|scene| Some((scene, scene.placed()?))) else {
             return Stands { file: style, ..Stands::default() };

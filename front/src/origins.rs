@@ -111,14 +111,37 @@ pub fn missing_field_of<'a>(code: &Code<'a>, scene: &Scene, error: &[u8], functi
     missing_field(code, function, &Frame::of_scene(scene), position)
 }
 
-/// The text of an error of an execution with the field named that is missing, as the original names it. None where it is about something else, or the field isn't known.
-pub fn with_field_named(code: &Code<'_>, scene: &Scene, error: &[u8], function: &[u8]) -> Option<Vec<u8>> {
+/// The text of an error at the token that begins at this place of the style, with the field named that is missing, as the original names it. None where it is about something else, or the
+/// style's text doesn't show which of the function's operands it is, and which field.
+pub fn with_field_named(code: &Code<'_>, place: usize, error: &[u8], function: &[u8]) -> Option<Vec<u8>> {
     let wanted = error.strip_prefix(IS_MISSING)?;
-    match missing_field_of(code, scene, error, function)? {
-        MissingField::Is(field, _) => Some([b"`", field, b"' is a missing field, not ", wanted].concat()),
-        MissingField::LeftBy(..) | MissingField::ReadBy(..) => None,
+    let (token, takes) = (code.token_at(place)?, advice::operands(function)?.split(' ').count());
+    let mut field = None;
+    for position in 0..takes {
+        match (pushed_by(code, pushed_before(code, token, position)?), field) {
+            (Origin::Field(name, _), None) => field = Some(name),
+            (Origin::Field(..), Some(_)) => return None,
+            (Origin::Other, _) => {}
+        }
     }
+    Some([b"`", field?, b"' is a missing field, not ", wanted].concat())
 }
+
+/// The token that pushes the operand with `position` literals above it that is taken at this token, in its function or in the only one that calls this.
+fn pushed_before(code: &Code<'_>, token: usize, position: usize) -> Option<usize> {
+    let (mut token, mut above) = (token, position);
+    for _ in 0..MOST_CALLERS {
+        match walk(code, token, above) {
+            Walk::Pushed(pushed) => return Some(pushed),
+            Walk::Begin(left) => (token, above) = (code.only_call_of(token)?, left),
+            Walk::Unknown(_) => return None,
+        }
+    }
+    None
+}
+
+/// How many callers are gone through.
+const MOST_CALLERS: usize = 8;
 
 /// The fields that a function reads, if it reads some.
 fn read_by<'a>(code: &Code<'a>, function: &[u8]) -> Option<MissingField<'a>> {
@@ -253,6 +276,23 @@ mod tests {
         assert_eq!(of(&code, "*", &[(9, 1, "shows"), (20, 19, "misc")], 1), Some(Origin::Other));
         assert_eq!(of(&code, "*", &[(17, 1, "misc"), (19, 17, "misc")], 1), title(16));
         assert_eq!(of(&code, "*", &[(9, 1, "shows")], 1), None);
+    }
+
+    #[test]
+    fn a_missing_field_is_named_by_its_token() {
+        let style = "ENTRY {title note}{}{}\nFUNCTION {out} { write$ newline$ }\nFUNCTION {twice} { write$ }\n\
+            FUNCTION {misc} { \"x\" title swap$ * note out\n title note * twice #1 { title twice } 'skip$ if$ }\nITERATE {misc}\n";
+        let code = Code::new(style.as_bytes());
+        let named = |before: &str, function: &str| {
+            let place = style.find(before).unwrap() + before.len();
+            let text = with_field_named(&code, place, b"missing field is not a string", function.as_bytes());
+            text.map(|text| String::from_utf8(text).unwrap())
+        };
+        let is_missing = |field: &str| Some(format!("`{field}' is a missing field, not a string"));
+        assert_eq!(named("swap$ ", "*"), is_missing("title"));
+        assert_eq!(named("{out} { ", "write$"), is_missing("note"));
+        // (either of two fields, or a function that is called twice)
+        assert_eq!([named("title note ", "*"), named("{twice} { ", "write$")], [None, None]);
     }
 
     #[test]

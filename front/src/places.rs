@@ -1,16 +1,19 @@
-//! Where a style stood at each error of a run's execution, and where the run was stopped or met a limit. The library runs the job once more to find
-//! that out, so it is asked only where there is something to find. How much is looked for depends on numbers of steps alone, and on no clock, so the log of a
+//! What was called and on the stack at the first errors of a run's execution, and where the run was stopped or met a limit. The library runs the job once more to find
+//! that out, so it is asked only where that is to be shown. How much is looked for depends on numbers of steps alone, and on no clock, so the log of a
 //! job is the same on every machine.
 
-use crate::btx::{self, Answer, Options, Ran, Rooms};
+use crate::btx::{self, Answer, Options, Ran, Report, Rooms};
+use crate::command_places::CommandPlaces;
+use crate::event_places::Placed;
 use crate::job::Files;
 use crate::letter_codes::Codes;
 use crate::letter_run::Letters;
 use crate::log::{Content, Line, Log, Message, Place, Severity};
-use crate::notes::{self, Note, Spot, What};
-use crate::scene::{Call, End, Held, Scene, Scenes};
-use crate::style_text::Tokens;
-use std::collections::HashMap;
+use crate::notes::{self, Note, Spot, Token, What};
+use crate::scene::{Call, End, Held, IN_BRACES, Scene, Scenes};
+use crate::style_text::{Kind, Tokens, commands};
+use crate::text::Text;
+use std::collections::{BTreeMap, HashMap};
 
 /// Of how many events that log errors the place is found at most, where a variable keeps strings as long as this: each costs a run up to its event, and the longer strings are the longer a
 /// step may take. After a signal it is found of one alone, since the program is to end soon.
@@ -80,6 +83,17 @@ impl<'a> Errors<'a> {
         errors
     }
 
+    /// Whether one was met at none of the style's tokens, and more than one of the style's commands may have met it.
+    fn has_unclear(log: &Log<'_>, style: &[u8]) -> bool {
+        let commands = CommandPlaces::new(&Text::new(style), &commands(style));
+        log.lines().any(|line| match line.content {
+            Content::Message(Message { place: Place::Execution { function, entry }, met: None, .. }) => {
+                !commands.is_only(function, entry.is_some())
+            }
+            _ => false,
+        })
+    }
+
     /// Takes the next line.
     fn add(&mut self, line: &Line<'a>) {
         match line.content {
@@ -112,39 +126,17 @@ struct Search<'a> {
     codes: Option<&'a Codes>,
 }
 
-/// Where the style stood at the errors of a run, and at its end where it didn't come to an end of its own.
-pub fn scenes(files: &Files, options: &Options, rooms: &Rooms, ran: &Ran) -> Scenes {
+/// What was called and on the stack at the first errors of a run, where that is to be shown (`with_calls`) or tells which command met an error; and where the style stood at
+/// its end where the run didn't come to an end of its own.
+pub fn scenes(files: &Files, options: &Options, rooms: &Rooms, ran: &Ran, with_calls: bool) -> Scenes {
+    let Some(style) = files.with_ending(".bst").next() else { return Scenes::default() };
     let (files, codes) = match &ran.letters {
         Letters::Coded(coded) => (&coded.files, Some(&coded.codes)),
         Letters::AsTheyAre | Letters::LeftOut(_) => (files, None),
     };
-    let Some(style) = files.with_ending(".bst").next() else { return Scenes::default() };
     let search = Search { files, options, style: &style.name, text: style.bytes.as_deref().unwrap_or(b""), codes };
     match ran.answer {
-        Answer::Done(report) if report.has_finished() && report.errors == 0 => Scenes::default(),
-        Answer::Done(report) => {
-            let errors = Errors::of(&ran.lines_of_log());
-            // Of a log with very many lines it isn't known of each whether the style printed it; then no error's number may be certain.
-            let errors = if errors.count as u64 == report.errors { errors.of_execution } else { HashMap::new() };
-            if report.has_finished() && errors.is_empty() {
-                return Scenes::default();
-            }
-            // A run that was ended by a signal has another budget than the one that was asked for. It is to end soon, so only the first part of it is run again.
-            let is_interrupted = report.is_stopped() && report.steps < options.budget;
-            let (part, longest) = match report.has_finished() {
-                true => (1, MOST_STEPS),
-                false if is_interrupted => (PART_OF_INTERRUPTED, STEPS_OF_INTERRUPTED),
-                false => (1, STEPS_OF_ENDLESS),
-            };
-            let steps = report.steps.div_ceil(part).min(longest);
-            let is_cut = report.steps > longest || report.is_stopped();
-            let looked = Looked {
-                budget: if is_cut { steps } else { options.budget },
-                events: if is_interrupted { EVENTS_OF_INTERRUPTED } else { events_within(steps, options.global_max) },
-                is_whole: steps == report.steps,
-            };
-            search.scenes(&errors, looked, !report.has_finished())
-        }
+        Answer::Done(report) => search.scenes_of_run(ran, &report, with_calls),
         Answer::ListFull | Answer::LogFull => {
             let (errors, steps) = (Errors::first_of(&ran.lines_of_log()).of_execution, search.steps_of_flood(rooms));
             let events = events_within(steps, options.global_max);
@@ -171,6 +163,52 @@ fn events_within(steps: u64, length: u32) -> u64 {
 }
 
 impl Search<'_> {
+    /// The scenes of a run that was done.
+    fn scenes_of_run(&self, ran: &Ran, report: &Report, with_calls: bool) -> Scenes {
+        let is_asked = || with_calls || ran.places.has_unplaced && Errors::has_unclear(&ran.lines_of_log(), self.text);
+        let errors = if report.errors > 0 && is_asked() { Errors::of(&ran.lines_of_log()) } else { Errors::default() };
+        // Of a log with very many lines it isn't known of each whether the style printed it; then no error's number may be certain.
+        let errors = if errors.count as u64 == report.errors { errors.of_execution } else { HashMap::new() };
+        let mut scenes = match report.has_finished() && errors.is_empty() {
+            true => Scenes::default(),
+            false => self.scenes(&errors, self.looked_at(report), !report.has_finished()),
+        };
+        if with_calls {
+            scenes.by_token = self.scenes_of_tokens(&ran.places.known, &scenes);
+        }
+        scenes
+    }
+
+    /// What is looked at of a run that was done. One that was ended by a signal has another budget than the one that was asked for. It is to end soon, so only the first part of it
+    /// is run again.
+    fn looked_at(&self, report: &Report) -> Looked {
+        let is_interrupted = report.is_stopped() && report.steps < self.options.budget;
+        let (part, longest) = match report.has_finished() {
+            true => (1, MOST_STEPS),
+            false if is_interrupted => (PART_OF_INTERRUPTED, STEPS_OF_INTERRUPTED),
+            false => (1, STEPS_OF_ENDLESS),
+        };
+        let steps = report.steps.div_ceil(part).min(longest);
+        let is_cut = report.steps > longest || report.is_stopped();
+        Looked {
+            budget: if is_cut { steps } else { self.options.budget },
+            events: if is_interrupted { EVENTS_OF_INTERRUPTED } else { events_within(steps, self.options.global_max) },
+            is_whole: steps == report.steps,
+        }
+    }
+
+    /// For the tokens at which messages were met: what is known of one that has no scene of its own.
+    fn scenes_of_tokens(&self, places: &[Placed], scenes: &Scenes) -> HashMap<Token, Scene> {
+        let calls = calls_at(self.text, places);
+        let mut of_tokens: HashMap<Token, Scene> = calls
+            .into_iter()
+            .map(|(token, call)| (token, of_token(token, Call { file: self.style.to_vec(), ..call })))
+            .collect();
+        let known = scenes.errors.values().filter_map(|scene| Some((scene.token?, scene.at.clone())));
+        of_tokens.extend(known.map(|(token, at)| (token, of_token(token, at))));
+        of_tokens
+    }
+
     /// In how many steps a run that fills one of these rooms has filled a part of it.
     fn steps_of_flood(&self, rooms: &Rooms) -> u64 {
         let part = |room: usize| (room / PART_OF_ROOM).max(room.min(LEAST_OF_ROOM));
@@ -239,6 +277,36 @@ impl Search<'_> {
         };
         places.iter().filter(is_loop).map(|spot| spot.call.clone()).collect()
     }
+}
+
+/// The scene of a token of which nothing else is known.
+fn of_token(token: Token, at: Call) -> Scene {
+    Scene { at, token: Some(token), callers: Vec::new(), caller_tokens: Vec::new(), stack: Vec::new() }
+}
+
+/// The tokens of a style's text at which messages were met, each with its function as it is shown and its line.
+fn calls_at(text: &[u8], places: &[Placed]) -> Vec<(Token, Call)> {
+    let in_style =
+        places.iter().filter_map(|placed| Some((placed.place.start, (placed.place.token?, placed.place.line))));
+    let mut wanted: BTreeMap<usize, (Token, usize)> = in_style.collect();
+    let mut functions = commands(text).into_iter().peekable();
+    let (mut name, mut depth, mut found) = (&b""[..], 0_usize, Vec::new());
+    for token in Tokens::new(text) {
+        if let Some(function) = functions.next_if(|command| command.start <= token.start) {
+            (name, depth) = (function.name.unwrap_or(b""), 0);
+        }
+        match token.kind {
+            Kind::Open => depth += 1,
+            Kind::Close => depth = depth.saturating_sub(1),
+            _ => {}
+        }
+        if let Some((number, line)) = wanted.remove(&token.start) {
+            let braces = if depth > 1 { IN_BRACES } else { b"" };
+            let function = [braces, b"FUNCTION {", &name.to_ascii_lowercase(), b"}"].concat();
+            found.push((number, Call { function, file: Vec::new(), line }));
+        }
+    }
+    found
 }
 
 /// How many places were open at both of these notes of one command and one entry, from the outermost on.
@@ -320,7 +388,7 @@ mod tests {
         let files = files(style);
         let rooms = Rooms { list: 1 << 16, log: 1 << 16 };
         let ran = btx::run(&files.top, &files.all, &OPTIONS, &rooms);
-        scenes(&files, &OPTIONS, &rooms, &ran)
+        scenes(&files, &OPTIONS, &rooms, &ran, true)
     }
 
     fn lines(scene: &Scene) -> Vec<usize> {

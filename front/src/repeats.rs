@@ -344,7 +344,8 @@ mod tests {
         let mut has = |number: usize, text: usize| {
             let place = Place::Execution { function: b"write$", entry: Some(b"k") };
             let scene = Some(&scenes[number]);
-            data.has(&Message { severity: Severity::Error, text: texts[text].as_bytes(), place, scene }, lacked(number))
+            let (severity, text) = (Severity::Error, texts[text].as_bytes());
+            data.has(&Message { severity, text, place, met: None, scene }, lacked(number))
         };
         assert_eq!([has(0, 0), has(1, 0), has(2, 2), has(3, 2), has(4, 1)], [false, true, true, false, false]);
     }

@@ -218,14 +218,14 @@ impl<'a> Reader<'a> {
         let advice = Some(self.found.adviser.advice_on(line).join("\n")).filter(|advice| !advice.is_empty());
         let whole = self.whole(line);
         let long = if whole.len() > line.bytes.len() { message_of(whole) } else { None };
-        let message = Message { scene: said.scene, ..long.unwrap_or(*said) };
+        let message = Message { scene: said.scene, met: said.met, ..long.unwrap_or(*said) };
         let function = if let Place::Execution { function, .. } = message.place { Some(function) } else { None };
         let is_warning = message.severity == Severity::Warning;
         let is_of_style = is_warning && function.is_none() && !self.run.ran.of_read.contains(&line.at);
         let kind = if is_of_style { STYLE_WARNING } else { kind_of(&message) };
         let text = if kind == STYLE_WARNING { &whole[b"Warning--".len()..] } else { message.text };
         let stands = if kind == STYLE_WARNING { self.found.of_style_warning(text) } else { self.found.of(&message) };
-        let calls = message.scene.map(|scene| {
+        let calls = message.scene.filter(|scene| scene.has_callers()).map(|scene| {
             let Reader { found, columns, .. } = self;
             found.of_calls(scene, function).map(|(call, part)| CallJson::of(call, part, columns)).collect()
         });

@@ -12,7 +12,7 @@ use crate::scene::{End, Scenes};
 use crate::shapes::{self, Part};
 use crate::system::Signal;
 use crate::terminal::{Patient, Terminal, plain};
-use crate::words::{Explain, Words};
+use crate::words::Words;
 use std::borrow::Cow;
 use std::io::{self, Write};
 use std::ops::Range;
@@ -160,11 +160,7 @@ impl RunLog<'_> {
             return run_json::write(self, &whole.places, kept, &mut out).and_then(|()| out.flush());
         }
         let terminal = Terminal::of(&stdout);
-        let explains = match self.words.explain {
-            Explain::OnTerminal => terminal.is_terminal,
-            Explain::Never => false,
-            Explain::Always | Explain::Only => true,
-        };
+        let explains = self.words.explains(terminal.is_terminal);
         let mut out = io::BufWriter::new(Patient(stdout.lock()));
         if explains {
             self.explain(&terminal, &mut out)?;

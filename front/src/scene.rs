@@ -4,7 +4,7 @@
 //! as [`Scenes`], by the numbers of the messages; without it the line of the last command that executes functions is named.
 
 use crate::notes::Token;
-use std::collections::BTreeMap;
+use std::collections::{BTreeMap, HashMap};
 
 /// A place in a function of a style.
 #[derive(Debug, Clone, PartialEq, Eq, Hash)]
@@ -64,6 +64,11 @@ impl Scene {
         self.callers.last().unwrap_or(&self.at)
     }
 
+    /// Whether it is known what called; else it is the token alone that is known.
+    pub fn has_callers(&self) -> bool {
+        self.token.is_none() || !self.callers.is_empty()
+    }
+
     /// The innermost place whose line is known.
     pub fn placed(&self) -> Option<&Call> {
         std::iter::once(&self.at).chain(&self.callers).find(|call| call.line > 0)
@@ -77,15 +82,15 @@ impl End {
     }
 }
 
-/// The scenes that are known, by the numbers of the errors and of the warnings in the log, counted from 0.
+/// The scenes that are known.
 #[derive(Debug, Clone, Default, PartialEq, Eq)]
 pub struct Scenes {
-    /// Those of errors.
+    /// Those of errors, by their numbers in the log, counted from 0.
     pub errors: BTreeMap<usize, Scene>,
     /// Whether no more errors were looked for than the first ones.
     pub are_first: bool,
-    /// Those of warnings.
-    pub warnings: BTreeMap<usize, Scene>,
+    /// What is known of an error of these tokens whose own scene isn't known: the token alone.
+    pub by_token: HashMap<Token, Scene>,
     /// Where the style stood when the run ended before its last command.
     pub end: Option<End>,
 }

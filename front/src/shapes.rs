@@ -2,13 +2,16 @@
 
 use crate::aux_text::without_white_at_end;
 use crate::code_places::Code;
+use crate::command_places::CommandPlaces;
 use crate::job::Files;
 use crate::log::{Content, Ended, Line, Log, Message, Place, Severity};
+use crate::notes::Token;
 use crate::origins::{IS_MISSING, with_field_named};
 use crate::scene::{Call, End};
 use crate::sources::{Sources, Spot};
 use crate::style_text;
 use crate::text::{is_white, split_first};
+use std::collections::HashMap;
 use std::ops::Range;
 
 /// Which lines are written.
@@ -26,8 +29,8 @@ pub enum Part {
 const MOST_SHOWN: usize = 10_000;
 const LONGEST_SHOWN: usize = 500;
 
-/// Writes a log in the original's shapes. The places that errors of a style's execution get from its commands take at most `room` bytes; the further ones are left out, since each
-/// has the style's name again.
+/// Writes a log in the original's shapes. The places of errors of a style's execution take at most `room` bytes; the further ones are left out, since each has the style's name
+/// again.
 pub fn write(log: &Log<'_>, files: &Files, part: Part, room: usize, out: &mut Vec<u8>) {
     write_noting(log, files, part, room, out, &mut |_, _| {});
 }
@@ -49,9 +52,11 @@ pub fn write_noting<'a>(
         top,
         part,
         shown: 0,
+        are_first: log.has_places_of_first(),
         unplaced: 0,
-        last_places: None,
+        commands: None,
         code: None,
+        named: HashMap::new(),
         room,
         scene_of_end,
         is_interrupted,
@@ -62,7 +67,7 @@ pub fn write_noting<'a>(
         shapes.line(&line);
         note(&line, start..shapes.out.len());
     }
-    if log.has_first_scenes() && part != Part::Mistakes {
+    if log.has_first_places() && part != Part::Mistakes {
         shapes.count_unplaced();
     }
 }
@@ -102,56 +107,23 @@ pub fn counted(end: &Ended<'_>) -> Option<String> {
     }
 }
 
-/// The places of the last commands of a style that execute a function, each as it is written; its line is 0 where there is none. A log may have millions of
-/// errors at these places.
-struct LastPlaces {
-    execute: Vec<u8>,
-    iterate: Vec<u8>,
-    reverse: Vec<u8>,
-    /// The later one of the two that execute a function for each entry.
-    of_entries: Vec<u8>,
-}
-
-impl LastPlaces {
-    /// Those of the job's style.
-    fn new(sources: &mut Sources<'_>) -> LastPlaces {
-        let style = sources.style().map_or(&b""[..], |file| &file.name);
-        let (commands, text) = (sources.commands(style), sources.text(style));
-        let [execute, iterate, reverse] = ["execute", "iterate", "reverse"].map(|word| {
-            let last = commands.iter().rev().find(|command| command.is(word));
-            last.zip(text.as_ref()).map_or(0, |(command, text)| text.line_of(command.start))
-        });
-        let [execute, iterate, reverse, of_entries] = [execute, iterate, reverse, iterate.max(reverse)].map(|line| {
-            let mut place = Vec::new();
-            put_place(line, style, &mut place);
-            place
-        });
-        LastPlaces { execute, iterate, reverse, of_entries }
-    }
-
-    /// The place of the last command that may have executed this function, with an entry or without one.
-    fn of(&self, function: &[u8], has_entry: bool) -> &[u8] {
-        match (function, has_entry) {
-            (b"ITERATE", _) => &self.iterate,
-            (b"REVERSE", _) => &self.reverse,
-            (_, true) => &self.of_entries,
-            (_, false) => &self.execute,
-        }
-    }
-}
-
 /// Writes the lines of a log.
 struct Shapes<'a, 'o> {
     sources: Sources<'a>,
     top: &'a [u8],
     part: Part,
     shown: usize,
-    /// How many errors of the style's execution had no scene.
+    /// Whether the places of the first messages alone are known, so that one without a place may have been met at any token of the style.
+    are_first: bool,
+    /// Of how many errors of the style's execution the place isn't known.
     unplaced: usize,
-    last_places: Option<LastPlaces>,
+    /// The commands of the style that execute a function, once one is asked for.
+    commands: Option<CommandPlaces>,
     /// The code of the style, once a field is to be named.
     code: Option<Code<'a>>,
-    /// How many bytes the places of the style's commands may still take.
+    /// The texts of errors at a token with the field named that is missing.
+    named: HashMap<(Token, &'a [u8]), Option<Vec<u8>>>,
+    /// How many bytes the places of errors of the style's execution may still take.
     room: usize,
     scene_of_end: Option<&'a End>,
     is_interrupted: bool,
@@ -216,24 +188,38 @@ impl<'a> Shapes<'a, '_> {
         let named = self.with_field_named(message, function);
         let text = named.as_deref().unwrap_or(message.text);
         self.put(&[text, b" (", function, b")", for_entry, entry.unwrap_or(b"")]);
+        let (line, file) = self.place_of(message, function, entry.is_some());
+        let start = self.out.len();
+        put_place(line, file, self.out);
+        match self.room.checked_sub(self.out.len() - start) {
+            Some(room) => self.room = room,
+            None => self.out.truncate(start),
+        }
+    }
+
+    /// Where an error of an execution stands: at its token, or at a command of the style.
+    fn place_of(&mut self, message: &Message<'a>, function: &[u8], has_entry: bool) -> (usize, &'a [u8]) {
+        if let Some(place) = message.met {
+            return (place.line, self.sources.name(place.file));
+        }
         if let Some(at) = message.scene.and_then(|scene| scene.placed()) {
-            return write_place(at, self.out);
+            return (at.line, &at.file);
         }
-        self.unplaced += usize::from(message.scene.is_none());
+        let style = self.sources.style().map_or(&b""[..], |file| &file.name);
         let sources = &mut self.sources;
-        let last_places = self.last_places.get_or_insert_with(|| LastPlaces::new(sources));
-        let place = last_places.of(function, entry.is_some());
-        if let Some(room) = self.room.checked_sub(place.len()) {
-            self.room = room;
-            self.out.extend_from_slice(place);
-        }
+        let commands = self.commands.get_or_insert_with(|| sources.command_places(style));
+        let is_of_command = !self.are_first || matches!(function, b"EXECUTE" | b"ITERATE" | b"REVERSE");
+        self.unplaced += usize::from(!is_of_command || !commands.is_only(function, has_entry));
+        (commands.last(function, has_entry), style)
     }
 
     /// The text of an error with the field named that is missing.
     fn with_field_named(&mut self, message: &Message<'a>, function: &[u8]) -> Option<Vec<u8>> {
-        let scene = message.scene.filter(|_| message.text.starts_with(IS_MISSING))?;
-        let bytes = self.sources.file(&scene.at.file)?.bytes.as_deref()?;
-        with_field_named(self.code.get_or_insert_with(|| Code::new(bytes)), scene, message.text, function)
+        let place = message.met.filter(|_| message.text.starts_with(IS_MISSING))?;
+        let bytes = self.sources.file(self.sources.name(place.file))?.bytes.as_deref()?;
+        let code = self.code.get_or_insert_with(|| Code::new(bytes));
+        let named = || with_field_named(code, place.start, message.text, function);
+        self.named.entry((place.token?, message.text)).or_insert_with(named).clone()
     }
 
     /// Says of how many errors of the style's execution the place isn't known, if there are any.
@@ -335,6 +321,7 @@ fn with_spaces(text: &[u8]) -> Vec<u8> {
 #[cfg(test)]
 mod tests {
     use super::*;
+    use crate::event_places::places_by_runs;
     use crate::job::File;
     use crate::scene::{Call, Scene, Scenes};
 
@@ -350,7 +337,9 @@ mod tests {
 
     fn shapes(log: &str, files: &[(&str, &str)]) -> String {
         let all = files.iter().map(|(name, bytes)| file(name, bytes)).collect();
-        written(&Log::new(log.as_bytes()), &Files { top: b"job.aux".to_vec(), all }, Part::Whole)
+        let files = Files { top: b"job.aux".to_vec(), all };
+        let places = places_by_runs(log.as_bytes(), &files);
+        written(&Log::new(log.as_bytes()).with_places(&places), &files, Part::Whole)
     }
 
     #[test]
@@ -402,7 +391,7 @@ mod tests {
 
     #[test]
     fn a_mistake_that_costs_a_token_skips_nothing() {
-        let style = "FUNCTION {f} { nosuch #x }\nREAD EXECUTE {nosuch}\n";
+        let style = "ENTRY {}{}{} FUNCTION {f} { nosuch #x }\nREAD EXECUTE {nosuch}\n";
         let log = "Error--nosuch is an unknown function--line 1 of file s.bst\nError--Illegal integer--line 1 of file s.bst\n\
             Error--nosuch is an unknown function--line 2 of file s.bst\n";
         let wanted = "nosuch is an unknown function---line 1 of file s.bst\nIllegal integer---line 1 of file s.bst\n\

@@ -2,7 +2,9 @@
 
 use crate::advice::{self, Section};
 use crate::aux_text::{self, Named, Names, without_white_at_end};
-use crate::database::{Faults, Folded, Item, Items};
+use crate::command_places::CommandPlaces;
+use crate::database::{Item, Items};
+use crate::event_places::EventPlace;
 use crate::job::{File, Files};
 use crate::log::{Message, Place};
 use crate::style_read::StyleNames;
@@ -16,7 +18,8 @@ use std::rc::Rc;
 struct Source<'a> {
     file: &'a File,
     text: Rc<Text<'a>>,
-    faults: Option<Faults<'a>>,
+    /// The items of a database that come after the last one that a message was about.
+    items: Option<Items<'a>>,
     commands: Option<Rc<[Command<'a>]>>,
 }
 
@@ -44,9 +47,7 @@ pub struct Sources<'a> {
     /// What the job's style declares.
     style: Option<Rc<StyleNames<'a>>>,
     names: Option<Names<'a>>,
-    /// In which database each key stands first, counted from 0.
-    first_databases: Option<HashMap<Folded<'a>, usize>>,
-    /// The file and the line of the last error in a file whose lines are looked through, and how far it was.
+    /// The `.aux` file and the line of the last error in one, and how far that line was looked through.
     last: Option<(&'a [u8], usize, usize)>,
 }
 
@@ -57,12 +58,17 @@ impl<'a> Sources<'a> {
         for file in files.all.iter().filter(|file| file.bytes.is_some()) {
             by_name.entry(&file.name).or_insert(file);
         }
-        Sources { files, by_name, read: HashMap::new(), style: None, names: None, first_databases: None, last: None }
+        Sources { files, by_name, read: HashMap::new(), style: None, names: None, last: None }
     }
 
     /// The file of this name, if it was found.
     pub fn file(&self, name: &[u8]) -> Option<&'a File> {
         self.by_name.get(name).copied()
+    }
+
+    /// The name of the file of this number.
+    pub fn name(&self, number: usize) -> &'a [u8] {
+        self.files.all.get(number).map_or(b"", |file| &file.name)
     }
 
     /// The name of the job's style, if it was found.
@@ -80,7 +86,7 @@ impl<'a> Sources<'a> {
     fn source(&mut self, name: &[u8]) -> Option<&mut Source<'a>> {
         let file = self.file(name)?;
         let bytes = file.bytes.as_deref()?;
-        let new = || Source { file, text: Rc::new(Text::new(bytes)), faults: None, commands: None };
+        let new = || Source { file, text: Rc::new(Text::new(bytes)), items: None, commands: None };
         Some(self.read.entry(&file.name).or_insert_with(new))
     }
 
@@ -97,6 +103,12 @@ impl<'a> Sources<'a> {
         })
     }
 
+    /// The commands of a style that execute a function.
+    pub fn command_places(&mut self, style: &[u8]) -> CommandPlaces {
+        let commands = self.commands(style);
+        self.text(style).map_or(CommandPlaces::default(), |text| CommandPlaces::new(&text, &commands))
+    }
+
     /// Where the `.aux` files name things.
     pub fn names(&mut self) -> &Names<'a> {
         self.names.get_or_insert_with(|| Names::new(self.files))
@@ -106,8 +118,8 @@ impl<'a> Sources<'a> {
     pub fn spot(&mut self, message: &Message<'a>) -> Option<Spot<'a>> {
         match message.place {
             Place::Line { number, file } if file.ends_with(b".aux") => self.in_aux_file(message.text, number, file),
-            Place::Line { number, file } if file.ends_with(b".bst") => self.in_style(message.text, number, file),
-            Place::Line { number, file } => self.in_database(message.text, number, file),
+            Place::Line { number, file } if file.ends_with(b".bst") => self.in_style(message.met, number, file),
+            Place::Line { number, file } => self.in_database(message, number, file),
             Place::Nowhere => self.unfound(message.text),
             Place::Execution { .. } => None,
         }
@@ -157,54 +169,37 @@ impl<'a> Sources<'a> {
         if name == b"*" { names.key(name) } else { names.file(name) }
     }
 
-    fn in_style(&mut self, text: &[u8], number: usize, name: &[u8]) -> Option<Spot<'a>> {
-        let from = self.looked_through(name, number);
+    fn in_style(&mut self, met: Option<&EventPlace>, number: usize, name: &[u8]) -> Option<Spot<'a>> {
         let source = self.source(name)?;
-        let (file, line) = (source.file, source.text.line(number));
-        let part = style_text::place_of_error(line, text, from).map(|token| (token.start, token.end));
-        self.last = Some((&file.name, number, part.map_or(from, |(_, end)| end)));
-        Some(Spot { file, number, line, part, item: None })
+        let part = met.map(|met| style_text::part_at(source.text.bytes, met.start, met.end));
+        Some(source.spot(number, part))
     }
 
-    fn in_database(&mut self, text: &[u8], number: usize, name: &[u8]) -> Option<Spot<'a>> {
+    fn in_database(&mut self, message: &Message<'a>, number: usize, name: &[u8]) -> Option<Spot<'a>> {
         let source = self.source(name)?;
-        let (file, lines) = (source.file, Rc::clone(&source.text));
-        let mut faults = source.faults.take().unwrap_or_else(|| Faults::new(lines.bytes));
-        let fault = if text == b"Repeated entry" {
-            faults.next_repeated(&lines, number, |key| self.stands_before(file, key))
-        } else if advice::find(&[Section::Database], text).is_some() {
-            faults.next(&lines, text, number)
-        } else {
-            None
-        };
-        self.source(name)?.faults = Some(faults);
-        let (start, end) = lines.span(number);
-        let place = fault.as_ref().map(|fault| fault.place.clamp(start, end) - start);
-        let (line, part) = (lines.line(number), place.map(|place| (place, place)));
-        Some(Spot { file, number, line, part, item: fault.map(|fault| fault.item) })
-    }
-
-    /// Whether an entry of this key stands in a database before this one.
-    fn stands_before(&mut self, file: &File, key: &[u8]) -> bool {
-        let files = self.files;
-        let index = files.with_ending(".bib").position(|other| other.name == file.name).unwrap_or(0);
-        index > 0 && {
-            let first = self.first_databases.get_or_insert_with(|| first_databases(files));
-            first.get(&Folded(key)).is_some_and(|first| *first < index)
-        }
+        let is_of_item =
+            message.text == b"Repeated entry" || advice::find(&[Section::Database], message.text).is_some();
+        let place = message.met.filter(|_| is_of_item).map(|met| met.start);
+        let item = place.and_then(|place| source.item_of(place));
+        Some(Spot { item, ..source.spot(number, place.map(|place| (place, place))) })
     }
 }
 
-/// In which database each key stands first, counted from 0.
-fn first_databases(files: &Files) -> HashMap<Folded<'_>, usize> {
-    let mut first = HashMap::new();
-    for (index, file) in files.with_ending(".bib").enumerate() {
-        let items = Items::new(file.bytes.as_deref().unwrap_or(b""));
-        items.filter_map(|item| item.entry_key()).for_each(|key| {
-            first.entry(Folded(key.name)).or_insert(index);
-        });
+impl<'a> Source<'a> {
+    /// A line of the file, with the part of it that stands in these bytes of the file.
+    fn spot(&self, number: usize, part: Option<(usize, usize)>) -> Spot<'a> {
+        let (start, end) = self.text.span(number);
+        let in_line = |place: usize| place.clamp(start, end) - start;
+        let part = part.map(|(from, to)| (in_line(from), in_line(to)));
+        Spot { file: self.file, number, line: self.text.line(number), part, item: None }
     }
-    first
+
+    /// The item of a database that can't go on at this place, or whose key ends there and is repeated. Each item is read once: messages are asked for in the
+    /// order in which the database was read.
+    fn item_of(&mut self, place: usize) -> Option<Item<'a>> {
+        let bytes = self.text.bytes;
+        self.items.get_or_insert_with(|| Items::new(bytes)).up_to(place)
+    }
 }
 
 /// Whether an error says that something was named before.

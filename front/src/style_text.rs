@@ -405,41 +405,27 @@ pub fn lines_of_name(text: &Text<'_>, name: &[u8]) -> (Vec<usize>, usize) {
     (lines, count)
 }
 
-/// Where in its line an error of a style was met, after the place `from`; None where the line doesn't show it.
-pub fn place_of_error(line: &[u8], error: &[u8], from: usize) -> Option<Token> {
-    let mut tokens = Tokens::behind(line, from);
-    if let Some(name) =
-        error.strip_suffix(b" is an unknown function").or_else(|| error.strip_suffix(b" is already defined"))
-    {
-        let is_it = |token: &Token| match token.kind {
-            Kind::Name => name_of(line, token) == name,
-            Kind::Quoted => &line[token.start + 1..token.end] == name,
-            _ => false,
-        };
-        return tokens.find(is_it);
+/// The part of a style that a message is about, by the bytes at which it was met: a word, or the one that ends there; a string without its end up to the line's.
+pub fn part_at(text: &[u8], start: usize, end: usize) -> (usize, usize) {
+    let at = start.min(text.len());
+    let from = if start < end { at } else { begin_of_word(text, at) };
+    let token = Tokens::behind(text, from).next().filter(|token| token.start == from);
+    match token {
+        Some(token) if token.kind == Kind::OpenText => (from, token.end),
+        _ => (from, end),
     }
-    if let Some(word) = error.strip_suffix(b" isn't a command") {
-        let token = tokens.find(|token| token.kind == Kind::Name && line[token.start..].starts_with(word))?;
-        return Some(Token { end: token.start + word.len(), ..token });
-    }
-    let kind = match error {
-        b"Illegal integer" => Kind::NoInteger,
-        b"Illegal text after a literal" => Kind::Stuff,
-        b"No \" to end string literal" => Kind::OpenText,
-        _ => return None,
-    };
-    tokens.find(|token| token.kind == kind)
 }
 
-/// The bytes of a name.
-fn name_of<'a>(line: &'a [u8], token: &Token) -> &'a [u8] {
-    &line[token.start..token.end]
+/// Where the token begins that ends at this place; this place where none does.
+fn begin_of_word(text: &[u8], place: usize) -> usize {
+    let line = text[..place].iter().rposition(|byte| *byte == b'\n').map_or(0, |feed| feed + 1);
+    let last = Tokens::behind(&text[..place], line).last().filter(|token| token.end == place);
+    last.map_or(place, |token| token.start)
 }
 
 #[cfg(test)]
 mod tests {
     use super::*;
-    use crate::text::marked;
 
     fn kinds(text: &[u8]) -> Vec<Kind> {
         Tokens::new(text).map(|token| token.kind).collect()
@@ -534,25 +520,14 @@ mod tests {
     fn names_of_commands_in_bodies_are_names() {
         assert_eq!(shown(b"FUNCTION {f} { x\n read 'y :=\n sort.key$ }\n"), [command("FUNCTION", Some("f"), 0)]);
     }
-
-    /// Each line with a `^` before the token at which its error is met, and the error.
-    const PLACES: &str = r##" "nosuch" ^nosuch } | nosuch is an unknown function
-{ ^'nosuch } | nosuch is an unknown function
-EXECUTE {^nosuch} | nosuch is an unknown function
-#1 ^#x pop$ | Illegal integer
-"a"^b | Illegal text after a literal
-#1 ^"a b | No " to end string literal
- ^ENTRIES{} | ENTRIES isn't a command
-x | I was expecting a {"##;
-
     #[test]
-    fn errors_have_a_place_in_their_line() {
-        for (line, error, place) in marked(PLACES) {
-            let start = place_of_error(&line, error, 0).map(|token| token.start);
-            assert_eq!(start, place, "{}", line.escape_ascii());
-        }
-        let again =
-            place_of_error(b"f \"f\" f f", b"f is an unknown function", 1).map(|token| (token.start, token.end));
-        assert_eq!(again, Some((6, 7)));
+    fn a_message_is_about_a_word() {
+        let style = b"EXECUTE {nosuch}\n\"a\" \"b c\nMACRO % x\n{\n";
+        let part = |start, end| {
+            let (from, to) = part_at(style, start, end);
+            String::from_utf8_lossy(&style[from..to]).into_owned()
+        };
+        assert_eq!([part(0, 7), part(15, 15), part(22, 22)], ["EXECUTE", "nosuch", "\"b c"]);
+        assert_eq!([part(31, 31), part(35, 35)], ["MACRO", ""]);
     }
 }

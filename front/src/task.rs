@@ -127,13 +127,14 @@ impl Task {
         if is_better { by_letters } else { by_bytes }
     }
 
-    /// Where the style stood at the errors of a run: the job is run again to find it.
+    /// What was called and on the stack at the errors of a run, where that is printed, and where the style stood at its end: the job is run again to find it.
     fn scenes(&self, ran: &Ran) -> Scenes {
         let options = match ran.letters {
             Letters::Coded(_) => self.options_of_letters(self.words.options.budget),
             Letters::AsTheyAre | Letters::LeftOut(_) => Options { utf8: ran.utf8, ..self.words.options },
         };
-        places::scenes(&self.files, &options, &self.words.rooms, ran)
+        let with_calls = self.words.is_json || self.words.explains(io::stdout().is_terminal());
+        places::scenes(&self.files, &options, &self.words.rooms, ran, with_calls)
     }
 
     fn run_log<'a>(&'a self, ran: &'a Ran, interrupted: Option<Interrupted>, scenes: Scenes) -> RunLog<'a> {

@@ -1,6 +1,6 @@
 //! The text of a file, by bytes and by lines.
 
-use memchr::{memchr, memchr_iter};
+use memchr::{memchr, memchr_iter, memrchr};
 use std::collections::HashMap;
 use std::io::BufRead;
 
@@ -96,20 +96,12 @@ pub fn find_last(text: &[u8], what: &[u8]) -> Option<usize> {
     let Some((first, rest)) = what.split_first() else { return Some(text.len()) };
     let mut starts = &text[..text.len().checked_sub(rest.len())?];
     loop {
-        let at = last_of(starts, *first)?;
+        let at = memrchr(*first, starts)?;
         if text[at + 1..].starts_with(rest) {
             return Some(at);
         }
         starts = &starts[..at];
     }
-}
-
-/// The last place of a byte in a text. Of 32 bytes the processor compares many at once.
-fn last_of(text: &[u8], byte: u8) -> Option<usize> {
-    let (head, chunks) = text.as_rchunks::<32>();
-    let has_it = |chunk: &[u8; 32]| chunk.iter().fold(0, |found, other| found | u8::from(*other == byte)) != 0;
-    let behind = chunks.iter().rposition(has_it).map_or(0, |index| 32 * (index + 1));
-    text[..head.len() + behind].iter().rposition(|other| *other == byte)
 }
 
 /// The first line of a text, without its end, and the lines after it.

@@ -230,6 +230,15 @@ impl Words {
         }
     }
 
+    /// Whether messages are explained where standard output is a terminal, or isn't.
+    pub fn explains(&self, is_terminal: bool) -> bool {
+        match self.explain {
+            Explain::OnTerminal => is_terminal,
+            Explain::Never => false,
+            Explain::Always | Explain::Only => true,
+        }
+    }
+
     /// Takes an option that asks for something of a run.
     fn take(&mut self, row: Row, value: &[u8], word: &[u8]) -> Result<(), Vec<u8>> {
         let name = row.name;

@@ -2,6 +2,7 @@
 
 use super::page::LONGEST_LINE;
 use super::*;
+use crate::event_places::{EventPlace, LogPlaces, Placed, places_by_runs};
 use crate::scene::{Call, Held, Scenes};
 use crate::terminal::{NO_COLOUR, PLACE_COLOUR};
 
@@ -21,7 +22,9 @@ fn explained(log: &Log<'_>, files: &Files, terminal: &Terminal) -> String {
 }
 
 fn explain(log: &str, style: &str, database: &str) -> String {
-    explained(&Log::new(log.as_bytes()), &job(style, database), &Terminal::NONE)
+    let files = job(style, database);
+    let places = places_by_runs(log.as_bytes(), &files);
+    explained(&Log::new(log.as_bytes()).with_places(&places), &files, &Terminal::NONE)
 }
 
 #[test]
@@ -200,7 +203,9 @@ fn nothing_acts_on_a_terminal() {
 fn names_may_have_any_bytes() {
     let database = File { name: b"\xe9.bib".to_vec(), bytes: Some(b"@misc{k 1}".to_vec()), path: b"\xe9.bib".to_vec() };
     let files = Files { top: b"job.aux".to_vec(), all: vec![database] };
-    let told =
-        explained(&Log::new(b"Error--I was expecting a , or a }--line 1 of file \xe9.bib\n"), &files, &Terminal::NONE);
+    let place = EventPlace { file: 0, start: 8, end: 8, line: 1, token: None };
+    let places = LogPlaces { known: vec![Placed { at: 0, place }], ..LogPlaces::default() };
+    let log = Log::new(b"Error--I was expecting a , or a }--line 1 of file \xe9.bib\n");
+    let told = explained(&log.with_places(&places), &files, &Terminal::NONE);
     assert!(told.contains("    ?.bib:1: @misc{k 1}\n                     ^\n"), "{told}");
 }

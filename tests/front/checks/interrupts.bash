@@ -100,10 +100,10 @@ write_slow_errors() {
     } >s.bst
 }
 
-# The places of errors are looked for as long as that takes little time, however few steps there are.
+# It is looked for what was called and on the stack as long as that takes little time, however few steps there are.
 begin places_of_errors_behind_slow_steps
 write_slow_errors 200
-LD_LIBRARY_PATH=$libraries python3 "$here/measured.py" --processor "$folder/stdout" "$folder/stderr" timeout 60 "$search" -global-max=1000000 job >measured
+LD_LIBRARY_PATH=$libraries python3 "$here/measured.py" --processor "$folder/stdout" "$folder/stderr" timeout 60 "$search" -explain -global-max=1000000 job >measured
 read -r status took memory <measured
 echo "        $took s"
 wants_status 2
@@ -113,12 +113,13 @@ wants_words job.blg 'line 203 of file s.bst'
 end
 
 # A signal ends that search too; the run is done, and what it gave is kept. It comes at several moments, since no one knows how fast the machine is.
+# (With -explain it is looked for what was called and on the stack.)
 begin interrupted_while_places_are_looked_for
 write_slow_errors 1500
 ended=()
 for moment in 0.5 1 1.5 2 2.5 3; do
     leave_old
-    interrupt INT $moment -global-max=1000000 job
+    interrupt INT $moment -explain -global-max=1000000 job
     ended+=("$status")
     wants_text job.bbl $'a line of the list\n'
     [ "$status" -ne 2 ] || continue
