@@ -145,7 +145,7 @@ impl<'f> Notes<'f> {
     /// Gives out what was kept: an event and a place for each line, or for each of the first ones, as many as were wanted. None if something was left out, since memory
     /// was refused or the log is longer than 2^64 bytes.
     pub fn into_noted(self, wanted: Wanted) -> Option<Noted>
-        ensures { IfSome result (AreAllNoted self wanted) }
+        ensures { IfSome result (AreAllNoted self.entry wanted) }
     {
         let kept = self.kept;
         let places = self.places;
