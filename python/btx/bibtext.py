@@ -113,7 +113,7 @@ class Item:
 
     def value_of(self, name: bytes) -> Optional[bytes]:
         """What its first field of this name comes to; None where there is none."""
-        names = self.records.names[self.at + 1 : self.last]
+        names = self.records.names_between(self.at + 1, self.last)
         return self.records.value(self.at + 1 + names.index(name)) if name in names else None
 
     def value_alone(self, kind: int) -> Field:
@@ -128,7 +128,7 @@ def field_of(records: Records, number: int) -> Field:
     text, start, end, length = records.text, records.starts[number], records.ends[number], records.name_len[number]
     after = text.index(b"=", start + length) + 1
     is_plain = text[end - 1] in ENDS_TEXT and text.find(b"#", after, end) < 0
-    return Field(records.names[number], start, start + length, records.value(number), after, end, is_plain)
+    return Field(records.name(number), start, start + length, records.value(number), after, end, is_plain)
 
 
 def opened(text: bytes, place: int) -> int:
@@ -192,28 +192,35 @@ class Database:
         self.make()
         return self.own_strings
 
-    def items_at(self, place: int) -> List[Item]:
-        """The items that a place is in, or directly after; of items that aren't made yet those alone that have a name."""
-        reader = self.reader
+    def item_starts(self) -> List[int]:
+        """Where its items begin; of one that isn't made yet and of which nothing was read whole, where its mistake is."""
         if self.starts is None:
+            reader = self.reader
             self.starts = [item.start for item in self.own_items] if reader is None else [reader.first.starts[at] for at, _ in reader.spans]
-        last = bisect.bisect_right(self.starts, place)
-        if reader is None:
-            return self.own_items[max(last - 2, 0) : last]
-        spans = reader.spans[max(last - 2, 0) : last]
-        return [reader.item(reader.first, *span) for span in spans if reader.first.kinds[span[0]] != WRONG]
+        return self.starts
 
-    def keys(self) -> Iterator[Tuple[bytes, int]]:
-        """The keys of its entries, and where each ends."""
+    def begins(self, number: int) -> bool:
+        """Whether the place of an item that `item_starts` has is that of its `@`."""
+        return self.reader is None or self.reader.first.kinds[self.reader.spans[number][0]] != WRONG
+
+    def items_between(self, first: int, last: int) -> List[Item]:
+        """The items with the numbers from `first` to `last`; they alone are made."""
         if self.reader is None:
-            yield from ((item.key, item.key_end) for item in self.own_items if item.is_entry and item.key is not None)
-            return
-        records = self.reader.first
-        texts, key_at, key_len, ends = records.texts, records.text_at, records.text_len, records.ends
-        at = records.kinds.find(ENTRY)
-        while at >= 0:
-            yield texts[key_at[at] : key_at[at] + key_len[at]], ends[at]
-            at = records.kinds.find(ENTRY, at + 1)
+            return self.own_items[first:last]
+        return [self.reader.made(number) for number in range(first, last)]
+
+    def keys_between(self, first: int, last: int) -> List[Optional[bytes]]:
+        """The keys of these items in lower case; None of an item that is no entry."""
+        if self.reader is None:
+            return [item.key.lower() if item.key is not None and item.is_entry else None for item in self.own_items[first:last]]
+        return self.reader.keys[first:last]
+
+    def odd_items(self, first: int, last: int) -> List[Item]:
+        """Those of these items that aren't entries without a mistake."""
+        if self.reader is None:
+            return [item for item in self.own_items[first:last] if item.slip is not None or item.records.kinds[item.at] != ENTRY]
+        kinds = self.reader.first.kinds
+        return [self.reader.made(number) for number, (at, end) in enumerate(self.reader.spans[first:last], first) if kinds[at] != ENTRY or kinds[end] != END]
 
     def start(self, field: Field) -> int:
         """Where a field's value begins."""
@@ -264,12 +271,30 @@ def read(text: bytes, stored: Optional[Set[bytes]] = None, strings: Optional[Dic
 
 def read_by(reader: "Reader") -> Database:
     """What a reader makes of its text."""
+    reader.read_first(0)
+    return read_on(reader)
+
+
+def read_on(reader: "Reader") -> Database:
+    """What a reader makes of its text, when it has read the first records."""
     with without_collection():
-        place: Optional[int] = 0
+        place = reader.add_all()
         while place is not None:
             reader.read_first(place)
             place = reader.add_all()
     return Database(reader.text, reader.items, reader.strings)
+
+
+def read_late(reader: "Reader") -> Database:
+    """The same. Where no entry is repeated, its items are made when somebody asks for them."""
+    reader.read_first(0)
+    if reader.stored is not None:
+        keys = set(reader.keys) - {None}
+        if len(keys) + reader.keys.count(None) < len(reader.keys) or not keys.isdisjoint(reader.stored):
+            return read_on(reader)
+        # (so it makes no difference which entries are stored)
+        reader.stored = None
+    return Database(reader.text, [], {}, reader)
 
 
 class Reader:
@@ -295,6 +320,15 @@ class Reader:
         """Reads the records from a place on."""
         self.first = self.records(place, len(self.text), self.strings)
         self.spans = self.first.items()
+        self.known_keys: Optional[List[Optional[bytes]]] = None
+
+    @property
+    def keys(self) -> List[Optional[bytes]]:
+        """The keys of the items of the first records, in lower case; None of an item that is no entry."""
+        if self.known_keys is None:
+            texts, kinds, key_at, key_len = self.first.texts, self.first.kinds, self.first.text_at, self.first.text_len
+            self.known_keys = [texts[key_at[at] : key_at[at] + key_len[at]].lower() if kinds[at] == ENTRY else None for at, _ in self.spans]
+        return self.known_keys
 
     def add_all(self) -> Optional[int]:
         """Adds the items of the records that were read. It answers where the rest is to be read once more, since what a repeated entry hides defines other strings before it."""
@@ -333,7 +367,7 @@ class Reader:
 
     def add(self, records: Records, at: int, last: int) -> Item:
         """Adds the item of these records."""
-        item = self.item(records, at, last)
+        item = self.item(records, at, last, self.items[-1].end if self.items else 0)
         self.items.append(item)
         kind = records.kinds[at]
         if kind == ENTRY and self.stored is not None and item.key is not None:
@@ -344,25 +378,38 @@ class Reader:
             self.stored.add(key)
         elif kind == STRING and records.is_whole[at] and item.key is not None:
             self.strings[item.key.lower()] = records.value(at)
-        if records.kinds[last] == WRONG:
-            said = records.value(last).rpartition(b"--line ")[0][len(b"Error--") :]
-            item.slip = Slip(records.starts[last], said.decode())
+        item.slip = slip_of(records, last)
         return item
 
-    def item(self, records: Records, at: int, last: int) -> Item:
-        """The item of these records, so far as the first of them tells it."""
+    def made(self, number: int) -> Item:
+        """The item of this number, where none is repeated."""
+        at, last = self.spans[number]
+        item = self.item(self.first, at, last, self.first.ends[self.spans[number - 1][1]] if number else 0)
+        item.slip = slip_of(self.first, last)
+        return item
+
+    def item(self, records: Records, at: int, last: int, after: int) -> Item:
+        """The item of these records, so far as the first of them tells it. after: where the item before it ends."""
         kind, start, end = records.kinds[at], records.starts[at], records.ends[at]
         if kind == ENTRY:
             return Item(records, at, last, start, None, records.value(at), end)
         if kind == WRONG:
             # (nothing of it was read whole: it begins with the first `@` after the item before it)
-            start = self.text.find(b"@", max(records.base, self.items[-1].end if self.items else 0))
+            start = self.text.find(b"@", max(records.base, after))
         found = BEGINS_ITEM.match(self.text, start)
         assert found is not None
         if kind != STRING:
             return Item(records, at, last, start, (found[1] or b"").lower(), None, end)
         name_end = opened(self.text, found.end()) + records.name_len[at]
         return Item(records, at, last, start, b"string", self.text[name_end - records.name_len[at] : name_end], name_end)
+
+
+def slip_of(records: Records, last: int) -> Optional[Slip]:
+    """The mistake with which an item ends."""
+    if records.kinds[last] != WRONG:
+        return None
+    said = records.value(last).rpartition(b"--line ")[0][len(b"Error--") :]
+    return Slip(records.starts[last], said.decode())
 
 
 class Hidden:
@@ -409,7 +456,7 @@ class Hidden:
                 return
             if not is_last and self.is_cut(records, at, last):
                 break
-            self.changes_strings |= records.kinds[at] == STRING and records.value(at) != reader.strings.get(records.names[at])
+            self.changes_strings |= records.kinds[at] == STRING and records.value(at) != reader.strings.get(records.name(at))
             item = reader.add(records, at, last)
             self.place = item.end
             if item.is_repeated and reader.text.find(b"@", item.key_end, records.ends[last]) >= 0:
@@ -457,7 +504,7 @@ def undefined_of(database: Database, item: Item, strings: Set[bytes]) -> Iterato
     """The names without a string in the fields of an entry. Of fields with the same name the first counts."""
     records, first = item.records, item.at + 1
     for number in records.lacking(first, item.last):
-        if records.names[number] not in records.names[first:number]:
+        if records.name(number) not in records.names_between(first, number):
             yield from undefined_in(database, item, field_of(records, number), None, strings)
 
 

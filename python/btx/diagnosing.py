@@ -13,17 +13,18 @@ from .bibtext import REPEATED
 from .bsttext import COMMANDS, StyleText, Word, uses_between
 from .builtins import BUILT_IN
 from .checking import Fault, StyleWarning, warnings_of
-from .doctor import JOURNALS, MONTHS, Finding, Source, Style
+from .doctor import JOURNALS, MONTHS, Finding
 from .documents import Document
 from .jobs import run
 from .mending import Mending, mend
 from .messages import Kind, Message
 from .options import Options
+from .pieces import Examination
 from .spelling import nearest
 from .standard import TYPES
-from .workspace import MOST_BYTES, Workspace, path_of
+from .workspace import MOST_BYTES, StyleInUse, Workspace, path_of
 
-__all__ = ["Diagnostic", "Mending", "cited", "diagnose", "types_of"]
+__all__ = ["Diagnosis", "Diagnostic", "Mending", "diagnose", "types_of"]
 
 ERROR, WARNING, INFO, HINT = 1, 2, 3, 4
 SEVERITIES = {"error": ERROR, "warning": WARNING, "info": INFO}
@@ -37,15 +38,16 @@ FAULTS = {
 }
 # How many diagnostics of a text are shown at most.
 MOST_SHOWN = 1000
+# How many bytes of a database are examined at most, and of a style are checked, before its mistakes are shown.
+MOST_AT_ONCE, MOST_OF_STYLE = 200_000, 60_000
+# Of how many texts of styles what the library says of them is kept.
+MOST_STYLES = 8
 # How many warnings of a style are looked for one by one.
 MOST_LOOKED_FOR = 20
 UNKNOWN = re.compile(r"(.*) (?:is an unknown function|isn't a command)", re.DOTALL)
 # What holds no brace of a style's text: comments and literals; a part of its text, or a comment.
 NO_BRACES = re.compile(rb"%[^\n]*|\"[^\"\n]*\"?")
 STYLE_TEXT = re.compile(rb"\"[^\"\n]*\"?|[^ \t\r\n%\"]+|(%)[^\n]*")
-CITES = re.compile(rb"\\(?:no)?[A-Za-z]*[cC]ite[A-Za-z]*\*?(?:\[[^\]\r\n]*\]){0,2}\{([^{}]*)\}")
-AUX_CITES = re.compile(rb"(?m)^\\citation\{([^}\s]*)\}")
-KEY = re.compile(rb"[^,\s]+")
 
 
 class Diagnostic(NamedTuple):
@@ -59,16 +61,77 @@ class Diagnostic(NamedTuple):
     mend: Callable[[], Optional[Mending]] = lambda: None
 
 
+class Diagnosis:
+    """What is said of a text. Where its examination takes long, the mistakes are said first, and the doubts when it is done.
+
+    said: what is said so far. examination: of a database, as long as it isn't done. is_checked: of a style, whether its check is done."""
+
+    def __init__(self, document: Document, workspace: Workspace) -> None:
+        self.document = document
+        self.workspace = workspace
+        self.examination: Optional[Examination] = None
+        self.used: Optional[StyleInUse] = None
+        self.is_checked = True
+        self.said: List[Diagnostic] = []
+        ending = os.path.splitext(path_of(document.uri))[1].lower()
+        if ending not in (".bib", *BY_ENDING):
+            return
+        if len(document.text) > MOST_BYTES:
+            self.said = of_long_text()
+        elif ending == ".bib":
+            self.read_database()
+        elif ending == ".bst" and len(document.text) > MOST_OF_STYLE:
+            self.said, self.is_checked = first_of(style_mistakes(document, workspace)), False
+        else:
+            self.said = first_of(BY_ENDING[ending](document, workspace))
+
+    @property
+    def is_whole(self) -> bool:
+        """Whether all is said."""
+        return self.examination is None and self.is_checked
+
+    def read_database(self) -> None:
+        """Reads a database, and examines it where that doesn't take long."""
+        self.examination, self.used = self.workspace.read_pieces(self.document, MOST_SHOWN + 1)
+        if self.examination.bytes_left() > MOST_AT_ONCE:
+            self.said = self.of_findings(self.examination.known_findings())
+        else:
+            self.finish()
+
+    def go_on(self) -> None:
+        """Examines some more of the text."""
+        if not self.is_checked:
+            self.said, self.is_checked = first_of(of_style(self.document, self.workspace)), True
+        if self.examination is None:
+            return
+        self.examination.go_on()
+        if self.examination.is_done:
+            self.said, self.examination = self.of_findings(self.examination.findings()), None
+
+    def finish(self) -> None:
+        """Examines all of the text."""
+        while not self.is_whole:
+            self.go_on()
+
+    def of_findings(self, findings: List[Finding]) -> List[Diagnostic]:
+        return first_of(of_finding(it, self.document, self.workspace, self.used) for it in findings)
+
+
 def diagnose(document: Document, workspace: Workspace) -> List[Diagnostic]:
     """All that is said of a text."""
-    ending = os.path.splitext(path_of(document.uri))[1].lower()
-    by_ending = {".bst": of_style, ".bib": of_database, ".aux": of_aux, ".tex": of_document}
-    if ending not in by_ending:
-        return []
-    if len(document.text) > MOST_BYTES:
-        said = f"this text has more than {MOST_BYTES:,} bytes, and isn't checked while you type: python3 -m btx doctor examines databases of any length"
-        return [Diagnostic(0, 0, INFO, "too-long", said)]
-    found = list(itertools.islice(by_ending[ending](document, workspace), MOST_SHOWN + 1))
+    diagnosis = Diagnosis(document, workspace)
+    diagnosis.finish()
+    return diagnosis.said
+
+
+def of_long_text() -> List[Diagnostic]:
+    said = f"this text has more than {MOST_BYTES:,} bytes, and isn't checked while you type: python3 -m btx doctor examines databases of any length"
+    return [Diagnostic(0, 0, INFO, "too-long", said)]
+
+
+def first_of(diagnostics: Iterator[Diagnostic]) -> List[Diagnostic]:
+    """As many as are shown."""
+    found = list(itertools.islice(diagnostics, MOST_SHOWN + 1))
     if len(found) > MOST_SHOWN:
         found[MOST_SHOWN:] = [Diagnostic(0, 0, INFO, "more", f"only the first {MOST_SHOWN:,} diagnostics are shown")]
     return found
@@ -78,11 +141,21 @@ def diagnose(document: Document, workspace: Workspace) -> List[Diagnostic]:
 
 
 def of_style(document: Document, workspace: Workspace) -> Iterator[Diagnostic]:
-    """The mistakes of a style's text, as a run logs them, and what the check says of it."""
+    """The mistakes of a style's text, and what the check says of it."""
+    yield from style_mistakes(document, workspace)
+    yield from style_warnings(document, workspace)
+
+
+def style_mistakes(document: Document, workspace: Workspace) -> Iterator[Diagnostic]:
+    """The mistakes of a style's text, as a run logs them."""
     for message in logged_of_style(document.text):
         if message.kind is Kind.ERROR and message.file == "s.bst" and message.line is not None:
             yield style_mistake(document, workspace, message)
-    warnings = warnings_of(document.text)
+
+
+def style_warnings(document: Document, workspace: Workspace) -> Iterator[Diagnostic]:
+    """What the check says of a style."""
+    warnings = checked_warnings(document.text)
     warnings = [it for it in warnings if it.is_first] or warnings
     # (the whole style is read only where it takes less than to look for each warning)
     uses = workspace.style(document).uses if len(warnings) > MOST_LOOKED_FOR else None
@@ -167,12 +240,19 @@ def applied(text: bytes, mending: Mending) -> bytes:
     return text[: mending.start] + mending.text.encode("utf8", "surrogateescape") + text[mending.end :]
 
 
-@lru_cache(maxsize=8)
+@lru_cache(maxsize=MOST_STYLES)
 def mistakes_of_style(text: bytes) -> int:
     """How many mistakes a run logs of a style's text."""
     return sum(1 for message in logged_of_style(text) if message.kind is Kind.ERROR and message.file == "s.bst")
 
 
+@lru_cache(maxsize=MOST_STYLES)
+def checked_warnings(text: bytes) -> List[StyleWarning]:
+    """The warnings of a style's check, which takes most of the time of a style's diagnosis: a text that was checked lately isn't checked again."""
+    return warnings_of(text)
+
+
+@lru_cache(maxsize=MOST_STYLES)
 def logged_of_style(text: bytes) -> List[Message]:
     """What a run of no entries logs."""
     files = {"j.aux": b"\\citation{*}\n\\bibdata{d}\n\\bibstyle{s}\n", "s.bst": text, "d.bib": b""}
@@ -190,16 +270,13 @@ def place_of_warning(warning: StyleWarning, words: List[Word]) -> Optional[Tuple
 # ---- databases ----
 
 
-def of_database(document: Document, workspace: Workspace) -> Iterator[Diagnostic]:
-    """What the doctor says of a database, with the style in use."""
-    used = workspace.style_in_use(document)
-    style = None if used is None else used[1]
-    for finding in workspace.pieces(document).examine(Source(document.uri, document.text), style, MOST_SHOWN + 1):
-        severity = HINT if finding.check == "unread-field" else SEVERITIES[finding.severity]
-        yield Diagnostic(finding.start, finding.end, severity, finding.check, finding.text, partial(mending_of, document, workspace, finding, used))
+def of_finding(finding: Finding, document: Document, workspace: Workspace, used: Optional[StyleInUse]) -> Diagnostic:
+    """What is said of a finding of the doctor, with the style in use."""
+    severity = HINT if finding.check == "unread-field" else SEVERITIES[finding.severity]
+    return Diagnostic(finding.start, finding.end, severity, finding.check, finding.text, partial(mending_of, document, workspace, finding, used))
 
 
-def mending_of(document: Document, workspace: Workspace, finding: Finding, used: Optional[Tuple[Document, Style, StyleText]]) -> Optional[Mending]:
+def mending_of(document: Document, workspace: Workspace, finding: Finding, used: Optional[StyleInUse]) -> Optional[Mending]:
     """The edit that a finding suggests."""
     word, place = shown(document.text[finding.start : finding.end]), (finding.start, finding.end)
     if finding.check == "undefined-string":
@@ -222,7 +299,7 @@ def mending_of(document: Document, workspace: Workspace, finding: Finding, used:
     return mending_of_mistake(document, workspace, finding.start)
 
 
-def strings_before(document: Document, workspace: Workspace, place: int, used: Optional[Tuple[Document, Style, StyleText]]) -> Set[str]:
+def strings_before(document: Document, workspace: Workspace, place: int, used: Optional[StyleInUse]) -> Set[str]:
     """The names of the strings that are defined before a place: those of the database, and those of the style in use or else of TeX's standard styles."""
     items = workspace.base(document).items
     own = {item.key for item in items if item.kind == b"string" and item.key is not None and item.end < place}
@@ -276,35 +353,23 @@ def of_document(document: Document, workspace: Workspace) -> Iterator[Diagnostic
     yield from unknown_citations(document, workspace)
 
 
-def citations(document: Document) -> Iterator[Tuple[int, int]]:
-    """Where the keys are that a text cites."""
-    pattern = AUX_CITES if document.uri.endswith(".aux") else CITES
-    for cite in pattern.finditer(document.text):
-        for key in KEY.finditer(document.text, *cite.span(1)):
-            yield key.span()
-
-
-def cited(document: Document, workspace: Workspace) -> List[Tuple[int, int]]:
-    """The same, found once for a text."""
-    return workspace.made("citations", document, lambda _: list(citations(document)))  # type: ignore[no-any-return]
-
-
 def unknown_citations(document: Document, workspace: Workspace) -> Iterator[Diagnostic]:
     """The citations without an entry in the databases of a document. Where no database is found, nothing is said."""
     databases = workspace.databases(document)
-    keys: Dict[bytes, bytes] = {}
-    for database in databases:
-        keys.update((key.lower(), key) for key, _ in workspace.base(database).keys())
-    for start, end in cited(document, workspace) if databases else ():
-        key = document.text[start:end]
-        if key.lower() not in keys and key != b"*":
-            said = f'I didn\'t find a database entry for "{key.decode("utf8", "replace")}"'
-            yield Diagnostic(start, end, WARNING, "no-entry", said, partial(known_key, document, keys, (start, end)))
+    keys = frozenset([b"*"]).union(*(workspace.outline(database).keys for database in databases))
+    for start, end in workspace.citations(document).without(keys) if databases else ():
+        said = f'I didn\'t find a database entry for "{document.text[start:end].decode("utf8", "replace")}"'
+        yield Diagnostic(start, end, WARNING, "no-entry", said, partial(known_key, document, workspace, databases, (start, end)))
 
 
-def known_key(document: Document, keys: Dict[bytes, bytes], place: Tuple[int, int]) -> Optional[Mending]:
+def known_key(document: Document, workspace: Workspace, databases: List[Document], place: Tuple[int, int]) -> Optional[Mending]:
     """The key of an entry that is spelled most like a citation; none in a file that LaTeX writes."""
     if document.uri.endswith(".aux"):
         return None
+    keys = {item.key.lower(): item.key for base in databases for item, _, _ in workspace.outline(base).items() if item.is_entry and item.key is not None}
     near = nearest(document.text[slice(*place)].decode("utf8", "replace"), [key.decode("utf8", "replace") for key in keys])
     return written(place, None if near is None else keys.get(near.encode(), near.encode()).decode("utf8", "replace"))
+
+
+# What is said of the texts whose names end so, beside databases.
+BY_ENDING: Dict[str, Callable[[Document, Workspace], Iterator[Diagnostic]]] = {".bst": of_style, ".aux": of_aux, ".tex": of_document}

@@ -250,6 +250,12 @@ class Examiner:
             elif find(b"=", item.end, following) >= 0 and item.own_kind != b"comment":
                 self.text_between(item.end, following)
 
+    def slips(self, items: List[Item]) -> None:
+        """Says where the reading of items ends with a mistake."""
+        for item in items:
+            if item.slip is not None:
+                self.slip(item)
+
     def slip(self, item: Item) -> None:
         assert item.slip is not None
         place, text = item.slip
@@ -271,7 +277,7 @@ class Examiner:
     def entry(self, item: Item) -> None:
         """Examines an entry: its type, its fields, and what tells its work."""
         records, first, last = item.records, item.at + 1, item.last
-        names = records.names[first:last]
+        names = records.names_between(first, last)
         numbers = dict(zip(names, range(first, last)))
         if len(numbers) < last - first:
             numbers = self.first_of_each(item, names)
@@ -313,7 +319,7 @@ class Examiner:
         """Says which fields are empty."""
         records = item.records
         for number in records.lacking(item.at + 1, item.last):
-            name = records.names[number]
+            name = records.name(number)
             if not records.text_len[number] and numbers[name] == number:
                 field = field_of(records, number)
                 if self.database.is_text(field):

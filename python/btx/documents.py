@@ -5,9 +5,9 @@ from __future__ import annotations
 import bisect
 import itertools
 import re
-from typing import Any, Dict, List, Optional
+from typing import Any, Dict, List, Optional, Union
 
-__all__ = ["Document", "Feeds", "Position", "Range", "units"]
+__all__ = ["Document", "LineEnds", "Position", "Range", "units"]
 
 Position = Dict[str, int]
 Range = Dict[str, Position]
@@ -16,8 +16,9 @@ LINE = re.compile(r"[^\r\n]*(?:\r\n|\r|\n)")
 # The bytes that begin no letter of UTF-8, those that begin none of four bytes, and the letters that have two units of UTF-16.
 NOT_FIRST, NOT_OF_FOUR = bytes(range(0x80, 0xC0)), bytes(range(0xF0))
 OF_TWO_UNITS = re.compile("[\U00010000-\U0010ffff]")
-# How many bytes of a text are looked through to count the line feeds before a place, or to find one by its number.
-BLOCK = 4096
+LINE_END, FEED = re.compile(rb"\r\n|\r|\n"), re.compile(rb"\n")
+# How many bytes of a text are looked through at most to count the line ends before a place, or to find one by its number.
+BLOCK = 1024
 
 
 def split_lines(text: str) -> List[str]:
@@ -51,42 +52,89 @@ def index_of(line: str, column: int) -> int:
     return min(column - more, end)
 
 
-class Feeds:
-    """The line feeds of a text. They are counted block by block: a place has those of the blocks before its own, and the few of its own."""
+class LineEnds:
+    """The line ends of a text: line feeds alone, or else also returns, with a line feed after them or not. They are counted block by block: a place has those of the blocks before its own,
+    and the few of its own. No block begins in the middle of a line end.
 
-    def __init__(self, text: bytes) -> None:
+    starts: where the blocks begin. sums: how many line ends are before each block, and at last how many there are."""
+
+    def __init__(self, text: bytes, is_of_feeds: bool) -> None:
+        self.is_of_feeds = is_of_feeds
+        self.take(text)
+        self.starts, counts = self.blocks(0, len(text))
+        self.sums = [0, *itertools.accumulate(counts)]
+
+    def take(self, text: bytes) -> None:
         self.text = text
-        self.sums = [0, *itertools.accumulate(text.count(b"\n", at, at + BLOCK) for at in range(0, len(text), BLOCK))]
+        self.has_returns = not self.is_of_feeds and b"\r" in text
+
+    def blocks(self, start: int, end: int) -> "tuple[List[int], List[int]]":
+        """Blocks for a part of the text: where they begin, and how many line ends each has."""
+        starts = list(range(start, end, BLOCK)) or [start]
+        if self.has_returns:
+            starts = [it + (it > start and self.is_in_end(it)) for it in starts]
+        return starts, [self.count(*it) for it in zip(starts, [*starts[1:], end])]
+
+    def is_in_end(self, place: int) -> bool:
+        """Whether a place is in the middle of a line end."""
+        return self.has_returns and self.text[max(place - 1, 0) : place + 1] == b"\r\n"
+
+    def count(self, start: int, end: int) -> int:
+        """How many line ends begin and end between two places."""
+        feeds = self.text.count(b"\n", start, end)
+        if not self.has_returns:
+            return feeds
+        return feeds + self.text.count(b"\r", start, end) - self.text.count(b"\r\n", start, end)
+
+    def edit(self, text: bytes, start: int, end: int) -> None:
+        """Counts again where an edit has changed what was between two places; `text` is the one after it."""
+        more = len(text) - len(self.text)
+        self.take(text)
+        first, last = self.block_of(max(start - 1, 0)), self.block_of(end)
+        after = self.starts[last + 1 :]
+        starts, counts = self.blocks(self.starts[first], after[0] + more if after else len(text))
+        sums = list(itertools.accumulate(counts, initial=self.sums[first]))
+        more_ends = sums[-1] - self.sums[last + 1]
+        self.starts[first:] = [*starts, *(it + more for it in after)]
+        self.sums[first:] = [*sums, *(it + more_ends for it in self.sums[last + 2 :])]
+
+    def block_of(self, place: int) -> int:
+        return bisect.bisect_right(self.starts, place) - 1
 
     def before(self, place: int) -> int:
-        """How many line feeds are before a place."""
-        block = min(place // BLOCK, len(self.sums) - 1)
-        return self.sums[block] + self.text.count(b"\n", block * BLOCK, place)
+        """How many line ends are before a place."""
+        block = self.block_of(place)
+        return self.sums[block] + self.count(self.starts[block], place) - self.is_in_end(place)
 
     def after(self, number: int) -> int:
-        """The byte after the line feed with this number, counted from 1; of 0 the first byte of the text, and its end where there are fewer."""
+        """The byte after the line end with this number, counted from 1; of 0 the first byte of the text, and its end where there are fewer."""
         if not 0 < number <= self.sums[-1]:
             return 0 if number <= 0 else len(self.text)
         block = bisect.bisect_left(self.sums, number) - 1
-        place = block * BLOCK
-        for _ in range(number - self.sums[block]):
-            place = self.text.index(b"\n", place) + 1
-        return place
+        ends = (LINE_END if self.has_returns else FEED).finditer(self.text, self.starts[block])
+        return next(itertools.islice(ends, number - self.sums[block] - 1, None)).end()
+
+    def start_of_line(self, place: int) -> int:
+        """The first byte of the line that a place is on."""
+        if not self.has_returns:
+            return self.text.rfind(b"\n", 0, place) + 1
+        start, end = self.starts[self.block_of(place)], place - self.is_in_end(place)
+        found = max(self.text.rfind(b"\n", start, end), self.text.rfind(b"\r", start, end))
+        return found + 1 if found >= 0 else self.after(self.before(start))
 
 
 class Document:
     """A text in an editor. text: its bytes, in UTF-8."""
 
-    def __init__(self, uri: str, text: str, version: Optional[int] = None) -> None:
+    def __init__(self, uri: str, text: Union[str, bytes], version: Optional[int] = None) -> None:
         self.uri = uri
         self.version = version
-        self.replace(text.encode("utf8", "surrogatepass"))
+        self.replace(text.encode("utf8", "surrogatepass") if isinstance(text, str) else text)
 
     def replace(self, text: bytes) -> None:
         self.text = text
-        self.known_feeds: Optional[Feeds] = None
-        self.known_starts: List[int] = []
-        self.has_returns = b"\r" in text
+        self.known_ends: Optional[LineEnds] = None
+        self.known_feeds: Optional[LineEnds] = None
         # A line, a byte of it, and the units before that.
         self.passed = 0, 0, 0
 
@@ -101,7 +149,10 @@ class Document:
     def edit(self, where: Range, text: str) -> None:
         """Puts a text in the place of a range."""
         start, end = sorted((self.place(where["start"]), self.place(where["end"])))
-        self.replace(b"".join((self.text[:start], text.encode("utf8", "surrogatepass"), self.text[end:])))
+        self.text = b"".join((self.text[:start], text.encode("utf8", "surrogatepass"), self.text[end:]))
+        self.ends.edit(self.text, start, end)
+        self.known_feeds = None
+        self.passed = 0, 0, 0
 
     # ---- lines ----
 
@@ -111,52 +162,43 @@ class Document:
         return split_lines(self.text.decode("utf8", "surrogatepass"))
 
     @property
-    def feeds(self) -> Feeds:
+    def ends(self) -> LineEnds:
+        """The ends of the lines that positions count."""
+        if self.known_ends is None:
+            self.known_ends = LineEnds(self.text, False)
+        return self.known_ends
+
+    @property
+    def feeds(self) -> LineEnds:
+        """The ends of the lines that a log counts."""
+        if not self.ends.has_returns:
+            return self.ends
         if self.known_feeds is None:
-            self.known_feeds = Feeds(self.text)
+            self.known_feeds = LineEnds(self.text, True)
         return self.known_feeds
-
-    def line_starts(self) -> List[int]:
-        """The bytes at which the lines begin."""
-        if not self.known_starts:
-            ends = itertools.accumulate(map(len, self.text.splitlines(True)))
-            # (a text that ends with a line has an empty one after it)
-            self.known_starts = [0, *ends] if self.text.endswith((b"\n", b"\r")) or not self.text else [0, *ends][:-1]
-        return self.known_starts
-
-    def line_at(self, place: int) -> "tuple[int, int]":
-        """The line that a place is on, and its first byte."""
-        if not self.has_returns:
-            return self.feeds.before(place), self.text.rfind(b"\n", 0, place) + 1
-        starts = self.line_starts()
-        line = bisect.bisect_right(starts, place) - 1
-        return line, starts[line]
-
-    def line_of(self, number: int) -> "tuple[int, int]":
-        """The first byte of a line and the one after its last. A line past the last one is the end of the text."""
-        if not self.has_returns:
-            return self.feeds.after(number), self.feeds.after(number + 1)
-        starts, end = self.line_starts(), len(self.text)
-        return (starts[number] if number < len(starts) else end), (starts[number + 1] if number + 1 < len(starts) else end)
 
     # ---- places ----
 
     def place(self, position: Position) -> int:
         """The byte of a position. A line before the first one is the first."""
-        start, end = self.line_of(max(position["line"], 0))
+        number = max(position["line"], 0)
+        start, end = self.ends.after(number), self.ends.after(number + 1)
         line = self.text[start:end].decode("utf8", "surrogatepass")
         return start + len(line[: index_of(line, position["character"])].encode("utf8", "surrogatepass"))
 
     def position(self, place: int) -> Position:
         """The position of a byte. What is before it on its line is counted once, where positions are asked for in their order."""
-        line, start = self.line_at(place)
+        line, start = self.ends.before(place), self.ends.start_of_line(place)
         _, at, column = self.passed if self.passed[0] == line and start <= self.passed[1] <= place else (line, start, 0)
         column += units(self.text[at:place])
         self.passed = line, place, column
         return {"line": line, "character": column}
 
     def range(self, start: int, end: int) -> Range:
-        return {"start": self.position(start), "end": self.position(end)}
+        first = self.position(start)
+        if b"\n" in self.text[start:end] or b"\r" in self.text[start:end]:
+            return {"start": first, "end": self.position(end)}
+        return {"start": first, "end": {"line": first["line"], "character": first["character"] + units(self.text[start:end])}}
 
     def line_range(self, line: int) -> "tuple[int, int]":
         """The bytes of a line as a log counts it, from 1: lines end at line feeds alone. One past the last line is the last."""

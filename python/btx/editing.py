@@ -5,12 +5,13 @@ from __future__ import annotations
 import re
 from typing import Any, Dict, Iterator, List, NamedTuple, Optional, Tuple
 
-from .bibtext import Database, Item
+from .bibtext import Item
 from .bsttext import COMMANDS, LIST_WORD, Word
 from .builtins import BUILT_IN, described
-from .diagnosing import cited, types_of
+from .diagnosing import types_of
 from .doctor import JOURNALS, MONTHS
 from .documents import Document
+from .outline import Placed
 from .standard import FIELDS, TYPES
 from .workspace import Workspace
 
@@ -62,28 +63,31 @@ def names_of(document: Document, workspace: Workspace) -> Iterator[Tuple[Named, 
             kind = "macro" if word.kind == "string" else "function"
             yield Named(kind, word.name, Place(document, word.start, word.end)), bool(word.kind)
     elif document.uri.endswith(".bib"):
-        database = workspace.base(document)
-        for item in database.items:
-            yield from names_of_item(document, database, item)
+        for placed in workspace.outline(document).items():
+            yield from names_of_item(document, placed)
     else:
-        for start, end in cited(document, workspace):
+        for start, end in workspace.citations(document).all():
             yield Named("key", shown(document.text[start:end].lower()), Place(document, start, end)), False
 
 
-def names_of_item(document: Document, database: Database, item: Item) -> Iterator[Tuple[Named, bool]]:
+def names_of_item(document: Document, placed: Placed) -> Iterator[Tuple[Named, bool]]:
     """The key of an item, the strings that it uses and the key that its crossref names."""
-    text = document.text
+    item, database, shift = placed
+    text = database.text
+
+    def named(kind: str, start: int, end: int) -> Named:
+        return Named(kind, shown(text[start:end].lower()), Place(document, start + shift, end + shift))
+
     if item.key:
-        kind = "key" if item.is_entry else "string"
-        yield Named(kind, shown(item.key.lower()), Place(document, item.key_end - len(item.key), item.key_end)), True
+        yield named("key" if item.is_entry else "string", item.key_end - len(item.key), item.key_end), True
     for field in item.fields:
         for part in database.names(field):
-            yield Named("string", shown(text[part.start : part.end].lower()), Place(document, part.start, part.end)), False
+            yield named("string", part.start, part.end), False
         if field.name == b"crossref" and database.is_text(field):
             begin = database.start(field) + 1
             raw = text[begin : field.end - 1]
             start = begin + len(raw) - len(raw.lstrip())
-            yield Named("key", shown(raw.strip().lower()), Place(document, start, start + len(raw.strip()))), False
+            yield named("key", start, start + len(raw.strip())), False
 
 
 def name_at(document: Document, workspace: Workspace, place: int) -> Optional[Named]:
@@ -100,11 +104,10 @@ def names_near(document: Document, workspace: Workspace, place: int) -> Iterator
             if word.start <= place <= word.end:
                 yield Named("macro" if word.kind == "string" else "function", word.name, Place(document, word.start, word.end))
     elif document.uri.endswith(".bib"):
-        database = workspace.base(document)
-        for item in database.items_at(place):
-            yield from (named for named, _ in names_of_item(document, database, item))
+        for placed in workspace.outline(document).items_at(place):
+            yield from (named for named, _ in names_of_item(document, placed))
     else:
-        for start, end in cited(document, workspace):
+        for start, end in workspace.citations(document).near(place):
             if start <= place <= end:
                 yield Named("key", shown(document.text[start:end].lower()), Place(document, start, end))
 
@@ -131,11 +134,18 @@ def definitions_in(document: Document, named: Named, workspace: Workspace) -> It
             if word.name == named.name and (word.kind == "string") == (named.kind == "macro"):
                 yield Place(document, word.start, word.end)
     elif document.uri.endswith(".bib"):
-        database = workspace.base(document)
-        strings = ((item.key, item.key_end) for item in database.items if item.key and not item.is_entry) if named.kind == "string" else ()
-        for key, end in database.keys() if named.kind == "key" else strings:
-            if key and shown(key.lower()) == named.name:
-                yield Place(document, end - len(key), end)
+        for placed in items_named(document, named, workspace):
+            end = placed.item.key_end + placed.shift
+            yield Place(document, end - len(placed.item.key or b""), end)
+
+
+def items_named(document: Document, named: Named, workspace: Workspace) -> Iterator[Placed]:
+    """The items of a database that define a name."""
+    outline, name = workspace.outline(document), named.name.encode("utf8", "surrogatepass")
+    if named.kind == "key":
+        yield from outline.entries(name)
+    elif named.kind == "string":
+        yield from (it for it in outline.string_items() if (it.item.key or b"").lower() == name)
 
 
 def definition(named: Named, workspace: Workspace) -> List[Place]:
@@ -198,13 +208,13 @@ def hover_of_style(document: Document, workspace: Workspace, named: Named) -> Op
 def hover_of_entry(workspace: Workspace, named: Named) -> Optional[str]:
     """What is said of a string or an entry."""
     if named.kind == "string":
-        own = workspace.base(named.place.document).strings.get(named.name.encode("utf8", "surrogatepass"))
+        own = workspace.outline(named.place.document).strings.get(named.name.encode("utf8", "surrogatepass"))
         used = workspace.style_in_use(named.place.document) if own is None else None
         value = own if used is None else used[1].strings.get(named.name.encode("utf8", "surrogatepass"))
         return None if value is None else f"string `{named.name}` = {shown(value)}"
     for place in definition(named, workspace):
-        for item in workspace.base(place.document).items_at(place.start):
-            if item.is_entry and item.key_end == place.end:
+        for item, _, shift in workspace.outline(place.document).items_at(place.start):
+            if item.is_entry and item.key_end + shift == place.end:
                 values = {field.name: field.value for field in reversed(item.fields)}
                 rows = [f"{name}: {shown(values[name.encode()].strip())}" for name in ("author", "editor", "title", "year") if name.encode() in values]
                 return "\n\n".join([f"**@{shown(item.kind)}** `{shown(item.key or b'')}`", *rows])
@@ -220,10 +230,11 @@ def symbols(document: Document, workspace: Workspace) -> Iterator[Tuple[str, str
             kind = {"FUNCTION": FUNCTION, "MACRO": STRING}.get(command.word, KEYWORD if command.name else VARIABLE)
             yield shown_name, command.word, kind, Place(document, command.start, command.end), Place(document, name.start, name.end)
     elif document.uri.endswith(".bib"):
-        for item in workspace.base(document).items:
+        for item, _, shift in workspace.outline(document).items():
             if item.key:
-                where = Place(document, item.key_end - len(item.key), item.key_end)
-                yield shown(item.key), shown(item.kind), KEY if item.is_entry else STRING, Place(document, item.start, max(item.end, item.key_end)), where
+                key_end = item.key_end + shift
+                whole = Place(document, item.start + shift, max(item.end + shift, key_end))
+                yield shown(item.key), shown(item.kind), KEY if item.is_entry else STRING, whole, Place(document, key_end - len(item.key), key_end)
 
 
 # ---- what may be written ----
@@ -253,7 +264,7 @@ def completions_of_database(document: Document, workspace: Workspace, before: by
     if AFTER_CROSSREF.search(before):
         return keys_of(document, workspace)
     if AFTER_EQUALS.search(before):
-        known = [*workspace.base(document).strings, *(used[1].strings if used is not None else (*MONTHS, *JOURNALS))]
+        known = [*workspace.outline(document).strings, *(used[1].strings if used is not None else (*MONTHS, *JOURNALS))]
         return [(shown(name), "string", "string") for name in known]
     if b"{" in before.rpartition(b",")[2]:
         return []
@@ -261,8 +272,7 @@ def completions_of_database(document: Document, workspace: Workspace, before: by
 
 
 def keys_of(document: Document, workspace: Workspace) -> List[Tuple[str, str, str]]:
-    base = workspace.base(document)
-    return [(shown(item.key), "key", title_of(item)) for item in base.items if item.is_entry and item.key]
+    return [(shown(item.key), "key", title_of(item)) for item, _, _ in workspace.outline(document).items() if item.is_entry and item.key]
 
 
 def title_of(item: Item) -> str:

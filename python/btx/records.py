@@ -63,6 +63,13 @@ class Records:
             self.known_names = [lowered[texts[at : at + length]] for at, length in zip(self.name_at, self.name_len)]
         return self.known_names
 
+    def names_between(self, first: int, last: int) -> List[bytes]:
+        """The names of the records from `first` to `last`."""
+        if self.known_names is not None:
+            return self.known_names[first:last]
+        lowered, texts = self.lowered, self.texts
+        return [lowered[texts[at : at + length]] for at, length in zip(self.name_at[first:last], self.name_len[first:last])]
+
     def name(self, number: int) -> bytes:
         """The name of a record, in lower case."""
         at = self.name_at[number]

@@ -1,6 +1,7 @@
 """`python3 -m btx lsp`: a language server for styles, databases, `.aux` files and citations, over standard input and output.
 
-A notice of a change is answered when no further message waits, so many changes at once give one answer, for the last text."""
+A notice of a change is answered when no further message waits, so many changes at once give one answer, for the last text. Of a large database the mistakes are sent first; it is examined
+piece by piece while no message waits, and then all is sent."""
 
 from __future__ import annotations
 
@@ -9,9 +10,10 @@ import sys
 from typing import Any, Callable, Dict, List, Optional
 
 from . import editing
-from .diagnosing import Diagnostic, diagnose
+from .diagnosing import Diagnosis, Diagnostic
 from .documents import Document
 from .editing import Place, RenameRefused
+from .reading import without_collection
 from .tokens import MODIFIERS, TYPES, data_of, tokens_of
 from .wire import BadMessage, Ended, Wire
 from .workspace import MOST_BYTES, Workspace
@@ -63,7 +65,9 @@ class Server:
         self.workspace = Workspace()
         self.is_ready = self.is_down = False
         self.changed: Dict[str, None] = {}
-        self.known: Dict[str, List[Diagnostic]] = {}
+        # What is said of texts, and of which of them not all is sent yet.
+        self.known: Dict[str, Diagnosis] = {}
+        self.unfinished: Dict[str, None] = {}
         self.methods: Dict[str, Callable[[Dict[str, Any]], Any]] = {
             "textDocument/didOpen": self.did_open,
             "textDocument/didChange": self.did_change,
@@ -87,20 +91,25 @@ class Server:
         """Answers messages until the client ends it."""
         while True:
             try:
-                message = self.wire.take(REST if self.changed else None)
+                message = self.wire.take(REST if self.changed else 0 if self.unfinished else None)
             except (Ended, OSError):
                 return 0 if self.is_down else 1
             except BadMessage as error:
                 self.wire.send({"id": None, "error": {"code": PARSE, "message": str(error)}})
                 continue
-            if message is None:
-                self.publish(next(iter(self.changed)))
-            elif message.get("method") == "exit":
+            if message is not None and message.get("method") == "exit":
                 return 0 if self.is_down else 1
-            elif isinstance(message.get("method"), str):
-                self.take(message)
-            elif "id" in message and "result" not in message and "error" not in message:
-                self.wire.send({"id": message["id"], "error": {"code": INVALID, "message": "a message without a method"}})
+            with without_collection():
+                self.do(message)
+
+    def do(self, message: Optional[Dict[str, Any]]) -> None:
+        """Does what a message asks; without one, some of what is to be done while none waits."""
+        if message is None:
+            self.work()
+        elif isinstance(message.get("method"), str):
+            self.take(message)
+        elif "id" in message and "result" not in message and "error" not in message:
+            self.wire.send({"id": message["id"], "error": {"code": INVALID, "message": "a message without a method"}})
 
     def take(self, message: Dict[str, Any]) -> None:
         """Does what a message asks, and answers it if it is a request."""
@@ -127,6 +136,9 @@ class Server:
         if self.is_down:
             raise Refused(INVALID, "it is shut down")
         if method == "shutdown":
+            # (the editor may read nothing more)
+            self.changed.clear()
+            self.unfinished.clear()
             self.is_down = True
             return None
         call = self.methods.get(method)
@@ -140,26 +152,28 @@ class Server:
 
     def did_open(self, params: Dict[str, Any]) -> None:
         given = params["textDocument"]
+        self.forget(given["uri"])
         self.workspace.open[given["uri"]] = Document(given["uri"], given["text"], given.get("version"))
         self.changed[given["uri"]] = None
 
     def did_change(self, params: Dict[str, Any]) -> None:
         document = self.document(params)
-        self.known.pop(document.uri, None)
+        self.forget(document.uri)
+        self.changed[document.uri] = None
         document.change(params["contentChanges"])
         document.version = params["textDocument"].get("version")
-        self.changed[document.uri] = None
 
     def did_save(self, params: Dict[str, Any]) -> None:
         """Looks again at the texts that may depend on what was saved."""
         self.known.clear()
+        self.unfinished.clear()
         self.changed.update(dict.fromkeys(self.workspace.open))
 
     def did_close(self, params: Dict[str, Any]) -> None:
         uri = self.document(params).uri
         self.workspace.forget(uri)
         self.changed.pop(uri, None)
-        self.known.pop(uri, None)
+        self.forget(uri)
         self.notify_diagnostics({"uri": uri, "diagnostics": []})
 
     def document(self, params: Dict[str, Any]) -> Document:
@@ -170,21 +184,48 @@ class Server:
 
     # ---- diagnostics ----
 
-    def diagnostics(self, document: Document) -> List[Diagnostic]:
-        if document.uri not in self.known:
-            self.known[document.uri] = diagnose(document, self.workspace)
-        return self.known[document.uri]
+    def forget(self, uri: str) -> None:
+        """Drops what is said of a text, and what isn't examined of it."""
+        self.known.pop(uri, None)
+        self.unfinished.pop(uri, None)
 
-    def publish(self, uri: str) -> None:
-        """Sends the diagnostics of a text."""
-        del self.changed[uri]
-        document = self.workspace.open[uri]
+    def work(self) -> None:
+        """Does some of what is to be done while no message waits."""
+        uri = next(iter(self.changed or self.unfinished))
         try:
-            found = [shown_diagnostic(document, it) for it in self.diagnostics(document)]
+            if uri in self.changed:
+                self.begin(uri)
+            else:
+                self.go_on(uri)
         except Exception as error:  # noqa: BLE001 (a text that can't be checked isn't to end the server)
             print(f"btx lsp: {uri}: {type(error).__name__}: {error}", file=sys.stderr)
-            found = []
-        params: Dict[str, Any] = {"uri": uri, "diagnostics": found}
+            self.unfinished.pop(uri, None)
+            self.publish(self.workspace.open[uri], [])
+
+    def begin(self, uri: str) -> None:
+        """Sends the diagnostics of a text, or the first of them."""
+        del self.changed[uri]
+        diagnosis = self.diagnosis(self.workspace.open[uri])
+        if not diagnosis.is_whole:
+            self.unfinished[uri] = None
+        self.publish(diagnosis.document, diagnosis.said)
+
+    def go_on(self, uri: str) -> None:
+        """Examines some more of a text, and sends its diagnostics when that is done."""
+        diagnosis = self.known[uri]
+        diagnosis.go_on()
+        if diagnosis.is_whole:
+            del self.unfinished[uri]
+            self.publish(diagnosis.document, diagnosis.said)
+
+    def diagnosis(self, document: Document) -> Diagnosis:
+        if document.uri not in self.known:
+            self.known[document.uri] = Diagnosis(document, self.workspace)
+        return self.known[document.uri]
+
+    def publish(self, document: Document, found: List[Diagnostic]) -> None:
+        """Sends the diagnostics of a text."""
+        params: Dict[str, Any] = {"uri": document.uri, "diagnostics": [shown_diagnostic(document, it) for it in found]}
         if document.version is not None:
             params["version"] = document.version
         self.notify_diagnostics(params)
@@ -197,7 +238,9 @@ class Server:
         document = self.document(params)
         start, end = document.place(params["range"]["start"]), document.place(params["range"]["end"])
         found: Dict[Any, Dict[str, Any]] = {}
-        for it in self.diagnostics(document):
+        diagnosis = self.diagnosis(document)
+        diagnosis.finish()
+        for it in diagnosis.said:
             mending = it.mend() if it.start <= end and it.end >= start else None
             if mending is None:
                 continue

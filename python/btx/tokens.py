@@ -62,16 +62,14 @@ def apart(tokens: List[Token]) -> Iterator[Token]:
 
 def data_of(document: Document, tokens: List[Token], start: int = 0, end: Optional[int] = None) -> List[int]:
     """Tokens as the protocol has them: of each how many lines and columns it is after the one before, its length, its kind and its bits. Only those that touch the bytes from `start` to `end`."""
-    text, starts = document.text, document.line_starts()
+    text, ends = document.text, document.ends
+    touched = [token for token in tokens if token.end > start and (end is None or token.start < end)]
+    measured = len if text.isascii() else units
     data: List[int] = []
-    line = last_line = last_column = last_start = 0
-    for token in tokens:
-        if token.end <= start or (end is not None and token.start >= end):
-            continue
-        while line + 1 < len(starts) and starts[line + 1] <= token.start:
-            line += 1
-        column = last_column + units(text[last_start : token.start]) if line == last_line else units(text[starts[line] : token.start])
-        length = units(text[token.start : token.end].rstrip(b"\r"))
-        data += [line - last_line, column - (last_column if line == last_line else 0), length, NUMBERS[token.kind], token.modifiers]
-        last_line, last_column, last_start = line, column, token.start
+    last_start = 0
+    for first, after, kind, modifiers in touched:
+        lines = ends.count(last_start, first)
+        begin = ends.start_of_line(first) if lines else last_start
+        data += lines, measured(text[begin:first]), measured(text[first:after].rstrip(b"\r")), NUMBERS[kind], modifiers
+        last_start = first
     return data

@@ -9,12 +9,17 @@ from typing import Any, Callable, Dict, Iterator, List, Optional, Tuple
 
 from .bibtext import Database, read
 from .bsttext import StyleText, read_style
+from .citing import Citations
 from .documents import Document
-from .doctor import Style
-from .pieces import Pieces
+from .doctor import Source, Style
+from .outline import Outline, outline_of
+from .pieces import Examination, Pieces
 from .searching import Search, content_of, found_search
 
-__all__ = ["Workspace", "path_of", "uri_of"]
+__all__ = ["StyleInUse", "Workspace", "path_of", "uri_of"]
+
+# A style that a document names: its text, and what it reads and has.
+StyleInUse = Tuple[Document, Style, StyleText]
 
 # A text of more bytes is neither checked while typing nor read beside an open one.
 MOST_BYTES = 8_000_000
@@ -35,6 +40,13 @@ def uri_of(path: str) -> str:
     return "file://" + urllib.parse.quote(os.fsencode(os.path.abspath(path)))
 
 
+def in_utf8(content: bytes) -> bytes:
+    """The bytes of a file, in UTF-8: what is none of it is a sign of its own."""
+    if content.isascii():
+        return content
+    return content.decode("utf8", "replace").encode("utf8")
+
+
 class Workspace:
     """The open texts by their URI, and what is known of files; what was read of a text is kept until the text changes."""
 
@@ -43,6 +55,8 @@ class Workspace:
         self.files: Dict[str, Tuple[Tuple[int, int], Document]] = {}
         self.known: Dict[str, Dict[str, Tuple[bytes, Any]]] = {}
         self.pieces_of: Dict[str, Pieces] = {}
+        self.outlines: Dict[str, Outline] = {}
+        self.cited: Dict[str, Citations] = {}
         self.search: Optional[Search] = None
 
     def document(self, path: str) -> Optional[Document]:
@@ -54,8 +68,7 @@ class Workspace:
             state = os.stat(path)
             stamp = (state.st_mtime_ns, state.st_size)
             if uri not in self.files or self.files[uri][0] != stamp:
-                text = content_of(os.fsencode(path), MOST_BYTES).decode("utf8", "replace")
-                self.files[uri] = stamp, Document(uri, text)
+                self.files[uri] = stamp, Document(uri, in_utf8(content_of(os.fsencode(path), MOST_BYTES)))
         except (OSError, ValueError):
             return None
         return self.files[uri][1]
@@ -84,11 +97,36 @@ class Workspace:
         return kept[1]
 
     def base(self, document: Document) -> Database:
+        """A database that is read as a whole."""
         return self.made("database", document, read)  # type: ignore[no-any-return]
 
-    def pieces(self, document: Document) -> Pieces:
-        """What was found in a database, piece by piece; it is kept until the text is closed."""
-        return self.pieces_of.setdefault(document.uri, Pieces())
+    def outline(self, document: Document) -> Outline:
+        """The items of a database: after an edit those are read that it has touched."""
+        known = self.outlines.get(document.uri)
+        if known is None or known.text is not document.text:
+            known = self.outlines[document.uri] = self.outline_of_doctor(document) or outline_of(document.text, known)
+        return known
+
+    def citations(self, document: Document) -> Citations:
+        """The citations of a text: after an edit those parts are looked through that it has touched."""
+        known = self.cited.get(document.uri)
+        if known is None or known.text is not document.text:
+            known = self.cited[document.uri] = Citations(document.text, document.uri.endswith(".aux"), known)
+        return known
+
+    def outline_of_doctor(self, document: Document) -> Optional[Outline]:
+        """What the doctor reads of an open text, where no entry is repeated."""
+        if document.uri not in self.open:
+            return None
+        pieces = self.read_pieces(document)[0].pieces
+        return None if any(piece.has_repeated for piece in pieces) else Outline(document.text, pieces)
+
+    def read_pieces(self, document: Document, most: Optional[int] = None) -> "Tuple[Examination, Optional[StyleInUse]]":
+        """Reads a database, piece by piece, so that it can be examined with the style in use. What was found in a piece is kept until the text is closed. most: how many findings are wanted
+        at most."""
+        used = self.style_in_use(document)
+        pieces = self.pieces_of.setdefault(document.uri, Pieces())
+        return pieces.read(Source(document.uri, document.text), None if used is None else used[1], most), used
 
     def style(self, document: Document) -> StyleText:
         return self.made("style", document, read_style)  # type: ignore[no-any-return]
@@ -102,7 +140,7 @@ class Workspace:
         found = self.made(repr(command.pattern), document, command.search)
         return None if found is None else found[1]
 
-    def style_in_use(self, document: Document) -> Optional[Tuple[Document, Style, StyleText]]:
+    def style_in_use(self, document: Document) -> "Optional[StyleInUse]":
         """The style that an `.aux` or a `.tex` file beside a text names, if there is one."""
         for beside in self.beside(document, ".aux", ".tex"):
             named = self.argument(beside, BIBSTYLE)
@@ -138,4 +176,6 @@ class Workspace:
     def forget(self, uri: str) -> None:
         self.open.pop(uri, None)
         self.known.pop(uri, None)
+        self.outlines.pop(uri, None)
+        self.cited.pop(uri, None)
         self.pieces_of.pop(uri, None)

@@ -21,6 +21,7 @@ class Editor:
         self.server = subprocess.Popen([sys.executable, "-m", "btx", "lsp"], env=env, cwd=folder, stdin=subprocess.PIPE, stdout=subprocess.PIPE, stderr=subprocess.PIPE)
         self.waiting, self.notices, self.number, self.exchanges = b"", [], 0, 0
         self.versions = {}
+        self.at_read = lambda: None
 
     # ---- messages ----
 
@@ -48,6 +49,7 @@ class Editor:
             if not select.select([self.server.stdout], [], [], max(end - time.monotonic(), 0))[0]:
                 return None
             piece = os.read(self.server.stdout.fileno(), 1 << 20)
+            self.at_read()
             if not piece:
                 return None
             self.waiting += piece

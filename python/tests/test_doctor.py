@@ -151,7 +151,7 @@ class Edited(unittest.TestCase):
         for seed in range(20):
             maker, pieces = random.Random(seed), Pieces()
             text = b"\n".join(maker.choice(seeds()) for _ in range(maker.randrange(1, 6)))
-            with unittest.mock.patch("btx.pieces.LEAST_BYTES", 1), unittest.mock.patch("btx.pieces.MOST_PIECES", maker.choice((1000, 5))):
+            with unittest.mock.patch("btx.renewing.LEAST_BYTES", 1), unittest.mock.patch("btx.renewing.MOST_PIECES", maker.choice((1000, 5))):
                 for edit in range(25):
                     with self.subTest(seed=seed, edit=edit):
                         source, most = Source("d.bib", text), maker.choice((None, None, 5))
