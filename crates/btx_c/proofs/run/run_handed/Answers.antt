@@ -1,4 +1,4 @@
-use Rattle.std.proofs.Common.{sym, subst, Some, []}
+use Rattle.std.proofs.Common.{sym, subst, ◌∙◌, Some, []}
 use Rattle.std.specs.Prelude.{Result, IfOk, OnErr, OnOk}
 use Rattle.btx_machine.specs.declared.report.Report.{Report}
 use Rattle.btx_machine.specs.language.KeepingStep.{AtFault, Completes, Received}
@@ -9,7 +9,7 @@ use Rattle.btx_c.specs.Noted.{HasNoted}
 use Rattle.btx_c.specs.Outcomes.{all_files}
 use Rattle.btx_c.proofs.FullLemmas.{whole_at_fault}
 use Rattle.btx_c.proofs.EventLemmas.{counted_of, logged_of}
-use Rattle.btx_c.proofs.OutcomeLemmas.{err_of, noted_of, ok_of}
+use Rattle.btx_c.proofs.OutcomeLemmas.{asks_of, err_of, noted_of, ok_of}
 use Rattle.btx_c.proofs.run.run_handed.Goals as goal
 
 pub returns-clause-ok : goal.returns-clause-ok
@@ -45,3 +45,6 @@ returns-clause-events g c =
     (logged_of c.run_into-ended.result _ c.run_into-ended.new.notes _ log c.run_into-ended.ensures.noted c.new-notes.ensures c.new-log.ensures)
     (counted_of c.run_into-ended.result _ c.run_into-ended.new.notes c.run_into-ended.ensures.counted c.new-notes.ensures)
     c.into_noted-noted.ensures)
+
+pub returns-clause-asks : goal.returns-clause-asks
+returns-clause-asks g c = λ is. c.run_into-ended.ensures.asks (asks_of c.run_into-ended.result _ _ _ (sym c.outcome_of-outcome.ensures ∙ is))
