@@ -49,11 +49,11 @@ Error--Repeated entry--line 3 of file d.bib
 #[test]
 fn advice_is_given_once_a_kind() {
     let error = "Error--\"A\" is not an integer while executing + for entry k\n";
-    let told = explain(&(error.repeat(3) + &error.replace('+', "-")), "", "@misc{k}");
-    assert_eq!(told.matches("what to do").count(), 1);
-    assert_eq!(told.matches("`+` takes NUMBER NUMBER, pushed in this order\n").count(), 1);
-    assert_eq!(told.matches("for @misc{k}, which begins at d.bib:1\n").count(), 2);
-    assert!(told.ends_with(&format!("(2 more errors are like `{}`; for k)\n", error.trim_end())), "{told}");
+    let output = explain(&(error.repeat(3) + &error.replace('+', "-")), "", "@misc{k}");
+    assert_eq!(output.matches("what to do").count(), 1);
+    assert_eq!(output.matches("`+` takes NUMBER NUMBER, pushed in this order\n").count(), 1);
+    assert_eq!(output.matches("for @misc{k}, which begins at d.bib:1\n").count(), 2);
+    assert!(output.ends_with(&format!("(2 more errors are like `{}`; for k)\n", error.trim_end())), "{output}");
     let assigned = explain("Error--0 is not a function while executing :=\n", "", "");
     assert!(assigned.contains("`:=` takes VALUE 'VARIABLE: is there a `'` before the variable?"), "{assigned}");
 }
@@ -64,15 +64,15 @@ fn a_missing_brace_is_named_once() {
     let unknown = |name: &str, number| format!("Error--{name} is an unknown function--line {number} of file s.bst\n");
     let all = [("INTEGERS", 3), ("i", 3), ("FUNCTION", 4), ("book", 4), ("i", 4), ("READ", 5), ("nosuch", 5)];
     let log: String = all.iter().map(|(name, number)| unknown(name, *number)).collect();
-    let told = explain(&(log + "Error--Illegal end of style file--line 5 of file s.bst\n"), style, "");
+    let output = explain(&(log + "Error--Illegal end of style file--line 5 of file s.bst\n"), style, "");
     let begin = "Error--INTEGERS is an unknown function--line 3 of file s.bst
     s.bst:3: INTEGERS {i}
              ^
     what to do: a `}` is missing in FUNCTION {article}, which begins at s.bst:1
     (5 more errors follow from that)
 Error--nosuch is an unknown function--line 5 of file s.bst\n";
-    assert!(told.starts_with(begin), "{told}");
-    assert_eq!(told.matches("a `}` is missing").count(), 1);
+    assert!(output.starts_with(begin), "{output}");
+    assert_eq!(output.matches("a `}` is missing").count(), 1);
 }
 
 #[test]
@@ -81,7 +81,7 @@ fn what_was_skipped_is_counted() {
     let unknown = |name: &str, number| format!("Error--{name} is an unknown function--line {number} of file s.bst\n");
     let all = [("count", 4), ("s", 4), ("x", 5), ("count", 5)];
     let log: String = all.iter().map(|(name, number)| unknown(name, *number)).collect();
-    let told = explain(&("Error--INTEGER isn't a command--line 1 of file s.bst\n".to_string() + &log), style, "");
+    let output = explain(&("Error--INTEGER isn't a command--line 1 of file s.bst\n".to_string() + &log), style, "");
     let begin = "Error--INTEGER isn't a command--line 1 of file s.bst
     s.bst:1: INTEGER {count}
              ^
@@ -89,8 +89,8 @@ fn what_was_skipped_is_counted() {
     what to do: correct the word, or put `%` before a comment: the commands are ENTRY, INTEGERS, STRINGS, FUNCTION, MACRO, READ, EXECUTE, ITERATE, REVERSE and SORT
     (2 more errors follow from that)
 Error--x is an unknown function--line 5 of file s.bst\n";
-    assert!(told.starts_with(begin), "{told}");
-    assert!(told.ends_with("    (1 more error follows from that in line 1)\n"), "{told}");
+    assert!(output.starts_with(begin), "{output}");
+    assert!(output.ends_with("    (1 more error follows from that in line 1)\n"), "{output}");
 }
 
 #[test]
@@ -122,10 +122,10 @@ fn a_misspelt_name_of_a_command_is_named() {
 
 #[test]
 fn a_brace_too_many_is_named() {
-    let told = explain("Error--I was expecting a command--line 2 of file s.bst\n", "FUNCTION {f} {}}\n} x\n", "");
+    let output = explain("Error--I was expecting a command--line 2 of file s.bst\n", "FUNCTION {f} {}}\n} x\n", "");
     assert!(
-        told.ends_with("    what to do: there is a `}` too many in FUNCTION {f}, which begins at s.bst:1\n"),
-        "{told}"
+        output.ends_with("    what to do: there is a `}` too many in FUNCTION {f}, which begins at s.bst:1\n"),
+        "{output}"
     );
     let style = "FUNCTION {f}\n{ #1 { skip$ } } if$ }\nINTEGERS { n }\n\nFUNCTION {g} { n }\n";
     let log =
@@ -143,11 +143,11 @@ fn scenes_are_shown() {
     let scene = Scene { at: at("FUNCTION {f}", 28), token: None, callers, caller_tokens: vec![None; 2], stack };
     let scenes = Scenes { errors: [(1, scene)].into(), ..Scenes::default() };
     let log = "Error--Integer overflow while executing +\n".repeat(2);
-    let told = explained(&Log::new(log.as_bytes()).with_scenes(&scenes), &job("", ""), &Terminal::NONE);
+    let output = explained(&Log::new(log.as_bytes()).with_scenes(&scenes), &job("", ""), &Terminal::NONE);
     let end = "Error--Integer overflow while executing +
     left by FUNCTION {f}, s.bst:28; called from book, s.bst:73; ITERATE {call.type$}, s.bst:100
     \"a?\" has been there since FUNCTION {g}, s.bst:7\n";
-    assert!(told.ends_with(end), "{told}");
+    assert!(output.ends_with(end), "{output}");
 }
 
 #[test]
@@ -155,27 +155,28 @@ fn equal_warnings_of_a_style_are_counted() {
     let log = "Warning--x in k\n".repeat(5000)
         + "Error--Integer overflow while executing + for entry k\n"
         + "Warning--y in k\n";
-    let told = explain(&(log + "Ended: finished, warnings 5001, errors 1, steps 9\n"), "", "@misc{k}");
-    assert_eq!(told.matches("Warning--x in k\n    for @misc{k}").count(), 8, "{told}");
+    let output = explain(&(log + "Ended: finished, warnings 5001, errors 1, steps 9\n"), "", "@misc{k}");
+    assert_eq!(output.matches("Warning--x in k\n    for @misc{k}").count(), 8, "{output}");
     assert!(
-        told.contains("Error--Integer overflow while executing + for entry k\n") && told.contains("Warning--y in k\n")
+        output.contains("Error--Integer overflow while executing + for entry k\n")
+            && output.contains("Warning--y in k\n")
     );
     let end = "(4992 more warnings are like `Warning--x in k`; for k)\nEnded: finished";
-    assert!(told.contains(end), "{told}");
+    assert!(output.contains(end), "{output}");
     let hinted = explain(&"Warning--empty title in k\n".repeat(20), "ENTRY {title}{}{}", "@misc{k, tilte = {T}}");
     assert!(hinted.contains("it has `tilte`: is it `title`?") && hinted.contains("(11 more warnings are"), "{hinted}");
 }
 
 #[test]
-fn only_so_many_messages_are_explained() {
+fn messages_after_the_first_thousand_are_counted() {
     let log = "Warning--x of no entry\n".repeat(5000) + "Warning--I didn't find a database entry for \"nosuch\"\n";
     let log = log
         + "Error--Integer overflow while executing + for entry k\nEnded: finished, warnings 5000, errors 0, steps 9\n";
-    let told = explain(&log, "", "@misc{k}");
-    assert_eq!(told.matches("Warning--x of no entry").count(), 1000);
-    assert!(told.contains("for \"nosuch\"\n") && told.contains("Error--Integer overflow"), "{told}");
+    let output = explain(&log, "", "@misc{k}");
+    assert_eq!(output.matches("Warning--x of no entry").count(), 1000);
+    assert!(output.contains("for \"nosuch\"\n") && output.contains("Error--Integer overflow"), "{output}");
     let end = "(4000 more messages stand in the .blg.)\nEnded: finished, warnings 5000, errors 0, steps 9\n";
-    assert!(told.ends_with(&format!("{end}(There were 5000 warnings)\n")), "{}", &told[told.len() - 200..]);
+    assert!(output.ends_with(&format!("{end}(There were 5000 warnings)\n")), "{}", &output[output.len() - 200..]);
 }
 
 #[test]
@@ -183,19 +184,19 @@ fn a_long_stack_and_long_lines_are_cut() {
     let log = "Error--The literal stack isn't empty while executing EXECUTE\n".to_string()
         + &"0\n".repeat(30)
         + &"x".repeat(9000);
-    let told = explain(&(log + "\nWarning--" + &"y".repeat(9000) + "\n"), "", "");
-    assert_eq!(told.matches("\n0\n0").count(), 10);
-    assert!(told.contains("    (11 more lines stand in the .blg)\nWarning--yy"), "{told}");
-    assert!(told.lines().all(|line| line.len() <= LONGEST_LINE + 2));
+    let output = explain(&(log + "\nWarning--" + &"y".repeat(9000) + "\n"), "", "");
+    assert_eq!(output.matches("\n0\n0").count(), 10);
+    assert!(output.contains("    (11 more lines stand in the .blg)\nWarning--yy"), "{output}");
+    assert!(output.lines().all(|line| line.len() <= LONGEST_LINE + 2));
 }
 
 #[test]
 fn nothing_acts_on_a_terminal() {
     let terminal = Terminal { is_terminal: true, has_colours: true, width: 20 };
     let log = b"Warning--\x1b]0;T\x07 in \xc2\x9bk\nError--I was expecting an =--line 1 of file d.bib\nx\x9b\n";
-    let told = explained(&Log::new(log), &job("", "@misc{\u{202e}k, note\u{1b}[2J 1}"), &terminal);
+    let output = explained(&Log::new(log), &job("", "@misc{\u{202e}k, note\u{1b}[2J 1}"), &terminal);
     let colours = [ERROR_COLOUR, WARNING_COLOUR, PLACE_COLOUR, NO_COLOUR];
-    let bare = colours.iter().fold(told, |told, colour| told.replace(colour, ""));
+    let bare = colours.iter().fold(output, |output, colour| output.replace(colour, ""));
     assert!(!bare.contains(|found: char| found != '\n' && (found.is_control() || found == '\u{202e}')), "{bare:?}");
 }
 
@@ -206,6 +207,6 @@ fn names_may_have_any_bytes() {
     let place = EventPlace { file: 0, start: 8, end: 8, line: 1, token: None };
     let places = LogPlaces { known: vec![Placed { at: 0, place }], ..LogPlaces::default() };
     let log = Log::new(b"Error--I was expecting a , or a }--line 1 of file \xe9.bib\n");
-    let told = explained(&log.with_places(&places), &files, &Terminal::NONE);
-    assert!(told.contains("    ?.bib:1: @misc{k 1}\n                     ^\n"), "{told}");
+    let output = explained(&log.with_places(&places), &files, &Terminal::NONE);
+    assert!(output.contains("    ?.bib:1: @misc{k 1}\n                     ^\n"), "{output}");
 }
