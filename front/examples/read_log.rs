@@ -4,6 +4,7 @@
 //!
 //! reads FOLDER/JOB.blg and the files that it names, in FOLDER. With `--width` explanations are for a terminal of N columns.
 
+use bibtex_front::event_places::places_by_runs;
 use bibtex_front::job::{File, Files};
 use bibtex_front::log::{Content, Log};
 use bibtex_front::shapes::Part;
@@ -42,8 +43,9 @@ fn main() -> io::Result<()> {
     log_name.extend_from_slice(b".blg");
     let folder = Path::new(&folder);
     let bytes = std::fs::read(folder.join(OsStr::from_bytes(&log_name)))?;
-    let log = Log::new(&bytes);
-    let files = files_of(&log, folder);
+    let files = files_of(&Log::new(&bytes), folder);
+    let places = places_by_runs(&bytes, &files);
+    let log = Log::new(&bytes).with_places(&places);
     let part = if is_terse { Part::Messages } else { Part::Whole };
     let terminal = Terminal { is_terminal: true, has_colours: false, width: width.unwrap_or(0) };
     let terminal = if width.is_some() { terminal } else { Terminal::NONE };

@@ -45,17 +45,19 @@ pub fn take_place<'a>(rest: &mut &'a [Placed], at: usize) -> Option<&'a EventPla
     rest.first().filter(|placed| placed.at == at).map(|placed| &placed.place)
 }
 
-/// For a log that a test writes: its messages are met where runs of the job log the same, with its own style and with one that only reads the databases. A job
-/// without a top file, a style or a database gets one.
-#[cfg(test)]
+/// For a log that another program or a test has written: its messages are met where runs of the job log the same, with its own style and with one that only reads the
+/// databases. A job without a top file, a style or a database gets one.
 pub fn places_by_runs(log: &[u8], files: &crate::job::Files) -> LogPlaces {
-    use crate::btx::{Options, Rooms, run};
+    use crate::btx::{Options, Rooms, needs, run};
     use crate::job::File;
     use std::collections::{HashMap, VecDeque};
     const READS: &str = "ENTRY {title} {} {}\nREAD\n";
     let file = |name: &[u8], bytes: &str| File { name: name.to_vec(), bytes: Some(bytes.into()), path: Vec::new() };
     let top = file(&files.top, "\\citation{*}\n\\bibdata{d}\n\\bibstyle{s}\n");
-    let whole = [&files.all[..], &[top, file(b"s.bst", READS), file(b"d.bib", "")]].concat();
+    let mut whole = [&files.all[..], &[top, file(b"s.bst", READS), file(b"d.bib", "")]].concat();
+    while let Some(missing) = needs(&files.top, &whole).ok().filter(|names| !names.is_empty()) {
+        whole.extend(missing.into_iter().map(|name| File { name, bytes: None, path: Vec::new() }));
+    }
     let reading = whole.iter().map(|it| if it.name.ends_with(b".bst") { file(&it.name, READS) } else { it.clone() });
     let mut places: HashMap<Vec<u8>, VecDeque<EventPlace>> = HashMap::new();
     for all in [&whole, &reading.collect()] {
