@@ -150,9 +150,10 @@ typedef struct {
 #define BTX_NO_FUNCTION UINT32_MAX
 
 /* Runs the job as btx_run_events does, and writes also the place that each line of the log is about: the first places, as many as there is room for in `places`, of
-   which place n is that of event n. Of an error of the style's execution, a warning or a text that it prints, it is the token that is executed; of a message of the
+   which place n is that of event n. Of an error of the style's execution, a warning or a text that it prints, it is the token that is executed, and the
+   command where none is: where literals are left when its function has ended, or where it executes a function of the language; of a message of the
    style's text the word that it is about, or the point where it was met; of a message of the databases the point where the reading stood. Other lines have none: those on files, those
-   on a reference without an entry, what a command says at its end of literals that are left, and the last line. After BTX_REFUSED, BTX_MEMORY, BTX_ASKS and BTX_FULL no
+   on a reference without an entry, and the last line. After BTX_REFUSED, BTX_MEMORY, BTX_ASKS and BTX_FULL no
    place is written. The style is read once more, if a line is about it. */
 uint32_t btx_run_places(const unsigned char *job, size_t job_len, const btx_file *files, size_t files_len, const btx_options *options,
                         unsigned char *list, size_t list_room, unsigned char *log, size_t log_room, btx_report *report,

@@ -82,22 +82,13 @@ struct Event {
 /// The kind of a line that is neither a warning nor an error.
 const PLAIN: u32 = 0;
 
-/// The kind of a line that is an error.
-const ERROR: u32 = 2;
-
-/// Where the lines were met that READ logs, and those of an execution.
+/// Where the lines were met that READ logs.
 const DATABASES: u32 = 2;
-const EXECUTION: u32 = 3;
 
 /// Of how many lines of a log it is asked what they are: of the first ones. A style may print lines without end.
 const MOST_EVENTS: usize = 1 << 16;
 
 impl Event {
-    /// Whether it is an error that was met while the style was executed.
-    fn is_error_of_execution(&self) -> bool {
-        (self.kind, self.met) == (ERROR, EXECUTION)
-    }
-
     /// The bytes of the log that are its line.
     fn span(&self, log: &[u8]) -> Option<Range<usize>> {
         let start = usize::try_from(self.at).ok()?;
@@ -460,9 +451,7 @@ fn places_of(events: &[Event], places: &[CPlace]) -> LogPlaces {
         |event: &Event, place: &CPlace| Some(Placed { at: usize::try_from(event.at).ok()?, place: place.known()? });
     let mut of_log = LogPlaces::default();
     for (event, place) in events.iter().zip(places).filter(|(event, _)| event.kind != PLAIN) {
-        let known = placed(event, place);
-        of_log.has_unplaced |= known.is_none() && event.is_error_of_execution();
-        of_log.known.extend(known);
+        of_log.known.extend(placed(event, place));
     }
     of_log
 }

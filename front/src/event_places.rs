@@ -31,8 +31,6 @@ pub struct LogPlaces {
     pub known: Vec<Placed>,
     /// Whether they are those of the first messages alone, as of a log with very many lines.
     pub are_first: bool,
-    /// Whether an error of an execution was met at none of the style's tokens.
-    pub has_unplaced: bool,
 }
 
 /// The place of the message that begins after `at` bytes of the log. Those of messages before it are taken from `rest`.

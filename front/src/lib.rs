@@ -17,7 +17,7 @@
 //! | [`outputs`] | the list and the log: opened before a run, written after it |
 //! | [`interrupt`], [`task`] | a run that a signal can end, and what becomes of what it gives |
 //! | [`log`] | the messages of a log |
-//! | [`event_places`], [`command_places`] | where they were met: the library's events have it, but for a command of the style |
+//! | [`event_places`] | where they were met, as the library's events have it |
 //! | [`places`], [`notes`], [`scene`] | what was called and on the stack there: the library notes it in a run of its own |
 //! | [`text`], [`aux_text`], [`style_text`], [`database`] | the texts of files: their lines, and where an error stands in them |
 //! | [`sources`] | the files of a job as its messages speak of them |
@@ -55,7 +55,6 @@ pub mod beside;
 pub mod btx;
 pub mod cased;
 pub mod code_places;
-pub mod command_places;
 pub mod confined_program;
 pub mod constants;
 pub mod database;

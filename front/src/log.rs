@@ -145,14 +145,9 @@ impl<'a> Log<'a> {
         Log { scenes: Some(scenes), ..self }
     }
 
-    /// Whether the events have the places of the first messages alone.
-    pub fn has_places_of_first(&self) -> bool {
-        self.places.is_some_and(|places| places.are_first)
-    }
-
     /// Whether it is known of the first errors alone where the style stood.
     pub fn has_first_places(&self) -> bool {
-        self.has_places_of_first() || self.scenes.is_some_and(|scenes| scenes.are_first)
+        self.places.is_some_and(|places| places.are_first) || self.scenes.is_some_and(|scenes| scenes.are_first)
     }
 
     /// Where the style stood when the run ended early, if somebody found that out.

@@ -3,7 +3,6 @@
 //! job is the same on every machine.
 
 use crate::btx::{self, Answer, Options, Ran, Report, Rooms};
-use crate::command_places::CommandPlaces;
 use crate::event_places::Placed;
 use crate::job::Files;
 use crate::letter_codes::Codes;
@@ -12,7 +11,6 @@ use crate::log::{Content, Line, Log, Message, Place, Severity};
 use crate::notes::{self, Note, Spot, Token, What};
 use crate::scene::{Call, End, Held, IN_BRACES, Scene, Scenes};
 use crate::style_text::{Kind, Tokens, commands};
-use crate::text::Text;
 use std::collections::{BTreeMap, HashMap};
 
 /// Of how many events that log errors the place is found at most, where a variable keeps strings as long as this: each costs a run up to its event, and the longer strings are the longer a
@@ -81,17 +79,6 @@ impl<'a> Errors<'a> {
             errors.add(&line);
         }
         errors
-    }
-
-    /// Whether one was met at none of the style's tokens, and more than one of the style's commands may have met it.
-    fn has_unclear(log: &Log<'_>, style: &[u8]) -> bool {
-        let commands = CommandPlaces::new(&Text::new(style), &commands(style));
-        log.lines().any(|line| match line.content {
-            Content::Message(Message { place: Place::Execution { function, entry }, met: None, .. }) => {
-                !commands.is_only(function, entry.is_some())
-            }
-            _ => false,
-        })
     }
 
     /// Takes the next line.
@@ -165,8 +152,7 @@ fn events_within(steps: u64, length: u32) -> u64 {
 impl Search<'_> {
     /// The scenes of a run that was done.
     fn scenes_of_run(&self, ran: &Ran, report: &Report, with_calls: bool) -> Scenes {
-        let is_asked = || with_calls || ran.places.has_unplaced && Errors::has_unclear(&ran.lines_of_log(), self.text);
-        let errors = if report.errors > 0 && is_asked() { Errors::of(&ran.lines_of_log()) } else { Errors::default() };
+        let errors = if report.errors > 0 && with_calls { Errors::of(&ran.lines_of_log()) } else { Errors::default() };
         // Of a log with very many lines it isn't known of each whether the style printed it; then no error's number may be certain.
         let errors = if errors.count as u64 == report.errors { errors.of_execution } else { HashMap::new() };
         let mut scenes = match report.has_finished() && errors.is_empty() {

@@ -2,7 +2,6 @@
 
 use crate::aux_text::without_white_at_end;
 use crate::code_places::Code;
-use crate::command_places::CommandPlaces;
 use crate::job::Files;
 use crate::log::{Content, Ended, Line, Log, Message, Place, Severity};
 use crate::notes::Token;
@@ -52,9 +51,7 @@ pub fn write_noting<'a>(
         top,
         part,
         shown: 0,
-        are_first: log.has_places_of_first(),
         unplaced: 0,
-        commands: None,
         code: None,
         named: HashMap::new(),
         room,
@@ -113,12 +110,8 @@ struct Shapes<'a, 'o> {
     top: &'a [u8],
     part: Part,
     shown: usize,
-    /// Whether the places of the first messages alone are known, so that one without a place may have been met at any token of the style.
-    are_first: bool,
     /// Of how many errors of the style's execution the place isn't known.
     unplaced: usize,
-    /// The commands of the style that execute a function, once one is asked for.
-    commands: Option<CommandPlaces>,
     /// The code of the style, once a field is to be named.
     code: Option<Code<'a>>,
     /// The texts of errors at a token with the field named that is missing.
@@ -188,7 +181,10 @@ impl<'a> Shapes<'a, '_> {
         let named = self.with_field_named(message, function);
         let text = named.as_deref().unwrap_or(message.text);
         self.put(&[text, b" (", function, b")", for_entry, entry.unwrap_or(b"")]);
-        let (line, file) = self.place_of(message, function, entry.is_some());
+        let Some((line, file)) = self.place_of(message) else {
+            self.unplaced += 1;
+            return;
+        };
         let start = self.out.len();
         put_place(line, file, self.out);
         match self.room.checked_sub(self.out.len() - start) {
@@ -198,19 +194,12 @@ impl<'a> Shapes<'a, '_> {
     }
 
     /// Where an error of an execution stands: at its token, or at a command of the style.
-    fn place_of(&mut self, message: &Message<'a>, function: &[u8], has_entry: bool) -> (usize, &'a [u8]) {
+    fn place_of(&self, message: &Message<'a>) -> Option<(usize, &'a [u8])> {
         if let Some(place) = message.met {
-            return (place.line, self.sources.name(place.file));
+            return Some((place.line, self.sources.name(place.file)));
         }
-        if let Some(at) = message.scene.and_then(|scene| scene.placed()) {
-            return (at.line, &at.file);
-        }
-        let style = self.sources.style().map_or(&b""[..], |file| &file.name);
-        let sources = &mut self.sources;
-        let commands = self.commands.get_or_insert_with(|| sources.command_places(style));
-        let is_of_command = !self.are_first || matches!(function, b"EXECUTE" | b"ITERATE" | b"REVERSE");
-        self.unplaced += usize::from(!is_of_command || !commands.is_only(function, has_entry));
-        (commands.last(function, has_entry), style)
+        let at = message.scene?.placed()?;
+        Some((at.line, &at.file))
     }
 
     /// The text of an error with the field named that is missing.
@@ -402,13 +391,15 @@ mod tests {
 
     #[test]
     fn errors_of_an_execution_have_a_line_of_the_style() {
-        let style = "READ\nITERATE {f}\nREVERSE {g}\nEXECUTE {h}\n";
-        let log = "Error--Integer overflow while executing + for entry k\nError--Integer overflow while executing +\n\
-            Error--The literal stack isn't empty while executing ITERATE for entry k\n";
-        let lines = "Integer overflow (+) for entry k\nwhile executing---line 3 of file s.bst\n\
-            Integer overflow (+)\nwhile executing---line 4 of file s.bst\n\
-            The literal stack isn't empty (ITERATE) for entry k\nwhile executing---line 2 of file s.bst\n";
+        let style = "ENTRY {} {} {}\nFUNCTION {f} {\n#1 pop$ pop$ #2 }\nREAD\nEXECUTE {+}\nEXECUTE {f}\n";
+        let log = "Error--You can't pop an empty literal stack while executing +\n\
+            Error--The literal stack isn't empty while executing EXECUTE\n\
+            Error--You can't pop an empty literal stack while executing pop$\nError--Nowhere in this run while executing f for entry k\n";
+        let lines = "You can't pop an empty literal stack (+)\nwhile executing---line 5 of file s.bst\n\
+            The literal stack isn't empty (EXECUTE)\nwhile executing---line 5 of file s.bst\n\
+            You can't pop an empty literal stack (pop$)\nwhile executing---line 3 of file s.bst\nNowhere in this run (f) for entry k\n";
         assert_eq!(shapes(log, &[("s.bst", style)]), lines);
+        let log = "Error--Integer overflow while executing + for entry k\n";
         let at = Call { function: b"f".to_vec(), file: b"s.bst".to_vec(), line: 77 };
         let scene = Scene { at, token: None, callers: vec![], caller_tokens: vec![], stack: vec![] };
         let scenes = Scenes { errors: [(0, scene)].into(), ..Scenes::default() };

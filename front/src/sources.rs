@@ -2,7 +2,6 @@
 
 use crate::advice::{self, Section};
 use crate::aux_text::{self, Named, Names, without_white_at_end};
-use crate::command_places::CommandPlaces;
 use crate::database::{Item, Items};
 use crate::event_places::EventPlace;
 use crate::job::{File, Files};
@@ -101,12 +100,6 @@ impl<'a> Sources<'a> {
             let bytes = source.text.bytes;
             Rc::clone(source.commands.get_or_insert_with(|| style_text::commands(bytes).into()))
         })
-    }
-
-    /// The commands of a style that execute a function.
-    pub fn command_places(&mut self, style: &[u8]) -> CommandPlaces {
-        let commands = self.commands(style);
-        self.text(style).map_or(CommandPlaces::default(), |text| CommandPlaces::new(&text, &commands))
     }
 
     /// Where the `.aux` files name things.

@@ -26,11 +26,14 @@ impl StyleFile {
         }
     }
 
-    // Answers where a token stands.
-    fn place_of_token(&self, token: TokenNumber) -> BtxPlace {
-        match self.places.token(token.function, token.token) {
-            Some(part) => BtxPlace::of(self.number, &part),
-            None => BtxPlace::none(),
+    // Answers where what is executed stands: this token, or the command where there is none.
+    fn place_of_executed(&self, executed: &Executed<'_>, token: Option<TokenNumber>) -> BtxPlace {
+        let Some(number) = token else {
+            return self.place_of_item(executed.item);
+        };
+        match self.places.token(number.function, number.token) {
+            Some(part) => numbered(BtxPlace::of(self.number, &part), token),
+            None => numbered(BtxPlace::none(), token),
         }
     }
 }
@@ -74,7 +77,7 @@ impl<'f> PlaceFinder<'f> {
         match about {
             About::Style(style) => self.place_of_message(style),
             About::Databases(Some(position)) => Ok(self.place_in_database(position)?),
-            About::Execution(executed) => self.place_of_token(executed),
+            About::Execution(executed) => self.place_of_executed(executed),
             About::Files | About::Databases(None) | About::End => Ok(BtxPlace::none()),
         }
     }
@@ -140,20 +143,20 @@ impl<'f> PlaceFinder<'f> {
         }
     }
 
-    // Answers the place of the token that is executed.
-    fn place_of_token(&mut self, executed: &Executed<'_>) -> Result<BtxPlace, Fault> {
-        let Some(standing) = &executed.standing else {
-            return Ok(BtxPlace::none());
-        };
-        let Some(token) = executed_token(executed.style, standing) else {
-            return Ok(BtxPlace::none());
-        };
+    // Answers the place of what is executed: of a token, or of the command where no token is.
+    fn place_of_executed(&mut self, executed: &Executed<'_>) -> Result<BtxPlace, Fault> {
         self.read_style(executed.style)?;
+        let token = token_of(executed);
         match &self.style {
-            StyleText::Read(file) => Ok(numbered(file.place_of_token(token), token)),
+            StyleText::Read(file) => Ok(file.place_of_executed(executed, token)),
             StyleText::Unread | StyleText::Unknown => Ok(numbered(BtxPlace::none(), token)),
         }
     }
+}
+
+// Answers the token that is executed. None where a command's function has ended, or a command runs its function itself.
+fn token_of(executed: &Executed<'_>) -> Option<TokenNumber> {
+    executed_token(executed.style, &executed.standing?)
 }
 
 // Answers the number of the first message among the items from a number on.
@@ -166,8 +169,11 @@ fn next_message(items: &[Item<'_>], from: usize) -> Option<usize> {
     None
 }
 
-// A place with the numbers of its token, as far as they fit.
-fn numbered(place: BtxPlace, token: TokenNumber) -> BtxPlace {
+// A place with the numbers of its token, if it is one's, as far as they fit.
+fn numbered(place: BtxPlace, token: Option<TokenNumber>) -> BtxPlace {
+    let Some(token) = token else {
+        return place;
+    };
     match (u32::try_from(token.function), u32::try_from(token.token)) {
         (Ok(function), Ok(number)) => place.with_token(function, number),
         _ => place,

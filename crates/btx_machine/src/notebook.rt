@@ -25,6 +25,8 @@ pub struct Standing<'e> {
 pub struct Executed<'e> {
     /// The style that is executed.
     pub style: &'e Style<'e>,
+    /// The number of the style's item that is done: of its commands and the mistakes of its text, from 0.
+    pub item: usize,
     /// The name of the function that is executed, or the word of the command whose function has ended.
     pub name: &'e [u8],
     /// The number of the current entry, if there is one.

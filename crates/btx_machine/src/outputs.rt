@@ -26,6 +26,8 @@ pub struct Outputs<'s, W: Sink, L: LogSink> {
     bbl: &'s mut W,
     breaker: Breaker,
     log: Journal<'s, L>,
+    // How many items of the style were done: what is logged says of which item it is.
+    items_done: usize,
 }
 
 impl<'s, W: Sink, L: LogSink> Model for Outputs<'s, W, L> {
@@ -64,6 +66,7 @@ impl<'s, W: Sink, L: LogSink> Outputs<'s, W, L> {
             bbl,
             breaker: Breaker::new(line),
             log,
+            items_done: 0,
         }
     }
 
@@ -82,6 +85,13 @@ impl<'s, W: Sink, L: LogSink> Outputs<'s, W, L> {
         ensures log_whole { L.wholeness result.1.now ≡ self.entry.log.wholeness }
     {
         (self.bbl, self.log.into_sink())
+    }
+
+    /// Counts that an item of the style is done.
+    pub fn end_item(&mut self)
+        ensures { self.new ≡ self.old }
+    {
+        self.items_done = self.items_done.saturating_add(1);
     }
 
     /// Answers how many warnings and errors the log has.
@@ -164,6 +174,7 @@ impl<'s, W: Sink, L: LogSink> Outputs<'s, W, L> {
         let style = job.style();
         let about = About::Execution(Executed {
             style,
+            item: self.items_done,
             name: executed,
             entry: current,
             key,

@@ -43,11 +43,15 @@ fn messages_have_their_places() {
         let text = &files[place.file].bytes.as_deref().unwrap()[place.start..place.end];
         (place.file, place.line, String::from_utf8_lossy(text).into_owned(), place.token.is_some())
     };
-    let wanted = [(2, 1, String::new(), false), (2, 2, String::new(), false), (1, 2, "write$".into(), true)];
+    let wanted = [
+        (2, 1, String::new(), false),
+        (2, 2, String::new(), false),
+        (1, 2, "write$".into(), true),
+        (1, 4, "ITERATE".into(), false),
+    ];
     assert_eq!(ran.places.known.iter().map(shown).collect::<Vec<_>>(), wanted);
     assert_eq!(ran.places.known[1].place.start, b"@misc{k, title = zz}\n@misc{j ".len());
-    // (the literal that is left was met where the command ends)
-    assert!(ran.places.has_unplaced && !ran.places.are_first);
+    assert!(!ran.places.are_first);
 }
 
 #[test]

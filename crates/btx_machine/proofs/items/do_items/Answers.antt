@@ -38,12 +38,12 @@ returns-in_default g c = record {
 }
 
 pub loop-item-preserved : goal.loop-item-preserved
-loop-item-preserved g c = record {
+loop-item-preserved g c = rw c.end_item.ensures (record {
   midway = one_done c.args.job.now (items_view c.args.items.now) c.loop-item.list.items c.loop-item.invariant.midway
       (ap items_view (drop_step c.args.items.now c.loop-item.item-index _ (omega arith))) (c.in_ok-end.ensures.list c.in-Finished.is)
       (c.in_ok-end.ensures.cleared c.in-Finished.is) c.do_item.ensures.fewer c.in_ok-end.ensures.writes (rw c.in-Finished.is at c.in_ok-end.ensures.outcome);
   counts = ((search rules, search rules, search rules), search rules, search rules, search rules);
-}
+})
 
 pub returns-clause-outcome : goal.returns-clause-outcome
 returns-clause-outcome g c = items_done c.args.job.now (items_view (drop c.loop-item.item-index c.args.items.now)) (items_view c.args.items.now)
