@@ -46,10 +46,6 @@ feeds-on s counted place le =
     sym (feeds-append (take counted s) (take (place - counted) (drop counted s))) ∙ ap feeds_in (sym (take-take-drop counted (place - counted) s))
     ∙ ap (λ n. feeds_in (take n s)) e
 
--- the line feeds up to a place, and all others
-pub feeds-rest : (s : List ℕ) (place : ℕ) → place ≤ length s → feeds_in (take place s) + feeds_in (take (length s - place) (drop place s)) ≡ feeds_in s
-feeds-rest s place le = feeds-on s place (length s) le ∙ ap feeds_in (take_all (length s) s (omega arith))
-
 pub feeds-fit : (s : List ℕ) (n : ℕ) → feeds_in (take n s) ≤ n
 feeds-fit s n = omega (arith, feeds-le (take n s), length-take n s)
 

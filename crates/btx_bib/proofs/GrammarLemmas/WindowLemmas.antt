@@ -83,7 +83,7 @@ half : (b : Bool) (n : ℕ) → (cond b 1 0 + 2 * n) / 2 ≡ n
 half true n = omega arith
 half false n = omega arith
 
-shifted : (ms : List Bool) (n : ℕ) → mask_l ms / 2 ^ n ≡ mask_l (drop n ms)
+pub shifted : (ms : List Bool) (n : ℕ) → mask_l ms / 2 ^ n ≡ mask_l (drop n ms)
 shifted ms zero = div-one (mask_l ms)
 shifted [] (suc n) = zero-div (2 ^ suc n)
 shifted (m ∷ ms) (suc n) =

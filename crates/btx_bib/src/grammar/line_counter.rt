@@ -47,22 +47,53 @@ fn feeds_one_by_one(text: &[u8]) -> usize
     text.iter().filter(|byte| **byte == b'\n').count()
 }
 
-// How many line feeds a text has: block by block, and then what is left.
-fn feeds_in(text: &[u8]) -> usize
-    ensures value { result ≡ refined.feeds_in text.now }
-    ensures bound { result ≤ length text.now }
+// How many line feeds stand from `start` up to `end`, by the block that ends there: the bytes of it before `start` don't count.
+#[inline(always)]
+fn feeds_at_end(text: &[u8], start: usize, end: usize) -> usize
+    requires block { 32 ≤ end }
+    requires within { end ≤ length text.now }
+    requires order { start ≤ end }
+    requires reach { end ≤ start + 32 }
+    ensures { result ≡ refined.feeds_in (take (end - start) (drop start text.now)) }
 {
-    let mut feeds = 0;
-    let mut place = 0;
-    while text.len() - place >= BLOCK {
-        feeds += feeds_in_block(text, place);
-        place += BLOCK;
+    let place = end - BLOCK;
+    let block = u8x32::from_slice(&text[place..]);
+    let feeds = block.simd_eq(u8x32::splat(b'\n')).to_bitmask();
+    (feeds >> (start - place)).count_ones() as usize
+}
+
+// How many line feeds stand from `start` up to `end`, which is at most a block away: byte by byte only where no block ends there.
+#[inline(always)]
+fn feeds_in_rest(text: &[u8], start: usize, end: usize) -> usize
+    requires within { end ≤ length text.now }
+    requires order { start ≤ end }
+    requires reach { end ≤ start + 32 }
+    ensures { result ≡ refined.feeds_in (take (end - start) (drop start text.now)) }
+{
+    if end < BLOCK {
+        return feeds_one_by_one(&text[start..end]);
     }
-    feeds + feeds_one_by_one(&text[place..])
+    feeds_at_end(text, start, end)
+}
+
+// How many line feeds a text has before `place`, where `start_feeds` stand before `start`: block by block, and then what is left.
+fn feeds_from(text: &[u8], start: usize, start_feeds: usize, place: usize) -> usize
+    requires order { start ≤ place }
+    requires within { place ≤ length text.now }
+    requires feeds { start_feeds ≡ refined.feeds_in (take start text.now) }
+    ensures value { result ≡ refined.feeds_in (take place text.now) }
+    ensures bound { result ≤ place }
+{
+    let mut feeds = start_feeds;
+    let mut counted = start;
+    while place - counted > BLOCK {
+        feeds += feeds_in_block(text, counted);
+        counted += BLOCK;
+    }
+    feeds + feeds_in_rest(text, counted, place)
 }
 
 // How many line feeds a text has before `place`, where `counted_feeds` stand before `counted`.
-#[tactic(auto, using(crate::proofs::GrammarLemmas::PlaceLemmas::feed_sums))]
 fn feeds_before(text: &[u8], counted: usize, counted_feeds: usize, place: usize) -> usize
     requires within { place ≤ length text.now }
     requires feeds { counted_feeds ≡ refined.feeds_in (take counted text.now) }
@@ -70,9 +101,9 @@ fn feeds_before(text: &[u8], counted: usize, counted_feeds: usize, place: usize)
     ensures bound { result ≤ place }
 {
     if place < counted {
-        return feeds_in(&text[..place]);
+        return feeds_from(text, 0, 0, place);
     }
-    counted_feeds + feeds_in(&text[counted..place])
+    feeds_from(text, counted, counted_feeds, place)
 }
 
 impl<'a> LineCounter<'a> {
