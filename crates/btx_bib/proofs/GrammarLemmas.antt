@@ -10,6 +10,7 @@ pub mod WindowLemmas
 pub mod SpellingLemmas
 pub mod SqueezeLemmas
 pub mod TrimLemmas
+pub mod PieceLemmas
 pub mod ReadingLemmas
 pub mod PlaceLemmas
 pub mod WholeItemLemmas

@@ -15,6 +15,7 @@ mod plain;
 pub(crate) mod plain_fields;
 pub mod reader;
 pub mod slip;
+mod squeezing;
 mod tokens;
 pub mod value_ends;
 pub mod value_texts;

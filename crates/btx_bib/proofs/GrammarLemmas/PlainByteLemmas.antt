@@ -23,12 +23,12 @@ zip2-maps h f g [] ys = refl
 zip2-maps h f g (x ∷ xs) [] = refl
 zip2-maps h f g (x ∷ xs) (y ∷ ys) = ap (λ r. h (f x) (g y) ∷ r) (zip2-maps h f g xs ys)
 
-zip2-left : (h : ℕ → ℕ → ℕ) (f : ℕ → ℕ) (k : ℕ → ℕ → ℕ) (xs ys : List ℕ) → zip2 h (map f xs) (zip2 k xs ys) ≡ zip2 (λ x y. h (f x) (k x y)) xs ys
+pub zip2-left : (h : ℕ → ℕ → ℕ) (f : ℕ → ℕ) (k : ℕ → ℕ → ℕ) (xs ys : List ℕ) → zip2 h (map f xs) (zip2 k xs ys) ≡ zip2 (λ x y. h (f x) (k x y)) xs ys
 zip2-left h f k [] ys = refl
 zip2-left h f k (x ∷ xs) [] = refl
 zip2-left h f k (x ∷ xs) (y ∷ ys) = ap (λ r. h (f x) (k x y) ∷ r) (zip2-left h f k xs ys)
 
--- the lanes are computed from the bytes and those before them; they stand for the first of them that isn't plain
+-- the lanes are computed from the bytes and those before them; they stand for the first of them whose lane is set
 module _ (s : List ℕ) (i r : ℕ) (z : List ℕ) (f : ℕ → ℕ → ℕ) (behind : 0 < i) (room : i + 16 ≤ length s) (fits : (k : ℕ) → Fits w8 (get_or s k 0))
     (found : r ≡ lanes_before (mask_l (map (top 7) z) % 2 ^ 64))
     (lanes : z ≡ zip2 f (chunk i 16 s) (chunk (i - 1) 16 s)) where
@@ -42,11 +42,13 @@ module _ (s : List ℕ) (i r : ℕ) (z : List ℕ) (f : ℕ → ℕ → ℕ) (be
   counted = found ∙ ap lanes_before (mask_l-mod (map (top 7) z) 64 (omega (arith, length-map z (top 7), long)))
       ∙ first_set_mask_l (top 7) z 16 long (omega arith)
 
-  block-bound : r ≤ 16
+  pub block-bound : r ≤ 16
   block-bound = omega (arith, counted, long, prefix_len-le-length (λ x. not (top 7 x)) z)
 
-  block-plain : ((b w : ℕ) → b < 256 → w < 256 → top 7 (f b w) ≡ false → is_plain_byte w b ≡ true) → ArePlainBytes s i (i + r)
-  block-plain plain k from to =
+  -- each byte of them has what its lane shows of it and of the byte before it
+  pub block-all : (has : ℕ → ℕ → Bool) → ((b w : ℕ) → b < 256 → w < 256 → top 7 (f b w) ≡ false → has w b ≡ true) →
+      (k : ℕ) → i ≤ k → k < i + r → has (get_or s (k - 1) 0) (get_or s k 0) ≡ true
+  block-all has shown k from to =
       let j = k - i in
       let inside : j < 16 = omega (arith, block-bound) in
       let forth : i + j ≡ k = omega arith in
@@ -56,7 +58,7 @@ module _ (s : List ℕ) (i r : ℕ) (z : List ℕ) (f : ℕ → ℕ → ℕ) (be
       let before = get_or-chunk (i - 1) 16 s j 0 inside ∙ ap (λ n. get_or s n 0) back in
       let lane = ap (λ l. get_or l j 0) lanes ∙ get_or-zip2 f (chunk i 16 s) (chunk (i - 1) 16 s) j 0 0 0 (omega (arith, length-chunk i 16 s room))
       (omega (arith, before-long)) ∙ ap₂ f here before in
-      plain (get_or s k 0) (get_or s (k - 1) 0) (fits k).fits (fits (k - 1)).fits (sym (ap (top 7) lane) ∙ clear)
+      shown (get_or s k 0) (get_or s (k - 1) 0) (fits k).fits (fits (k - 1)).fits (sym (ap (top 7) lane) ∙ clear)
 
 -- ---- byte by byte
 
@@ -110,7 +112,7 @@ plain-on e s (suc n) i d behind room plain so =
 -- ---- the lanes of a byte and the one before it
 
 -- a whitespace byte is at most the space
-no-white : (w : ℕ) → w < 256 → leb w 32 ≡ false → is_gap w ≡ false
+pub no-white : (w : ℕ) → w < 256 → leb w 32 ≡ false → is_gap w ≡ false
 no-white w fits more = at (leb w 32) (is_gap w) more (agree_below_at (λ w. leb w 32 || not (is_gap w)) (λ _. true) 256 w refl fits) where
   at : (t g : Bool) → t ≡ false → (t || not g) ≡ true → g ≡ false
   at false false none h = refl
@@ -121,10 +123,10 @@ no-white w fits more = at (leb w 32) (is_gap w) more (agree_below_at (λ w. leb 
 abbrev above : ℕ → ℕ → ℕ
 above a b = cond (ltb a b) 255 0
 
-abbrev apart : ℕ → ℕ → ℕ
+abbrev pub apart : ℕ → ℕ → ℕ
 apart a b = cond (not (eqb a b)) 255 0
 
-abbrev at_most : ℕ → ℕ → ℕ
+abbrev pub at_most : ℕ → ℕ → ℕ
 at_most a b = cond (leb a b) 255 0
 
 -- a word byte, or a space where no whitespace stands before it
@@ -151,6 +153,16 @@ module _ (less : ℕ → ℕ → ℕ) (high : agree_below (λ b. top 7 (lane les
         at false true true g apart h = absurd (true≢false (sym h))
         at false false low g apart h = h
 
+-- lanes that are set but where a space stands behind no low byte
+pub space-lanes : (s : List ℕ) (i : ℕ) → 0 < i → i + 16 ≤ length s →
+    zip2 bit_or (zip2 apart (chunk i 16 s) (replicate 16 32)) (zip2 at_most (chunk (i - 1) 16 s) (replicate 16 32)) ≡
+    zip2 (λ b w. bit_or (apart b 32) (at_most w 32)) (chunk i 16 s) (chunk (i - 1) 16 s)
+space-lanes s i behind room =
+    let here = chunk i 16 s in
+    let before = chunk (i - 1) 16 s in
+    ap₂ (zip2 bit_or) (zip2_splat apart here 16 32 (length-chunk i 16 s room)) (zip2_splat at_most before 16 32 (length-chunk (i - 1) 16 s (omega arith)))
+    ∙ zip2-maps bit_or (λ b. apart b 32) (λ w. at_most w 32) here before
+
 block-lanes : (s : List ℕ) (i : ℕ) (less : ℕ → ℕ → ℕ) → 0 < i → i + 16 ≤ length s →
     zip2 bit_and (zip2 above (replicate 16 87) (zip2 less (chunk i 16 s) (replicate 16 35)))
     (zip2 bit_or (zip2 apart (chunk i 16 s) (replicate 16 32)) (zip2 at_most (chunk (i - 1) 16 s) (replicate 16 32))) ≡
@@ -160,9 +172,7 @@ block-lanes s i less behind room =
     let before = chunk (i - 1) 16 s in
     let here-long = length-chunk i 16 s room in
     let words = zip2_of_maps above (λ _. 87) (λ b. less b 35) here (splat_is_map here 16 87 here-long) (zip2_splat less here 16 35 here-long) in
-    let spaces = ap₂ (zip2 bit_or) (zip2_splat apart here 16 32 here-long) (zip2_splat at_most before 16 32 (length-chunk (i - 1) 16 s (omega arith)))
-    ∙ zip2-maps bit_or (λ b. apart b 32) (λ w. at_most w 32) here before in
-    ap₂ (zip2 bit_and) words spaces ∙ zip2-left bit_and (λ b. above 87 (less b 35)) (λ b w. bit_or (apart b 32) (at_most w 32)) here before
+    ap₂ (zip2 bit_and) words (space-lanes s i behind room) ∙ zip2-left bit_and (λ b. above 87 (less b 35)) (λ b w. bit_or (apart b 32) (at_most w 32)) here before
 
 pub plain-in-block : (s : List ℕ) (i r : ℕ) (less : ℕ → ℕ → ℕ) → 0 < i → i + 16 ≤ length s → ((k : ℕ) → Fits w8 (get_or s k 0)) →
     r ≡ lanes_before (mask_l (map (top 7) (zip2 bit_and (zip2 above (replicate 16 87) (zip2 less (chunk i 16 s) (replicate 16 35)))
@@ -171,6 +181,6 @@ pub plain-in-block : (s : List ℕ) (i r : ℕ) (less : ℕ → ℕ → ℕ) →
     agree_below (λ b. top 7 (lane less true b) || is_plain_behind true b) (λ _. true) 256 ≡ true → ArePlainBytes s i (i + r) × (r ≤ 16)
 plain-in-block s i r less behind room fits found high low =
     let lanes = block-lanes s i less behind room in (
-      block-plain s i r _ (λ b w. lane less (leb w 32) b) behind room fits found lanes (lanes-plain less high low),
+      block-all s i r _ (λ b w. lane less (leb w 32) b) behind room fits found lanes is_plain_byte (lanes-plain less high low),
       block-bound s i r _ (λ b w. lane less (leb w 32) b) behind room fits found lanes,
     )

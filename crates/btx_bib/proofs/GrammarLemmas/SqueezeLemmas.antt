@@ -42,25 +42,9 @@ squeezed_after-append white (b ∷ bs) t = at (is_gap b) white (squeezed_after-a
   at true false h k = ap (λ x. 32 ∷ x) h
   at false w h k = ap (λ x. b ∷ x) k
 
--- ---- byte by byte
-
-pub squeezed_after-next : (white : Bool) (s : List ℕ) (i : ℕ) → i < length s →
-    squeezed_after white (drop i s) ≡ cond (is_gap (get_or s i 0))
-    (cond white (squeezed_after true (drop (i + 1) s)) (32 ∷ squeezed_after true (drop (i + 1) s))) (get_or s i 0 ∷ squeezed_after false (drop (i + 1) s))
-squeezed_after-next white s i h = rw (drop_more s i 0 h) refl
-
-pub white_after-next : (white : Bool) (s : List ℕ) (i : ℕ) → i < length s → white_after white (drop i s) ≡ white_after (is_gap (get_or s i 0)) (drop (i + 1) s)
-white_after-next white s i h = rw (drop_more s i 0 h) refl
-
-pub squeezed_after-all : (white : Bool) (s : List ℕ) (i : ℕ) → length s ≤ i → squeezed_after white (drop i s) ≡ []
-squeezed_after-all white s i h = rw (drop_all i s h) refl
-
-pub white_after-all : (white : Bool) (s : List ℕ) (i : ℕ) → length s ≤ i → white_after white (drop i s) ≡ white
-white_after-all white s i h = rw (drop_all i s h) refl
+-- ---- a whole text
 
 pub ruleset squeezed_whole = (squeezed-from)
-
-pub ruleset squeeze_steps = (squeezed_after-next, white_after-next, squeezed_after-all, white_after-all)
 
 -- ---- part by part
 
@@ -114,18 +98,6 @@ last-length s = at (eqb (get_or s (length s - 1) 0) 32) where
 
 -- ---- values that stand in the file
 
-pub is_squeezed-next : (white : Bool) (s : List ℕ) (i : ℕ) → i < length s →
-    is_squeezed white (drop i s) ≡ cond (is_gap (get_or s i 0)) ((eqb (get_or s i 0) 32 && not white) && is_squeezed true (drop (i + 1) s))
-    (is_squeezed false (drop (i + 1) s))
-unfolding is_squeezed
-is_squeezed-next white s i h = rw (drop_more s i 0 h) refl
-
-pub is_squeezed-all : (white : Bool) (s : List ℕ) (i : ℕ) → length s ≤ i → is_squeezed white (drop i s) ≡ true
-unfolding is_squeezed
-is_squeezed-all white s i h = rw (drop_all i s h) refl
-
-pub ruleset plain_steps = (is_squeezed-next, is_squeezed-all)
-
 -- what is squeezed is its own value
 pub squeezed_after-plain : (white : Bool) (s : List ℕ) → is_squeezed white s ≡ true → squeezed_after white s ≡ s
 unfolding is_squeezed
@@ -147,7 +119,7 @@ last-no-gap : (s : List ℕ) → ends_in_gap s ≡ false → without_last_space 
 last-no-gap s h = rw (gap-space (get_or s (length s - 1) 0) h) refl
 
 -- the whitespace at the beginning goes
-squeezed_after-past : (s : List ℕ) → squeezed_after true s ≡ squeezed_after true (past Gap s)
+pub squeezed_after-past : (s : List ℕ) → squeezed_after true s ≡ squeezed_after true (past Gap s)
 unfolding longest_run_len
 squeezed_after-past [] = refl
 squeezed_after-past (b ∷ bs) = at (is_gap b) refl (squeezed_after-past bs) where
@@ -232,7 +204,7 @@ pub squeezed-squeezed : (s : List ℕ) → is_squeezed false (squeezed s) ≡ tr
 squeezed-squeezed s = ap (is_squeezed false) (squeezed-from s) ∙ squeezed_after-squeezed false s
 
 -- of a squeezed text the ends alone show whether it stands
-squeezed-begins : (s : List ℕ) → is_squeezed false s ≡ true → is_squeezed true s ≡ not (begins is_gap s)
+pub squeezed-begins : (s : List ℕ) → is_squeezed false s ≡ true → is_squeezed true s ≡ not (begins is_gap s)
 unfolding is_squeezed
 squeezed-begins [] h = refl
 squeezed-begins (b ∷ bs) h = at (is_gap b) (eqb b 32) h where
@@ -274,24 +246,32 @@ fault-same FileLimit s t e h = absurd h
 
 -- ---- where what is enclosed ends, in one pass
 
-is_squeezed-snoc : (w : Bool) (s : List ℕ) (b : ℕ) → is_squeezed w (s ++ b ∷ []) ≡ (is_squeezed w s && stays_squeezed (white_after w s) b)
+-- a text is squeezed if its beginning is and the rest is after that
+pub is_squeezed-append : (w : Bool) (s t : List ℕ) → is_squeezed w (s ++ t) ≡ (is_squeezed w s && is_squeezed (white_after w s) t)
 unfolding is_squeezed
-is_squeezed-snoc w [] b = at (is_gap b) (eqb b 32) w where
-  at : (g t w : Bool) → cond g ((t && not w) && true) true ≡ (true && (not g || (t && not w)))
-  at true true true = refl
-  at true true false = refl
-  at true false w = refl
-  at false t w = refl
-is_squeezed-snoc w (c ∷ cs) b = at (is_gap c) (eqb c 32 && not w) (is_squeezed-snoc true cs b) (is_squeezed-snoc false cs b) where
-  at : (g t : Bool) → is_squeezed true (cs ++ b ∷ []) ≡ (is_squeezed true cs && stays_squeezed (white_after true cs) b) →
-      is_squeezed false (cs ++ b ∷ []) ≡ (is_squeezed false cs && stays_squeezed (white_after false cs) b) →
-      cond g (t && is_squeezed true (cs ++ b ∷ [])) (is_squeezed false (cs ++ b ∷ [])) ≡
-      (cond g (t && is_squeezed true cs) (is_squeezed false cs) && stays_squeezed (white_after g cs) b)
+is_squeezed-append w [] t = refl
+is_squeezed-append w (c ∷ cs) t = at (is_gap c) (eqb c 32 && not w) (is_squeezed-append true cs t) (is_squeezed-append false cs t) where
+  at : (g u : Bool) → is_squeezed true (cs ++ t) ≡ (is_squeezed true cs && is_squeezed (white_after true cs) t) →
+      is_squeezed false (cs ++ t) ≡ (is_squeezed false cs && is_squeezed (white_after false cs) t) →
+      cond g (u && is_squeezed true (cs ++ t)) (is_squeezed false (cs ++ t)) ≡
+      (cond g (u && is_squeezed true cs) (is_squeezed false cs) && is_squeezed (white_after g cs) t)
   at true true h k = h
   at true false h k = refl
-  at false t h k = k
+  at false u h k = k
 
-white_after-snoc : (w : Bool) (s : List ℕ) (b : ℕ) → white_after w (s ++ b ∷ []) ≡ is_gap b
+-- one byte is if it leaves what is before it squeezed
+pub squeezed-alone : (w : Bool) (b : ℕ) → is_squeezed w (b ∷ []) ≡ stays_squeezed w b
+unfolding is_squeezed
+squeezed-alone w b = at (is_gap b) (eqb b 32 && not w) where
+  at : (g t : Bool) → cond g (t && true) true ≡ (not g || t)
+  at true true = refl
+  at true false = refl
+  at false t = refl
+
+is_squeezed-snoc : (w : Bool) (s : List ℕ) (b : ℕ) → is_squeezed w (s ++ b ∷ []) ≡ (is_squeezed w s && stays_squeezed (white_after w s) b)
+is_squeezed-snoc w s b = is_squeezed-append w s (b ∷ []) ∙ ap (λ (t : Bool). is_squeezed w s && t) (squeezed-alone (white_after w s) b)
+
+pub white_after-snoc : (w : Bool) (s : List ℕ) (b : ℕ) → white_after w (s ++ b ∷ []) ≡ is_gap b
 white_after-snoc w [] b = refl
 white_after-snoc w (c ∷ cs) b = white_after-snoc (is_gap c) cs b
 

@@ -2,7 +2,8 @@
 ghost use Rattle.std.specs.Prelude.{◌≡◌, ◌<◌, ◌≤◌, ◌∷◌, ◌++◌, [], true, false, length, is_some, IfOk, IfSome, OnOk, unwrap_or};
 ghost use Rattle.std.specs.Option.{option_map};
 ghost use Rattle.btx_text.specs.language.Limits.{greatest_string};
-ghost use Rattle.btx_bib.specs.language.Grammar.ByteSets.{begins, is_gap};
+ghost use Rattle.btx_bib.specs.language.Grammar.ByteSets.{begins, is_gap, past};
+ghost use Rattle.btx_bib.specs.declared.grammar.byte_sets.ByteSet.TheVariants.{Gap};
 ghost use Rattle.btx_bib.specs.refinement.Grammar.PartViews.{part_view};
 ghost use Rattle.btx_bib.specs.refinement.Grammar.PlainFields.{HasString, IsPlainPart, part_in_view};
 ghost use Rattle.btx_bib.specs.refinement.Grammar.Squeezing as squeezing;
@@ -12,6 +13,7 @@ ghost use Rattle.btx_bib.specs.refinement.Grammar.ValueTexts as refined;
 use crate::grammar::byte_sets::{ByteSet, ends_in_gap, is_gap};
 use crate::grammar::parts::Part;
 use crate::grammar::plain_fields::{PlainKind, PlainValue};
+use crate::grammar::squeezing::{kept_len, white_behind};
 use crate::grammar::tokens::past;
 use crate::grammar::value_ends::Ends;
 use crate::grammar::values::Value;
@@ -31,21 +33,10 @@ pub trait Strings<'a> {
 }
 
 // Whether a text has no whitespace but single spaces, none of them after whitespace.
-#[tactic(auto, using(crate::proofs::GrammarLemmas::SqueezeLemmas::plain_steps))]
 fn is_squeezed(was_white: bool, text: &[u8]) -> bool
     ensures { result ≡ squeezing.is_squeezed was_white text.now }
 {
-    let mut white = was_white;
-    for &byte in text {
-        if !is_gap(byte) {
-            white = false;
-        } else if byte != b' ' || white {
-            return false;
-        } else {
-            white = true;
-        }
-    }
-    true
+    kept_len(was_white, text) == text.len()
 }
 
 // Whether a text is the value that it gives.
@@ -227,24 +218,62 @@ pub fn plain_text<'a, S: Strings<'a>>(
     }
 }
 
+// Pushes the whitespace that bytes begin with as one space, none where whitespace stands before it. `was_white` says whether it does, the answer whether
+// whitespace stands before what follows.
+#[inline(always)]
+fn push_gap(text: &mut Vec<u8>, was_white: bool, bytes: &[u8]) -> Result<bool, AllocError>
+    ensures text { IfOk result (λ white. text.new.items ++ squeezing.squeezed_after white (past Gap bytes.now)
+        ≡ text.old.items ++ squeezing.squeezed_after was_white bytes.now) }
+    ensures white { IfOk result (λ white. squeezing.white_after white (past Gap bytes.now) ≡ squeezing.white_after was_white bytes.now) }
+{
+    if !begins_with_gap(bytes) {
+        return Ok(was_white);
+    }
+    if !was_white {
+        text.push(b' ')?;
+    }
+    Ok(true)
+}
+
 // Pushes bytes, each run of whitespace as one space. `was_white` says whether the last byte before them is whitespace, the answer whether the last one now is.
-#[tactic(auto, using(crate::proofs::GrammarLemmas::SqueezeLemmas::squeeze_steps))]
+// What squeezing leaves as it is, is copied piece by piece.
 fn push_squeezed(text: &mut Vec<u8>, was_white: bool, bytes: &[u8]) -> Result<bool, AllocError>
     ensures text { OnOk result (text.new.items ≡ text.old.items ++ squeezing.squeezed_after was_white bytes.now) }
     ensures white { IfOk result (λ white. white ≡ squeezing.white_after was_white bytes.now) }
 {
     text.reserve(bytes.len().min(GREATEST_STRING))?;
     let mut white = was_white;
-    for &byte in bytes {
-        if !is_gap(byte) {
-            text.push(byte)?;
-            white = false;
-        } else if !white {
-            text.push(b' ')?;
-            white = true;
-        }
+    let mut rest = bytes;
+    while !rest.is_empty() {
+        let (kept, after) = rest.split_at(kept_len(white, rest));
+        text.extend_from_slice(kept)?;
+        white = push_gap(text, white_behind(white, kept), after)?;
+        rest = past(ByteSet::Gap, after);
     }
     Ok(white)
+}
+
+// What squeezing leaves of a text that is squeezed: a space that it begins with goes if whitespace stands before it.
+#[inline(always)]
+fn left_of_squeezed(was_white: bool, text: &[u8]) -> &[u8]
+    requires { squeezing.is_squeezed false text.now ≡ true }
+    ensures { result.now ≡ squeezing.squeezed_after was_white text.now }
+{
+    if was_white && begins_with_gap(text) {
+        &text[1..]
+    } else {
+        text
+    }
+}
+
+// Pushes bytes that are squeezed, as above: they are copied whole.
+fn push_known(text: &mut Vec<u8>, was_white: bool, bytes: &[u8]) -> Result<bool, AllocError>
+    requires { squeezing.is_squeezed false bytes.now ≡ true }
+    ensures text { OnOk result (text.new.items ≡ text.old.items ++ squeezing.squeezed_after was_white bytes.now) }
+    ensures white { IfOk result (λ white. white ≡ squeezing.white_after was_white bytes.now) }
+{
+    text.extend_from_slice(left_of_squeezed(was_white, bytes))?;
+    Ok(white_behind(was_white, bytes))
 }
 
 // Pushes a part, as above.
@@ -264,7 +293,7 @@ fn push_part<'a, S: Strings<'a>>(
             push_squeezed(text, was_white, bytes)
         }
         Part::Named(string) => match strings.value_of(alloc, string.name)? {
-            Some(value) => push_squeezed(text, was_white, value.as_bytes()),
+            Some(value) => push_known(text, was_white, value.as_bytes()),
             None => push_squeezed(text, was_white, &[]),
         },
     }

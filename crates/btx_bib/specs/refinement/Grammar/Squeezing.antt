@@ -45,6 +45,10 @@ is_plain_byte before b = is_word_byte b || (b == space && not (is_gap before))
 abbrev pub ArePlainBytes : List ℕ → ℕ → ℕ → Type 0
 ArePlainBytes text from to = (place : ℕ) → from ≤ place → place < to → is_plain_byte (slice_index text (place - 1)) (slice_index text place) ≡ true
 
+-- squeezing leaves the bytes from a place up to another one as they are
+abbrev pub AreKeptBytes : List ℕ → ℕ → ℕ → Type 0
+AreKeptBytes text from to = (place : ℕ) → from ≤ place → place < to → stays_squeezed (is_gap (slice_index text (place - 1))) (slice_index text place) ≡ true
+
 -- how many of the 16 lanes of a block come before the first whose bit is set
 abbrev pub lanes_before : ℕ → ℕ
 lanes_before bits = if bits == 0 then 16 else trailing_zeros w64 bits
