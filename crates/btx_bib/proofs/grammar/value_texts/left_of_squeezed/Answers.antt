@@ -11,5 +11,5 @@ pub returns-else-was_white : goal.returns-else-was_white
 returns-else-was_white c = elim c.else-was_white.branch [
   | else-was_white-via-then-was_white+else-begins_with_gap w ↦
       known-left c.args.was_white c.args.text.now c.requires (sym w.begins_with_gap.ensures ∙ w.if-begins_with_gap.false)
-  | else-was_white-via-else-was_white w ↦ known-apart c.args.was_white c.args.text.now c.requires w.if-was_white
+  | else-was_white-via-else-was_white w ↦ known-apart c.args.was_white c.args.text.now c.requires w.if-was_white.false
 ]
