@@ -12,7 +12,7 @@ pub mod parts;
 mod passed;
 mod passed_fields;
 mod plain;
-pub(crate) mod plain_fields;
+pub mod plain_fields;
 pub mod reader;
 pub mod slip;
 mod squeezing;

@@ -78,7 +78,7 @@ impl<'a> Reader<'a> {
     /// The field in its plainest form that stands at the next place, if one does. The reader stays where it is.
     #[inline(always)]
     #[tactic(auto, unfolding(crate::specs::language::Grammar::Items::expected_step))]
-    pub(crate) fn plain_field(&self) -> Option<PlainField<'a>>
+    pub fn plain_field(&self) -> Option<PlainField<'a>>
         ensures field { IfSome result (λ field. spec.expected_step self.now.0 self.now.1 ≡ Some (plain_step self.now.0 field)) }
         ensures plain { IfSome result (λ field. IsPlainPart (part_in_view field.value)) }
     {
@@ -139,7 +139,7 @@ impl<'a> Reader<'a> {
 
     /// Goes on after a field that stands at the next place, where this is the text from its end on.
     #[inline(always)]
-    pub(crate) fn pass(&mut self, rest: &'a [u8])
+    pub fn pass(&mut self, rest: &'a [u8])
         ensures { self.new ≡ (self.old.0, rest.entry.now) }
     {
         self.rest = rest;
