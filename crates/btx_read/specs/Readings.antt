@@ -20,3 +20,8 @@ records_left reading = records_along reading.text reading.strings reading.rest (
 abbrev pub IsNext : Reading → Option Record → Reading → Type 0
 IsNext old None new = (records_left old ≡ []) × (new ≡ old)
 IsNext old (Some next) new = records_left old ≡ next ∷ records_left new
+
+-- the same where a record was read; where none was, nothing has changed
+abbrev pub IsNextIfAny : Reading → Option Record → Reading → Type 0
+IsNextIfAny old None new = new ≡ old
+IsNextIfAny old (Some next) new = IsNext old (Some next) new

@@ -41,8 +41,8 @@ fn left_at_item(before: &[u8]) -> usize
     }
 }
 
-// How many bytes of a text are left from a field's name on, which whitespace, a comma and whitespace stand before.
-fn left_at_field(before: &[u8]) -> usize
+/// How many bytes of a text are left from a field's name on, which whitespace, a comma and whitespace stand before.
+pub(crate) fn left_at_field(before: &[u8]) -> usize
     ensures { result ≡ left_at_field before.now }
 {
     let comma = &before[gap_len(before)..];

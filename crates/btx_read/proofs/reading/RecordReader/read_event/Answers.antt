@@ -4,7 +4,7 @@ use Rattle.btx_bib.specs.refinement.Grammar.EventViews.{event_view}
 use Rattle.btx_read.specs.Records.{left_at, record_at}
 use Rattle.btx_read.specs.Readings.{records_left}
 use Rattle.btx_read.proofs.RecordLemmas.{none-left, one-read}
-use Rattle.btx_read.proofs.reading.RecordReader.read.Goals as goal
+use Rattle.btx_read.proofs.reading.RecordReader.read_event.Goals as goal
 
 pub returns-in_default : goal.returns-in_default
 returns-in_default c =
