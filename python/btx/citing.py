@@ -1,7 +1,7 @@
 """The citations of a text that is edited, from one text to the next: after an edit those parts alone are looked through whose text is another one.
 
-A part ends at a place where no citation of any text goes on in the next one: in an `.aux` file after a line, and else after a brace that no bracket is before on its line, since what a citation has
-in brackets has no line end, and nothing else of it has a closing brace before its last byte."""
+No citation goes on where a part ends. In an `.aux` file that is after a line. Else it is after a closing brace that has no `[` before it on its line: a citation has such a brace
+inside of it only between `[` and `]`, and no line end is between these."""
 
 from __future__ import annotations
 
