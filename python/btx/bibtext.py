@@ -11,11 +11,11 @@ from __future__ import annotations
 
 import bisect
 import re
-from typing import Dict, Iterator, List, NamedTuple, Optional, Set, Tuple
+from typing import Dict, FrozenSet, Iterator, List, NamedTuple, Optional, Set, Tuple
 
 from .library import read_records
 from .reading import END, ENTRY, PREAMBLE, STRING, WRONG, without_collection
-from .records import LowerNames, Records
+from .records import LowerNames, Records, places_of
 from .refusals import DatabaseTooLong
 from .values import NAME as WORD
 from .values import Part, has_names, parts_of
@@ -215,12 +215,30 @@ class Database:
             return [item.key.lower() if item.key is not None and item.is_entry else None for item in self.own_items[first:last]]
         return self.reader.keys[first:last]
 
-    def odd_items(self, first: int, last: int) -> List[Item]:
-        """Those of these items that aren't entries without a mistake."""
+    def keys_stored(self, first: int, last: int) -> FrozenSet[bytes]:
+        """The keys in lower case of those of these entries that aren't repeated."""
         if self.reader is None:
-            return [item for item in self.own_items[first:last] if item.slip is not None or item.records.kinds[item.at] != ENTRY]
-        kinds = self.reader.first.kinds
-        return [self.reader.made(number) for number, (at, end) in enumerate(self.reader.spans[first:last], first) if kinds[at] != ENTRY or kinds[end] != END]
+            return frozenset(item.key.lower() for item in self.own_items[first:last] if item.key is not None and item.is_entry and not item.is_repeated)
+        keys, repeated = self.reader.keys[first:last], self.reader.repeated
+        if repeated:
+            keys = [key for number, key in enumerate(keys, first) if number not in repeated]
+        return frozenset(keys) - {None}  # type: ignore[return-value]
+
+    def strings_between(self, first: int, last: int) -> List[Tuple[bytes, Optional[bytes]]]:
+        """The strings that these items define: their names in lower case, and their values, None of one that wasn't read whole."""
+        if self.reader is None:
+            found = [(item.records, item.at) for item in self.own_items[first:last] if item.records.kinds[item.at] == STRING]
+        else:
+            records, spans = self.reader.first, self.reader.spans[first:last]
+            found = [(records, at) for at in places_of(STRING, records.kinds, spans[0][0], spans[-1][1])] if spans else []
+        return [(records.name(at), records.value(at) if records.is_whole[at] else None) for records, at in found]
+
+    def slips_between(self, first: int, last: int) -> List[Item]:
+        """Those of these items that end with a mistake."""
+        if self.reader is None:
+            return [item for item in self.own_items[first:last] if item.slip is not None]
+        slips = self.reader.slips
+        return [self.reader.made(number) for number in slips[bisect.bisect_left(slips, first) : bisect.bisect_left(slips, last)]]
 
     def start(self, field: Field) -> int:
         """Where a field's value begins."""
@@ -286,25 +304,23 @@ def read_on(reader: "Reader") -> Database:
 
 
 def read_late(reader: "Reader") -> Database:
-    """The same. Where no entry is repeated, its items are made when somebody asks for them."""
+    """The same. Where no repeated entry hides an item, its items are made when somebody asks for them."""
     reader.read_first(0)
-    if reader.stored is not None:
-        keys = set(reader.keys) - {None}
-        if len(keys) + reader.keys.count(None) < len(reader.keys) or not keys.isdisjoint(reader.stored):
-            return read_on(reader)
-        # (so it makes no difference which entries are stored)
-        reader.stored = None
-    return Database(reader.text, [], {}, reader)
+    reader.find_repeated()
+    return read_on(reader) if any(map(reader.hides_item, reader.repeated)) else Database(reader.text, [], {}, reader)
 
 
 class Reader:
-    """Makes items of the records of a database. first, spans: the records that are read without a look at keys, and those of each item."""
+    """Makes items of the records of a database.
+
+    first, spans: the records that are read without a look at keys, and those of each item. repeated: the numbers of the items that are repeated entries, where they were looked for."""
 
     def __init__(self, text: bytes, stored: Optional[Set[bytes]], strings: Dict[bytes, bytes]) -> None:
         self.text = text
         self.stored = stored
         self.strings = strings
         self.items: List[Item] = []
+        self.repeated: Set[int] = set()
         self.names = LowerNames()
         self.again = 0
 
@@ -321,6 +337,7 @@ class Reader:
         self.first = self.records(place, len(self.text), self.strings)
         self.spans = self.first.items()
         self.known_keys: Optional[List[Optional[bytes]]] = None
+        self.known_slips: Optional[List[int]] = None
 
     @property
     def keys(self) -> List[Optional[bytes]]:
@@ -329,6 +346,32 @@ class Reader:
             texts, kinds, key_at, key_len = self.first.texts, self.first.kinds, self.first.text_at, self.first.text_len
             self.known_keys = [texts[key_at[at] : key_at[at] + key_len[at]].lower() if kinds[at] == ENTRY else None for at, _ in self.spans]
         return self.known_keys
+
+    @property
+    def slips(self) -> List[int]:
+        """The numbers of the items of the first records that end with a mistake."""
+        if self.known_slips is None:
+            kinds, repeated = self.first.kinds, self.repeated
+            has_slips = WRONG in kinds or repeated
+            self.known_slips = [number for number, (_, last) in enumerate(self.spans) if kinds[last] == WRONG or number in repeated] if has_slips else []
+        return self.known_slips
+
+    def find_repeated(self) -> None:
+        """Finds the entries whose key is stored before them."""
+        entries = set(self.keys) - {None}
+        if self.stored is None or (len(entries) + self.keys.count(None) == len(self.keys) and self.stored.isdisjoint(entries)):
+            return
+        stored = set(self.stored)
+        for number, key in enumerate(self.keys):
+            if key in stored:
+                self.repeated.add(number)
+            elif key is not None:
+                stored.add(key)
+
+    def hides_item(self, number: int) -> bool:
+        """Whether an item may be hidden behind the key of a repeated entry with this number."""
+        at, last = self.spans[number]
+        return self.text.find(b"@", self.first.ends[at], self.first.ends[last]) >= 0
 
     def add_all(self) -> Optional[int]:
         """Adds the items of the records that were read. It answers where the rest is to be read once more, since what a repeated entry hides defines other strings before it."""
@@ -382,10 +425,13 @@ class Reader:
         return item
 
     def made(self, number: int) -> Item:
-        """The item of this number, where none is repeated."""
+        """The item of this number, where no repeated entry hides one."""
         at, last = self.spans[number]
         item = self.item(self.first, at, last, self.first.ends[self.spans[number - 1][1]] if number else 0)
-        item.slip = slip_of(self.first, last)
+        if number in self.repeated:
+            item.slip, item.end = Slip(item.key_end, REPEATED), item.key_end
+        else:
+            item.slip = slip_of(self.first, last)
         return item
 
     def item(self, records: Records, at: int, last: int, after: int) -> Item:

@@ -12,12 +12,15 @@ __all__ = ["COMMANDS", "Command", "StyleText", "Word", "read_style", "uses_betwe
 
 COMMANDS = ("ENTRY", "EXECUTE", "FUNCTION", "INTEGERS", "ITERATE", "MACRO", "READ", "REVERSE", "SORT", "STRINGS")
 # What lies between tokens; a command's word, and where one begins a line; a token of a body; a word of a list.
-SPACE = re.compile(rb"(?:[ \t\r\n]+|%[^\n]*)*")
+SPACE = re.compile(rb"[ \t\r\n]*(?:%[^\n]*(?:[ \t\r\n]+|%[^\n]*)*|)")
 LETTERS = re.compile(rb"[A-Za-z]+")
 BEGINS_LINE = re.compile(rb"(?im)^(?:ENTRY|EXECUTE|FUNCTION|INTEGERS|ITERATE|MACRO|REVERSE|STRINGS)[ \t\r\n]*\{|^(?-i:READ|SORT)[ \t\r]*$")
 TOKEN = re.compile(rb"[{}]|\"[^\"\n]*\"?|#-?[0-9]+|'?[^ \t\r\n}%\"][^ \t\r\n}%]*|'|\"")
+# The same after what lies before it, or the end of the text; since one of them is always there, it never goes back into a comment.
+NEXT_TOKEN = re.compile(SPACE.pattern + b"(" + TOKEN.pattern + rb"|\Z)")
 LIST_WORD = re.compile(rb"[^\x00- \"#%'(),={}]+")
 KINDS = {b"FUNCTION": "function", b"MACRO": "string", b"INTEGERS": "integer", b"STRINGS": "string variable"}
+QUOTE, NUMBER = b'"#'
 OF_ENTRY = ("field", "integer of entries", "string of entries")
 
 
@@ -153,24 +156,20 @@ class StyleReader:
         """Reads the body of a function, or the text of a macro."""
         limit, counts = self.opens(), [0]
         while limit is not None and counts:
-            self.skip_space()
-            found = TOKEN.match(self.text, self.at)
-            if found is None or self.at >= limit:
+            start, end = NEXT_TOKEN.match(self.text, self.at).span(1)  # type: ignore[union-attr]
+            self.at = start
+            if start == end or start >= limit:
                 return
-            self.at, token = found.end(), found[0]
+            self.at, token = end, self.text[start:end]
             if token == b"}":
                 counts.pop()
                 continue
             counts[-1] += 1
             if token == b"{":
                 counts.append(0)
-            elif is_text and token[:1] == b'"':
-                self.found.values[self.found.definitions[-1].name] = found.span()
-            elif token[:1] not in (b'"', b"#"):
-                self.use(found, counts[-1] - 1)
-
-    def use(self, found: "re.Match[bytes]", token: int) -> None:
-        """Keeps a name of a body."""
-        is_quoted = found[0][:1] == b"'"
-        start = found.start() + is_quoted
-        self.found.uses.append(Word(name_of(self.text[start : found.end()]), start, found.end(), "", is_quoted, token))
+            elif token[0] == QUOTE:
+                if is_text:
+                    self.found.values[self.found.definitions[-1].name] = start, end
+            elif token[0] != NUMBER:
+                is_quoted = token.startswith(b"'")
+                self.found.uses.append(Word(name_of(token[is_quoted:]), start + is_quoted, end, "", is_quoted, counts[-1] - 1))

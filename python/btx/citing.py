@@ -1,37 +1,38 @@
 """The citations of a text that is edited, from one text to the next: after an edit those parts alone are looked through whose text is another one.
 
-A part ends with a citation, so that no citation goes on in the next one."""
+No citation goes on where a part ends. In an `.aux` file that is after a line. Else it is after a closing brace that has no `[` before it on its line: a citation has such a brace
+inside of it only between `[` and `]`, and no line end is between these."""
 
 from __future__ import annotations
 
 import bisect
 import itertools
 import re
-from typing import FrozenSet, Iterator, List, NamedTuple, Optional, Tuple
+from typing import FrozenSet, Iterator, List, Optional, Tuple
 
 __all__ = ["Citations"]
 
-CITES = re.compile(rb"\\(?:no)?[A-Za-z]*[cC]ite[A-Za-z]*\*?(?:\[[^\]\r\n]*\]){0,2}\{([^{}]*)\}")
+# (an empty alternative takes less time than a group that may be left out)
+CITES = re.compile(rb"\\[A-Za-z]*[cC]ite[A-Za-z]*\*?(?:\[[^\]\r\n]*\](?:\[[^\]\r\n]*\]|)|)\{([^{}]*)\}")
 AUX_CITES = re.compile(rb"(?m)^\\citation\{([^}\s]*)\}")
 KEY = re.compile(rb"[^,\s]+")
 # About how many bytes a part has.
 PART = 16_384
 
 
-class Part(NamedTuple):
-    """A part of a text. base: where it began in the text that it was made of. arguments: those of its citations, with their places in that text. keys: the cited keys in lower case."""
+class Part:
+    """A part of a text. keys: the cited keys in lower case. Where they are is looked for when somebody asks."""
 
-    text: bytes
-    base: int
-    arguments: List[Tuple[int, int]]
-    keys: FrozenSet[bytes]
+    def __init__(self, text: bytes, pattern: "re.Pattern[bytes]") -> None:
+        self.text = text
+        self.pattern = pattern
+        self.keys = frozenset(KEY.findall(b",".join(pattern.findall(text)).lower()))
 
     def spans(self, at: int, known: FrozenSet[bytes] = frozenset()) -> Iterator[Tuple[int, int]]:
         """Where the cited keys are that aren't among these, which are in lower case, where the part begins at `at`."""
-        base = self.base
-        for start, end in self.arguments:
-            if self.text[start - base : end - base].lower() not in known:
-                found = KEY.finditer(self.text, start - base, end - base)
+        for cite in self.pattern.finditer(self.text):
+            if cite[1].lower() not in known:
+                found = KEY.finditer(self.text, *cite.span(1))
                 yield from ((key.start() + at, key.end() + at) for key in found if key[0].lower() not in known)
 
 
@@ -40,6 +41,7 @@ class Citations:
 
     def __init__(self, text: bytes, is_aux: bool, earlier: "Optional[Citations]" = None) -> None:
         self.text = text
+        self.is_aux = is_aux
         self.pattern = AUX_CITES if is_aux else CITES
         self.parts: List[Part] = self.first_of([] if earlier is None else earlier.parts)
         at = sum(len(part.text) for part in self.parts)
@@ -48,7 +50,7 @@ class Citations:
         self.starts = [0, *itertools.accumulate(len(part.text) for part in self.parts)][:-1]
 
     def first_of(self, earlier: List[Part]) -> List[Part]:
-        """The parts that the text begins with, but the last one, which may end without a citation."""
+        """The parts that the text begins with, but the last one, which ends where the earlier text did."""
         at, found = 0, []
         for part in earlier[:-1]:
             if not self.text.startswith(part.text, at):
@@ -58,51 +60,48 @@ class Citations:
         return found
 
     def last_of(self, earlier: List[Part], at: int) -> List[Tuple[int, Part]]:
-        """The parts that the text ends with after the place `at`, and where they begin, the last one first."""
+        """The parts that the text ends with after a part that ends at `at`, and where they begin, the last one first."""
         found: List[Tuple[int, Part]] = []
         end = len(self.text)
         for part in reversed(earlier):
             start = end - len(part.text)
-            if start < max(at, 1) or not self.text.startswith(part.text, start) or self.text[start - 1 : start] != b"}":
+            if start < max(at, 1) or not self.text.startswith(part.text, start):
                 break
             found.append((start, part))
             end = start
+        while found and not self.is_apart(at, found[-1][0]):
+            found.pop()
         return found
 
     def look_through(self, at: int, left: List[Tuple[int, Part]]) -> None:
         """Looks through the text from a place on, up to the parts that are left."""
-        if left:
-            arguments = self.arguments_before(at, left)
-        else:
-            arguments = [cite.span(1) for cite in self.pattern.finditer(self.text, at)]
         limit = left[-1][0] if left else len(self.text)
-        ends, first = [end for _, end in arguments], 0
         while at < limit:
-            # (a citation ends with the brace after its argument)
-            last = bisect.bisect_left(ends, at + PART, first)
-            end = ends[last] + 1 if last < len(ends) else limit
-            self.parts.append(self.part(at, end, arguments[first : last + 1]))
-            at, first = end, last + 1
+            end = min(self.end_of_part(at), limit)
+            self.parts.append(Part(self.text[at:end], self.pattern))
+            at = end
         self.parts.extend(part for _, part in reversed(left))
         if not self.parts:
-            self.parts.append(Part(b"", 0, [], frozenset()))
+            self.parts.append(Part(b"", self.pattern))
 
-    def arguments_before(self, at: int, left: List[Tuple[int, Part]]) -> List[Tuple[int, int]]:
-        """The arguments of the citations from a place on up to the parts that are left. Of these those are dropped in which a citation goes on."""
-        arguments: List[Tuple[int, int]] = []
-        for cite in self.pattern.finditer(self.text, at):
-            while left and cite.start() < left[-1][0] < cite.end():
-                left.pop()
-            if left and cite.start() >= left[-1][0]:
-                break
-            arguments.append(cite.span(1))
-        return arguments
+    def end_of_part(self, begin: int) -> int:
+        """Where the part ends that begins at a place."""
+        sign, end = b"\n" if self.is_aux else b"}", begin + PART
+        while True:
+            end = self.text.find(sign, end) + 1
+            if end == 0 or self.is_apart(begin, end):
+                return end or len(self.text)
+            # (a bracket is before it, and so before all that is on its line)
+            end = self.text.find(b"\n", end)
+            if end < 0:
+                return len(self.text)
 
-    def part(self, begin: int, end: int, arguments: List[Tuple[int, int]]) -> Part:
-        """The part between two places, in which the citations have these arguments."""
-        text = self.text
-        keys = KEY.findall(b",".join([text[start:stop] for start, stop in arguments]).lower())
-        return Part(text[begin:end], begin, arguments, frozenset(keys))
+    def is_apart(self, begin: int, end: int) -> bool:
+        """Whether no citation goes on at `end`, where a part begins at `begin`."""
+        if self.is_aux:
+            return self.text.startswith(b"\n", end - 1)
+        line = max(self.text.rfind(b"\n", begin, end) + 1, begin)
+        return self.text.startswith(b"}", end - 1) and self.text.find(b"[", line, end) < 0
 
     def all(self) -> Iterator[Tuple[int, int]]:
         """Where the cited keys are."""

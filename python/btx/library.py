@@ -30,7 +30,7 @@ DONE, REFUSED, MEMORY, ASKS, FULL, ENDS = range(6)
 FIRST_NAMES = 4096
 LEAST_ROOM = 1 << 16
 # How many bytes of an output stay where the library has written them, and in how large a room the system is asked for large pages.
-LEAST_KEPT = 1 << 22
+LEAST_KEPT, LEAST_OF_LARGE_PAGES = 1 << 18, 1 << 22
 # How many bytes the names of a style's types and the notes of a check are given room for at first.
 FIRST_TYPES, FIRST_NOTES = 1 << 16, 1 << 20
 # How many lines of a log have room for their events at first.
@@ -127,10 +127,11 @@ class Room:
                 size //= 2
                 if size < LEAST_ROOM:
                     raise MemoryRefused("there is no memory for an output") from error
-        if size >= LEAST_KEPT and hasattr(mmap, "MADV_HUGEPAGE"):
+        if size >= LEAST_OF_LARGE_PAGES and hasattr(mmap, "MADV_HUGEPAGE"):
             with contextlib.suppress(OSError):
                 self.memory.madvise(mmap.MADV_HUGEPAGE)
-        self.bytes = (ctypes.c_char * size).from_buffer(self.memory)
+        # (its first byte alone, whose address is asked for: ctypes would make a type for each length, and keep them all)
+        self.bytes = ctypes.c_char.from_buffer(self.memory)
         self.size = min(wanted, size)
 
     def prefix(self, length: int) -> bytes:

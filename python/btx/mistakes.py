@@ -6,16 +6,16 @@ from typing import Iterator, List, NamedTuple, Optional, Set, Tuple
 
 from .messages import decoded
 from .reading import ENTRY, FIELD, PREAMBLE, STRING, WRONG, Bibliography, Mistake, Place, encoded
+from .records import LowerNames, Records
 from .values import Part, has_names, parts_of, value_of
 
 __all__ = ["Undefined", "mistakes_of", "undefined_strings", "values_of"]
 
 
 class Undefined(NamedTuple):
-    """A name without a string. at: the record whose value has it. entry: the record of its entry, if it is in one. is_own: whether it is in the definition of that very string."""
+    """A name without a string. entry: the record of its entry, if it is in one. is_own: whether it is in the definition of that very string."""
 
     part: Part
-    at: int
     entry: Optional[int]
     is_own: bool
 
@@ -32,8 +32,8 @@ class Found(NamedTuple):
 
 def mistakes_of(base: Bibliography) -> List[Mistake]:
     """All that is wrong in a database, by place."""
-    places = Places(base.text)
-    found = sorted([*ended(base), *repeated_entries(base), *unread_fields(base), *unknown_strings(base)], key=lambda it: (it.start, it.end))
+    places, columns = Places(base.text), Records(base.text, 0, len(base.text), base._records, base._texts, LowerNames())
+    found = sorted([*ended(base), *repeated_entries(base), *unread_fields(base, columns), *unknown_strings(base, columns)], key=lambda it: (it.start, it.end))
     return [Mistake(it.text, base.file, places.of(it.start, it.end), it.is_error, key_of(base, it.entry)) for it in found]
 
 
@@ -77,22 +77,26 @@ def repeated_entries(base: Bibliography) -> Iterator[Found]:
         known.add(key.lower())
 
 
-def unread_fields(base: Bibliography) -> Iterator[Found]:
+def unread_fields(base: Bibliography, columns: Records) -> Iterator[Found]:
     """The fields that an entry has had before, and those whose value is too long for a run."""
-    for entry in base._all(ENTRY):
-        names: Set[bytes] = set()
-        for at in range(entry + 1, base._last(entry)):
-            name, start = base._name(at), base._number(at, 2)
-            if name.lower() in names:
+    for entry, last in columns.items():
+        names = columns.names_between(entry + 1, last)
+        if columns.kinds[entry] != ENTRY or (len(set(names)) == len(names) and columns.is_whole.find(0, entry + 1, last) < 0):
+            # (as nearly always)
+            continue
+        known: Set[bytes] = set()
+        for at, lowered in enumerate(names, entry + 1):
+            name, start = base._name(at), columns.starts[at]
+            if lowered in known:
                 yield Found(start, start + len(name), f'I\'m ignoring {decoded(base._text(entry))}\'s extra "{decoded(name)}" field', entry)
-            elif not base._number(at, 1):
+            elif not columns.is_whole[at]:
                 yield Found(start, start + len(name), f"the value of {decoded(name)} has more than 1,000,000 bytes", entry, True)
-            names.add(name.lower())
+            known.add(lowered)
 
 
-def unknown_strings(base: Bibliography) -> Iterator[Found]:
+def unknown_strings(base: Bibliography, columns: Records) -> Iterator[Found]:
     """The names of strings that aren't defined before them."""
-    for part, _, entry, is_own in undefined_strings(base):
+    for part, entry, is_own in undefined_strings(base, columns):
         what = "used in its own definition" if is_own else "undefined"
         yield Found(part.start, part.end, f'string name "{decoded(base.text[part.start : part.end])}" is {what}', entry)
 
@@ -105,22 +109,27 @@ def values_of(base: Bibliography, first: int = 0, last: Optional[int] = None) ->
             yield (at, *value_of(base.text, base._number(at, 2), base._number(at, 3), b"({" if kind == PREAMBLE else b"="))
 
 
-def undefined_strings(base: Bibliography) -> Iterator[Undefined]:
+def undefined_strings(base: Bibliography, columns: Records) -> Iterator[Undefined]:
     """The names of strings that aren't defined before them, in the order of the text. Those of a field that an entry has had before don't count: a run doesn't read it."""
     known: Set[bytes] = set(base._known)
+    # The entry of the last field that was looked at; where its fields begin whose names aren't among these yet.
+    entry, begin = -1, 0
     names: Set[bytes] = set()
-    entry: Optional[int] = None
-    for at, start, end in values_of(base):
-        kind, name = base._kinds[at], base._name(at).lower()
-        if base._kinds[at - 1] == ENTRY:
-            entry, names = at - 1, set()
-        its = entry if kind == FIELD else None
-        if has_names(base.text, start, end) and not (kind == FIELD and name in names):
-            own = name if kind == STRING else None
-            yield from (Undefined(part, at, its, is_own) for part, is_own in without_string(base.text, start, end, known, own))
-        if kind == STRING:
+    kinds, marks = columns.kinds, columns.marks
+    for at in [at for at, kind in enumerate(kinds) if kind in (STRING, PREAMBLE) or (kind == FIELD and marks[at])]:
+        name = columns.name(at)
+        if kinds[at] == FIELD:
+            if kinds.rfind(ENTRY, 0, at) != entry:
+                entry, names = kinds.rfind(ENTRY, 0, at), set()
+                begin = entry + 1
+            names.update(columns.names_between(begin, at))
+            begin = at
+        _, start, end = next(values_of(base, at, at + 1))
+        if has_names(base.text, start, end) and not (kinds[at] == FIELD and name in names):
+            own, its = name if kinds[at] == STRING else None, entry if kinds[at] == FIELD else None
+            yield from (Undefined(part, its, is_own) for part, is_own in without_string(base.text, start, end, known, own))
+        if kinds[at] == STRING:
             known.add(name)
-        names.add(name)
 
 
 def without_string(text: bytes, start: int, end: int, known: Set[bytes], own: Optional[bytes]) -> Iterator["tuple[Part, bool]"]:

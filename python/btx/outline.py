@@ -36,14 +36,14 @@ class Outline:
     def strings(self) -> Dict[bytes, bytes]:
         """The strings that it defines."""
         known = self.pieces[-1].after.values
-        names = ((it.item.key or b"").lower() for it in self.string_items())
+        names = (name for piece in self.pieces for name in piece.strings)
         return {name: known[name] for name in names if name in known}
 
     @property
     def keys(self) -> Set[bytes]:
         """The keys of its entries, in lower case."""
         if self.known_keys is None:
-            self.known_keys = set().union(*(piece.numbers for piece in self.pieces))
+            self.known_keys = set().union(*(piece.part.keys_stored() for piece in self.pieces))
         return self.known_keys
 
     def items(self) -> Iterator[Placed]:
@@ -65,15 +65,16 @@ class Outline:
 
     def entries(self, key: bytes) -> Iterator[Placed]:
         """The entries of a key in lower case."""
-        if key in self.keys:
-            for turn, piece in enumerate(self.pieces):
-                for number in piece.numbers.get(key, ()):
+        for turn, piece in enumerate(self.pieces if key in self.keys else ()):
+            for number, its in enumerate(piece.part.keys(), piece.part.first):
+                if its == key:
                     yield from self.placed(turn, piece.part.database.items_between(number, number + 1))
 
     def string_items(self) -> Iterator[Placed]:
         """The items that define strings."""
         for turn, piece in enumerate(self.pieces):
-            yield from self.placed(turn, [item for item in piece.odd if item.key and not item.is_entry])
+            if piece.strings:
+                yield from self.placed(turn, [item for item in piece.part.items() if item.key and not item.is_entry])
 
     def shift(self, turn: int) -> int:
         return self.starts[turn] - self.pieces[turn].part.begin

@@ -10,7 +10,7 @@ from typing import Dict, List, Optional, Set
 
 from .bibtext import MOST_AGAIN, Item
 from .doctor import Examiner, Finding, Local, Source, Style, Work, finding_of, repeated_works
-from .reading import ENTRY, without_collection
+from .reading import without_collection
 from .renewing import Known, Part, Piece, Renewal
 
 __all__ = ["Examination", "Pieces"]
@@ -24,21 +24,16 @@ class Examined(Piece):
 
     def __init__(self, part: Part, before: Known, again: int) -> None:
         super().__init__(part, before)
-        self.store_keys()
+        slips = part.slips()
+        self.stores = part.keys_stored()
+        self.repeats = frozenset(item.key.lower() for item in slips if item.is_repeated and item.key is not None) - self.stores
+        # Whether an entry of it is repeated, so that it isn't read to its end.
+        self.has_repeated = any(item.is_repeated for item in slips)
         self.is_examined = False
-        self.mistakes = mistakes_of(part, self.odd)
+        self.mistakes = mistakes_of(part, slips)
         self.works: List[Work] = []
         self.found: List[Local] = []
         self.again = again
-
-    def store_keys(self) -> None:
-        """Finds the keys that it stores."""
-        if not self.has_repeated:
-            self.stores = frozenset(key for key in self.part.keys() if key is not None)
-            return
-        entries = [item for item in self.part.items() if item.records.kinds[item.at] == ENTRY and item.key is not None]
-        self.stores = frozenset(item.key.lower() for item in entries if not item.is_repeated)  # type: ignore[union-attr]
-        self.repeats = frozenset(item.key.lower() for item in entries if item.is_repeated) - self.stores  # type: ignore[union-attr]
 
     @property
     def known_findings(self) -> List[Local]:
@@ -59,11 +54,13 @@ class Examined(Piece):
         self.is_examined = True
 
 
-def mistakes_of(part: Part, odd: List[Item]) -> List[Local]:
-    """What the reader of a part has found, whose odd items are these."""
+def mistakes_of(part: Part, slips: List[Item]) -> List[Local]:
+    """What the reader of a part has found, of which these items end with a mistake."""
+    if not slips:
+        return []
     examiner = Examiner(None)
     look_at(examiner, part)
-    examiner.slips(odd)
+    examiner.slips(slips)
     return local(examiner, part.begin)
 
 

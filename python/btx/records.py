@@ -3,22 +3,22 @@
 from __future__ import annotations
 
 import bisect
-import re
 import sys
 from array import array
+from itertools import compress
 from operator import not_
 from typing import Dict, Iterator, List, Optional, Tuple
 
 from .library import RECORD, Buffer
-from .reading import COMMENT, END, ENTRY, FIELD, PREAMBLE, STRING, WRONG
+from .reading import COMMENT, END, WRONG
 
-__all__ = ["LowerNames", "Records"]
+__all__ = ["LowerNames", "Records", "places_of"]
 
-# The records of an item, by the bytes of their kinds.
-ITEM = re.compile(b"[%c%c]|[%c%c][%c%c]|%c%c*[%c%c]" % (COMMENT, WRONG, PREAMBLE, STRING, END, WRONG, ENTRY, FIELD, END, WRONG))
+# For each kind of a record whether it is the last one of its item.
+IS_LAST = bytes(kind in (COMMENT, END, WRONG) for kind in range(256))
 # How many words a record has, and which of them a number is.
 WORDS = RECORD.size // 8
-START, END_PLACE, NAME_AT, NAME_LEN, TEXT_AT, TEXT_LEN = 1, 2, 4, 5, 6, 7
+COLUMNS = START, END_PLACE, NAME_AT, NAME_LEN, TEXT_AT, TEXT_LEN = 1, 2, 4, 5, 6, 7
 
 
 class LowerNames(Dict[bytes, bytes]):
@@ -35,25 +35,24 @@ class Records:
     kinds: of each record its kind, as a byte. starts, ends: the bytes of the database between which it is. names: its name, in lower case; they are made when somebody asks for them."""
 
     def __init__(self, text: bytes, base: int, limit: int, data: Buffer, texts: Buffer, lowered: LowerNames) -> None:
-        words = array("Q")
-        words.frombytes(data)
+        words = memoryview(data).cast("Q")
         self.text = text
         self.base = base
         self.limit = limit
         self.texts = texts
         self.kinds = data[0 if sys.byteorder == "little" else 3 :: RECORD.size]
         self.is_whole = data[4 :: RECORD.size]
-        self.starts, self.ends = words[START::WORDS], words[END_PLACE::WORDS]
-        self.name_len, self.text_at, self.text_len = words[NAME_LEN::WORDS], words[TEXT_AT::WORDS], words[TEXT_LEN::WORDS]
-        self.name_at, self.lowered = words[NAME_AT::WORDS], lowered
+        self.starts, self.ends, self.name_at, self.name_len, self.text_at, self.text_len = (array("Q", words[it::WORDS].tobytes()) for it in COLUMNS)
+        self.lowered = lowered
         self.known_names: Optional[List[bytes]] = None
         if base:
             self.starts, self.ends = array("Q", [it + base for it in self.starts]), array("Q", [it + base for it in self.ends])
         self.known_marks: Optional[bytes] = None
 
     def items(self) -> List[Tuple[int, int]]:
-        """The numbers of the first and of the last record of each item."""
-        return [(found.start(), found.end() - 1) for found in ITEM.finditer(self.kinds)]
+        """The numbers of the first and of the last record of each item. Each item begins where the one before it ends."""
+        lasts = list(compress(range(len(self.kinds)), self.kinds.translate(IS_LAST)))
+        return list(zip([0, *[last + 1 for last in lasts]], lasts))
 
     @property
     def names(self) -> List[bytes]:
@@ -89,10 +88,7 @@ class Records:
 
     def lacking(self, first: int, last: int) -> Iterator[int]:
         """Those of these values that may use a string that isn't defined."""
-        first = self.marks.find(1, first, last)
-        while first >= 0:
-            yield first
-            first = self.marks.find(1, first + 1, last)
+        return places_of(1, self.marks, first, last)
 
     def which_may_lack(self) -> bytes:
         """For each record, as a byte, whether its value is empty or has a `#`."""
@@ -108,3 +104,11 @@ class Records:
                 # (it is between records)
                 place = find(b"#", starts[number + 1], limit) if number + 1 < len(starts) else -1
         return bytes(marks)
+
+
+def places_of(byte: int, column: bytes, first: int, last: int) -> Iterator[int]:
+    """The numbers of the records from `first` to `last` that have this byte in a column."""
+    first = column.find(byte, first, last)
+    while first >= 0:
+        yield first
+        first = column.find(byte, first + 1, last)

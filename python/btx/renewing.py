@@ -9,7 +9,7 @@ import bisect
 from typing import Dict, FrozenSet, Generic, List, NamedTuple, Optional, Set, Tuple, TypeVar
 
 from .bibtext import Database, Item, Reader, read_late
-from .reading import END, STRING
+from .reading import END
 
 __all__ = ["LEAST_BYTES", "MOST_PIECES", "Known", "Part", "Piece", "Renewal"]
 
@@ -26,12 +26,11 @@ class Known(NamedTuple):
     values: Dict[bytes, bytes]
     names: FrozenSet[bytes]
 
-    def after(self, items: List[Item]) -> "Known":
-        """The strings that are known after some items."""
-        strings = [(item.key.lower(), item) for item in items if item.key is not None and item.records.kinds[item.at] == STRING]
+    def after(self, strings: List[Tuple[bytes, Optional[bytes]]]) -> "Known":
+        """The strings that are known after these are defined: names, and values where they are known."""
         if not strings:
             return self
-        values = {name: item.records.value(item.at) for name, item in strings if item.records.is_whole[item.at]}
+        values = {name: value for name, value in strings if value is not None}
         return Known({**self.values, **values}, self.names.union(name for name, _ in strings))
 
 
@@ -45,8 +44,9 @@ class Part(NamedTuple):
     end: int
 
     @property
-    def text(self) -> bytes:
-        return self.database.text[self.begin : self.end]
+    def text(self) -> memoryview:
+        """Its bytes, which aren't copied."""
+        return memoryview(self.database.text)[self.begin : self.end]
 
     def items(self) -> List[Item]:
         return self.database.items_between(self.first, self.last)
@@ -55,41 +55,34 @@ class Part(NamedTuple):
         """The keys of its items in lower case; None of an item that is no entry."""
         return self.database.keys_between(self.first, self.last)
 
-    def odd_items(self) -> List[Item]:
-        """The items that aren't entries without a mistake."""
-        return self.database.odd_items(self.first, self.last)
+    def keys_stored(self) -> FrozenSet[bytes]:
+        """The keys in lower case of its entries that aren't repeated."""
+        return self.database.keys_stored(self.first, self.last)
+
+    def strings(self) -> List[Tuple[bytes, Optional[bytes]]]:
+        """The strings that its items define: their names in lower case, and their values, None of one that wasn't read whole."""
+        return self.database.strings_between(self.first, self.last)
+
+    def slips(self) -> List[Item]:
+        """The items that end with a mistake."""
+        return self.database.slips_between(self.first, self.last)
 
 
 class Piece:
     """A piece of a database.
 
-    part: what was read of it. before, after: the strings that are known at its start and at its end. odd: the items that aren't entries without a mistake. stores: the keys, in lower case,
-    of the entries that it stores. repeats: those that were stored before it."""
+    part: what was read of it. before, after: the strings that are known at its start and at its end. strings: the names of those that it defines. stores: the keys, in lower
+    case, of the entries that it stores. repeats: those that were stored before it."""
 
     def __init__(self, part: Part, before: Known) -> None:
         self.part = part
         self.text = part.text
-        self.odd = part.odd_items()
+        strings = part.strings()
+        self.strings = [name for name, _ in strings]
         self.before = before
-        self.after = before.after(self.odd)
+        self.after = before.after(strings)
         self.stores: FrozenSet[bytes] = frozenset()
         self.repeats: FrozenSet[bytes] = frozenset()
-        self.known_numbers: Optional[Dict[bytes, List[int]]] = None
-
-    @property
-    def numbers(self) -> Dict[bytes, List[int]]:
-        """The numbers of its entries, by their keys in lower case."""
-        if self.known_numbers is None:
-            self.known_numbers = {}
-            for number, key in enumerate(self.part.keys(), self.part.first):
-                if key is not None:
-                    self.known_numbers.setdefault(key, []).append(number)
-        return self.known_numbers
-
-    @property
-    def has_repeated(self) -> bool:
-        """Whether an entry of it is repeated, so that it isn't read to its end."""
-        return any(item.is_repeated for item in self.odd)
 
     def fits(self, known: Known, stored: Set[bytes]) -> bool:
         """Whether it is read as before, where these strings are known and these keys are stored."""
@@ -142,7 +135,7 @@ class Renewal(Generic[AnyPiece]):
         end = len(self.text)
         for piece in reversed(earlier):
             start = end - len(piece.text)
-            if start < self.at or not piece.text.startswith(b"@") or not self.text.startswith(piece.text, start):
+            if start < self.at or piece.text[:1] != b"@" or not self.text.startswith(piece.text, start):
                 break
             found.append((start, piece))
             end = start

@@ -12,7 +12,8 @@ __all__ = ["BadMessage", "Ended", "Wire"]
 
 LENGTH = re.compile(rb"(?im)^content-length:[ \t]*([0-9]{1,12})[ \t]*\r?$")
 MOST_HEADER = 1 << 16
-PIECE = 1 << 20
+# How many bytes are read at once: as many as a pipe holds. A larger room would be taken from the system and given back each time.
+PIECE = 1 << 16
 
 
 class Ended(Exception):
@@ -45,7 +46,7 @@ class Wire:
                 raise Ended
             self.waiting += piece
 
-    def next_body(self) -> Optional[bytes]:
+    def next_body(self) -> Optional[bytearray]:
         """The body of the next message, if it is there whole."""
         end = self.waiting.find(b"\r\n\r\n", max(self.looked_at - 3, 0))
         if end < 0:
@@ -61,7 +62,7 @@ class Wire:
         self.looked_at, start, length = end, end + 4, int(found[1])
         if len(self.waiting) < start + length:
             return None
-        body = bytes(self.waiting[start : start + length])
+        body = self.waiting[start : start + length]
         del self.waiting[: start + length]
         self.looked_at = 0
         return body
@@ -73,7 +74,7 @@ class Wire:
             rest = rest[os.write(self.target, rest) :]
 
 
-def parsed(body: bytes) -> Dict[str, Any]:
+def parsed(body: bytearray) -> Dict[str, Any]:
     try:
         message = json.loads(body)
     except (ValueError, RecursionError) as error:

@@ -42,9 +42,11 @@ def uri_of(path: str) -> str:
 
 def in_utf8(content: bytes) -> bytes:
     """The bytes of a file, in UTF-8: what is none of it is a sign of its own."""
-    if content.isascii():
-        return content
-    return content.decode("utf8", "replace").encode("utf8")
+    try:
+        content.decode("utf8")
+    except UnicodeDecodeError:
+        return content.decode("utf8", "replace").encode("utf8")
+    return content
 
 
 class Workspace:
