@@ -24,6 +24,6 @@ returns c =
     ∙ ap (λ left. record_at text says left field.value.rest.now) (c.left_at_field.ensures ∙ ap left_at_field before) in
     ap records_left (sym c.self.view_is)
     ∙ one-read text inside.strings inside.reader.0 inside.reader.1 step says inside.strings
-      (plain-next no_key inside.reader.0 inside.reader.1 field stands) said refl
+    (plain-next no_key inside.reader.0 inside.reader.1 field stands) said refl
     ∙ ap (λ first. first ∷ records_left (record { text = text; strings = inside.strings; wanted = inside.reader.0; rest = field.value.rest.now })) (sym is)
     ∙ ap (λ reader. c.record_at.result ∷ records_left (record { text = text; strings = inside.strings; wanted = reader.0; rest = reader.1 })) (sym c.pass.ensures)
