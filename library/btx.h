@@ -259,7 +259,7 @@ typedef struct {
 /* Says of a style, before any run, whether each run of it ends. `name` is that of its file. If `ends` is true, no run of it is stopped whose budget is at least the
    bound, and none takes more steps: for any document and databases in which each entry's type is one that the style doesn't know or one that is named in `types`, each
    with a byte 10, where a global string variable keeps at most `kept` bytes (20,000, unless `global_max` of the options is another number). These types are those of
-   btx_check. A run may still end at a limit: of the stack, a string or a file. A style of which `ends` is false may end, too: then `notes` say where the first
+   btx_check; or fewer, where the functions of the others have a loop of which no bound is known: then `notes` say where. A run may still end at a limit: of the stack, a string or a file. A style of which `ends` is false may end, too: then `notes` say where the first
    token stands of which no bound is known, in lines whose form the man page says. Answers BTX_FULL if one of the two is longer than its room; BTX_REFUSED if the
    style is longer than a file may be; after that and BTX_MEMORY nothing was written. */
 uint32_t btx_check_ends(const unsigned char *name, size_t name_len, const unsigned char *style, size_t style_len, uint32_t kept,

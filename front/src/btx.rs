@@ -638,8 +638,9 @@ pub struct Bound {
 /// What is said of the steps of a style's runs.
 #[derive(Debug, Clone, PartialEq, Eq)]
 pub enum Steps {
-    /// Each run ends within the bound, as long as each entry's type is one that the style doesn't know or one of these.
-    Bounded(Bound, Vec<Vec<u8>>),
+    /// Each run ends within the bound, as long as each entry's type is one that the style doesn't know or one of these. Where the style is checked for more types,
+    /// notes say where the first token without a bound stands.
+    Bounded(Bound, Vec<Vec<u8>>, Vec<u8>),
     /// No bound is known: notes say where the first token without one stands.
     Unbounded(Vec<u8>),
 }
@@ -676,7 +677,7 @@ fn check_ends_in(name: &[u8], style: &[u8], kept: u32, room: usize) -> Result<Op
     notes.truncate(bound.notes_len);
     let its = Bound { once: bound.once, each: bound.each, kept };
     Ok(Some(if bound.ends {
-        Steps::Bounded(its, names_in(&types[..bound.types_len]))
+        Steps::Bounded(its, names_in(&types[..bound.types_len]), notes)
     } else {
         Steps::Unbounded(notes)
     }))

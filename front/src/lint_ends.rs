@@ -28,6 +28,8 @@ pub struct Proved {
     grows: Option<[Polynomial; 2]>,
     /// The types of entries, beside those that the style doesn't know.
     pub types: Vec<Vec<u8>>,
+    /// Why no bound is known for entries of the other types for which the style is checked, if there are any.
+    pub others: Option<Reason>,
 }
 
 /// Why a style isn't known to end.
@@ -58,9 +60,10 @@ pub fn ends_of(name: &[u8], style: &[u8]) -> Result<Option<Ends>, MemoryRefused>
             let is_too_great = reason != Reason::TooLarge && matches!(asked(0)?, Some(Steps::Bounded(..)));
             Ok(Some(Ends::Unproved(if is_too_great { Reason::TooGreat } else { reason })))
         }
-        Some(Steps::Bounded(bound, types)) => {
+        Some(Steps::Bounded(bound, types, notes)) => {
             let found = bounds_at_few(asked, bound)?;
-            Ok(Some(Ends::Proved(Proved { bound, grows: grows(&found, bound), types })))
+            let others = Some(notes).filter(|notes| !notes.is_empty()).map(|notes| reason_of(&notes, name));
+            Ok(Some(Ends::Proved(Proved { bound, grows: grows(&found, bound), types, others })))
         }
     }
 }
@@ -73,10 +76,10 @@ fn bounds_at_few(
     let mut found = Vec::new();
     for kept in ASKED {
         match asked(kept)? {
-            Some(Steps::Bounded(bound, _)) if (bound.once, bound.each) == (at_most.once, at_most.each) => {
+            Some(Steps::Bounded(bound, ..)) if (bound.once, bound.each) == (at_most.once, at_most.each) => {
                 return Ok(vec![bound; ASKED.len()]);
             }
-            Some(Steps::Bounded(bound, _)) => found.push(bound),
+            Some(Steps::Bounded(bound, ..)) => found.push(bound),
             _ => break,
         }
     }

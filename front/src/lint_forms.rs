@@ -3,7 +3,7 @@
 use crate::btx::Verdict;
 use crate::code_places::Code;
 use crate::explain;
-use crate::lint_ends::Ends;
+use crate::lint_ends::{Ends, Proved, Reason};
 use crate::lint_text::{Style, groups, verdict, write};
 use crate::lint_types::Types;
 use crate::lint_warnings::Warning;
@@ -118,9 +118,27 @@ fn write_ends(path: &str, check: &StyleCheck, out: &mut impl Write) -> io::Resul
         }
         Some(Ends::Proved(proved)) => {
             writeln!(out, "{path}: ends: {}", proved.in_words())?;
-            if check.is_clean() { Ok(()) } else { write_types(&proved.types, out) }
+            if !check.is_clean() {
+                write_types(&proved.types, out)?;
+            }
+            match &proved.others {
+                Some(reason) => write_others(check, proved, reason, out),
+                None => Ok(()),
+            }
         }
     }
+}
+
+/// Writes for which types of entries no bound is known, and why.
+fn write_others(check: &StyleCheck, proved: &Proved, reason: &Reason, out: &mut impl Write) -> io::Result<()> {
+    let taken = check.types().map(|types| &types.taken[..]).unwrap_or_default();
+    let names: Vec<String> = taken.iter().filter(|name| !proved.types.contains(name)).map(|name| plain(name)).collect();
+    let types = match &names[..] {
+        [] => "its other types".to_string(),
+        [name] => format!("the type {name}"),
+        names => format!("the types {}", names.join(", ")),
+    };
+    writeln!(out, "    not known to end for entries of {types}: {}", reason.in_words())
 }
 
 /// Writes for which types of entries something is said.

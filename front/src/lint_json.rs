@@ -65,6 +65,8 @@ struct BoundJson {
     once: u64,
     each: u64,
     kept: u32,
+    #[serde(skip_serializing_if = "Option::is_none")]
+    types: Option<Vec<String>>,
 }
 
 /// Where a style may go wrong.
@@ -171,7 +173,8 @@ impl BoundJson {
         match ends {
             Ends::Proved(proved) => {
                 let Bound { once, each, kept } = proved.bound;
-                Some(BoundJson { once, each, kept })
+                let types = proved.others.as_ref().map(|_| plain_names(&proved.types));
+                Some(BoundJson { once, each, kept, types })
             }
             Ends::Unproved(_) => None,
         }

@@ -106,7 +106,8 @@ class Branches(NamedTuple):
 
 class Bound(NamedTuple):
     """The bound of a style that ends. once: the most steps of a run without entries. each: the most steps more for each entry of the list. kept: how many bytes a global
-    string variable keeps at most there. types: the types of entries for which that holds, beside those that the style doesn't know."""
+    string variable keeps at most there. types: the types of entries for which that holds, beside those that the style doesn't know;
+    they are fewer than the verdict's where no bound is known of the others."""
 
     once: int
     each: int

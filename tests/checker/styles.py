@@ -5,7 +5,7 @@
 LINT is bibtex-lint, or bibtex-search, which is the same program (front/out/bibtex-search). `styles.txt` has a row for each style: its verdict, a bar, the body of its function `misc`,
 and behind a semicolon the commands, if they are others than `ITERATE {call.type$}`. A verdict is `clean`, `incomplete`, or the first warning: what is executed there, the fault (stack, kind, equal,
 variable, entry, left), and the field that may be missing. `clean or ..` is that of a style that is clean, which a checker may not see. Behind a comma a row may say whether the style ends:
-`ends ONCE EACH` is its bound, where a string variable keeps 20,000 bytes, `open NAME` what is executed by the first token without a bound, `again TYPE` the type that asks for itself, `great` a
+`ends ONCE EACH` is its bound, where a string variable keeps 20,000 bytes, `for TYPE..` behind it of one that has it for entries of these types alone, `open NAME` what is executed by the first token without a bound, `again TYPE` the type that asks for itself, `great` a
 bound above 64 bits. Each row with a `while$` says it. A row that begins with a hyphen gives no verdict.
 
 A style with warnings is checked too with one mistake in its text, of each kind and at each of three places: all warnings must stand in the lines that they have without the mistake.
@@ -90,7 +90,8 @@ def ends_of(lint, folder, names):
     reasons = dict(re.findall(r"(?m)^(s\d+\.bst): not known to end: (.*)$", printed))
     for name, its in zip(names, found):
         if its["ends"]:
-            yield "ends %d %d" % (its["ends"]["once"], its["ends"]["each"])
+            types = its["ends"].get("types")
+            yield "ends %d %d" % (its["ends"]["once"], its["ends"]["each"]) + (" for " + " ".join(types) if types else "")
             continue
         reason = reasons.get(name, "")
         token, again = re.match(r"(?:no bound is known of )?`(\S+)` in line", reason), re.match(r"the function of the type (\S+) asks", reason)

@@ -25,6 +25,8 @@ FUNCTION {misc} { title odd write$ }
 READ
 ITERATE {call.type$}
 """
+# Of one type no bound is known.
+PARTLY = "ENTRY { title } {} {}\nFUNCTION {book} { { #1 } { cite$ write$ } while$ }\nFUNCTION {article} { cite$ write$ }\nREAD\nITERATE {call.type$}\n"
 # What is an object of its own, by the name of the field that holds it.
 KINDS = {"ends": "bound", "warnings": "warning", "places": "place", "place": "place", "command": "place", "operand": "operand", "causes": "cause", "constants": "constant", "hints": "hint"}
 
@@ -59,9 +61,9 @@ def of_page():
 def printed(lint):
     """The fields that are printed."""
     with tempfile.TemporaryDirectory() as folder:
-        for name, text in (("clean", CLEAN), ("faulty", FAULTY)):
+        for name, text in (("clean", CLEAN), ("faulty", FAULTY), ("partly", PARTLY)):
             (pathlib.Path(folder) / (name + ".bst")).write_text(text)
-        ran = subprocess.run([lint, "--json", "--entry", "clean", "faulty"], cwd=folder, capture_output=True, text=True, timeout=60)
+        ran = subprocess.run([lint, "--json", "--entry", "clean", "faulty", "partly"], cwd=folder, capture_output=True, text=True, timeout=60)
     return fields(json.loads(ran.stdout), "style")
 
 

@@ -9,7 +9,7 @@ use crate::unbounded::{note_large, note_unbounded};
 use crate::weight::{MOST_TEXT, is_light};
 use btx_bst::{PlacedStyle, Style, read_placed_style};
 use btx_check::types::meant_types;
-use btx_ends::{Bound, check};
+use btx_ends::{Bound, bounded_types, check};
 use btx_text::{Fault, GREATEST_FILE};
 use std::alloc::{AllocError, Global};
 
@@ -23,7 +23,7 @@ pub struct Bounded {
     pub each: u64,
     /// Of a style that ends the names of the functions that an entry's type may be, each with byte 10.
     pub types: Vec<u8>,
-    /// Where a style has a token without a bound that isn't known to end.
+    /// Where a style has a token without a bound that isn't known to end, or isn't for entries of all types for which it is checked.
     pub notes: Vec<u8>,
 }
 
@@ -70,19 +70,20 @@ fn notes_on(
     }
 }
 
-// Answers what is said of a style with this bound, if there is one.
+// Answers what is said of a style with this bound, if there is one, and these notes.
 #[tactic(auto, using(crate::proofs::CheckLemmas::text_ends))]
 fn said(
     alloc: Global,
     name: &[u8],
     text: &[u8],
     kept: u32,
-    placed: &PlacedStyle<'_>,
+    style: &Style<'_>,
     allowed: &[u32],
     bound: Option<Bound>,
+    notes: Vec<u8>,
 ) -> Result<Bounded, AllocError>
-    requires style { placed.now.style ≡ style_of name.now text.now }
-    requires ends { IfSome bound (λ bound. StyleEnds placed.now.style allowed.now kept bound.once bound.each) }
+    requires style { style.now ≡ style_of name.now text.now }
+    requires ends { IfSome bound (λ bound. StyleEnds style.now allowed.now kept bound.once bound.each) }
     ensures { IfOk result (λ said. IsTrue said.ends → TextEnds name.now text.now kept said.once said.each said.types.items) }
 {
     match bound {
@@ -90,18 +91,49 @@ fn said(
             ends: true,
             once: bound.once,
             each: bound.each,
-            types: names_of(alloc, &placed.style, allowed)?,
-            notes: Vec::new(alloc),
+            types: names_of(alloc, style, allowed)?,
+            notes,
         }),
-        None => {
-            let notes = notes_on(alloc, placed, allowed, kept)?;
-            Ok(unbounded(alloc, notes))
-        }
+        None => Ok(unbounded(alloc, notes)),
+    }
+}
+
+// Answers the types for which a bound is looked for where there is none for all of these: none if the style is too heavy.
+fn fewer_types(
+    alloc: Global,
+    style: &Style<'_>,
+    allowed: &[u32],
+    kept: u32,
+) -> Result<Vec<u32>, AllocError> {
+    if !is_light(style) {
+        return Ok(Vec::new(alloc));
+    }
+    let fewer = bounded_types(alloc, style, allowed, kept)?;
+    if fewer.len() < allowed.len() {
+        Ok(fewer)
+    } else {
+        Ok(Vec::new(alloc))
+    }
+}
+
+// Answers the bound for entries of fewer types. With no type there is none.
+fn bound_of_fewer(
+    alloc: Global,
+    style: &Style<'_>,
+    fewer: &[u32],
+    kept: u32,
+) -> Result<Option<Bound>, AllocError>
+    ensures { IfOk result (λ found. IfSome found (λ bound. StyleEnds style.now fewer.now kept bound.once bound.each)) }
+{
+    if fewer.is_empty() {
+        Ok(None)
+    } else {
+        bound_of(alloc, style, fewer, kept)
     }
 }
 
 /// Says whether each run of the style ends whose file has the name `name` and the bytes `text`, where global string variables keep at most `kept` bytes: for
-/// entries of the types for which the style is checked.
+/// entries of the types for which the style is checked, or of those of them whose functions have no loop without a bound.
 pub fn bound_style(alloc: Global, name: &[u8], text: &[u8], kept: u32) -> Result<Bounded, Fault>
     ensures { IfOk result (λ said. IsTrue said.ends → TextEnds name.now text.now kept said.once said.each said.types.items) }
 {
@@ -111,5 +143,21 @@ pub fn bound_style(alloc: Global, name: &[u8], text: &[u8], kept: u32) -> Result
     let placed = read_placed_style(alloc, name, text)?;
     let allowed = meant_types(alloc, &placed.style)?;
     let bound = bound_of(alloc, &placed.style, &allowed, kept)?;
-    Ok(said(alloc, name, text, kept, &placed, &allowed, bound)?)
+    if bound.is_some() {
+        let none = Vec::new(alloc);
+        return Ok(said(
+            alloc,
+            name,
+            text,
+            kept,
+            &placed.style,
+            &allowed,
+            bound,
+            none,
+        )?);
+    }
+    let notes = notes_on(alloc, &placed, &allowed, kept)?;
+    let fewer = fewer_types(alloc, &placed.style, &allowed, kept)?;
+    let bound = bound_of_fewer(alloc, &placed.style, &fewer, kept)?;
+    Ok(said(alloc, name, text, kept, &placed.style, &fewer, bound, notes)?)
 }

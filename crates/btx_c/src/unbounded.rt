@@ -1,9 +1,9 @@
 //! Where a style that isn't known to end has its first token without a bound, as text. Nothing is promised of it.
-use btx_bst::{Callee, Item, PlacedStyle, Style, Token};
+use btx_bst::{Callee, PlacedStyle, Style, Token};
 use btx_code::Code;
 use btx_ends::claims::Claims;
 use btx_ends::costs::body_cost;
-use btx_ends::{Certificate, proposed};
+use btx_ends::{Certificate, proposed, reached};
 use btx_text::log_texts::push_two;
 use btx_where::Place;
 use btx_where::notes::Known;
@@ -26,62 +26,6 @@ fn claims_in<'c>(found: &'c Certificate) -> Claims<'c> {
     }
 }
 
-// Marks the function of a number.
-fn mark(marks: &mut [bool], number: u32) {
-    if (number as usize) < marks.len() {
-        marks[number as usize] = true;
-    }
-}
-
-// Marks the functions that a body executes or quotes.
-fn mark_used(marks: &mut [bool], body: &[Token]) {
-    for token in body {
-        match *token {
-            Token::Run(Callee::User(number)) | Token::Quote(Callee::User(number)) => {
-                mark(marks, number)
-            }
-            _ => {}
-        }
-    }
-}
-
-// Marks the functions of the commands and of the types of entries.
-fn mark_first(style: &Style<'_>, allowed: &[u32], marks: &mut [bool]) {
-    for item in style.items() {
-        match *item {
-            Item::Execute(Callee::User(number))
-            | Item::Iterate(Callee::User(number))
-            | Item::Reverse(Callee::User(number)) => mark(marks, number),
-            _ => {}
-        }
-    }
-    mark_types(style, allowed, marks);
-}
-
-// Marks the functions of the types of entries.
-fn mark_types(style: &Style<'_>, allowed: &[u32], marks: &mut [bool]) {
-    match style.type_function(b"default.type") {
-        Some(number) => mark(marks, number),
-        None => {}
-    }
-    for number in allowed {
-        mark(marks, *number);
-    }
-}
-
-// Of each function whether a run may use it. A function uses only functions before it.
-fn used(alloc: Global, style: &Style<'_>, allowed: &[u32]) -> Result<Vec<bool>, AllocError> {
-    let mut marks: Vec<bool> = vec![in alloc; false; style.functions()]?;
-    mark_first(style, allowed, &mut marks);
-    for back in 0..style.functions() {
-        let number = style.functions() - 1 - back;
-        if number < marks.len() && marks[number] {
-            mark_used(&mut marks, style.body(number));
-        }
-    }
-    Ok(marks)
-}
-
 // How many of a body's first tokens have a bound together.
 fn bounded_tokens(claims: Claims<'_>, body: &[Token]) -> usize {
     let mut least: usize = 0;
@@ -100,12 +44,12 @@ fn bounded_tokens(claims: Claims<'_>, body: &[Token]) -> usize {
     least
 }
 
-// The first token without a bound: in the first function that may be used and has none.
-fn first_unbounded(style: &Style<'_>, used: &[bool], found: &Certificate) -> Option<Place> {
+// The first token without a bound: in the first function that may be reached and has none.
+fn first_unbounded(style: &Style<'_>, reached: &[bool], found: &Certificate) -> Option<Place> {
     let claims = claims_in(found);
     for function in 0..style.functions() {
-        let is_open = function < used.len()
-            && used[function]
+        let is_open = function < reached.len()
+            && reached[function]
             && function < found.costs.len()
             && found.costs[function] == 0;
         if is_open {
@@ -181,8 +125,8 @@ pub fn note_unbounded(
     let style = &placed.style;
     let mut notes = Vec::new(alloc);
     let found = proposed(alloc, style, allowed, kept, true)?;
-    let used = used(alloc, style, allowed)?;
-    match first_unbounded(style, &used, &found) {
+    let reached = reached(alloc, style, allowed)?;
+    match first_unbounded(style, &reached, &found) {
         Some(place) => push_token(alloc, placed, place, &mut notes)?,
         None => {
             if let Some(number) = dear_type(style, allowed, &found) {

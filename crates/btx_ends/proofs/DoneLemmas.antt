@@ -1,5 +1,5 @@
 -- What tokens leave where they are done: rules for one token after another, and the tests of loops that make a text shorter.
-use Rattle.std.proofs.Common.{◌≡◌, ℕ, zero, suc, ◌+◌, ℤ, pos, Bool, true, false, not, cond, nat_lt, List, [], ◌∷◌, ◌++◌, length, refl, sym, ap, subst, ◌∙◌}
+use Rattle.std.proofs.Common.{◌≡◌, ℕ, zero, suc, ◌+◌, ℤ, pos, Bool, true, false, not, cond, nat_lt, List, [], ◌∷◌, ◌++◌, length, refl, sym, ap, subst, ◌∙◌, inl, inr}
 use Rattle.std.specs.Prelude.{slice_get, unwrap_or}
 use Rattle.std.specs.Str.{bytes_eq}
 use Rattle.std.specs.List.{list_all}
@@ -34,7 +34,7 @@ use Rattle.btx_machine.specs.language.Meaning.{most_bodies, then_do}
 use Rattle.btx_machine.specs.language.MeaningBySteps.{in_turn, body_if, follow, act}
 use Rattle.btx_ends.specs.Counters.{value_in}
 use Rattle.btx_ends.specs.Keeping.{IfDone}
-use Rattle.btx_ends.specs.Shortening.{text_in, begins, word_of, body_of, NotOf, AndOf, OrOf, filled_test, flag_test, begins_test, until_test}
+use Rattle.btx_ends.specs.Shortening.{text_in, begins, word_of, body_of, IsSkip, NotOf, AndOf, OrOf, filled_test, flag_test, begins_test, until_test}
 use Rattle.btx_ends.proofs.CounterLemmas.{variable_step, quote_step, integer_step, string_step}
 
 -- ---- outcomes
@@ -204,6 +204,17 @@ skip_to job d bodies loops left s =
     one_to job d (Run (callee.BuiltIn built_in.Skip)) (Leaves s.store.literals s.store) bodies loops left s
     (so_by (Leaves s.store.literals s.store) _ _ (skip_step job s.store) (refl, (refl, refl)))
 
+skips_to : (job : Job) (d : ℕ) (f : Callee) → IsSkip job.style f → (bodies loops left : ℕ) (s : State)
+    → IfDone (LeavesIn s.store.literals s.store) (act job d (Run f) bodies loops left s)
+skips_to job d f (inl e) bodies loops left s =
+    subst (λ (g : Callee). IfDone (LeavesIn s.store.literals s.store) (act job d (Run g) bodies loops left s)) (sym e) (skip_to job d bodies loops left s)
+skips_to job d f (inr h) bodies loops left s =
+    subst (λ (g : Callee). IfDone (LeavesIn s.store.literals s.store) (act job d (Run g) bodies loops left s)) (sym h.1.0)
+    (call_to job d h.0 (Run (callee.BuiltIn built_in.Skip) ∷ []) (LeavesIn s.store.literals s.store) bodies loops left s h.1.1
+    (λ e less t q. if_then (LeavesIn t.store.literals t.store) (LeavesIn s.store.literals s.store) _ _
+    (skip_to job e (bodies + 1) loops less t)
+    (λ less1 u p. (p.0 ∙ q.0, (p.1.0 ∙ q.1.0, p.1.1 ∙ q.1.1)))))
+
 -- what stood below stays below
 abbrev on : Literal → List Literal → List Literal
 on y ys = y ∷ ys
@@ -256,28 +267,31 @@ pub and_to : (job : Job) (d number nought : ℕ) → AndOf job.style number noug
     → s.store.literals ≡ literal.Integer b ∷ literal.Integer a ∷ ys
     → IfDone (LeavesIn (literal.Integer (lower_if (is_positive b) a) ∷ ys) s.store) (act job d (Run (callee.User number)) bodies loops left s)
 and_to job d number nought is b a ys bodies loops left s top =
-    call_to job d number _ Q bodies loops left s is.0
-    (λ e less t q. if_then (LeavesIn (literal.Function (callee.BuiltIn built_in.Skip) ∷ t.store.literals) t.store) Q _ _
-    (pushed_to job e (Quote (callee.BuiltIn built_in.Skip)) (literal.Function (callee.BuiltIn built_in.Skip)) t.store.literals (bodies + 1) loops less t
-    (quote_step job (callee.BuiltIn built_in.Skip) t.store))
+    call_to job d number _ Q bodies loops left s is.1.1.0
+    (λ e less t q. if_then (LeavesIn (literal.Function skip ∷ t.store.literals) t.store) Q _ _
+    (pushed_to job e (Quote skip) (literal.Function skip) t.store.literals (bodies + 1) loops less t
+    (quote_step job skip t.store))
     (λ less1 t1 q1. if_then (LeavesIn (literal.Function (callee.User nought) ∷ t1.store.literals) t1.store) Q _ _
     (pushed_to job e (Quote (callee.User nought)) (literal.Function (callee.User nought)) t1.store.literals (bodies + 1) loops less1 t1
     (quote_step job (callee.User nought) t1.store))
     (λ less2 t2 q2. if_then Q Q _ _
-    (choose_to job e (callee.BuiltIn built_in.Skip) (callee.User nought) b (literal.Integer a ∷ ys) Q (bodies + 1) loops less2 t2
-    (q2.0 ∙ ap (on (literal.Function (callee.User nought))) (q1.0 ∙ ap (on (literal.Function (callee.BuiltIn built_in.Skip))) (q.0 ∙ top)))
+    (choose_to job e skip (callee.User nought) b (literal.Integer a ∷ ys) Q (bodies + 1) loops less2 t2
+    (q2.0 ∙ ap (on (literal.Function (callee.User nought))) (q1.0 ∙ ap (on (literal.Function skip)) (q.0 ∙ top)))
     (λ e3 less3 t3 q3. by (is_positive b) e3 less3 t3
     (leaves_then t2.store.literals (literal.Integer a ∷ ys) s.store t2.store t3.store
     (refl, (q2.1.0 ∙ q1.1.0 ∙ q.1.0, q2.1.1 ∙ q1.1.1 ∙ q.1.1)) q3)))
     (λ less4 t4 q4. q4))))
   where
+    skip : Callee
+    skip = is.0
+
     Q : State → Type 0
     Q t = LeavesIn (literal.Integer (lower_if (is_positive b) a) ∷ ys) s.store t
 
     zero_body : (e less : ℕ) (t : State) → Leaves (literal.Integer a ∷ ys) s.store t.store
         → IfDone (LeavesIn (literal.Integer (pos 0) ∷ ys) s.store) (act job e (Run (callee.User nought)) (bodies + 1) loops less t)
     zero_body e less t q =
-        call_to job e nought _ (LeavesIn (literal.Integer (pos 0) ∷ ys) s.store) (bodies + 1) loops less t is.1
+        call_to job e nought _ (LeavesIn (literal.Integer (pos 0) ∷ ys) s.store) (bodies + 1) loops less t is.1.1.1
         (λ e1 less1 t1 q1. if_then (LeavesIn ys t1.store) (LeavesIn (literal.Integer (pos 0) ∷ ys) s.store) _ _
         (pop_to job e1 (literal.Integer a) ys (bodies + 1 + 1) loops less1 t1 (q1.0 ∙ q.0))
         (λ less2 t2 q2. if_then (LeavesIn (literal.Integer (pos 0) ∷ t2.store.literals) t2.store) (LeavesIn (literal.Integer (pos 0) ∷ ys) s.store) _ _
@@ -289,8 +303,8 @@ and_to job d number nought is b a ys bodies loops left s top =
 
     by : (c : Bool) (e less : ℕ) (t : State) → Leaves (literal.Integer a ∷ ys) s.store t.store
         → IfDone (LeavesIn (literal.Integer (lower_if c a) ∷ ys) s.store)
-        (act job e (Run (kept_control.chosen c (callee.BuiltIn built_in.Skip) (callee.User nought))) (bodies + 1) loops less t)
-    by true e less t q = if_weaker _ (LeavesIn (literal.Integer a ∷ ys) s.store) _ (skip_to job e (bodies + 1) loops less t)
+        (act job e (Run (kept_control.chosen c skip (callee.User nought))) (bodies + 1) loops less t)
+    by true e less t q = if_weaker _ (LeavesIn (literal.Integer a ∷ ys) s.store) _ (skips_to job e skip is.1.0 (bodies + 1) loops less t)
         (λ u p. (p.0 ∙ q.0, (p.1.0 ∙ q.1.0, p.1.1 ∙ q.1.1)))
     by false e less t q = zero_body e less t q
 
@@ -469,28 +483,31 @@ pub or_to : (job : Job) (d number one : ℕ) → OrOf job.style number one → (
     → s.store.literals ≡ literal.Integer b ∷ literal.Integer a ∷ ys
     → IfDone (LeavesIn (literal.Integer (one_if (is_positive b) a) ∷ ys) s.store) (act job d (Run (callee.User number)) bodies loops left s)
 or_to job d number one is b a ys bodies loops left s top =
-    call_to job d number _ Q bodies loops left s is.0
+    call_to job d number _ Q bodies loops left s is.1.1.0
     (λ e less t q. if_then (LeavesIn (literal.Function (callee.User one) ∷ t.store.literals) t.store) Q _ _
     (pushed_to job e (Quote (callee.User one)) (literal.Function (callee.User one)) t.store.literals (bodies + 1) loops less t
     (quote_step job (callee.User one) t.store))
-    (λ less1 t1 q1. if_then (LeavesIn (literal.Function (callee.BuiltIn built_in.Skip) ∷ t1.store.literals) t1.store) Q _ _
-    (pushed_to job e (Quote (callee.BuiltIn built_in.Skip)) (literal.Function (callee.BuiltIn built_in.Skip)) t1.store.literals (bodies + 1) loops less1 t1
-    (quote_step job (callee.BuiltIn built_in.Skip) t1.store))
+    (λ less1 t1 q1. if_then (LeavesIn (literal.Function skip ∷ t1.store.literals) t1.store) Q _ _
+    (pushed_to job e (Quote skip) (literal.Function skip) t1.store.literals (bodies + 1) loops less1 t1
+    (quote_step job skip t1.store))
     (λ less2 t2 q2. if_then Q Q _ _
-    (choose_to job e (callee.User one) (callee.BuiltIn built_in.Skip) b (literal.Integer a ∷ ys) Q (bodies + 1) loops less2 t2
-    (q2.0 ∙ ap (on (literal.Function (callee.BuiltIn built_in.Skip))) (q1.0 ∙ ap (on (literal.Function (callee.User one))) (q.0 ∙ top)))
+    (choose_to job e (callee.User one) skip b (literal.Integer a ∷ ys) Q (bodies + 1) loops less2 t2
+    (q2.0 ∙ ap (on (literal.Function skip)) (q1.0 ∙ ap (on (literal.Function (callee.User one))) (q.0 ∙ top)))
     (λ e3 less3 t3 q3. by (is_positive b) e3 less3 t3
     (leaves_then t2.store.literals (literal.Integer a ∷ ys) s.store t2.store t3.store
     (refl, (q2.1.0 ∙ q1.1.0 ∙ q.1.0, q2.1.1 ∙ q1.1.1 ∙ q.1.1)) q3)))
     (λ less4 t4 q4. q4))))
   where
+    skip : Callee
+    skip = is.0
+
     Q : State → Type 0
     Q t = LeavesIn (literal.Integer (one_if (is_positive b) a) ∷ ys) s.store t
 
     one_body : (e less : ℕ) (t : State) → Leaves (literal.Integer a ∷ ys) s.store t.store
         → IfDone (LeavesIn (literal.Integer (pos 1) ∷ ys) s.store) (act job e (Run (callee.User one)) (bodies + 1) loops less t)
     one_body e less t q =
-        call_to job e one _ (LeavesIn (literal.Integer (pos 1) ∷ ys) s.store) (bodies + 1) loops less t is.1
+        call_to job e one _ (LeavesIn (literal.Integer (pos 1) ∷ ys) s.store) (bodies + 1) loops less t is.1.1.1
         (λ e1 less1 t1 q1. if_then (LeavesIn ys t1.store) (LeavesIn (literal.Integer (pos 1) ∷ ys) s.store) _ _
         (pop_to job e1 (literal.Integer a) ys (bodies + 1 + 1) loops less1 t1 (q1.0 ∙ q.0))
         (λ less2 t2 q2. if_then (LeavesIn (literal.Integer (pos 1) ∷ t2.store.literals) t2.store) (LeavesIn (literal.Integer (pos 1) ∷ ys) s.store) _ _
@@ -502,7 +519,7 @@ or_to job d number one is b a ys bodies loops left s top =
 
     by : (c : Bool) (e less : ℕ) (t : State) → Leaves (literal.Integer a ∷ ys) s.store t.store
         → IfDone (LeavesIn (literal.Integer (one_if c a) ∷ ys) s.store)
-        (act job e (Run (kept_control.chosen c (callee.User one) (callee.BuiltIn built_in.Skip))) (bodies + 1) loops less t)
-    by false e less t q = if_weaker _ (LeavesIn (literal.Integer a ∷ ys) s.store) _ (skip_to job e (bodies + 1) loops less t)
+        (act job e (Run (kept_control.chosen c (callee.User one) skip)) (bodies + 1) loops less t)
+    by false e less t q = if_weaker _ (LeavesIn (literal.Integer a ∷ ys) s.store) _ (skips_to job e skip is.1.0 (bodies + 1) loops less t)
         (λ u p. (p.0 ∙ q.0, (p.1.0 ∙ q.1.0, p.1.1 ∙ q.1.1)))
     by true e less t q = one_body e less t q

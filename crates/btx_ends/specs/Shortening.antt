@@ -58,11 +58,11 @@ body_of style number = slice_index_or style.bodies number []
 abbrev pub not_choice : ℕ → ℕ → List Token
 not_choice nought one = Quote (callee.User nought) ∷ Quote (callee.User one) ∷ Run (callee.BuiltIn built_in.If) ∷ []
 
-abbrev pub and_choice : ℕ → List Token
-and_choice nought = Quote (callee.BuiltIn built_in.Skip) ∷ Quote (callee.User nought) ∷ Run (callee.BuiltIn built_in.If) ∷ []
+abbrev pub and_choice : Callee → ℕ → List Token
+and_choice skip nought = Quote skip ∷ Quote (callee.User nought) ∷ Run (callee.BuiltIn built_in.If) ∷ []
 
-abbrev pub or_choice : ℕ → List Token
-or_choice one = Quote (callee.User one) ∷ Quote (callee.BuiltIn built_in.Skip) ∷ Run (callee.BuiltIn built_in.If) ∷ []
+abbrev pub or_choice : Callee → ℕ → List Token
+or_choice skip one = Quote (callee.User one) ∷ Quote skip ∷ Run (callee.BuiltIn built_in.If) ∷ []
 
 -- .. an integer, alone or after `pop$`
 abbrev pub integer_body : ℤ → List Token
@@ -79,10 +79,20 @@ NotOf style number nought one =
 abbrev pub IsNot : Style → ℕ → Type 0
 IsNot style number = (nought : ℕ) × ((one : ℕ) × NotOf style number nought one)
 
--- a function is `{ 'skip$ {pop$ #0} if$ }`: of two integers the lower one, if the other is above 0, and else 0
+-- a function does nothing: it is `skip$`, or `{skip$}`
+abbrev pub skip_body : List Token
+skip_body = Run (callee.BuiltIn built_in.Skip) ∷ []
+
+abbrev pub IsSkip : Style → Callee → Type 0
+IsSkip style f = (f ≡ callee.BuiltIn built_in.Skip) ⊎ ((number : ℕ) × ((f ≡ callee.User number) × (body_of style number ≡ skip_body)))
+
+-- a function is `{ 'skip$ {pop$ #0} if$ }` or `{ {skip$} {pop$ #0} if$ }`: of two integers the lower one, if the other is above 0, and else 0
+abbrev pub AndBy : Style → ℕ → Callee → ℕ → Type 0
+AndBy style number skip nought =
+    IsSkip style skip × ((body_of style number ≡ and_choice skip nought) × (body_of style nought ≡ pop_body (pos 0)))
+
 abbrev pub AndOf : Style → ℕ → ℕ → Type 0
-AndOf style number nought =
-    (body_of style number ≡ and_choice nought) × (body_of style nought ≡ pop_body (pos 0))
+AndOf style number nought = (skip : Callee) × AndBy style number skip nought
 
 abbrev pub IsAnd : Style → ℕ → Type 0
 IsAnd style number = (nought : ℕ) × AndOf style number nought
@@ -131,10 +141,13 @@ Tells style t (suc v) body = TellsBoth style v t body
 
 -- ---- what is known of literals
 
--- a function is `{ {pop$ #1} 'skip$ if$ }`: of two integers 1, if the upper one is above 0, and else the lower one
+-- a function is `{ {pop$ #1} 'skip$ if$ }` or `{ {pop$ #1} {skip$} if$ }`: of two integers 1, if the upper one is above 0, and else the lower one
+abbrev pub OrBy : Style → ℕ → Callee → ℕ → Type 0
+OrBy style number skip one =
+    IsSkip style skip × ((body_of style number ≡ or_choice skip one) × (body_of style one ≡ pop_body (pos 1)))
+
 abbrev pub OrOf : Style → ℕ → ℕ → Type 0
-OrOf style number one =
-    (body_of style number ≡ or_choice one) × (body_of style one ≡ pop_body (pos 1))
+OrOf style number one = (skip : Callee) × OrBy style number skip one
 
 -- a function does with integers what is said of it
 abbrev pub KindHolds : Style → Kind → ℕ → Type 0

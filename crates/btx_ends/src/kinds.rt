@@ -4,8 +4,8 @@ ghost use Rattle.btx_ends.specs.declared.measures.Kind.TheVariants as kind;
 ghost use Rattle.btx_ends.specs.Shortening as shortening;
 
 use crate::measures::Kind;
-use crate::tokens::{is_if, is_integer, is_pop, is_quoted, is_quoted_skip};
-use btx_bst::{Callee, Style, Token};
+use crate::tokens::{is_if, is_integer, is_pop, is_quoted, is_quoted_as, is_skip};
+use btx_bst::{BuiltIn, Callee, Style, Token};
 
 /// The body of a function, if there is one of this number.
 pub(crate) fn body_of<'s>(style: &'s Style, number: u32) -> Option<&'s [Token]>
@@ -60,18 +60,47 @@ fn is_not_choice(nought: u32, one: u32, body: &[Token]) -> bool
 
 // .. of `and`
 #[tactic(auto, using(crate::proofs::CodeLemmas::three))]
-fn is_and_choice(nought: u32, body: &[Token]) -> bool
-    ensures { IsTrue result → body.now ≡ shortening.and_choice nought }
+fn is_and_choice(skip: Callee, nought: u32, body: &[Token]) -> bool
+    ensures { IsTrue result → body.now ≡ shortening.and_choice skip nought }
 {
-    body.len() == 3 && is_quoted_skip(body[0]) && is_quoted(nought, body[1]) && is_if(body[2])
+    body.len() == 3 && is_quoted_as(skip, body[0]) && is_quoted(nought, body[1]) && is_if(body[2])
 }
 
 // .. of `or`
 #[tactic(auto, using(crate::proofs::CodeLemmas::three))]
-fn is_or_choice(one: u32, body: &[Token]) -> bool
-    ensures { IsTrue result → body.now ≡ shortening.or_choice one }
+fn is_or_choice(skip: Callee, one: u32, body: &[Token]) -> bool
+    ensures { IsTrue result → body.now ≡ shortening.or_choice skip one }
 {
-    body.len() == 3 && is_quoted(one, body[0]) && is_quoted_skip(body[1]) && is_if(body[2])
+    body.len() == 3 && is_quoted(one, body[0]) && is_quoted_as(skip, body[1]) && is_if(body[2])
+}
+
+// Answers whether a body is `skip$` alone.
+#[tactic(auto, using(crate::proofs::CodeLemmas::one))]
+fn is_skip_body(body: &[Token]) -> bool
+    ensures { IsTrue result → body.now ≡ shortening.skip_body }
+{
+    body.len() == 1 && is_skip(body[0])
+}
+
+// Answers whether a function of the style is `{skip$}`.
+fn is_nameless_skip(style: &Style, number: u32) -> bool
+    ensures { IsTrue result → shortening.body_of style.now number ≡ shortening.skip_body }
+{
+    match body_of(style, number) {
+        None => false,
+        Some(body) => is_skip_body(body),
+    }
+}
+
+// Answers whether a function does nothing.
+fn does_nothing(style: &Style, f: Callee) -> bool
+    ensures { IsTrue result → shortening.IsSkip style.now f }
+{
+    match f {
+        Callee::BuiltIn(BuiltIn::Skip) => true,
+        Callee::User(number) => is_nameless_skip(style, number),
+        _ => false,
+    }
 }
 
 // The number of the function of the style that a body's token quotes, if it does; else 0.
@@ -85,6 +114,22 @@ fn quoted_at(style: &Style, number: u32, place: usize) -> u32 {
             match body[place] {
                 Token::Quote(Callee::User(n)) => n,
                 _ => 0,
+            }
+        }
+    }
+}
+
+// The function that a body's token quotes, if it does; else `skip$`.
+fn callee_at(style: &Style, number: u32, place: usize) -> Callee {
+    match body_of(style, number) {
+        None => Callee::BuiltIn(BuiltIn::Skip),
+        Some(body) => {
+            if place >= body.len() {
+                return Callee::BuiltIn(BuiltIn::Skip);
+            }
+            match body[place] {
+                Token::Quote(f) => f,
+                _ => Callee::BuiltIn(BuiltIn::Skip),
             }
         }
     }
@@ -115,12 +160,14 @@ pub(crate) fn is_not(style: &Style, number: u32) -> bool
     not_holds(style, number, nought, one)
 }
 
-// .. `and` by this one
-fn and_holds(style: &Style, number: u32, nought: u32) -> bool
-    ensures { IsTrue result → shortening.AndOf style.now number nought }
+// .. `and` by these two
+fn and_holds(style: &Style, number: u32, skip: Callee, nought: u32) -> bool
+    ensures { IsTrue result → shortening.AndBy style.now number skip nought }
 {
     match (body_of(style, number), body_of(style, nought)) {
-        (Some(body), Some(first)) => is_and_choice(nought, body) && is_pop_zero(first),
+        (Some(body), Some(first)) => {
+            does_nothing(style, skip) && is_and_choice(skip, nought, body) && is_pop_zero(first)
+        }
         _ => false,
     }
 }
@@ -129,16 +176,19 @@ fn and_holds(style: &Style, number: u32, nought: u32) -> bool
 pub(crate) fn is_and(style: &Style, number: u32) -> bool
     ensures { IsTrue result → shortening.IsAnd style.now number }
 {
+    let skip = callee_at(style, number, 0);
     let nought = quoted_at(style, number, 1);
-    and_holds(style, number, nought)
+    and_holds(style, number, skip, nought)
 }
 
-// .. `or` by this one
-fn or_holds(style: &Style, number: u32, one: u32) -> bool
-    ensures { IsTrue result → shortening.OrOf style.now number one }
+// .. `or` by these two
+fn or_holds(style: &Style, number: u32, skip: Callee, one: u32) -> bool
+    ensures { IsTrue result → shortening.OrBy style.now number skip one }
 {
     match (body_of(style, number), body_of(style, one)) {
-        (Some(body), Some(first)) => is_or_choice(one, body) && is_pop_one(first),
+        (Some(body), Some(first)) => {
+            does_nothing(style, skip) && is_or_choice(skip, one, body) && is_pop_one(first)
+        }
         _ => false,
     }
 }
@@ -148,7 +198,8 @@ pub(crate) fn is_or(style: &Style, number: u32) -> bool
     ensures { IsTrue result → shortening.KindHolds style.now kind.Or number }
 {
     let one = quoted_at(style, number, 0);
-    or_holds(style, number, one)
+    let skip = callee_at(style, number, 1);
+    or_holds(style, number, skip, one)
 }
 
 // Answers whether a function does with integers what is said of it.

@@ -10,6 +10,7 @@ pub mod known;
 pub mod laws;
 pub mod literals;
 pub mod measures;
+pub mod reaching;
 pub mod search;
 pub mod shortening;
 pub mod telling;
@@ -21,4 +22,5 @@ pub mod walks;
 
 pub use checker::{Certificate, check, ends};
 pub use costs::Bound;
+pub use reaching::{bounded_types, reached};
 pub use search::proposed;

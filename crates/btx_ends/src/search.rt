@@ -7,6 +7,7 @@ use crate::kinds::{is_not, is_or};
 use crate::known::Known;
 use crate::literals::{below_after, top_after};
 use crate::measures::{Effect, Kind, Measure};
+use crate::reaching::reached;
 use crate::shortening::tokens_through;
 use crate::telling::{begins_word, tells};
 use crate::walk_search::{movers_of, moves_of, parts_of, rows_by, walks_of};
@@ -22,7 +23,23 @@ pub fn proposed(
     kept: u32,
     with_loops: bool,
 ) -> Result<Certificate, AllocError> {
-    let bounds = bounds_of(alloc, style, kept, with_loops)?;
+    let bounds = if with_loops {
+        let reached = reached(alloc, style, allowed)?;
+        bounds_of(alloc, style, kept, &reached)?
+    } else {
+        Vec::new(alloc)
+    };
+    proposed_with(alloc, style, allowed, kept, bounds)
+}
+
+/// Looks for a certificate with these claims on variables.
+pub(crate) fn proposed_with(
+    alloc: Global,
+    style: &Style,
+    allowed: &[u32],
+    kept: u32,
+    bounds: Vec<u64>,
+) -> Result<Certificate, AllocError> {
     let tests = tests_of(alloc, style, &bounds)?;
     let keeps = rows_of(alloc, style, &tests, bounds.len())?;
     let loops = loops_of(alloc, style)?;
@@ -67,35 +84,40 @@ pub fn proposed(
 
 // ---- variables
 
-// Makes a claim for each global integer variable, by what is assigned to it anywhere. Each begins with 0, and is raised as long as something greater is
-// assigned; what is raised too often, or by what isn't known, has none in the end.
-fn bounds_of(
-    alloc: Global,
-    style: &Style,
-    kept: u32,
-    with_loops: bool,
-) -> Result<Vec<u64>, AllocError> {
+/// The least claim on each global integer variable that bears one: 0. `entry.max$` and `global.max$`, which don't begin with 0, bear none.
+pub(crate) fn least_bounds(alloc: Global, style: &Style) -> Result<Vec<u64>, AllocError> {
     let mut bounds: Vec<u64> = Vec::new(alloc);
-    if !with_loops {
-        return Ok(bounds);
-    }
-    let count = style.global_integers();
-    for number in 0..count {
+    for number in 0..style.global_integers() {
         bounds.push(if number < 2 { 0 } else { 1 })?;
-    }
-    for _ in 0..count {
-        raise(style, &mut bounds, kept, true);
-    }
-    for _ in 0..count {
-        raise(style, &mut bounds, kept, false);
     }
     Ok(bounds)
 }
 
-// Raises the claims by what the bodies of a style assign.
-fn raise(style: &Style, bounds: &mut [u64], kept: u32, may_raise: bool) {
+// Makes a claim for each global integer variable, by what is assigned to it in the functions that a run may reach. Each begins with 0, and is raised as long as
+// something greater is assigned; what is raised too often, or by what isn't known, has none in the end.
+fn bounds_of(
+    alloc: Global,
+    style: &Style,
+    kept: u32,
+    reached: &[bool],
+) -> Result<Vec<u64>, AllocError> {
+    let mut bounds = least_bounds(alloc, style)?;
+    let count = style.global_integers();
+    for _ in 0..count {
+        raise(style, &mut bounds, kept, reached, true);
+    }
+    for _ in 0..count {
+        raise(style, &mut bounds, kept, reached, false);
+    }
+    Ok(bounds)
+}
+
+// Raises the claims by what the bodies that a run may reach assign.
+fn raise(style: &Style, bounds: &mut [u64], kept: u32, reached: &[bool], may_raise: bool) {
     for number in 0..style.functions() {
-        raise_in(style.body(number), bounds, kept, may_raise);
+        if number < reached.len() && reached[number] {
+            raise_in(style.body(number), bounds, kept, may_raise);
+        }
     }
 }
 
@@ -243,8 +265,11 @@ fn loops_of(alloc: Global, style: &Style) -> Result<Vec<(usize, usize)>, AllocEr
     Ok(loops)
 }
 
-// .. of one body
-fn add_loops(tokens: &[Token], loops: &mut Vec<(usize, usize)>) -> Result<(), AllocError> {
+/// .. of one body
+pub(crate) fn add_loops(
+    tokens: &[Token],
+    loops: &mut Vec<(usize, usize)>,
+) -> Result<(), AllocError> {
     let mut top: Option<usize> = None;
     let mut below: Option<usize> = None;
     for token in tokens {

@@ -94,12 +94,23 @@ pub(crate) fn is_quoted(number: u32, token: Token) -> bool
     }
 }
 
-/// Answers whether a token quotes `skip$`.
-pub(crate) fn is_quoted_skip(token: Token) -> bool
-    ensures { IsTrue result → token ≡ tokens.Quote (callee.BuiltIn built_in.Skip) }
+/// Answers whether a token quotes this function, which is `skip$` or one of the style.
+pub(crate) fn is_quoted_as(f: Callee, token: Token) -> bool
+    ensures { IsTrue result → token ≡ tokens.Quote f }
+{
+    match (f, token) {
+        (Callee::BuiltIn(BuiltIn::Skip), Token::Quote(Callee::BuiltIn(BuiltIn::Skip))) => true,
+        (Callee::User(number), Token::Quote(Callee::User(n))) => n == number,
+        _ => false,
+    }
+}
+
+/// Answers whether a token is `skip$`.
+pub(crate) fn is_skip(token: Token) -> bool
+    ensures { IsTrue result → token ≡ tokens.Run (callee.BuiltIn built_in.Skip) }
 {
     match token {
-        Token::Quote(Callee::BuiltIn(BuiltIn::Skip)) => true,
+        Token::Run(Callee::BuiltIn(BuiltIn::Skip)) => true,
         _ => false,
     }
 }

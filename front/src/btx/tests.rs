@@ -103,7 +103,10 @@ fn styles_are_checked() {
     assert_eq!(check(b"s.bst", clean.as_bytes(), 1000), Ok(Some(Verdict::Clean { literals: 3, bodies: 2, types })));
     assert!(matches!(check(b"s.bst", clean.as_bytes(), 1), Ok(Some(Verdict::Incomplete(_)))));
     let bound = Bound { once: 0, each: 11, kept: 7 };
-    assert_eq!(check_ends(b"s.bst", clean.as_bytes(), 7), Ok(Some(Steps::Bounded(bound, vec![b"misc".to_vec()]))));
+    assert_eq!(
+        check_ends(b"s.bst", clean.as_bytes(), 7),
+        Ok(Some(Steps::Bounded(bound, vec![b"misc".to_vec()], Vec::new())))
+    );
     let endless = clean.replace("{ title write$ }", "{ { #1 } 'skip$ while$ }");
     let notes = b"next while$\nunbounded of 2 1 2 misc\n".to_vec();
     assert_eq!(check_ends_in(b"s.bst", endless.as_bytes(), 7, 1), Ok(Some(Steps::Unbounded(notes))));

@@ -89,6 +89,23 @@ run_lint clean.bst
 ! grep -q 'ends: \|known to end' "$folder/stdout" || complaints+=("a style with mistakes is said to end or not: $(cat "$folder/stdout")")
 end
 
+# Where no bound is known for entries of some types alone, these are named, with the first loop of theirs without one.
+begin lint_of_ends_for_some_types
+cat >types.bst <<'END'
+ENTRY { title } {} {}
+FUNCTION {book} { { #1 } { "a" write$ } while$ }
+FUNCTION {article} { cite$ write$ }
+READ
+ITERATE {call.type$}
+END
+run_lint types.bst
+wants_status 0
+wants_line_of_output 'types.bst: ends: at most 0 steps, and 4 for each entry, where a string variable keeps at most 20,000 bytes'
+wants_line_of_output '    not known to end for entries of the type book: `while$` in line 2, in book: its body isn'"'"'t known to count a variable down, to make a text shorter or to walk along it'
+run_lint --json types.bst
+grep -qF '"ends": {"once": 0, "each": 4, "kept": 20000, "types": ["article"]}' "$folder/stdout" || complaints+=("the types of the bound aren't named: $(cat "$folder/stdout")")
+end
+
 # What the test of a loop leaves counts as well: five literals, of which the body takes four.
 begin lint_of_literals_that_a_test_leaves
 cat >test.bst <<'END'
