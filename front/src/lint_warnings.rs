@@ -261,6 +261,16 @@ impl Warnings {
         &mut self.warnings[last]
     }
 
+    /// Adds the unequal `if$` that the text shows before those that the check noted.
+    pub fn add_causes(&mut self, seen: Vec<Cause>) {
+        let is_known = |cause: &Cause| {
+            let place = |cause: &Cause| (cause.spot.call.line, cause.spot.token.map(|(_, number)| number));
+            self.causes.iter().any(|known| place(known) == place(cause))
+        };
+        let new: Vec<Cause> = seen.into_iter().filter(|cause| !is_known(cause)).collect();
+        self.causes.splice(..0, new);
+    }
+
     /// The warnings that can be the first fault of a visit: those that are shown. Where there is none, all of them.
     pub fn shown(&self) -> Vec<&Warning> {
         let first: Vec<&Warning> = self.warnings.iter().filter(|warning| warning.is_first).collect();
