@@ -167,6 +167,11 @@ impl<'a> Code<'a> {
         })
     }
 
+    /// How many tokens there are.
+    pub(crate) fn count(&self) -> usize {
+        self.tokens.len()
+    }
+
     /// The text of a token.
     pub(crate) fn of(&self, index: usize) -> &'a [u8] {
         &self.text.bytes[self.tokens[index].start..self.tokens[index].end]
@@ -376,6 +381,11 @@ impl<'a> Code<'a> {
         is_function.then_some((self.tokens[index].start, name))
     }
 
+    /// The place of a token.
+    pub(crate) fn place_at(&self, index: usize) -> CodePlace<'_, 'a> {
+        CodePlace { code: self, index }
+    }
+
     /// A place of the code, as the library notes it.
     pub fn place(&self, spot: &notes::Spot, text: &[u8]) -> Option<CodePlace<'_, 'a>> {
         self.place_in(spot.call.line, text, spot.token.map(|(_, number)| number))
@@ -409,6 +419,14 @@ pub enum Left<'a> {
     Number(&'a [u8]),
     Text(&'a [u8]),
     Field(&'a [u8]),
+}
+
+impl<'a> Left<'a> {
+    /// The token.
+    pub fn text(self) -> &'a [u8] {
+        let (Left::Number(text) | Left::Text(text) | Left::Field(text)) = self;
+        text
+    }
 }
 
 impl<'a> CodePlace<'_, 'a> {

@@ -1,6 +1,7 @@
 //! A log for its reader: each message, the line and the entry that it is about, and what to do.
 
 mod aux_files;
+mod checked;
 mod databases;
 mod endings;
 mod executions;
@@ -223,6 +224,9 @@ impl<'a, W: Write> Explainer<'a, W> {
         if end.is_finished() && self.part == Part::Whole {
             self.after_ends()?;
             self.unsaid()?;
+            if end.errors == 0 {
+                self.unsaid_of_style()?;
+            }
         }
         self.page.put_line(if end.is_finished() { "" } else { ERROR_COLOUR }, line)?;
         if !end.is_finished() {

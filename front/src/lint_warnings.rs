@@ -24,6 +24,11 @@ impl Fault {
         FAULTS.iter().find(|(fault, _)| *fault == self).map_or("", |(_, name)| name)
     }
 
+    /// The fault of a message of a log with this text.
+    pub fn of_message(text: &[u8]) -> Option<Fault> {
+        FAULTS.iter().map(|(fault, _)| *fault).find(|fault| fault.has_message(text))
+    }
+
     /// Whether a message of a log with this text is of this fault.
     pub fn has_message(self, text: &[u8]) -> bool {
         let ends = |end: &str| text.ends_with(end.as_bytes());

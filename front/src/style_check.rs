@@ -138,7 +138,8 @@ pub fn warnings_for_run(style: &File) -> Warnings {
     let bytes = style.bytes.clone().unwrap_or_default();
     let steps = usual_steps(&StyleNames::new(&bytes)).min(STEPS_FOR_RUN);
     let name = style.name.clone();
-    let thread = thread::Builder::new().stack_size(STACK).spawn(move || btx::check(&name, &bytes, steps).ok().flatten());
+    let thread =
+        thread::Builder::new().stack_size(STACK).spawn(move || btx::check(&name, &bytes, steps).ok().flatten());
     let verdict = thread.ok().and_then(|thread| thread.join().ok()).flatten();
     found_of(style, verdict.as_ref())
 }

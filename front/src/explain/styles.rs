@@ -176,7 +176,17 @@ impl<'a, W: Write> Explainer<'a, W> {
         if at_end || unknown(error).is_some_and(is_command) {
             let opened = above.iter().find(|command| command.balance > 0)?;
             self.add_unclosed(opened, spot, text, commands);
-            return Some(format!("a `}}` is missing in {}", begins(spot.file, text, opened)));
+            let end =
+                commands.iter().find(|next| next.start > opened.start).map_or(text.bytes.len(), |next| next.start);
+            let brace = unclosed(text, opened.start, end).map(|(brace, outside)| {
+                let [brace, outside] = [brace, outside].map(|token| text.line_of(token.start));
+                format!(": close the brace of line {brace} before line {outside}")
+            });
+            return Some(format!(
+                "a `}}` is missing in {}{}",
+                begins(spot.file, text, opened),
+                brace.unwrap_or_default()
+            ));
         }
         let is_rest = |word: &[u8]| nearest_word(word).is_none();
         let word = error.strip_suffix(b" isn't a command").filter(|word| is_rest(word));
