@@ -3,6 +3,7 @@
 use crate::code_places::{Code, Declared};
 use crate::database::Folded;
 use crate::hints::{Hint, Of};
+use crate::literals::Literals;
 use crate::operands::in_other_order;
 use crate::style_text::Kind;
 use crate::terminal::plain;
@@ -12,7 +13,7 @@ use std::ops::Range;
 /// How many tokens before a call are looked at for its constant.
 const MOST_BACK: usize = 4;
 
-/// In how many calls at least a function gets its constant first, before another order is noted.
+/// In how many calls at least a function gets the label of a field first, before another order is noted.
 const LEAST_CALLS: usize = 2;
 
 /// The hints on the code of a style.
@@ -96,9 +97,10 @@ enum Constant {
     Last,
 }
 
-/// The hints on calls that push a constant last, where the function gets one first in all others.
+/// The hints on calls of a function that takes two literals, in which the label of a field comes last, where it comes first in all others.
 fn of_calls(code: &Code<'_>) -> Vec<Hint> {
     let mut calls: HashMap<Folded<'_>, Vec<(usize, Constant)>> = HashMap::new();
+    let mut literals = Literals::new(code);
     for index in 0..code.count() {
         let is_function = matches!(code.declared(code.of(index)), Some(Declared::Function { .. }));
         let constant = if is_function && code.kind(index) == Kind::Name { constant_of(code, index) } else { None };
@@ -106,32 +108,46 @@ fn of_calls(code: &Code<'_>) -> Vec<Hint> {
             calls.entry(Folded(code.of(index))).or_default().push((index, constant));
         }
     }
-    let said = |calls: &Vec<(usize, Constant)>| {
+    let said = |calls: &Vec<(usize, Constant)>| -> Option<Hint> {
         let mut last = calls.iter().filter(|(_, constant)| *constant == Constant::Last);
         let (index, _) = last.next().filter(|_| calls.len() > LEAST_CALLS)?;
-        last.next().is_none().then(|| of_call(code, *index, calls.len() - 1))
+        let is_it = last.next().is_none() && literals.taken_by(code.of(*index)) == Some(2);
+        is_it.then(|| of_call(code, *index, calls.len() - 1))
     };
     let mut hints: Vec<Hint> = calls.values().filter_map(said).collect();
     hints.sort_by_key(|hint| hint.line);
     hints
 }
 
-/// Whether the last operands of a call are a constant and a name, and in which order.
+/// Whether the two operands of a call are a field and a constant that is its label, as `"volume" volume`, and in which order.
 fn constant_of(code: &Code<'_>, index: usize) -> Option<Constant> {
-    let kinds: Vec<Kind> = (1..=MOST_BACK).map_while(|back| Some(code.kind(index.checked_sub(back)?))).collect();
-    let names = kinds.iter().take_while(|kind| **kind == Kind::Name).count();
-    match kinds[..] {
-        [Kind::Text, Kind::Name, ..] => Some(Constant::Last),
-        _ if names > 0 && kinds.get(names) == Some(&Kind::Text) => Some(Constant::First),
-        _ => None,
+    let before = |back: usize| index.checked_sub(back).map(|at| (code.kind(at), code.of(at)));
+    let (kind, last) = before(1)?;
+    if kind == Kind::Text {
+        let field = (2..=MOST_BACK).filter_map(before).find(|(kind, name)| *kind == Kind::Name && is_label(last, name));
+        return field.map(|_| Constant::Last);
     }
+    let names = (1..=MOST_BACK).map_while(before).take_while(|(kind, _)| *kind == Kind::Name);
+    let names: Vec<&[u8]> = names.map(|(_, name)| name).collect();
+    let (kind, first) = before(names.len() + 1)?;
+    (kind == Kind::Text && is_label(first, names.last()?)).then_some(Constant::First)
 }
+
+/// Whether a constant is the label of a field of this name: both begin with the same letters.
+fn is_label(constant: &[u8], field: &[u8]) -> bool {
+    let word: Vec<u8> = constant.iter().copied().filter(u8::is_ascii_alphabetic).take(LETTERS_OF_LABEL).collect();
+    word.len() == LETTERS_OF_LABEL
+        && field.get(..LETTERS_OF_LABEL).is_some_and(|begin| begin.eq_ignore_ascii_case(&word))
+}
+
+/// How many letters of a label and of its field are compared.
+const LETTERS_OF_LABEL: usize = 3;
 
 /// What is said of the one call that gets its constant last.
 fn of_call(code: &Code<'_>, index: usize, others: usize) -> Hint {
     let (name, constant) = (plain(code.of(index)), plain(code.of(index - 1)));
     let text = format!(
-        "`{name}` gets the constant {constant} last here, and first in {others} other calls that have one: are its operands exchanged?"
+        "`{name}` gets the constant {constant} last here, and first in {others} other calls: are its operands exchanged?"
     );
     Hint { line: code.line(index), text, sort: Of::List }
 }
@@ -150,7 +166,8 @@ mod tests {
     #[test]
     fn calls_with_another_order_are_named() {
         let others = "\"volume\" volume tie \"page\" pages dash tie\n";
-        let wanted = "`tie` gets the constant \"pages\" last here, and first in 2 other calls that have one: are its operands exchanged?";
+        let wanted =
+            "`tie` gets the constant \"pages\" last here, and first in 2 other calls: are its operands exchanged?";
         assert_eq!(said(&format!("{others}pages dash \"pages\" tie")), [(5, wanted.to_string())]);
         assert_eq!(said(&format!("{others}\"pages\" pages dash tie")), []);
         assert_eq!(said("\"volume\" volume tie pages \"pages\" tie volume \"volume\" tie"), []);

@@ -4,11 +4,12 @@
 use crate::advice::operands;
 use crate::code_hints::code_hints;
 use crate::database::Folded;
-use crate::nearest::nearest;
 use crate::style_read::{DeclaredName, Sort, StyleRead};
 use crate::style_text::{Command, Kind, Token};
 use crate::terminal::plain;
 use crate::text::Text;
+pub use crate::usual_types::is_usual_type;
+use crate::usual_types::of_types;
 use std::collections::{HashMap, HashSet};
 use std::iter::Peekable;
 use std::ops::Range;
@@ -34,7 +35,7 @@ pub enum Of {
 
 /// How a name is used.
 #[derive(Debug, Clone, Default)]
-struct Uses {
+pub struct Uses {
     /// How often it is executed, or its value is taken.
     taken: usize,
     /// How often it comes after a quote.
@@ -66,7 +67,7 @@ pub fn hints(style: &StyleRead<'_>) -> Vec<Hint> {
 }
 
 /// How the names of a style are used, by the names.
-type UsesOfNames<'a> = HashMap<Folded<'a>, Uses>;
+pub type UsesOfNames<'a> = HashMap<Folded<'a>, Uses>;
 
 /// What is to be said of a name that a style declares.
 fn said_of(declared: &DeclaredName<'_>, uses: &UsesOfNames<'_>) -> Option<String> {
@@ -176,74 +177,6 @@ fn of_sort(style: &StyleRead<'_>, text: &Text<'_>, uses: &UsesOfNames<'_>) -> Op
     Some(Hint { line: text.line_of(command.start), text: said, sort: Of::List })
 }
 
-/// Functions that may be meant as one of the usual types, which the style doesn't define: its name differs in a letter or two.
-fn of_types(style: &StyleRead<'_>, text: &Text<'_>, uses: &UsesOfNames<'_>) -> Vec<Hint> {
-    let is_declared =
-        |name: &str| style.names.declared.iter().any(|declared| declared.name.eq_ignore_ascii_case(name.as_bytes()));
-    let (known, lacked): (Vec<&str>, Vec<&str>) =
-        USUAL_TYPES[..STANDARD_TYPES].iter().partition(|name| is_declared(name));
-    if known.len() < LEAST_TYPES {
-        return Vec::new();
-    }
-    let is_unused = |declared: &&DeclaredName<'_>| {
-        declared.may_be_type && !is_usual_type(declared.name) && !uses.contains_key(&Folded(declared.name))
-    };
-    let said = |declared: &DeclaredName<'_>| {
-        let (name, meant) =
-            (plain(declared.name), plain(nearest(declared.name, lacked.iter().map(|name| name.as_bytes()))?));
-        let text_of =
-            format!("the style has no function for the type {meant}, and nothing uses {name}: is it {meant}?");
-        Some(Hint { line: text.line_of(declared.start), text: text_of, sort: Of::Use })
-    };
-    style.names.declared.iter().filter(is_unused).filter_map(said).collect()
-}
-
-/// How many of the usual types the standard styles know, and how many of these a style has at least that is made for entries of all sorts.
-const STANDARD_TYPES: usize = 14;
-const LEAST_TYPES: usize = 5;
-
-/// The types that styles usually know.
-const USUAL_TYPES: [&str; 24] = [
-    "article",
-    "book",
-    "booklet",
-    "conference",
-    "inbook",
-    "incollection",
-    "inproceedings",
-    "manual",
-    "mastersthesis",
-    "misc",
-    "phdthesis",
-    "proceedings",
-    "techreport",
-    "unpublished",
-    "collection",
-    "patent",
-    "electronic",
-    "online",
-    "www",
-    "webpage",
-    "periodical",
-    "thesis",
-    "report",
-    "standard",
-];
-
-/// Whether styles usually know this type.
-pub fn is_usual_type(name: &[u8]) -> bool {
-    USUAL_TYPES.iter().any(|usual| name.eq_ignore_ascii_case(usual.as_bytes()))
-}
-
-/// The functions that are meant as types of entries, as far as can be seen: first those with the name of a usual type, then those above READ without a dot that nothing uses.
-pub fn types_meant(style: &StyleRead<'_>) -> Vec<Vec<u8>> {
-    let uses = uses(style);
-    let functions = style.names.declared.iter().filter(|declared| declared.may_be_type).map(|declared| declared.name);
-    let (usual, others): (Vec<&[u8]>, Vec<&[u8]>) = functions.partition(|name| is_usual_type(name));
-    let unused = others.into_iter().filter(|name| !uses.contains_key(&Folded(name)) && !name.contains(&b'.'));
-    usual.into_iter().chain(unused).map(<[u8]>::to_vec).collect()
-}
-
 /// Whether one of these places, which only rise, stands in a part of a text that comes after those which were asked for before.
 fn stands_in(places: &mut Peekable<impl Iterator<Item = usize>>, part: Range<usize>) -> bool {
     while places.next_if(|place| *place < part.start).is_some() {}
@@ -251,7 +184,7 @@ fn stands_in(places: &mut Peekable<impl Iterator<Item = usize>>, part: Range<usi
 }
 
 /// How each name is used in the bodies of functions, and by EXECUTE, ITERATE and REVERSE.
-fn uses<'a>(style: &StyleRead<'a>) -> UsesOfNames<'a> {
+pub fn uses<'a>(style: &StyleRead<'a>) -> UsesOfNames<'a> {
     let mut uses = UsesOfNames::new();
     let mut declared = style.names.declared.iter().map(|declared| declared.start).peekable();
     let mut commands = style.names.commands.iter().map(|command| command.start).peekable();
@@ -817,15 +750,5 @@ mod tests {
         };
         assert_eq!(of("'s :="), Some(("t".into(), "n".into())));
         assert_eq!([of("'t :="), of("'s := s 't :=")], [None, None]);
-    }
-
-    #[test]
-    fn types_that_are_misspelt_are_named() {
-        let types = ["article", "book", "misc", "manual", "booklet", "masterthesis", "own"];
-        let functions: String = types.iter().map(|name| format!("FUNCTION {{{name}}} {{}}\n")).collect();
-        let text =
-            "the style has no function for the type mastersthesis, and nothing uses masterthesis: is it mastersthesis?";
-        assert_eq!(said(&format!("{functions}READ\n")), [(6, text.to_string())]);
-        assert_eq!(said(&format!("{functions}FUNCTION {{mastersthesis}} {{}}\nREAD\n")), []);
     }
 }

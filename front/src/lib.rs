@@ -37,6 +37,7 @@
 //! | [`repeats`] | errors of an execution that repeat |
 //! | [`style_check`], [`style_read`], [`hints`] | what can be said of a style before any document uses it |
 //! | [`code_hints`] | hints on operands in another order, on a test that is asked twice, and on a key to sort by that isn't cut |
+//! | [`usual_types`] | the types that styles usually know |
 //! | [`constants`] | constants that the function after them can't take |
 //! | [`lint_types`] | for entries of which types that is said |
 //! | [`lint_warnings`], [`lint_entry`] | where a style may go wrong, and an entry that shows it |
@@ -122,4 +123,5 @@ pub mod texmf;
 pub mod text;
 pub mod trace;
 pub mod unsaid;
+pub mod usual_types;
 pub mod words;

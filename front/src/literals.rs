@@ -103,6 +103,11 @@ impl<'c, 'a> Literals<'c, 'a> {
         change
     }
 
+    /// How many literals a function of the style takes, where its text shows that.
+    pub fn taken_by(&mut self, name: &'a [u8]) -> Option<usize> {
+        self.of_function(name).map(|change| change.takes)
+    }
+
     /// What a name that is executed does.
     fn of_name(&mut self, name: &'a [u8]) -> Option<Change> {
         match self.code.declared(name) {

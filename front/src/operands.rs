@@ -219,14 +219,22 @@ pub fn let_through(place: CodePlace<'_, '_>, field: Option<&[u8]>) -> Option<Str
     is_it.then(|| format!("{leaves}, and nothing else, where the field is missing"))
 }
 
-/// What to do where a function takes a field that may be missing, and asks whether another one is there: that one may be meant.
+/// What to do where a function takes a field that may be missing, and asks whether another one is there, by which it is named, such as `format.editors`: that one may be meant.
 pub fn asked_instead(code: &Code<'_>, function: &[u8], field: &[u8]) -> Option<String> {
     let asked = code.fields_asked(function);
     let [only] = asked[..] else { return None };
+    let is_named = |part: &[u8]| function.windows(part.len().max(1)).any(|window| window.eq_ignore_ascii_case(part));
+    if Folded(only) == Folded(field) || !is_named(only) || is_named(field.get(..LETTERS_OF_NAME).unwrap_or(field)) {
+        return None;
+    }
     let (function, field, meant) = (plain(function), plain(field), plain(only));
-    (Folded(only) != Folded(field.as_bytes()))
-        .then(|| format!("write `{meant}` for `{field}`, if that is meant: {function} asks whether `{meant}` is there, and not `{field}`"))
+    Some(format!(
+        "write `{meant}` for `{field}`, if that is meant: {function} asks whether `{meant}` is there, and not `{field}`"
+    ))
 }
+
+/// How many letters of a field's name stand for it in the name of a function, as `vol` in `format.vol`.
+const LETTERS_OF_NAME: usize = 3;
 
 /// What to do where a field may be missing that is pushed in this line.
 pub fn pushed(code: &Code<'_>, field: &[u8], line: usize) -> String {
@@ -455,12 +463,15 @@ mod tests {
     }
     #[test]
     fn the_field_that_is_asked_for_may_be_meant() {
-        let style = "ENTRY {author editor}{}{}\nFUNCTION {f} { editor empty$ { \"\" } { author num.names$ } if$ }\nFUNCTION {g} { author empty$ editor empty$ }\n";
+        let style = "ENTRY {author editor}{}{}\nFUNCTION {f.editors} { editor empty$ { \"\" } { author num.names$ } if$ }\nFUNCTION {editors.authors} { editor empty$ }\n";
         let code = Code::new(style.as_bytes());
         let wanted =
-            "write `editor` for `author`, if that is meant: f asks whether `editor` is there, and not `author`";
-        assert_eq!(asked_instead(&code, b"f", b"author").as_deref(), Some(wanted));
-        assert_eq!((asked_instead(&code, b"f", b"EDITOR"), asked_instead(&code, b"g", b"author")), (None, None));
+            "write `editor` for `author`, if that is meant: f.editors asks whether `editor` is there, and not `author`";
+        assert_eq!(asked_instead(&code, b"f.editors", b"author").as_deref(), Some(wanted));
+        assert_eq!(
+            (asked_instead(&code, b"f.editors", b"EDITOR"), asked_instead(&code, b"editors.authors", b"author")),
+            (None, None)
+        );
     }
 
     #[test]
