@@ -31,7 +31,7 @@ use crate::job::{File, Files};
 use crate::log::{Content, Ended, Line, Log, Message, Place, Severity};
 use crate::mistakes::field_for_key;
 use crate::scene::Scene;
-use crate::shapes::{Part, counted, went_well};
+use crate::shapes::{Part, counted, went_well, words_of_limit};
 use crate::sources::Sources;
 use crate::terminal::{ERROR_COLOUR, Terminal, WARNING_COLOUR, plain};
 use crate::text::{Text, split_first};
@@ -229,6 +229,9 @@ impl<'a, W: Write> Explainer<'a, W> {
             }
         }
         self.page.put_line(if end.is_finished() { "" } else { ERROR_COLOUR }, line)?;
+        if let Some(words) = words_of_limit(end.how) {
+            self.page.put_place(&format!("that is {words}"))?;
+        }
         if !end.is_finished() {
             let is_endless = match self.execution.scene_of_end.take() {
                 Some(scene) => self.scene_of_end(scene, Some(end.steps))?,

@@ -109,12 +109,13 @@ impl<'a, W: Write> Explainer<'a, W> {
             self.page.put_place(&missing)?;
         }
         if follows {
-            return self.put_origin();
+            self.put_origin()?;
         }
         self.teach(message, function)?;
         let advice = self.advice_at(message, function);
         match advice.or_else(|| said.and_then(|said| said.advice)) {
             Some(advice) => self.page.put_advice(&advice),
+            None if follows => Ok(()),
             None => self.advise(&[Section::Execution], message.text),
         }
     }
