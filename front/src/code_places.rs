@@ -167,6 +167,11 @@ impl<'a> Code<'a> {
         })
     }
 
+    /// How many tokens there are.
+    pub(crate) fn count(&self) -> usize {
+        self.tokens.len()
+    }
+
     /// The text of a token.
     pub(crate) fn of(&self, index: usize) -> &'a [u8] {
         &self.text.bytes[self.tokens[index].start..self.tokens[index].end]
@@ -322,13 +327,31 @@ impl<'a> Code<'a> {
 
     /// The `while$` of the style, in the order of the text: the function in which each stands, and its line.
     pub fn loops(&self) -> Vec<(&'a [u8], usize)> {
+        self.executed(b"while$").into_iter().map(|(function, index)| (function, self.line(index))).collect()
+    }
+
+    /// The tokens that execute the function `name`, in the order of the text, each after the function in which it stands.
+    pub(crate) fn executed(&self, name: &[u8]) -> Vec<(&'a [u8], usize)> {
         let commands = commands(self.text.bytes);
-        let is_loop = |index: &usize| self.kind(*index) == Kind::Name && Folded(self.of(*index)) == Folded(b"while$");
+        let is_it = |index: &usize| self.kind(*index) == Kind::Name && Folded(self.of(*index)) == Folded(name);
         let placed = |index: usize| {
             let above = commands.partition_point(|command| command.start < self.tokens[index].start);
-            Some((commands[..above].last()?.name?, self.line(index)))
+            Some((commands[..above].last()?.name?, index))
         };
-        (0..self.tokens.len()).filter(is_loop).filter_map(placed).collect()
+        (0..self.tokens.len()).filter(is_it).filter_map(placed).collect()
+    }
+
+    /// The fields of which a function asks by `empty$` or `missing$` whether they are there.
+    pub(crate) fn fields_asked(&self, function: &[u8]) -> Vec<&'a [u8]> {
+        let Some((_, tokens)) = self.function(function) else { return Vec::new() };
+        let is_asking = |index: &usize| {
+            let is_test = [&b"empty$"[..], b"missing$"].iter().any(|test| Folded(self.of(*index)) == Folded(test));
+            is_test && matches!(self.declared(self.of(*index - 1)), Some(Declared::Field))
+        };
+        let mut asked: Vec<&'a [u8]> = tokens.skip(1).filter(is_asking).map(|index| self.of(index - 1)).collect();
+        asked.sort_unstable();
+        asked.dedup_by(|left, right| Folded(left) == Folded(right));
+        asked
     }
 
     /// The fields that stand in these tokens, or in the functions that these name.
@@ -356,6 +379,11 @@ impl<'a> Code<'a> {
         let is_function =
             matches!(self.declared(name.0), Some(Declared::Function { .. })) || name == Folded(CALLS_TYPE);
         is_function.then_some((self.tokens[index].start, name))
+    }
+
+    /// The place of a token.
+    pub(crate) fn place_at(&self, index: usize) -> CodePlace<'_, 'a> {
+        CodePlace { code: self, index }
     }
 
     /// A place of the code, as the library notes it.
@@ -391,6 +419,14 @@ pub enum Left<'a> {
     Number(&'a [u8]),
     Text(&'a [u8]),
     Field(&'a [u8]),
+}
+
+impl<'a> Left<'a> {
+    /// The token.
+    pub fn text(self) -> &'a [u8] {
+        let (Left::Number(text) | Left::Text(text) | Left::Field(text)) = self;
+        text
+    }
 }
 
 impl<'a> CodePlace<'_, 'a> {
@@ -435,6 +471,15 @@ impl<'a> CodePlace<'_, 'a> {
         let (yes, end) = self.code.operand_before(no)?;
         let line = |index: usize| self.code.text.line_of(self.code.tokens[index].start);
         Some([(line(yes), line(end)), (line(no), line(last))])
+    }
+
+    /// The lines of the function that stands alone before an `if$` here: what comes before that leaves a number, so a second function is missing.
+    pub fn lone_branch(self) -> Option<(usize, usize)> {
+        let (first, last) = self.code.operand_before(self.index)?;
+        let before = first.checked_sub(1)?;
+        let is_function = first < last || self.code.kind(first) == Kind::Quoted;
+        let is_number = self.code.kind(before) == Kind::Name && advice::leaves_number(self.code.of(before));
+        (is_function && is_number).then(|| (self.code.line(first), self.code.line(last)))
     }
 
     /// Whether both functions of a `while$` here stand directly before it, in braces or quoted.

@@ -1,6 +1,7 @@
 //! A log for its reader: each message, the line and the entry that it is about, and what to do.
 
 mod aux_files;
+mod checked;
 mod databases;
 mod endings;
 mod executions;
@@ -30,7 +31,7 @@ use crate::job::{File, Files};
 use crate::log::{Content, Ended, Line, Log, Message, Place, Severity};
 use crate::mistakes::field_for_key;
 use crate::scene::Scene;
-use crate::shapes::{Part, counted, went_well};
+use crate::shapes::{Part, counted, went_well, words_of_limit};
 use crate::sources::Sources;
 use crate::terminal::{ERROR_COLOUR, Terminal, WARNING_COLOUR, plain};
 use crate::text::{Text, split_first};
@@ -223,8 +224,14 @@ impl<'a, W: Write> Explainer<'a, W> {
         if end.is_finished() && self.part == Part::Whole {
             self.after_ends()?;
             self.unsaid()?;
+            if end.errors == 0 {
+                self.unsaid_of_style()?;
+            }
         }
         self.page.put_line(if end.is_finished() { "" } else { ERROR_COLOUR }, line)?;
+        if let Some(words) = words_of_limit(end.how) {
+            self.page.put_place(&format!("that is {words}"))?;
+        }
         if !end.is_finished() {
             let is_endless = match self.execution.scene_of_end.take() {
                 Some(scene) => self.scene_of_end(scene, Some(end.steps))?,

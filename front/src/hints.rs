@@ -2,11 +2,14 @@
 //! that don't change what their test reads.
 
 use crate::advice::operands;
+use crate::code_hints::code_hints;
 use crate::database::Folded;
 use crate::style_read::{DeclaredName, Sort, StyleRead};
 use crate::style_text::{Command, Kind, Token};
 use crate::terminal::plain;
 use crate::text::Text;
+pub use crate::usual_types::is_usual_type;
+use crate::usual_types::of_types;
 use std::collections::{HashMap, HashSet};
 use std::iter::Peekable;
 use std::ops::Range;
@@ -16,13 +19,23 @@ use std::ops::Range;
 pub struct Hint {
     pub line: usize,
     pub text: String,
-    /// Whether it is about a loop, of which no verdict says that it ends.
-    pub is_of_loop: bool,
+    pub sort: Of,
+}
+
+/// What a hint is about.
+#[derive(Debug, Clone, Copy, PartialEq, Eq)]
+pub enum Of {
+    /// A name or a piece of code that has no use.
+    Use,
+    /// A loop, of which no verdict says that it ends.
+    Loop,
+    /// The list, which may be another one than is meant.
+    List,
 }
 
 /// How a name is used.
 #[derive(Debug, Clone, Default)]
-struct Uses {
+pub struct Uses {
     /// How often it is executed, or its value is taken.
     taken: usize,
     /// How often it comes after a quote.
@@ -43,9 +56,10 @@ pub fn hints(style: &StyleRead<'_>) -> Vec<Hint> {
     let (text, uses) = (Text::new(style.names.bytes), uses(style));
     let of_names = style.names.declared.iter().filter_map(|declared| {
         let text_of = said_of(declared, &uses)?;
-        Some(Hint { line: text.line_of(declared.start), text: text_of, is_of_loop: false })
+        Some(Hint { line: text.line_of(declared.start), text: text_of, sort: Of::Use })
     });
     let of_styles = of_sort(style, &text, &uses).into_iter().chain(of_unused(style, &text, &uses));
+    let of_styles = of_styles.chain(of_types(style, &text, &uses)).chain(code_hints(style.names.bytes));
     let others = of_pieces(style, &text).into_iter().chain(of_loops(style, &text)).chain(of_styles);
     let mut hints: Vec<Hint> = of_names.chain(others).collect();
     hints.sort_by_key(|hint| hint.line);
@@ -53,7 +67,7 @@ pub fn hints(style: &StyleRead<'_>) -> Vec<Hint> {
 }
 
 /// How the names of a style are used, by the names.
-type UsesOfNames<'a> = HashMap<Folded<'a>, Uses>;
+pub type UsesOfNames<'a> = HashMap<Folded<'a>, Uses>;
 
 /// What is to be said of a name that a style declares.
 fn said_of(declared: &DeclaredName<'_>, uses: &UsesOfNames<'_>) -> Option<String> {
@@ -92,7 +106,7 @@ fn of_pieces(style: &StyleRead<'_>, text: &Text<'_>) -> Vec<Hint> {
         Some(Hint {
             line: text.line_of(of.start),
             text: format!("this `{name}` is always empty: it asks for {why}"),
-            is_of_loop: false,
+            sort: Of::Use,
         })
     };
     let names = style.tokens.iter().enumerate().filter(|(_, token)| token.kind == Kind::Name);
@@ -125,7 +139,7 @@ fn of_constant(style: &StyleRead<'_>, text: &Text<'_>, pair: &[Token]) -> Option
     let said = format!(
         "`{name}` takes {takes}, pushed in this order, and gets {gets} as its {wanted}: no run shows that, since its function is never used"
     );
-    Some(Hint { line: text.line_of(function.start), text: said, is_of_loop: false })
+    Some(Hint { line: text.line_of(function.start), text: said, sort: Of::Use })
 }
 
 /// The hint on a style whose entries get keys to sort by, which nothing sorts by.
@@ -160,49 +174,7 @@ fn of_sort(style: &StyleRead<'_>, text: &Text<'_>, uses: &UsesOfNames<'_>) -> Op
     };
     let (word, name) = (plain(command.word), plain(command.name?));
     let said = format!("{word} {{{name}}} sets sort.key$, {place}, or the list stays in the order of citation");
-    Some(Hint { line: text.line_of(command.start), text: said, is_of_loop: false })
-}
-
-/// The types that styles usually know.
-const USUAL_TYPES: [&str; 24] = [
-    "article",
-    "book",
-    "booklet",
-    "conference",
-    "inbook",
-    "incollection",
-    "inproceedings",
-    "manual",
-    "mastersthesis",
-    "misc",
-    "phdthesis",
-    "proceedings",
-    "techreport",
-    "unpublished",
-    "collection",
-    "patent",
-    "electronic",
-    "online",
-    "www",
-    "webpage",
-    "periodical",
-    "thesis",
-    "report",
-    "standard",
-];
-
-/// Whether styles usually know this type.
-pub fn is_usual_type(name: &[u8]) -> bool {
-    USUAL_TYPES.iter().any(|usual| name.eq_ignore_ascii_case(usual.as_bytes()))
-}
-
-/// The functions that are meant as types of entries, as far as can be seen: first those with the name of a usual type, then those above READ without a dot that nothing uses.
-pub fn types_meant(style: &StyleRead<'_>) -> Vec<Vec<u8>> {
-    let uses = uses(style);
-    let functions = style.names.declared.iter().filter(|declared| declared.may_be_type).map(|declared| declared.name);
-    let (usual, others): (Vec<&[u8]>, Vec<&[u8]>) = functions.partition(|name| is_usual_type(name));
-    let unused = others.into_iter().filter(|name| !uses.contains_key(&Folded(name)) && !name.contains(&b'.'));
-    usual.into_iter().chain(unused).map(<[u8]>::to_vec).collect()
+    Some(Hint { line: text.line_of(command.start), text: said, sort: Of::List })
 }
 
 /// Whether one of these places, which only rise, stands in a part of a text that comes after those which were asked for before.
@@ -212,7 +184,7 @@ fn stands_in(places: &mut Peekable<impl Iterator<Item = usize>>, part: Range<usi
 }
 
 /// How each name is used in the bodies of functions, and by EXECUTE, ITERATE and REVERSE.
-fn uses<'a>(style: &StyleRead<'a>) -> UsesOfNames<'a> {
+pub fn uses<'a>(style: &StyleRead<'a>) -> UsesOfNames<'a> {
     let mut uses = UsesOfNames::new();
     let mut declared = style.names.declared.iter().map(|declared| declared.start).peekable();
     let mut commands = style.names.commands.iter().map(|command| command.start).peekable();
@@ -268,6 +240,9 @@ const PURE: [(&str, usize, usize); 16] = [
     ("swap$", 2, 2),
 ];
 
+/// Functions that nearly each style defines, and how many numbers each takes; it leaves one.
+const LOGICAL: [(&str, usize); 3] = [("not", 1), ("and", 2), ("or", 2)];
+
 /// How deep braces stand in each other in a test that is followed.
 const MOST_NESTED: usize = 8;
 
@@ -311,21 +286,33 @@ fn of_loops<'a>(style: &'a StyleRead<'a>, text: &Text<'_>) -> Vec<Hint> {
         let endless = loops.endless(&of_while, lines, &mut left);
         let said = endless.into_iter().chain(loops.still(&of_while, lines, &mut given, &mut left));
         let begin = line(of_while.test.start - 1);
-        found.extend(said.map(|text| Hint { line: begin, text, is_of_loop: true }));
+        found.extend(said.map(|text| Hint { line: begin, text, sort: Of::Loop }));
     }
     found
 }
 
-/// Of the loop whose `while$` is the one of this line, where it changes nothing that its test reads: the variables that it reads, and the lines of its body. Once such a loop is entered, it never ends.
-pub fn loop_without_end(bytes: &[u8], line: usize) -> Option<(String, String)> {
+/// A loop that doesn't end once it is entered, or once a turn of it changes nothing.
+#[derive(Debug, PartialEq, Eq)]
+pub struct Endless {
+    /// The variables that its test reads, and that its body never changes.
+    pub never: String,
+    /// Those of its test that some turns alone change.
+    pub sometimes: String,
+    /// The lines of its body.
+    pub body: String,
+}
+
+/// Of the loop whose `while$` is the one of this line, why it doesn't end, as far as the text shows that.
+pub fn loop_without_end(bytes: &[u8], line: usize) -> Option<Endless> {
     let (text, style) = (Text::new(bytes), StyleRead::new(bytes));
     let line_of = |token: usize| text.line_of(style.tokens[token].start);
     let mut ends = (0..style.tokens.len()).filter(|end| is_while(&style, *end) && line_of(*end) == line);
     let end = ends.next().filter(|_| ends.next().is_none())?;
     let loops = Loops::new(&style);
     let (of_while, mut left) = (loops.loop_of(end)?, MOST_TOKENS);
-    let read = loops.unchanged(&of_while, &mut left).filter(|read| !read.is_empty())?;
-    Some((listed(&read, "or"), in_lines((line_of(of_while.body.start - 1), line_of(end)))))
+    let (never, sometimes) = loops.read_in_vain(&of_while, &mut left).filter(|(never, _)| !never.is_empty())?;
+    let body = in_lines((line_of(of_while.body.start - 1), line_of(end)));
+    Some(Endless { never: listed(&never, "or"), sometimes: listed(&sometimes, "or"), body })
 }
 
 /// Whether the token of this number is `while$`.
@@ -441,20 +428,87 @@ impl<'a> Loops<'a> {
         self.spans[..behind].last().filter(|span| span.contains(&token)).cloned()
     }
 
-    /// The variables that the test of a loop reads, where the loop changes none of them.
-    fn unchanged(&self, of_while: &Loop, left: &mut usize) -> Option<Vec<Folded<'a>>> {
+    /// The variables that the test of a loop reads and that the loop never changes, and those that it changes, where a turn of it may change none.
+    fn read_in_vain(&self, of_while: &Loop, left: &mut usize) -> Option<(Vec<Folded<'a>>, Vec<Folded<'a>>)> {
         let read = self.read_by(of_while.test.clone())?;
-        (!read.iter().any(|name| self.may_change(of_while.body.clone(), *name, left))).then_some(read)
+        let (sometimes, never): (Vec<_>, Vec<_>) =
+            read.iter().copied().partition(|name| self.may_change(of_while.body.clone(), *name, left));
+        let is_in_vain = sometimes.is_empty() || !never.is_empty() && self.may_stay(of_while, left);
+        is_in_vain.then_some((never, sometimes))
     }
 
-    /// What is said of a loop that changes nothing that its test reads.
+    /// What is said of a loop that changes nothing that its test reads, or of which a turn may change nothing.
     fn endless(&self, of_while: &Loop, lines: (usize, usize), left: &mut usize) -> Option<String> {
-        let (read, body) = (self.unchanged(of_while, left)?, in_lines(lines));
-        Some(if read.is_empty() {
+        let ((never, sometimes), body) = (self.read_in_vain(of_while, left)?, in_lines(lines));
+        let may = if sometimes.is_empty() {
+            String::new()
+        } else {
+            format!(", and a turn of it may change neither that nor {}", listed(&sometimes, "or"))
+        };
+        Some(if never.is_empty() {
             format!("does this loop end? Its test always leaves the same (body: {body})")
         } else {
-            format!("does this loop end? Its body ({body}) never changes {}, which its test reads", listed(&read, "or"))
+            format!(
+                "does this loop end? Its body ({body}) never changes {}, which its test reads{may}",
+                listed(&never, "or")
+            )
         })
+    }
+
+    /// Whether a turn of a loop may assign to no variable that its test or its body reads.
+    fn may_stay(&self, of_while: &Loop, left: &mut usize) -> bool {
+        let tokens = of_while.test.clone().chain(of_while.body.clone());
+        let names = tokens.filter(|at| self.style.tokens[*at].kind == Kind::Name);
+        let names = names.map(|at| Folded(self.style.of(&self.style.tokens[at])));
+        let read: HashSet<Folded<'_>> = names.filter(|name| self.variables.contains(name)).collect();
+        self.may_pass(of_while.body.clone(), &read, MOST_NESTED, left).unwrap_or(false)
+    }
+
+    /// Whether there is a way through these tokens that assigns to none of these variables; None where that isn't seen.
+    fn may_pass(
+        &self,
+        tokens: Range<usize>,
+        read: &HashSet<Folded<'_>>,
+        nested: usize,
+        left: &mut usize,
+    ) -> Option<bool> {
+        *left = left.checked_sub(tokens.len())?;
+        let (mut blocks, mut at): (Vec<Option<bool>>, usize) = (Vec::new(), tokens.start);
+        while at < tokens.end {
+            let (kind, name) = (self.style.tokens[at].kind, self.style.of(&self.style.tokens[at]));
+            at += 1;
+            match kind {
+                Kind::Open => {
+                    let close = self.closing(at, tokens.end)?;
+                    blocks.push(self.may_pass(at..close, read, nested.checked_sub(1)?, left));
+                    at = close + 1;
+                }
+                Kind::Quoted if self.variables.contains(&Folded(&name[1..])) && read.contains(&Folded(&name[1..])) => {
+                    return Some(false);
+                }
+                Kind::Quoted => {
+                    blocks.push(PURE.iter().any(|(pure, ..)| pure.as_bytes() == &name[1..]).then_some(true))
+                }
+                Kind::Name if name == b"if$" => {
+                    let (no, yes) = (blocks.pop()??, blocks.pop()??);
+                    if !yes && !no {
+                        return Some(false);
+                    }
+                }
+                Kind::Name if name == b":=" => drop(blocks.pop()),
+                Kind::Name if self.functions.contains_key(&Folded(name)) => drop(self.logical(name)?),
+                Kind::Name if name == b"while$" => return None,
+                _ => {}
+            }
+        }
+        Some(true)
+    }
+
+    /// How many literals one of the functions `not`, `and` and `or` takes, if the style defines it and it assigns nothing.
+    fn logical(&self, name: &[u8]) -> Option<usize> {
+        let (_, takes) = LOGICAL.iter().find(|(logical, _)| name.eq_ignore_ascii_case(logical.as_bytes()))?;
+        let mut tokens = self.style.tokens[self.functions.get(&Folded(name))?.clone()].iter();
+        (!tokens.any(|token| self.style.of(token) == b":=")).then_some(*takes)
     }
 
     /// What is said of a loop whose body uses variables that were given a number above it, and that nothing in its function changes.
@@ -499,6 +553,8 @@ impl<'a> Loops<'a> {
                 depth = yes.filter(|_| yes == no)?;
             } else if kind == Kind::Integer || kind == Kind::Text || self.variables.contains(&Folded(name)) {
                 depth += 1;
+            } else if let Some(takes) = self.logical(name).filter(|_| kind == Kind::Name) {
+                depth = depth.checked_sub(takes)? + 1;
             } else {
                 let (_, takes, leaves) =
                     PURE.iter().find(|(pure, ..)| kind == Kind::Name && pure.as_bytes() == name)?;
@@ -636,7 +692,8 @@ mod tests {
         let line = "does this loop end? Its body (lines 5-6) never changes s or n, which its test reads";
         assert!(said(style).contains(&(3, line.to_string())), "{:?}", said(style));
         let found = loop_without_end(style.as_bytes(), 6);
-        assert_eq!(found, Some(("s or n".to_string(), "lines 5-6".to_string())));
+        let wanted = Endless { never: "s or n".into(), sometimes: String::new(), body: "lines 5-6".into() };
+        assert_eq!(found, Some(wanted));
         assert_eq!(loop_without_end(style.as_bytes(), 5), None);
     }
 
@@ -681,5 +738,17 @@ mod tests {
         assert_eq!(said("READ FUNCTION{f}{}\n").len(), 1);
         assert_eq!(said(""), []);
         assert_eq!(said("FUNCTION"), []);
+    }
+    #[test]
+    fn turns_that_change_nothing_are_seen() {
+        let of = |turn: &str| {
+            let style = format!(
+                "INTEGERS {{n}} STRINGS {{s t}}\nFUNCTION {{not}} {{{{#0}} {{#1}} if$}}\nFUNCTION {{and}} {{'skip$ {{pop$ #0}} if$}}\n\
+                FUNCTION {{a.b}} {{\n{{ n not t empty$ not and }}\n{{ t \"-\" = {{ #1 'n := }} {{ t #2 #9 substring$ {turn} }} if$ }}\nwhile$ }}\nEXECUTE {{a.b}}"
+            );
+            loop_without_end(style.as_bytes(), 7).map(|endless| (endless.never, endless.sometimes))
+        };
+        assert_eq!(of("'s :="), Some(("t".into(), "n".into())));
+        assert_eq!([of("'t :="), of("'s := s 't :=")], [None, None]);
     }
 }

@@ -36,6 +36,8 @@
 //! | [`code_places`], [`operands`], [`origins`] | what stands at a place of a style's code, and what that says of a wrong operand and of where it was pushed |
 //! | [`repeats`] | errors of an execution that repeat |
 //! | [`style_check`], [`style_read`], [`hints`] | what can be said of a style before any document uses it |
+//! | [`code_hints`] | hints on operands in another order, on a test that is asked twice, and on a key to sort by that isn't cut |
+//! | [`usual_types`] | the types that styles usually know |
 //! | [`constants`] | constants that the function after them can't take |
 //! | [`lint_types`] | for entries of which types that is said |
 //! | [`lint_warnings`], [`lint_entry`] | where a style may go wrong, and an entry that shows it |
@@ -54,6 +56,7 @@ pub mod beside;
 #[allow(unsafe_code)]
 pub mod btx;
 pub mod cased;
+pub mod code_hints;
 pub mod code_places;
 pub mod confined_program;
 pub mod constants;
@@ -120,4 +123,5 @@ pub mod texmf;
 pub mod text;
 pub mod trace;
 pub mod unsaid;
+pub mod usual_types;
 pub mod words;

@@ -2,13 +2,13 @@
 
 use crate::btx::{self, Answer, MemoryRefused, Options, Ran, Rooms};
 use crate::database::Folded;
-use crate::hints::types_meant;
 use crate::job::{File, Files};
 use crate::lint_warnings::{Fault, Warning};
 use crate::log::{Content, Line, Log, Message, Place, Severity};
 use crate::notes::{self, Note, What};
 use crate::scene::Call;
 use crate::style_read::StyleRead;
+use crate::usual_types::types_meant;
 use std::cell::Cell;
 use std::collections::{HashMap, HashSet};
 

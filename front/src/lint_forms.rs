@@ -3,6 +3,7 @@
 use crate::btx::Verdict;
 use crate::code_places::Code;
 use crate::explain;
+use crate::hints::Of;
 use crate::lint_ends::{Ends, Proved, Reason};
 use crate::lint_text::{Style, groups, verdict, write};
 use crate::lint_types::Types;
@@ -37,7 +38,9 @@ pub fn write_for_people(check: &StyleCheck, terminal: &Terminal, out: &mut impl 
     let style = Style { path: &path, code: &code, terminal, has_mistakes: check.messages.count > 0 };
     write(&style, &check.found, check.entries.as_deref(), out)?;
     write_constants(&style, check, out)?;
-    for hint in check.hints.iter().filter(|hint| !hint.is_of_loop) {
+    // (a loop that doesn't end may be why the check doesn't)
+    let are_loops_first = matches!(check.verdict, Some(Verdict::Incomplete(_)));
+    for hint in check.hints.iter().filter(|hint| hint.sort != Of::Loop || are_loops_first) {
         writeln!(out, "{path}:{}: hint: {}", hint.line, hint.text)?;
     }
     write_verdict(&style, check, out)?;
@@ -46,7 +49,7 @@ pub fn write_for_people(check: &StyleCheck, terminal: &Terminal, out: &mut impl 
     }
     write_ends(&path, check, out)?;
     let unsaid = if check.is_clean() { "clean says nothing of loops: " } else { "" };
-    for hint in check.hints.iter().filter(|hint| hint.is_of_loop) {
+    for hint in check.hints.iter().filter(|hint| hint.sort == Of::Loop && !are_loops_first) {
         writeln!(out, "{path}:{}: hint: {unsaid}{}", hint.line, hint.text)?;
     }
     Ok(())

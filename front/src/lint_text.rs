@@ -8,8 +8,8 @@ use crate::lint_warnings::{Cause, Fault, Growth, Operand, Value, Wanted, Warning
 use crate::literals::shortage;
 use crate::notes::Spot;
 use crate::operands::{
-    MEND_TEST, Said, TEST_LEAVES, assigned, assigned_backwards, assigned_without_entry, compared, exchanged, left_out,
-    let_through, pushed, tested, unquoted, without_entry,
+    MEND_TEST, Said, TEST_LEAVES, asked_instead, assigned, assigned_backwards, assigned_without_entry, compared,
+    exchanged, in_other_order, left_out, let_through, lone_branch, pushed, tested, unquoted, without_entry,
 };
 use crate::shown_line::ShownLine;
 use crate::terminal::{Terminal, plain};
@@ -141,8 +141,14 @@ fn operand_of(warning: &Warning, place: CodePlace<'_, '_>) -> Option<Said> {
     let operand = warning.operand.as_ref()?;
     let (what, takes) = (what_of(warning), advice::operands(&warning.next)?);
     if warning.next == b"if$" && operand.wanted == Some(Wanted::Function) {
+        if let Some(advice) = lone_branch(place, &warning.next) {
+            return Some((what, advice));
+        }
         let (left, advice) = unquoted(place, operand.position)?;
         return Some((format!("{what}, {left}"), advice));
+    }
+    if let Some(advice) = in_other_order(place, &warning.next) {
+        return Some((what, advice));
     }
     let is_number_wanted = match operand.wanted {
         Some(Wanted::Integer) => true,
@@ -207,10 +213,12 @@ pub fn said_of(warning: &Warning, code: &Code<'_>) -> (String, String) {
         }),
         (Some(Fault::WrongKind), None) => operand_of(warning, place).unwrap_or_else(usual),
         (Some(Fault::NoEntry), _) => without_entry_of(warning, code).unwrap_or_else(usual),
-        (_, Some(field)) => match let_through(place, Some(field)).or_else(|| pushed_of(warning, field, code)) {
-            Some(advice) => (what_of(warning), advice),
-            None => usual(),
-        },
+        (_, Some(field)) => {
+            let advice = let_through(place, Some(field)).or_else(|| pushed_of(warning, field, code));
+            let asked = warning.places.first().and_then(|spot| asked_instead(code, spot.owner(), field));
+            let advice = advice.unwrap_or_else(|| advice_of(warning));
+            (what_of(warning), asked.map_or(advice.clone(), |asked| format!("{asked}; else {advice}")))
+        }
         _ => usual(),
     }
 }
@@ -451,16 +459,18 @@ impl Style<'_, '_> {
     }
 }
 
+/// What is said of an `if$` whose branches leave different numbers of literals.
+pub fn cause_text(code: &Code<'_>, cause: &Cause) -> String {
+    let ([yes, no], [of_yes, of_no]) = (cause.grows.map(growth_text), branch_lines(code, &cause.spot));
+    format!(
+        "in {}: the branches of this `if$` leave different numbers of literals: the first{of_yes} {yes}, the second{of_no} {no}",
+        owner(&cause.spot)
+    )
+}
+
 /// Writes where the numbers of literals differ, and in which lines of the same function they do so, too.
 fn write_cause(style: &Style<'_, '_>, cause: &Cause, others: &[usize], out: &mut impl Write) -> io::Result<()> {
-    let ([yes, no], [of_yes, of_no]) = (cause.grows.map(growth_text), branch_lines(style.code, &cause.spot));
-    writeln!(
-        out,
-        "{}:{}: in {}: the branches of this `if$` leave different numbers of literals: the first{of_yes} {yes}, the second{of_no} {no}",
-        style.path,
-        cause.spot.call.line,
-        owner(&cause.spot)
-    )?;
+    writeln!(out, "{}:{}: {}", style.path, cause.spot.call.line, cause_text(style.code, cause))?;
     style.write_line(&cause.spot, b"if$", out)?;
     write_lines("and, which may follow from it,", others, out)?;
     writeln!(out, "    what to do: let both leave the same number; warnings below may follow from this")
@@ -647,6 +657,8 @@ pub fn write(
     let causes: Vec<&Cause> = found.causes.iter().filter(|cause| tied.contains(cause)).collect();
     write_causes(style, &found.causes, &causes, out)?;
     let mut above = Above::default();
+    let behind = if entries.is_none() { behind_cause(&groups, &shown, &ties) } else { Vec::new() };
+    groups.retain(|group| !behind.contains(group));
     for group in groups {
         let warnings: Vec<&Warning> = group.iter().map(|number| shown[*number]).collect();
         let entry = entries.and_then(|entries| {
@@ -656,7 +668,27 @@ pub fn write(
         write_group(style, &warnings, &ties, &mut above, out)?;
         entry.map_or(Ok(()), |entry| write_entry(entry, out))?;
     }
-    Ok(())
+    write_behind(style, &behind, &shown, out)
+}
+
+/// How many warnings are shown that may follow from one unequal `if$`, where many do.
+const MOST_BEHIND: usize = 2;
+
+/// The groups that needn't be shown: they may follow from the only unequal `if$`, as others that are shown.
+fn behind_cause(groups: &[Group], shown: &[&Warning], ties: &Ties<'_, '_, '_>) -> Vec<Group> {
+    let is_tied = |group: &&Group| ties.of(shown[group[0]]).len() == 1;
+    let tied: Vec<&Group> = groups.iter().filter(is_tied).collect();
+    let more = if tied.len() > MOST_BEHIND + 1 { &tied[MOST_BEHIND..] } else { &[] };
+    more.iter().map(|group| group.to_vec()).collect()
+}
+
+/// Writes in which lines further warnings are that may follow from an unequal `if$`.
+fn write_behind(style: &Style<'_, '_>, behind: &[Group], shown: &[&Warning], out: &mut impl Write) -> io::Result<()> {
+    if behind.is_empty() {
+        return Ok(());
+    }
+    let lines = numbers_of(behind.iter().flatten().map(|number| shown[*number].line()).collect());
+    writeln!(out, "{}: {} more warnings may follow from the `if$` above, in {lines}", style.path, behind.len())
 }
 
 /// The verdict on a style with warnings.

@@ -24,6 +24,11 @@ impl Fault {
         FAULTS.iter().find(|(fault, _)| *fault == self).map_or("", |(_, name)| name)
     }
 
+    /// The fault of a message of a log with this text.
+    pub fn of_message(text: &[u8]) -> Option<Fault> {
+        FAULTS.iter().map(|(fault, _)| *fault).find(|fault| fault.has_message(text))
+    }
+
     /// Whether a message of a log with this text is of this fault.
     pub fn has_message(self, text: &[u8]) -> bool {
         let ends = |end: &str| text.ends_with(end.as_bytes());
@@ -259,6 +264,16 @@ impl Warnings {
         }
         let last = self.warnings.len() - 1;
         &mut self.warnings[last]
+    }
+
+    /// Adds the unequal `if$` that the text shows before those that the check noted.
+    pub fn add_causes(&mut self, seen: Vec<Cause>) {
+        let is_known = |cause: &Cause| {
+            let place = |cause: &Cause| (cause.spot.call.line, cause.spot.token.map(|(_, number)| number));
+            self.causes.iter().any(|known| place(known) == place(cause))
+        };
+        let new: Vec<Cause> = seen.into_iter().filter(|cause| !is_known(cause)).collect();
+        self.causes.splice(..0, new);
     }
 
     /// The warnings that can be the first fault of a visit: those that are shown. Where there is none, all of them.

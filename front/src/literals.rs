@@ -3,8 +3,9 @@
 use crate::advice;
 use crate::code_places::{Code, Declared};
 use crate::database::Folded;
+use crate::lint_warnings::Cause;
 use crate::notes::Spot;
-use crate::scene::IN_BRACES;
+use crate::scene::{Call, IN_BRACES};
 use crate::style_text::Kind;
 use crate::terminal::plain;
 use std::collections::HashMap;
@@ -36,6 +37,12 @@ impl Change {
         }
         let (more, less) = if self.takes >= other.takes { (self, other) } else { (other, self) };
         (more.leaves + less.takes == less.leaves + more.takes).then_some(more)
+    }
+
+    /// By how many literals the stack grows.
+    fn growth(self) -> (i64, i64) {
+        let grows = self.leaves as i64 - self.takes as i64;
+        (grows, grows)
     }
 }
 
@@ -94,6 +101,11 @@ impl<'c, 'a> Literals<'c, 'a> {
         let change = self.of_tokens(tokens.start + 1..tokens.end - 1);
         self.known.insert(Folded(name), change);
         change
+    }
+
+    /// How many literals a function of the style takes, where its text shows that.
+    pub fn taken_by(&mut self, name: &'a [u8]) -> Option<usize> {
+        self.of_function(name).map(|change| change.takes)
     }
 
     /// What a name that is executed does.
@@ -161,6 +173,29 @@ impl<'c, 'a> Literals<'c, 'a> {
         Some(change)
     }
 
+    /// The function that stands quoted directly before a token, and its first token.
+    fn quoted_before(&self, index: usize) -> Option<(usize, Quoted<'a>)> {
+        let (first, last) = self.code.operand_before(index)?;
+        match self.code.kind(first) {
+            Kind::Open => Some((first, Quoted::InBraces(first + 1..last))),
+            Kind::Quoted => Some((first, Quoted::Named(&self.code.of(first)[1..]))),
+            _ => None,
+        }
+    }
+
+    /// The `if$` that this token is, which stands in a function, if its branches leave different numbers of literals.
+    fn unequal_at(&mut self, function: &[u8], index: usize) -> Option<Cause> {
+        let (place, second) = self.quoted_before(index)?;
+        let (_, first) = self.quoted_before(place)?;
+        let (first, second) = (self.of_quoted(&first)?, self.of_quoted(&second)?);
+        if first.or(second).is_some() {
+            return None;
+        }
+        let call = Call { function: function.to_vec(), file: Vec::new(), line: self.code.line(index) };
+        let spot = Spot { token: Some((0, self.code.number_of(index))), call };
+        Some(Cause { spot, grows: [first.growth(), second.growth()] })
+    }
+
     /// What the body in which a token stands does before it.
     fn before(&mut self, index: usize) -> Option<Change> {
         let code = self.code;
@@ -189,6 +224,14 @@ impl<'c, 'a> Literals<'c, 'a> {
         let takes = if is_innermost { 0 } else { takes };
         Some(self.before(index)?.then(Change::of(takes, 0)))
     }
+}
+
+/// The `if$` whose branches are seen in the text to leave different numbers of literals. The check of runs notes an `if$` only where it meets both branches with the same literals: of a
+/// function such as `and`, which is run on numbers that are known, it may meet one at a time.
+pub fn unequal(code: &Code<'_>) -> Vec<Cause> {
+    let mut literals = Literals::new(code);
+    let all = code.executed(b"if$").into_iter();
+    all.filter_map(|(function, index)| literals.unequal_at(function, index)).collect()
 }
 
 /// A call that finds too few literals.
@@ -291,6 +334,16 @@ mod tests {
             let code = Code::new(style.as_bytes());
             assert_eq!(Literals::new(&code).of_function(b"f"), None);
         }
+    }
+
+    #[test]
+    fn unequal_branches_are_seen_in_the_text() {
+        let style = "ENTRY {title} {} {}\nSTRINGS {s t}\nFUNCTION {and}\n{ 'skip$\n { #0 }\n if$ }\nFUNCTION {or} { { pop$ #1 } 'skip$ if$ }\n\
+            FUNCTION {names} { s empty$ { \", \" * t * }\n 't\n if$ title 'skip$ 'nosuch if$ }\n";
+        let found = unequal(&Code::new(style.as_bytes()));
+        let [Cause { spot, grows }] = &found[..] else { panic!("{found:?}") };
+        assert_eq!((spot.owner(), spot.call.line, spot.token), (&b"and"[..], 6, Some((0, 2))));
+        assert_eq!(grows, &[(0, 0), (1, 1)]);
     }
 
     const STYLE: &str = "ENTRY {title} {} {}\nSTRINGS {s t}\nFUNCTION {nonnull} { 's := write$ s }\nFUNCTION {check} { 't := duplicate$ empty$ 'pop$ {\nnonnull } if$ }\n\

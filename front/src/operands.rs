@@ -1,6 +1,6 @@
 //! What a style's text says of a wrong operand: what a variable is declared as, what is compared, and through which function a missing field came.
 
-use crate::advice::Seen;
+use crate::advice::{self, Seen};
 use crate::code_places::{Code, CodePlace, Declared, Left};
 use crate::database::Folded;
 use crate::lint_warnings::{Value, text_of_classes};
@@ -48,6 +48,49 @@ pub fn exchanged(place: CodePlace<'_, '_>, is_number_wanted: bool) -> Option<Str
     };
     let (above, below) = (plain(above), plain(below));
     Some(format!("it takes what is pushed last, `{above}`, and `{below}` stands before that: are these two exchanged?"))
+}
+
+/// What to do where two operands of a built-in function are pushed the other way round: then all are of the kinds that it takes.
+pub fn in_other_order(place: CodePlace<'_, '_>, function: &[u8]) -> Option<String> {
+    let takes: Vec<&str> = advice::operands(function)?.split(' ').collect();
+    let pushed: Vec<Left<'_>> = (1..=takes.len()).rev().map(|back| place.value(back)).collect::<Option<_>>()?;
+    let fit = |pushed: &[Left<'_>]| takes.iter().zip(pushed).all(|(word, left)| fits(word, *left));
+    if fit(&pushed) {
+        return None;
+    }
+    let exchanged = (1..pushed.len()).map(|at| {
+        let mut other = pushed.clone();
+        other.swap(at - 1, at);
+        (at, other)
+    });
+    let (at, other) = exchanged.into_iter().find(|(_, other)| fit(other))?;
+    let text = |left: &Left<'_>| plain(left.text());
+    let all: Vec<String> = other.iter().map(text).collect();
+    let (first, second, function) = (text(&pushed[at - 1]), text(&pushed[at]), plain(function));
+    Some(format!("`{first}` and `{second}` are exchanged: write `{} {function}`", all.join(" ")))
+}
+
+/// Whether something that stands in the code may be an operand that is called by this word.
+fn fits(word: &str, left: Left<'_>) -> bool {
+    match (word, left) {
+        ("NUMBER" | "START" | "LENGTH", _) => matches!(left, Left::Number(_)),
+        ("CASE", Left::Text(text)) => {
+            ["\"t\"", "\"l\"", "\"u\""].iter().any(|case| text.eq_ignore_ascii_case(case.as_bytes()))
+        }
+        ("FORMAT", Left::Text(text)) => !text.starts_with(b"\"") || text.contains(&b'{'),
+        ("CASE" | "FORMAT", _) => false,
+        ("TEXT" | "NAMES" | "FIELD", _) => matches!(left, Left::Text(_) | Left::Field(_)),
+        _ => true,
+    }
+}
+
+/// What to do about an `if$` before which one function stands alone.
+pub fn lone_branch(place: CodePlace<'_, '_>, function: &[u8]) -> Option<String> {
+    let (first, last) = place.lone_branch().filter(|_| function == b"if$")?;
+    let lines = if first == last { format!("line {first}") } else { format!("lines {first}-{last}") };
+    Some(format!(
+        "only one function stands before this `if$` ({lines}): write both, `'skip$` for one that does nothing"
+    ))
 }
 
 /// What to do about a `:=` before which the variable and its value are exchanged, as in `'t title :=`.
@@ -176,6 +219,23 @@ pub fn let_through(place: CodePlace<'_, '_>, field: Option<&[u8]>) -> Option<Str
     is_it.then(|| format!("{leaves}, and nothing else, where the field is missing"))
 }
 
+/// What to do where a function takes a field that may be missing, and asks whether another one is there, by which it is named, such as `format.editors`: that one may be meant.
+pub fn asked_instead(code: &Code<'_>, function: &[u8], field: &[u8]) -> Option<String> {
+    let asked = code.fields_asked(function);
+    let [only] = asked[..] else { return None };
+    let is_named = |part: &[u8]| function.windows(part.len().max(1)).any(|window| window.eq_ignore_ascii_case(part));
+    if Folded(only) == Folded(field) || !is_named(only) || is_named(field.get(..LETTERS_OF_NAME).unwrap_or(field)) {
+        return None;
+    }
+    let (function, field, meant) = (plain(function), plain(field), plain(only));
+    Some(format!(
+        "write `{meant}` for `{field}`, if that is meant: {function} asks whether `{meant}` is there, and not `{field}`"
+    ))
+}
+
+/// How many letters of a field's name stand for it in the name of a function, as `vol` in `format.vol`.
+const LETTERS_OF_NAME: usize = 3;
+
 /// What to do where a field may be missing that is pushed in this line.
 pub fn pushed(code: &Code<'_>, field: &[u8], line: usize) -> String {
     let field = plain(field);
@@ -219,6 +279,9 @@ pub fn advice_at(code: &Code<'_>, scene: &Scene, message: &[u8], function: &[u8]
         return Some(said.map_or(MEND_TEST.to_string(), |(what, advice)| format!("{what}; {advice}")));
     }
     let place = place?;
+    if let Some(advice) = in_other_order(place, function).or_else(|| lone_branch(place, function)) {
+        return Some(advice);
+    }
     let said = match function {
         b":=" if message.ends_with(b" is not a function") && assigned_backwards(place).is_some() => {
             return assigned_backwards(place);
@@ -397,5 +460,31 @@ mod tests {
         let at = |line| let_through(code.place_in(line, b"*", None).unwrap(), Some(b"year"));
         let wanted = "`f.g` (line 3) is run on `year` just before: let it leave one string, and nothing else, where the field is missing";
         assert_eq!((at(9), at(10).as_deref()), (None, Some(wanted)));
+    }
+    #[test]
+    fn the_field_that_is_asked_for_may_be_meant() {
+        let style = "ENTRY {author editor}{}{}\nFUNCTION {f.editors} { editor empty$ { \"\" } { author num.names$ } if$ }\nFUNCTION {editors.authors} { editor empty$ }\n";
+        let code = Code::new(style.as_bytes());
+        let wanted =
+            "write `editor` for `author`, if that is meant: f.editors asks whether `editor` is there, and not `author`";
+        assert_eq!(asked_instead(&code, b"f.editors", b"author").as_deref(), Some(wanted));
+        assert_eq!(
+            (asked_instead(&code, b"f.editors", b"EDITOR"), asked_instead(&code, b"editors.authors", b"author")),
+            (None, None)
+        );
+    }
+
+    #[test]
+    fn operands_in_another_order_are_seen() {
+        let style = "ENTRY {editor edition}{}{}\nFUNCTION {f}\n{ editor \"{ll}\" #1 format.name$\n\"l\" edition change.case$\n\
+            edition \"t\" change.case$ \"a\" \"b\" change.case$\n edition #1 #2 substring$\n edition empty$\n { \"x\" }\n if$ }\n";
+        let code = Code::new(style.as_bytes());
+        let at = |line, name: &str| in_other_order(code.place_in(line, name.as_bytes(), None)?, name.as_bytes());
+        let wanted = "`\"{ll}\"` and `#1` are exchanged: write `editor #1 \"{ll}\" format.name$`";
+        assert_eq!(at(3, "format.name$").as_deref(), Some(wanted));
+        let wanted = "`\"l\"` and `edition` are exchanged: write `edition \"l\" change.case$`";
+        assert_eq!((at(4, "change.case$").as_deref(), at(6, "substring$")), (Some(wanted), None));
+        let lone = lone_branch(code.place_in(9, b"if$", None).unwrap(), b"if$");
+        assert!(lone.is_some_and(|advice| advice.starts_with("only one function stands before this `if$` (line 8)")));
     }
 }

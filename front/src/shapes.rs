@@ -284,7 +284,8 @@ impl<'a> Shapes<'a, '_> {
             let steps = end.steps.to_string();
             self.put(&[b"Sorry---you've exceeded BibTeX's budget of ", steps.as_bytes(), b" steps"]);
         } else if end.how.starts_with(b"limit ") {
-            self.put(&[b"Sorry---you've exceeded BibTeX's ", end.how]);
+            let words = words_of_limit(end.how).map_or(String::new(), |words| format!(" ({words})"));
+            self.put(&[b"Sorry---you've exceeded BibTeX's ", end.how, words.as_bytes()]);
         }
         if let Some(at) = self.scene_of_end.and_then(End::placed) {
             write_place(at, self.out);
@@ -293,6 +294,17 @@ impl<'a> Shapes<'a, '_> {
             self.put(&[count.as_bytes()]);
         }
     }
+}
+
+/// What there is more of than a run may have, by the word of its end.
+pub fn words_of_limit(how: &[u8]) -> Option<&'static str> {
+    Some(match how {
+        b"limit string" => "a string of more than 1,000,000 bytes",
+        b"limit literals" => "more than 1,000 literals on the stack",
+        b"limit calls" => "more than 4,096 functions that run within one another",
+        b"limit loops" => "more than 4,096 loops within one another",
+        _ => return None,
+    })
 }
 
 /// Whether the original calls an item of a database an entry: all but `@string` and `@preamble`, of which it has read more than the name.
@@ -417,7 +429,9 @@ mod tests {
         let limit = "Ended: limit calls, warnings 1, errors 2, steps 7\n";
         assert_eq!(
             end(limit),
-            format!("{limit}Sorry---you've exceeded BibTeX's limit calls\n(There were 2 error messages)\n")
+            format!(
+                "{limit}Sorry---you've exceeded BibTeX's limit calls (more than 4,096 functions that run within one another)\n(There were 2 error messages)\n"
+            )
         );
         let clean = "Ended: finished, warnings 0, errors 0, steps 7\n";
         assert_eq!(end(clean), clean);

@@ -118,6 +118,13 @@ impl<'a> Sources<'a> {
         }
     }
 
+    /// Where in the style a message was met, if the run's events say so.
+    pub fn spot_of_met(&mut self, message: &Message<'a>) -> Option<Spot<'a>> {
+        let met = message.met?;
+        let name = self.name(met.file);
+        self.in_style(Some(met), met.line, name)
+    }
+
     /// Where the `.aux` files name a file that wasn't found.
     fn unfound(&mut self, text: &[u8]) -> Option<Spot<'a>> {
         if !text.starts_with(b"I couldn't open ") {

@@ -10,6 +10,7 @@ use crate::lint_ends::{Ends, ends_of};
 use crate::lint_entry::{Shown, entries};
 use crate::lint_types::{Types, types_of};
 use crate::lint_warnings::{Warnings, read};
+use crate::literals::unequal;
 use crate::log::{Content, Place};
 use crate::style_read::{StyleNames, StyleRead};
 use crate::style_text::{Kind, Token, Tokens, commands};
@@ -84,10 +85,7 @@ impl StyleCheck {
         };
         let steps = steps.unwrap_or_else(|| usual_steps(&names));
         let (verdict, ends) = check_apart(&style, steps)?;
-        let found = match &verdict {
-            Some(Verdict::Warnings(notes) | Verdict::Incomplete(notes)) => read(notes, &style.name),
-            _ => Warnings::default(),
-        };
+        let found = found_of(&style, verdict.as_ref());
         let entries = if has_entries { Some(entries(&style, &found.shown())?) } else { None };
         let types = types_of(&style.name, &names, &verdict)?;
         let files = job_of(style);
@@ -120,6 +118,30 @@ impl StyleCheck {
     pub fn is_clean(&self) -> bool {
         self.word() == "clean"
     }
+}
+
+/// Where a style may go wrong by this verdict, with the unequal `if$` that its text shows, too.
+fn found_of(style: &File, verdict: Option<&Verdict>) -> Warnings {
+    let Some(Verdict::Warnings(notes) | Verdict::Incomplete(notes)) = verdict else { return Warnings::default() };
+    let mut found = read(notes, &style.name);
+    if !found.warnings.is_empty() {
+        found.add_causes(unequal(&Code::new(style.bytes.as_deref().unwrap_or_default())));
+    }
+    found
+}
+
+/// How many steps the check of a style may take of which a run has gone wrong: some 0.1 s.
+const STEPS_FOR_RUN: u64 = 400_000;
+
+/// Where a style may go wrong, for the explanation of a run; nothing where the check takes longer than a reader would wait, or the machine fails.
+pub fn warnings_for_run(style: &File) -> Warnings {
+    let bytes = style.bytes.clone().unwrap_or_default();
+    let steps = usual_steps(&StyleNames::new(&bytes)).min(STEPS_FOR_RUN);
+    let name = style.name.clone();
+    let thread =
+        thread::Builder::new().stack_size(STACK).spawn(move || btx::check(&name, &bytes, steps).ok().flatten());
+    let verdict = thread.ok().and_then(|thread| thread.join().ok()).flatten();
+    found_of(style, verdict.as_ref())
 }
 
 /// A stack that there is room for where there is any.

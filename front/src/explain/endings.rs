@@ -5,7 +5,9 @@ use crate::advice::Seen;
 use crate::aux_text::cited_keys;
 use crate::database::Folded;
 use crate::document::Document;
+use crate::hints::{Of, hints};
 use crate::shown_line::ShownLine;
+use crate::style_read::StyleRead;
 use crate::terminal::plain;
 use crate::text::Text;
 use crate::unsaid::{Unsaid, after_ends};
@@ -51,6 +53,26 @@ impl<'a, W: Write> Explainer<'a, W> {
         }
         unread.map_or(Ok(()), |unread| writeln!(self.page.out, "{unread}"))?;
         document.as_ref().as_ref().map_or(Ok(()), |document| self.unsaid_of_document(document))
+    }
+
+    /// What no message is about in the style, though the list may be another one by it than is meant.
+    pub(super) fn unsaid_of_style(&mut self) -> io::Result<()> {
+        let Some((file, bytes)) = self.sources.style().and_then(|file| Some((file, file.bytes.as_deref()?))) else {
+            return Ok(());
+        };
+        let name = plain(shown_path(file));
+        let hints = hints(&StyleRead::new(bytes));
+        for hint in hints.iter().filter(|hint| hint.sort == Of::List).take(MOST_OF_SCENE) {
+            self.put_unsaid_of_style(&name)?;
+            self.page.put_place(&format!("{name}:{}: {}", hint.line, hint.text))?;
+        }
+        self.put_unequal()
+    }
+
+    /// Begins what is said of a style that no message is about; once.
+    pub(super) fn put_unsaid_of_style(&mut self, name: &str) -> io::Result<()> {
+        let text = format!("No message is about this, but the list may be wrong by it (`bibtex-lint {name}`):");
+        if self.page.said.insert(text.clone()) { writeln!(self.page.out, "{text}") } else { Ok(()) }
     }
 
     /// What no message is about in the document: a style that doesn't fit its package, and keys that aren't in it any more.

@@ -3,19 +3,22 @@
 use super::names::{names_by_commas, one_name};
 use super::{Explainer, MOST_OF_SCENE, shown_path};
 use crate::advice::{self, Advice, Section, Seen};
-use crate::code_places::Code;
+use crate::code_places::{Code, Declared};
 use crate::entries::Stored;
 use crate::hints::loop_without_end;
-use crate::log::{Log, Message, Place};
-use crate::operands::{TEST_LEAVES, advice_at, is_of_test_in};
+use crate::lint_warnings::{Fault, Warnings};
+use crate::log::{Log, Message, Place, Severity};
+use crate::operands::{TEST_LEAVES, advice_at, asked_instead, is_of_test_in};
 use crate::origins::{MissingField, missing_field_of};
 use crate::repeats::{OfData, Repeats};
 use crate::scene::{Call, End, Scene};
 use crate::shown_line::ShownLine;
+use crate::sources::Spot;
 use crate::terminal::plain;
 use crate::text::{find, split_first};
 use std::collections::HashSet;
 use std::io::{self, Write};
+use std::rc::Rc;
 
 /// A command of a style that is executed for an entry, or for none: the stack is empty before it.
 #[derive(Debug, Clone, Copy, PartialEq, Eq)]
@@ -32,12 +35,14 @@ pub(super) struct Execution<'a> {
     pub(super) is_interrupted: bool,
     /// The functions of which it was said what they take.
     taught: HashSet<&'a [u8]>,
-    /// Where the stack was empty, if that is the last error of the stack that was explained.
-    emptied: Option<Visit<'a>>,
+    /// Where the last error of the stack or of kinds was met that was explained.
+    failed: Option<Visit<'a>>,
     pub(super) repeats: Repeats<'a>,
     pub(super) data: OfData<'a>,
     /// The code of the style, once an error of its execution was met.
     code: Option<Code<'a>>,
+    /// Where the style may go wrong, once it was checked.
+    pub(super) checked: Option<Rc<Warnings>>,
 }
 
 impl<'a> Execution<'a> {
@@ -46,10 +51,11 @@ impl<'a> Execution<'a> {
             scene_of_end: log.scene_of_end(),
             is_interrupted: log.is_interrupted,
             taught: HashSet::new(),
-            emptied: None,
+            failed: None,
             repeats: Repeats::default(),
             data: OfData::default(),
             code: None,
+            checked: None,
         }
     }
 }
@@ -89,6 +95,12 @@ impl<'a, W: Write> Explainer<'a, W> {
         if shown.is_some() || lacked.is_some() {
             return self.of_data(message, function, entry, shown, lacked);
         }
+        if message.severity == Severity::Warning {
+            return self.cut(message, function, entry);
+        }
+        let follows = self.follows_in_visit(message, entry);
+        let said = if follows { None } else { self.said_by_check(message, function) };
+        said.as_ref().map_or(Ok(()), |said| self.put_cause(said))?;
         message.scene.map_or(Ok(()), |scene| self.scene(scene))?;
         if let Some(key) = entry {
             self.show_entry("for", key)?;
@@ -96,31 +108,69 @@ impl<'a, W: Write> Explainer<'a, W> {
         if let Some(missing) = self.missing_field(message, function) {
             self.page.put_place(&missing)?;
         }
-        self.put_origin(message, entry)?;
+        if follows {
+            self.put_origin()?;
+        }
         self.teach(message, function)?;
-        match self.advice_at(message, function) {
+        let advice = self.advice_at(message, function);
+        match advice.or_else(|| said.and_then(|said| said.advice)) {
             Some(advice) => self.page.put_advice(&advice),
+            None if follows => Ok(()),
             None => self.advise(&[Section::Execution], message.text),
         }
     }
 
-    /// From which error above one of the stack may follow: one of the style's text, or an empty stack for the same entry.
-    fn put_origin(&mut self, message: &Message<'a>, entry: Option<&'a [u8]>) -> io::Result<()> {
-        const EMPTY: &[u8] = b"You can't pop an empty literal stack";
-        const LEFT: &[u8] = b"The literal stack isn't empty";
-        if message.text != EMPTY && message.text != LEFT {
-            return Ok(());
+    /// Explains the warning of a string that was cut: where in the style, for which entry, and which variable is too short.
+    fn cut(&mut self, message: &Message<'a>, function: &[u8], entry: Option<&[u8]>) -> io::Result<()> {
+        let spot = self.sources.spot_of_met(message);
+        let variable = spot.as_ref().and_then(|spot| self.variable_at(spot, function));
+        if let Some(spot) = &spot {
+            self.page.show_line(spot)?;
         }
-        let command = message.scene.map_or(0, |scene| scene.callers.last().unwrap_or(&scene.at).line);
+        if let Some((owner, ..)) = &variable {
+            self.page.put_place(&format!("in FUNCTION {{{owner}}}"))?;
+        }
+        if let Some(key) = entry {
+            self.show_entry("for", key)?;
+        }
+        match variable {
+            Some((_, name, is_of_entry)) => {
+                let limit = if is_of_entry { "entry" } else { "global" };
+                self.page.put_advice_once(&format!(
+                    "cut the value before it is assigned, by `#1 {limit}.max$ substring$` before `'{name} :=`; or let the variable keep more by `--{limit}-max`"
+                ))
+            }
+            None => self.advise(&[Section::Execution], message.text),
+        }
+    }
+
+    /// Of an assignment at a place of the style: the function in which it stands, the variable, and whether each entry has its own.
+    fn variable_at(&mut self, spot: &Spot<'a>, function: &[u8]) -> Option<(String, String, bool)> {
+        let bytes = spot.file.bytes.as_deref().filter(|_| function == b":=")?;
+        let code = self.execution.code.get_or_insert_with(|| Code::new(bytes));
+        let place = code.text.span(spot.number).0 + spot.part?.0;
+        let (owner, index) = code.executed(b":=").into_iter().find(|(_, index)| code.start(*index) == place)?;
+        let name = code.of(index.checked_sub(1)?).strip_prefix(b"'")?;
+        let is_of_entry = code.declared(name).map_or(name.eq_ignore_ascii_case(b"sort.key$"), Declared::is_of_entry);
+        Some((plain(owner), plain(name), is_of_entry))
+    }
+
+    /// Whether an error of the stack may follow from one above, for the same entry: a function that finds a wrong operand, or none, leaves less than it does else.
+    fn follows_in_visit(&mut self, message: &Message<'a>, entry: Option<&'a [u8]>) -> bool {
+        let Some(fault) = Fault::of_message(message.text) else { return false };
+        let command = message.scene.map_or(0, |scene| scene.command().line);
         let visit = Visit { entry, command };
-        let is_behind_empty = self.execution.emptied == Some(visit);
-        self.execution.emptied = Some(visit).filter(|_| message.text == EMPTY);
+        let is_of_stack = matches!(fault, Fault::EmptyStack | Fault::LeftOver);
+        let is_behind = self.execution.failed == Some(visit);
+        self.execution.failed = Some(visit).filter(|_| fault != Fault::LeftOver);
+        is_of_stack && (is_behind || self.styles.first.is_some())
+    }
+
+    /// Says from which error above one of the stack may follow.
+    fn put_origin(&mut self) -> io::Result<()> {
         match &self.styles.first {
             Some(place) => self.page.put_place(&format!("this may follow from the error above at {place}")),
-            None if is_behind_empty => {
-                self.page.put_place("this may follow from the error above, where the stack was empty")
-            }
-            None => Ok(()),
+            None => self.page.put_place("this may follow from the error above, for the same entry: mend that first"),
         }
     }
 
@@ -143,7 +193,13 @@ impl<'a, W: Write> Explainer<'a, W> {
         self.teach(message, function)?;
         match (self.advice_at(message, function), lacked) {
             (Some(advice), _) => self.page.put_advice(&advice)?,
-            (None, Some(lacked)) => self.page.put_advice_once(&Seen::FieldIsMissing.with(&[&lacked]))?,
+            (None, Some(lacked)) => {
+                let meant = message
+                    .scene
+                    .and_then(|scene| asked_instead(self.code_of(scene)?, scene.at.owner(), lacked.as_bytes()));
+                let usual = Seen::FieldIsMissing.with(&[&lacked]);
+                self.page.put_advice_once(&meant.map_or(usual.clone(), |meant| format!("{meant}; else {usual}")))?
+            }
             (None, None) => match one_name(message.text).or_else(|| names_by_commas(message.text)) {
                 Some(advice) => self.page.put_advice(&advice)?,
                 None => self.advise(&[Section::Execution], message.text)?,
@@ -267,10 +323,17 @@ impl<'a, W: Write> Explainer<'a, W> {
         let others: String = others.iter().map(|call| format!(", or in that of {}", self.call(call))).collect();
         self.page.put_place(&format!("it stays in the loop of the `while$` in {}{others}", self.call(innermost)))?;
         let style = self.sources.file(&innermost.file).and_then(|file| file.bytes.as_deref());
-        let Some((read, body)) = style.and_then(|style| loop_without_end(style, innermost.line)) else {
+        let Some(endless) = style.and_then(|style| loop_without_end(style, innermost.line)) else {
             return Ok(false);
         };
-        self.page.put_advice(&Seen::LoopWithoutEnd.with(&[&read, &body])).map(|()| true)
+        let (never, body) = (&endless.never, &endless.body);
+        let advice = match &endless.sometimes[..] {
+            "" => Seen::LoopWithoutEnd.with(&[never, body]),
+            other => format!(
+                "change {never} in the body of this loop ({body}): its test reads {never} and {other}, and a turn that changes neither is repeated without end"
+            ),
+        };
+        self.page.put_advice(&advice).map(|()| true)
     }
 
     fn call(&self, call: &Call) -> String {

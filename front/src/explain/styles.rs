@@ -121,30 +121,32 @@ impl<'a, W: Write> Explainer<'a, W> {
         if !self.styles.has_room() {
             return Ok(None);
         }
-        self.unknown_name(name, spot, text, commands)?;
         let entry = commands.iter().find(|command| command.is("entry")).filter(|_| is_field(text.bytes, name));
+        self.unknown_name(name, spot, text, commands, entry.is_some())?;
         Ok(entry.map(|entry| {
             let at = format!("{}:{}", plain(shown_path(spot.file)), text.line_of(entry.start));
             Seen::FieldNotInEntry.with(&[&plain(name), &at])
         }))
     }
 
-    /// Says which name may be meant by one that isn't known, and where it stands. Further errors of that name are counted.
+    /// Says which name may be meant by one that isn't known, unless that is the name of a field, and where it stands. Further errors of that name are counted.
     fn unknown_name(
         &mut self,
         name: &'a [u8],
         spot: &Spot<'a>,
         text: &Text<'a>,
         commands: &[Command<'a>],
+        is_field: bool,
     ) -> io::Result<()> {
         self.styles.causes.push(Cause::new(spot, Defined::one(name)));
-        if let Some(near) = Defined::new(text.bytes, 0, text.bytes.len(), commands).nearest(name) {
-            if near.eq_ignore_ascii_case(name) {
+        match Defined::new(text.bytes, 0, text.bytes.len(), commands).nearest(name) {
+            Some(near) if near.eq_ignore_ascii_case(name) => {
                 return self
                     .page
                     .put_place("the style defines it, but not above this place, or in a command that isn't read");
             }
-            self.page.put_place(&format!("is it {}?", plain(near)))?;
+            Some(near) if !is_field => self.page.put_place(&format!("is it {}?", plain(near)))?,
+            _ => {}
         }
         let (lines, count) = lines_of_name(text, name);
         if count < 2 {
@@ -174,7 +176,17 @@ impl<'a, W: Write> Explainer<'a, W> {
         if at_end || unknown(error).is_some_and(is_command) {
             let opened = above.iter().find(|command| command.balance > 0)?;
             self.add_unclosed(opened, spot, text, commands);
-            return Some(format!("a `}}` is missing in {}", begins(spot.file, text, opened)));
+            let end =
+                commands.iter().find(|next| next.start > opened.start).map_or(text.bytes.len(), |next| next.start);
+            let brace = unclosed(text, opened.start, end).map(|(brace, outside)| {
+                let [brace, outside] = [brace, outside].map(|token| text.line_of(token.start));
+                format!(": close the brace of line {brace} before line {outside}")
+            });
+            return Some(format!(
+                "a `}}` is missing in {}{}",
+                begins(spot.file, text, opened),
+                brace.unwrap_or_default()
+            ));
         }
         let is_rest = |word: &[u8]| nearest_word(word).is_none();
         let word = error.strip_suffix(b" isn't a command").filter(|word| is_rest(word));
@@ -237,7 +249,7 @@ impl<'a, W: Write> Explainer<'a, W> {
         let is_of_order = |cause: &Cause<'a>| cause.of_order.iter().any(|end| message.text.ends_with(end.as_bytes()));
         let is_it = |cause: &&mut Cause<'a>| {
             let is_lost = name.is_some_and(|name| cause.lost.has(name)) || is_of_order(cause);
-            let is_of_commands = name.map_or(message.text == AT_END, is_command);
+            let is_of_commands = name.map_or(message.text == AT_END, |name| is_command(word_before_brace(name)));
             file == cause.style && (is_lost || cause.has_commands && is_of_commands)
         };
         let cause = self.styles.causes.iter_mut().find(is_it);
@@ -328,6 +340,11 @@ const AT_END: &[u8] = b"Illegal end of style file";
 /// The name in the error of a function that isn't known.
 fn unknown(error: &[u8]) -> Option<&[u8]> {
     error.strip_suffix(b" is an unknown function")
+}
+
+/// The word of a command whose brace touches it, as in `EXECUTE{f}`: in the body of a function both are one name.
+fn word_before_brace(name: &[u8]) -> &[u8] {
+    name.split(|byte| *byte == b'{').next().unwrap_or(name)
 }
 
 /// Whether a name is an integer without its `#`.

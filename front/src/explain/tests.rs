@@ -210,3 +210,26 @@ fn names_may_have_any_bytes() {
     let output = explained(&log.with_places(&places), &files, &Terminal::NONE);
     assert!(output.contains("    ?.bib:1: @misc{k 1}\n                     ^\n"), "{output}");
 }
+
+#[test]
+fn what_follows_from_a_style_s_mistake_is_counted() {
+    let style =
+        "ENTRY {title}{}{}\nFUNCTION {f}\n{ title empty$\n { skip$\nif$ }\nFUNCTION {g} {skip$}\nREAD\nEXECUTE{g}\n";
+    let log = "Error--FUNCTION is an unknown function--line 6 of file s.bst\n\
+        Error--EXECUTE{g is an unknown function--line 8 of file s.bst\n";
+    let output = explain(log, style, "");
+    assert!(output.contains("which begins at s.bst:2: close the brace of line 4 before line 5\n"), "{output}");
+    assert!(output.contains("(1 more error follows from that)") && !output.contains("Error--EXECUTE{g"), "{output}");
+    let log = "Error--title is an unknown function--line 3 of file s.bst\n";
+    let output = explain(log, "ENTRY {titles}{}{}\nFUNCTION {f}\n{ title empty$ }\n", "");
+    assert!(output.contains("put `title` into the first list of ENTRY") && !output.contains("is it"), "{output}");
+}
+
+#[test]
+fn what_no_message_is_about_in_a_style_is_said_after_a_clean_run() {
+    let style = "ENTRY {}{}{}\nREAD\nFUNCTION {key} { \"a\" 'sort.key$ := }\nSORT\nITERATE {key}\n";
+    let ended = |errors| format!("Ended: finished, warnings 0, errors {errors}, steps 9\n");
+    let (clean, wrong) = (explain(&ended(0), style, ""), explain(&ended(1), style, ""));
+    let wanted = "No message is about this, but the list may be wrong by it (`bibtex-lint s.bst`):\n    s.bst:5: ITERATE {key} sets sort.key$";
+    assert!(clean.contains(wanted) && !wrong.contains("sort.key$"), "{clean}");
+}

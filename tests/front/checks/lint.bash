@@ -200,6 +200,19 @@ for row in 'cite$|1 place' 'cite$ pop$|1 place; 1 more after it' '"a" swap$ pop$
 done
 end
 
+# What the text shows of an `if$` whose branches the check meets one at a time, and what may be meant otherwise though no run logs a fault.
+begin lint_of_the_text
+write_clean
+sed -i "s/^FUNCTION {output.title}/FUNCTION {and}\\n{ 'skip\$ { #0 } if\$ }\\n\\n&/; s/title empty/title empty\$ #0 and pop\$ &/" clean.bst
+run_lint clean.bst
+wants_status 2
+wants_line_of_output 'clean.bst:4: in and: the branches of this `if$` leave different numbers of literals: the first leaves 0, the second leaves 1'
+write_clean
+sed -i 's/title write\$/"t" title change.case$ write$/' clean.bst
+run_lint clean.bst
+wants_line_of_output 'clean.bst:4: hint: in output.title: `change.case$` takes TEXT CASE: `"t"` and `title` are exchanged: write `title "t" change.case$`'
+end
+
 begin lint_of_a_field_that_may_be_missing
 write_clean
 sed -i "s/{ title empty.*/{ author empty\$ 'skip\$\n   { title write\$ newline\$ }\n  if\$ }/" clean.bst

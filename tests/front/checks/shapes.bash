@@ -92,7 +92,7 @@ begin shapes_at_a_limit
 write_limit
 run_search job
 wants_status 3
-[ "$(tail -n 2 job.blg)" = "Sorry---you've exceeded BibTeX's limit string
+[ "$(tail -n 2 job.blg)" = "Sorry---you've exceeded BibTeX's limit string (a string of more than 1,000,000 bytes)
 while executing---line 1 of file s.bst" ] || complaints+=("the log ends $(tail -n 2 job.blg)")
 end
 
