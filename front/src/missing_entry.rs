@@ -40,7 +40,7 @@ pub fn clue(entries: &Entries<'_>, files: &Files, document: Option<&Document>, k
         let place = format!("`{}` stands at {at}, in text that isn't read", plain(key));
         return Clue { place: Some(place), advice: Some(Seen::NoAtSign.with(&[])) };
     }
-    let of_text = in_record(entries, key).or_else(|| with_semicolons(entries, key));
+    let of_text = in_record(entries, key).or_else(|| without_comma(entries, key));
     of_text.or_else(|| clue_of_unreached(entries, key)).or_else(|| lost(entries, files).cloned()).unwrap_or_else(|| {
         let alike = clue_of_alike(entries, key);
         alike.or_else(|| clue_of_older(entries, document, key)).unwrap_or_else(|| clue_of_nearest(entries, key))
@@ -55,13 +55,28 @@ fn in_record(entries: &Entries<'_>, key: &[u8]) -> Option<Clue> {
     Some(Clue { place: Some(place), advice: Some(Seen::RecordIsRis.with(&[])) })
 }
 
-/// What is said of keys that are parted by semicolons, of which at least one is an entry's.
-fn with_semicolons(entries: &Entries<'_>, key: &[u8]) -> Option<Clue> {
+/// What is said of keys between which no comma stands: of several that are parted by semicolons at least one is an entry's, and of two with another sign or nothing between them both are.
+fn without_comma(entries: &Entries<'_>, key: &[u8]) -> Option<Clue> {
     let keys: Vec<&[u8]> =
         key.split(|byte| *byte == b';').map(<[u8]>::trim_ascii).filter(|key| !key.is_empty()).collect();
     let is_it = keys.len() > 1 && keys.iter().any(|key| entries.entry(key).is_some());
-    let advice = || Seen::SemicolonInCite.with(&[&plain(&keys.join(&b","[..]))]);
-    is_it.then(|| Clue { place: None, advice: Some(advice()) })
+    let keys = if is_it { keys } else { two_keys(entries, key)?.to_vec() };
+    let advice = Seen::SemicolonInCite.with(&[&plain(&keys.join(&b","[..]))]);
+    Some(Clue { place: None, advice: Some(advice) })
+}
+
+/// How long a key is that may be two.
+const LONGEST_OF_TWO: usize = 200;
+
+/// The keys of two entries that stand here one after the other, with one sign or nothing between them.
+fn two_keys<'k>(entries: &Entries<'_>, key: &'k [u8]) -> Option<[&'k [u8]; 2]> {
+    let is_entry = |key: &[u8]| entries.entry(key).is_some();
+    let pair = |at: usize, sign: usize| Some([&key[..at], key.get(at + sign..)?]);
+    let pairs = (1..key.len().min(LONGEST_OF_TWO)).flat_map(|at| {
+        let is_sign = key[at].is_ascii_punctuation();
+        [pair(at, 0), pair(at, 1).filter(|_| is_sign)].into_iter().flatten()
+    });
+    pairs.filter(|[_, right]| !right.is_empty()).find(|[left, right]| is_entry(left) && is_entry(right))
 }
 
 /// What is said of a key that stands in an entry whose beginning can't be read.
@@ -159,7 +174,7 @@ pub fn is_lost(entries: &Entries<'_>, files: &Files, key: &[u8]) -> bool {
             && entries.unread(key).is_none()
             && entries.unreached(key).is_none()
             && entries.in_record(key).is_none()
-            && with_semicolons(entries, key).is_none()
+            && without_comma(entries, key).is_none()
     };
     !key.is_empty() && is_nowhere() && lost(entries, files).is_some()
 }
@@ -359,6 +374,15 @@ mod tests {
         assert_eq!(advice, "mend that item: a `}` or a quote is missing above `two`");
         let (place, _) = clue_of("@misc{one, note = {x\n@misc{two, note = 1}}}\n", "two");
         assert_eq!(place, "`two` stands at d.bib:2, in a value of @misc{one}, which begins at d.bib:1");
+    }
+
+    #[test]
+    fn two_keys_want_a_comma() {
+        for (keys, meant) in [("a1.b2", "a1,b2"), ("a1b2", "a1,b2"), ("a1;zz", "a1,zz"), ("b.b4", "b.b4")] {
+            let (_, advice) = clue_of("@misc{a1} @misc{b2} @misc{b} @misc{b.b3}", keys);
+            let advised = Seen::SemicolonInCite.with(&[meant]);
+            assert_eq!(advice == advised, meant.contains(','), "{keys}: {advice}");
+        }
     }
 
     #[test]
