@@ -373,10 +373,13 @@ fn lost_word(text: &[u8]) -> Option<Doubt> {
     let has_small = words.iter().any(|(_, word)| word.len() > 1 && is_small(word));
     // (`Digital Halftoning with texture control` has capital letters without names)
     let may_tell = |(place, word): &&(usize, &[u8])| *place > 0 && is_long(word) && is_small(&word[1..]);
-    let has_names = small >= LEAST_SMALL && words.iter().find(may_tell).is_some_and(|(_, word)| is_small(word));
+    let has_parts = text.iter().any(|byte| matches!(byte, b':' | b'?' | b'.'));
+    let may_have_names = small >= LEAST_SMALL && !has_parts;
+    let has_names = may_have_names && words.iter().find(may_tell).is_some_and(|(_, word)| is_small(word));
     let is_lost = |(place, word): &(usize, &[u8])| {
         let is_name = has_names && word.len() >= LEAST_NAME && is_inside(text, *place);
-        has_small && word.iter().skip(usize::from(!is_name)).any(u8::is_ascii_uppercase)
+        let has_later = word.windows(2).any(|pair| pair[0] != b'-' && pair[1].is_ascii_uppercase());
+        has_small && (has_later || is_name && word[0].is_ascii_uppercase())
     };
     let mut lost = words.iter().copied().filter(is_lost);
     let (place, word) = lost.next()?;
@@ -485,6 +488,8 @@ mod tests {
             "On A",
             "The Large Words of a Title with small",
             "Digital Halftoning with texture control",
+            "On Low-Cost Printers",
+            "Some odds and ends: a Curriculum",
             "Some small words: The other",
             "Some small words -- The other",
             "Word Hy-phen-a-tion by Com-put-er",

@@ -163,11 +163,11 @@ impl Persons {
         let is_whole = |word: &[u8]| word.len() >= LEAST_LETTERS && !word.contains(&b'.');
         let (its, others) = (self.uses(family), self.uses(given));
         let key = key.to_ascii_lowercase();
-        let is_of_key =
-            key.starts_with(&family.to_ascii_lowercase()) && find(&key, &given.to_ascii_lowercase()).is_none();
+        let is_of_key = key.starts_with(&family.to_ascii_lowercase());
+        let names_other = find(&key, &given.to_ascii_lowercase()).is_some();
         // (the name itself counts once as well)
         let is_known = others.first > 0 && others.last == 1 && its.first == 1;
-        is_whole(family) && is_whole(given) && is_known && (its.last > 0 || is_of_key)
+        is_whole(family) && is_whole(given) && is_known && !names_other && (its.last > 0 || is_of_key)
     }
 }
 
@@ -232,6 +232,7 @@ mod tests {
         assert_eq!(exchanged("McCarthy, John", "k", "McCarthy John"), found);
         assert_eq!(exchanged("John D. Hobby", "k", "McCarthy John"), None);
         assert_eq!(exchanged("Ann Bee", "mccarthy1960", "McCarthy John"), None);
+        assert_eq!(exchanged("Gay, Ann and Walker Bee", "walker1988", "Gay Walker"), None);
         assert_eq!(exchanged("Elton John and John Dee", "mccarthy1960", "McCarthy John"), None);
         assert_eq!(exchanged("John Dee", "john1960", "John McCarthy"), None);
     }
