@@ -65,18 +65,20 @@ fn without_comma(entries: &Entries<'_>, key: &[u8]) -> Option<Clue> {
     Some(Clue { place: None, advice: Some(advice) })
 }
 
-/// How long a key is that may be two.
+/// How long a key is that may be two, and how long each of these is where nothing stands between them.
 const LONGEST_OF_TWO: usize = 200;
+const LEAST_OF_TWO: usize = 4;
 
 /// The keys of two entries that stand here one after the other, with one sign or nothing between them.
 fn two_keys<'k>(entries: &Entries<'_>, key: &'k [u8]) -> Option<[&'k [u8]; 2]> {
-    let is_entry = |key: &[u8]| entries.entry(key).is_some();
-    let pair = |at: usize, sign: usize| Some([&key[..at], key.get(at + sign..)?]);
     let pairs = (1..key.len().min(LONGEST_OF_TWO)).flat_map(|at| {
-        let is_sign = key[at].is_ascii_punctuation();
-        [pair(at, 0), pair(at, 1).filter(|_| is_sign)].into_iter().flatten()
+        let (left, right) = key.split_at(at);
+        let is_long = left.len().min(right.len()) >= LEAST_OF_TWO;
+        let after_sign = right.split_first().filter(|(sign, _)| sign.is_ascii_punctuation()).map(|(_, rest)| rest);
+        [Some(right).filter(|_| is_long), after_sign].into_iter().flatten().map(move |right| [left, right])
     });
-    pairs.filter(|[_, right]| !right.is_empty()).find(|[left, right]| is_entry(left) && is_entry(right))
+    let is_entry = |key: &[u8]| entries.entry(key).is_some();
+    pairs.filter(|[left, right]| left != right).find(|[left, right]| is_entry(left) && is_entry(right))
 }
 
 /// What is said of a key that stands in an entry whose beginning can't be read.
@@ -378,10 +380,18 @@ mod tests {
 
     #[test]
     fn two_keys_want_a_comma() {
-        for (keys, meant) in [("a1.b2", "a1,b2"), ("a1b2", "a1,b2"), ("a1;zz", "a1,zz"), ("b.b4", "b.b4")] {
-            let (_, advice) = clue_of("@misc{a1} @misc{b2} @misc{b} @misc{b.b3}", keys);
-            let advised = Seen::SemicolonInCite.with(&[meant]);
-            assert_eq!(advice == advised, meant.contains(','), "{keys}: {advice}");
+        let keys = [
+            ("lee1.ray2", "lee1,ray2"),
+            ("lee1ray2", "lee1,ray2"),
+            ("lee1;zz", "lee1,zz"),
+            ("lee1.lee1", ""),
+            ("kl", ""),
+            ("ray2.3", ""),
+        ];
+        for (keys, meant) in keys {
+            let (_, advice) = clue_of("@misc{lee1} @misc{ray2} @misc{k} @misc{l}", keys);
+            let is_it = advice == Seen::SemicolonInCite.with(&[meant]);
+            assert_eq!(is_it, !meant.is_empty(), "{keys}: {advice}");
         }
     }
 

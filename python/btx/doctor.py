@@ -56,7 +56,7 @@ CHECKS = {
         Check("not-utf8", "warning", "Exact: a byte of the file isn't UTF-8. Said once; a document in another encoding may be meant."),
         Check("unusual-type", "info", "Exact, without --style: TeX's standard styles don't have the type, so they treat the entry as `misc`."),
         Check("misspelt-field", "warning", "A guess: the name of a field differs in a letter or two from one that the styles read, and the entry doesn't have that one."),
-        Check("missing-field", "info", "Exact, by the table of BibTeX's manual (btxdoc) for its 14 types: plain, abbrv, alpha and unsrt warn of most of these fields."),
+        Check("missing-field", "info", "Exact, by the table of BibTeX's manual (btxdoc) for its types: plain, abbrv, alpha and unsrt warn of most of these fields."),
         Check("missing-in-parent", "info", "Exact, by the same table: neither the entry nor its parent has the field, where the parent is in the databases."),
         Check("year-of-words", "warning", "Exact: the year doesn't end in two digits, of which styles such as alpha make a label."),
         Check("lost-capitals", "info", "A guess: styles such as plain write a title in small letters, but for its first letter and what is in braces."),

@@ -97,8 +97,9 @@ GENERAL = {
 }
 
 NAME = re.compile(rb"[^\x00-\x20\"#%'(),={}]*")
-# How many lines an entry may have in which a file breaks off.
+# How many lines an entry may have in which a file breaks off; how long a key is that another one follows directly.
 MOST_LINES = 60
+LEAST_OF_TWO = 4
 # Names that biblatex has for fields, and fields that entries of one type have in the place of others.
 OF_BIBLATEX = {"journal": "journaltitle", "year": "date", "address": "location", "booktitle": "maintitle", "number": "issue"}
 OF_OTHER_TYPES = {"booktitle": ["journal"], "journal": ["booktitle"], "school": ["institution"], "institution": ["school"], "publisher": ["organization", "institution"]}
@@ -183,7 +184,9 @@ def two_keys(key: str, keys: Iterable[str]) -> Optional[Tuple[str, str]]:
     if key.lower() in known:
         return None
     pairs = ((key[:at], key[at + sign :]) for at in range(1, len(key)) for sign in (0, 1) if not sign or not key[at].isalnum())
-    return next(((left, right) for left, right in pairs if left.lower() in known and right.lower() in known), None)
+    found = ((left, right) for left, right in pairs if left.lower() in known and right.lower() in known and left != right)
+    # (short keys with nothing between them are rather one key)
+    return next(((left, right) for left, right in found if len(left + right) < len(key) or min(len(left), len(right)) >= LEAST_OF_TWO), None)
 
 
 def number_meant(word: str) -> Optional[Tuple[str, str]]:

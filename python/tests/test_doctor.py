@@ -340,6 +340,10 @@ ITERATE {call.type$}
     def test_keys_and_names_with_other_signs(self):
         _, lines = self.said({"d.bib": b"@misc{k} @misc{l}"}, b"\\citation{k;l}\n\\bibdata{d}\n\\bibstyle{plain}\n")
         self.assertIn("    what to do: " + SEEN["SemicolonInCite"].replace("$1", "k,l"), lines)
+        for key, meant in (("lee1.ray2", "lee1,ray2"), ("lee1ray2", "lee1,ray2"), ("lee1.lee1", None), ("kl", None)):
+            said_of = remedy_of(f'I didn\'t find a database entry for "{key}"', ["lee1", "ray2", "k", "l"])
+            self.assertEqual(said_of == said(SEEN["SemicolonInCite"], meant or ""), meant is not None, key)
+        self.assertEqual(remedy_of('Too many commas in name 1 of "A, B; C, D"'), said(SEEN["NamesByCommas"], "A, B and C, D"))
         for names, meant in (("Underwood, Paul, Jr., PhD", "Underwood, Jr., Paul"), ("Lee, Ann, MD, PhD", "Lee, Ann")):
             self.assertEqual(remedy_of(f'Too many commas in name 1 of "{names}"'), SEEN["CommasOfOneName"].replace("$1", meant))
         self.assertEqual(remedy_of('Too many commas in name 1 of "A, B, C, D"'), SEEN["NamesByCommas"].replace("$1", "A, B and C, D"))
