@@ -94,7 +94,7 @@ SAID = {
     "sign-of-tex": "{}",
     "not-utf8": "the byte {} isn't UTF-8: save the file as UTF-8",
     "unusual-type": "TeX's standard styles don't have the type {}",
-    "misspelt-field": "no style reads the field {}: is it `{}`?",
+    "misspelt-field": "the usual styles read no field {}: is it `{}`?",
     "missing-field": "the field {} is missing, which BibTeX's manual requires of `{}`",
     "missing-in-parent": "the field {} is missing in the entry and its parent; BibTeX's manual requires it of `{}`",
     "year-of-words": "the year `{}` doesn't end in two digits: write the number alone, and the words in `note`",
