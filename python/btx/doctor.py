@@ -56,7 +56,7 @@ CHECKS = {
         Check("not-utf8", "warning", "Exact: a byte of the file isn't UTF-8. Said once; a document in another encoding may be meant."),
         Check("unusual-type", "info", "Exact, without --style: TeX's standard styles don't have the type, so they treat the entry as `misc`."),
         Check("misspelt-field", "warning", "A guess: the name of a field differs in a letter or two from one that the styles read, and the entry doesn't have that one."),
-        Check("missing-field", "info", "Exact, by the table of BibTeX's manual (btxdoc) for its types: plain, abbrv, alpha and unsrt warn of most of these fields."),
+        Check("missing-field", "info", "Exact, without --style, by the table of BibTeX's manual (btxdoc) for its types: plain, abbrv, alpha and unsrt warn of most of these fields."),
         Check("missing-in-parent", "info", "Exact, by the same table: neither the entry nor its parent has the field, where the parent is in the databases."),
         Check("year-of-words", "warning", "Exact: the year doesn't end in two digits, of which styles such as alpha make a label."),
         Check("lost-capitals", "info", "A guess: styles such as plain write a title in small letters, but for its first letter and what is in braces."),
@@ -329,8 +329,8 @@ class Examiner:
             self.say("unusual-type", item.start, item.kind_end, item.key, kind)
         if not FIELDS.issuperset(numbers):
             self.misspelt(item, numbers)
-        # (most entries have all that is required)
-        if item.slip is None and (kind in EITHER or b"crossref" in numbers or not ALONE.get(kind, NONE) <= numbers.keys()):
+        # (a style in use has a table of its own; and most entries have all that is required)
+        if self.style is None and item.slip is None and (kind in EITHER or b"crossref" in numbers or not ALONE.get(kind, NONE) <= numbers.keys()):
             self.required(item, numbers)
         if records.marks.find(1, first, last) >= 0:
             self.empty(item, numbers)

@@ -247,7 +247,7 @@ class Databases(WithEditor):
 
 
     def test_an_organization_gets_braces(self):
-        text = "@misc{k, title = {😀}, author = {A B and World Bank Group}}\n"
+        text = "@book{k, title = {😀}, author = {A B and World Bank Group}}\n"
         self.assertEqual(self.said("d.bib", text), [("World Bank Group", "bare-organization", 2)])
         place = self.editor.at("d.bib", *spot(text, "World"))
         (found,) = self.editor.result("textDocument/codeAction", textDocument=place["textDocument"], range={"start": place["position"], "end": place["position"]}, context={"diagnostics": []})
@@ -310,8 +310,8 @@ class Hostile(WithEditor):
         self.assertIn("mistake", [it["code"] for it in self.editor.diagnostics("d.bib")])
 
     def test_half_letters(self):
-        self.assertEqual(self.editor.open("d.bib", "@misc{k, title = {\ud83d}}\n"), [])
-        self.editor.change("d.bib", {"text": "@misc{k, title \udc00}"})
+        self.assertEqual(self.editor.open("d.bib", "@book{k, title = {\ud83d}}\n"), [])
+        self.editor.change("d.bib", {"text": "@book{k, title \udc00}"})
         self.assertEqual([it["code"] for it in self.editor.diagnostics("d.bib")], ["mistake"])
 
     def test_a_text_of_50_megabytes(self):
