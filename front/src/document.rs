@@ -139,6 +139,38 @@ impl Document {
         Some((self.bytes().get(spot.line.clone())?, spot.number, spot.place))
     }
 
+    /// The databases or styles that it names, in their order, and the number of the line of each.
+    pub fn names(&self, named: Named) -> Vec<(&[u8], usize)> {
+        let mut found: Vec<(usize, &[u8], usize)> = self
+            .named
+            .iter()
+            .filter(|((its, _), _)| *its == named)
+            .map(|((_, name), spot)| (spot.line.start + spot.place, &name[..], spot.number))
+            .collect();
+        found.sort_unstable();
+        found.into_iter().map(|(_, name, number)| (name, number)).collect()
+    }
+
+    /// A key that is typed in square brackets, as `[knuth84]`, and the number of its line.
+    pub fn typed_key(&self, is_key: impl Fn(&[u8]) -> bool) -> Option<(&[u8], usize)> {
+        self.lines().find_map(|(number, line)| {
+            let after = line.split(|byte| *byte == b'[').skip(1);
+            let typed = after.filter_map(|rest| Some(&rest[..rest.iter().position(|byte| *byte == b']')?]));
+            let are_keys = |keys: &&[u8]| keys.split(|byte| *byte == b',').all(|key| is_key(key.trim_ascii()));
+            typed.into_iter().find(are_keys).map(|keys| (keys, number))
+        })
+    }
+
+    /// The line that reads this part of the document, and its number.
+    pub fn line_of_part(&self, stem: &[u8]) -> Option<(usize, &[u8])> {
+        let reads = |line: &[u8]| {
+            [&b"\\include{"[..], b"\\input{"]
+                .iter()
+                .any(|command| find(line, &[command, stem, b"}"].concat()).is_some())
+        };
+        self.lines().find(|(_, line)| reads(line))
+    }
+
     fn bytes(&self) -> &[u8] {
         self.file.bytes.as_deref().unwrap_or(b"")
     }
@@ -220,6 +252,17 @@ mod tests {
         );
         assert_eq!(place(Named::Database, "refs"), Some((3, 19)));
         assert_eq!([place(Named::Style, "a"), place(Named::Style, "refs")], [Some((4, 27)), None]);
+    }
+
+    #[test]
+    fn what_it_names_and_types_is_listed() {
+        let document = document("\\bibliography{b,a}\nSee [k, l] and [3].\n% [m]\n\\include{part}\n");
+        assert_eq!(document.names(Named::Database), [(&b"b"[..], 1), (b"a", 1)]);
+        assert_eq!(document.names(Named::Style), []);
+        let known = |keys: &'static [u8]| document.typed_key(|key| keys.contains(&key[0]));
+        assert_eq!([known(b"kl"), known(b"k"), known(b"m")], [Some((&b"k, l"[..], 2)), None, None]);
+        assert_eq!(document.line_of_part(b"part").map(|(number, _)| number), Some(4));
+        assert_eq!(document.line_of_part(b"par"), None);
     }
 
     #[test]

@@ -186,8 +186,22 @@ fn sign(text: &[u8]) -> Option<Doubt> {
 }
 
 fn doubt_of_sign(text: &[u8], place: usize, seen: Seen) -> Doubt {
-    let seen = if find(&text[..place], b"://").is_some() { Seen::AddressInText } else { seen };
+    let seen = match seen {
+        _ if find(&text[..place], b"://").is_some() => Seen::AddressInText,
+        Seen::SignOfFormula if is_in_doi(&text[..place]) => Seen::DoiInText,
+        _ => seen,
+    };
     Doubt { place, seen, names: vec![plain(&text[place..=place])] }
+}
+
+/// Whether a text ends in a doi, as `10.1007/978-3` is one.
+fn is_in_doi(text: &[u8]) -> bool {
+    let start = text.iter().rposition(u8::is_ascii_whitespace).map_or(0, |white| white + 1);
+    let is_doi = |at: usize| {
+        let digits = text[at + 3..].iter().take_while(|byte| byte.is_ascii_digit()).count();
+        digits >= 4 && text.get(at + 3 + digits) == Some(&b'/')
+    };
+    find(&text[start..], b"10.").is_some_and(|at| is_doi(start + at))
 }
 
 /// Whether a text has an odd number of `$` that begin or end a formula.
@@ -339,14 +353,36 @@ fn lost_command(text: &[u8]) -> Option<Doubt> {
 
 /// How many words that lose their capital letters are named.
 const MOST_WORDS: usize = 4;
+/// How many words in small letters show that no word has a capital letter by its place alone, and how long each is.
+const LEAST_SMALL: usize = 2;
+const LEAST_LETTERS: usize = 4;
 
-/// Words with a capital letter after their first one, as `IBM`, in a text that has words in small letters.
+/// Long words that have small letters also in a title whose other words have capital ones.
+#[rustfmt::skip]
+const OF_GRAMMAR: [&[u8]; 22] = [
+    b"about", b"after", b"against", b"among", b"before", b"behind", b"between", b"beyond", b"during", b"from", b"into", b"over", b"than", b"that", b"their", b"through", b"towards", b"under",
+    b"using", b"versus", b"with", b"without",
+];
+
+/// Words that lose a capital letter: one after their first letter, as in `IBM`; or the first one, as in `Franklin`, where the other words of the text have small letters.
 fn lost_word(text: &[u8]) -> Option<Doubt> {
-    let words = || bare_words(text).filter(|(_, word)| word.len() > 1);
-    let is_lost = |(_, word): &(usize, &[u8])| word[1..].iter().any(u8::is_ascii_uppercase);
-    let mut lost = words().filter(is_lost);
-    let has_small = || words().any(|(_, word)| word.iter().all(u8::is_ascii_lowercase));
-    let (place, word) = lost.next().filter(|_| has_small())?;
+    let words = hyphenated(bare_words(text), text);
+    let is_small = |word: &[u8]| word.iter().all(|byte| byte.is_ascii_lowercase() || *byte == b'-');
+    let is_long = |word: &[u8]| word.len() >= LEAST_LETTERS && !OF_GRAMMAR.contains(&word);
+    let small = words.iter().filter(|(_, word)| is_small(word) && is_long(word)).count();
+    let has_small = words.iter().any(|(_, word)| word.len() > 1 && is_small(word));
+    // (`Digital Halftoning with texture control` has capital letters without names)
+    let may_tell = |(place, word): &&(usize, &[u8])| *place > 0 && is_long(word) && is_small(&word[1..]);
+    let has_parts = text.iter().any(|byte| matches!(byte, b':' | b'?' | b'.'));
+    let may_have_names = small >= LEAST_SMALL && !has_parts;
+    let has_names = may_have_names && words.iter().find(may_tell).is_some_and(|(_, word)| is_small(word));
+    let is_lost = |(place, word): &(usize, &[u8])| {
+        let is_name = has_names && word.len() >= LEAST_NAME && is_inside(text, *place);
+        let has_later = word.windows(2).any(|pair| pair[0] != b'-' && pair[1].is_ascii_uppercase());
+        has_small && (has_later || is_name && word[0].is_ascii_uppercase())
+    };
+    let mut lost = words.iter().copied().filter(is_lost);
+    let (place, word) = lost.next()?;
     let more: Vec<String> = lost.map(|(_, word)| format!("`{}`", plain(word))).take(MOST_WORDS - 1).collect();
     if let Some((last, others)) = more.split_last() {
         let first = [&[format!("`{}`", plain(word))], others].concat().join(", ");
@@ -355,6 +391,29 @@ fn lost_word(text: &[u8]) -> Option<Doubt> {
     let kept = usize::from(place == 0 || text[..place].ends_with(b": "));
     let made = [word[..kept].to_vec(), word[kept..].to_ascii_lowercase()].concat();
     Some(Doubt { place, seen: Seen::LosesCase, names: vec![plain(word), plain(&made)] })
+}
+
+/// The fewest letters of a word of which the first one is a name's.
+const LEAST_NAME: usize = 3;
+
+/// These words, those with a hyphen between them as one: `X-ray`.
+fn hyphenated<'a>(words: impl Iterator<Item = (usize, &'a [u8])>, text: &'a [u8]) -> Vec<(usize, &'a [u8])> {
+    let mut all: Vec<(usize, &[u8])> = Vec::new();
+    for (place, word) in words {
+        match all.last_mut() {
+            Some((start, last)) if *start + last.len() + 1 == place && text[place - 1] == b'-' => {
+                *last = &text[*start..place + word.len()];
+            }
+            _ => all.push((place, word)),
+        }
+    }
+    all
+}
+
+/// Whether a word stands after another word of its sentence, so that a capital letter isn't its place's.
+fn is_inside(text: &[u8], place: usize) -> bool {
+    let before = text[..place].trim_ascii_end();
+    before.last().is_some_and(|byte| byte.is_ascii_alphanumeric() || matches!(byte, b',' | b'}' | b')'))
 }
 
 /// The words of letters that stand outside of braces, formulas and commands, each with its place.
@@ -418,12 +477,23 @@ mod tests {
             (4, Seen::WordsLoseCase, &["`IBM`, `PC`".into(), "`DNA`".into(), "IBM".into()][..])
         );
         assert_eq!(lost("a: DNA of it"), Some((3, "Dna".into())));
+        assert_eq!(lost("Some small words of Franklin"), Some((20, "franklin".into())));
+        let seen = lost_case(b"A structure for DNA and the X-ray pattern of Franklin and Gosling").unwrap();
+        assert_eq!(seen.names, ["`DNA`, `X-ray`, `Franklin`", "`Gosling`", "DNA"]);
         assert_eq!(lost("On iPhones, \\LaTeX"), Some((12, "\\latex".into())));
         for text in [
             "The {IBM} of $AB$ and {\\TeX}",
             "ALL IN LARGE LETTERS",
             "On X-rays",
             "On A",
+            "The Large Words of a Title with small",
+            "Digital Halftoning with texture control",
+            "On Low-Cost Printers",
+            "Some odds and ends: a Curriculum",
+            "Some small words: The other",
+            "Some small words -- The other",
+            "Word Hy-phen-a-tion by Com-put-er",
+            "Some small words of a P and O",
             "A \\emph{DNA} of it",
             "",
             "\\",
@@ -446,6 +516,8 @@ mod tests {
         }
         assert_eq!([seen("url", "http://a/b_c?d&e%20"), seen("file", "a_b")], [None, None]);
         assert_eq!(seen("note", "http://a/b_c"), Some((10, Seen::AddressInText)));
+        assert_eq!(seen("note", "see doi:10.1007/978-3_2"), Some((21, Seen::DoiInText)));
+        assert_eq!(seen("note", "10.1007/978 a_b"), Some((13, Seen::SignOfFormula)));
     }
 
     #[test]

@@ -257,6 +257,12 @@ impl<'a> Entries<'a> {
         })
     }
 
+    /// The entries of all databases.
+    pub fn each(&self) -> impl Iterator<Item = Stored<'_, 'a>> {
+        let entries = self.all().filter(|(_, item)| item.is_entry());
+        entries.map(|((index, _), item)| Stored { database: &self.databases[index], item })
+    }
+
     /// The first entry of each key.
     fn by_key(&self) -> &HashMap<Folded<'a>, Found> {
         self.by_key.get_or_init(|| {

@@ -25,9 +25,10 @@
 //! | [`explain`] and its modules, [`entries`], [`shown_line`], [`advice`] | what follows a message for its reader: where it stands, and what to do |
 //! | [`mistakes`] | what an author did where a database can't be read on |
 //! | [`beside`] | which file may be meant by one that isn't there, and what a file is that isn't what its name says |
-//! | [`unsaid`], [`doubts`] | what no run logs of the cited entries |
+//! | [`unsaid`], [`doubts`], [`persons`] | what no run logs of the cited entries |
 //! | [`document`], [`alike`] | the document beside the `.aux` file; characters that look like one of the keyboard |
 //! | [`missing_entry`], [`nearest`] | where an entry may be that wasn't found, and which name may be meant by one that isn't known |
+//! | [`lacking`] | which field an entry lacks that a style asks for |
 //! | [`letters`], [`languages`], [`letter_places`], [`plain_entries`], [`letter_values`], [`letter_codes`], [`style_keys`], [`keyed_hash`], [`letter_run`] | letters outside ASCII: half letters in a list, and the order of a language |
 //! | [`run_log`] | the log of a run as it is written and printed |
 //! | [`run_json`], [`message_places`], [`kinds`] | what a run says as lines of JSON: where each message stands, and a name for its kind |
@@ -74,6 +75,7 @@ pub mod job;
 pub mod keyed_hash;
 pub mod kinds;
 pub mod kpathsea;
+pub mod lacking;
 pub mod languages;
 pub mod letter_codes;
 pub mod letter_places;
@@ -100,6 +102,7 @@ pub mod notes;
 pub mod operands;
 pub mod origins;
 pub mod outputs;
+pub mod persons;
 pub mod places;
 pub mod plain_entries;
 pub mod repeats;

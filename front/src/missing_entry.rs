@@ -40,7 +40,7 @@ pub fn clue(entries: &Entries<'_>, files: &Files, document: Option<&Document>, k
         let place = format!("`{}` stands at {at}, in text that isn't read", plain(key));
         return Clue { place: Some(place), advice: Some(Seen::NoAtSign.with(&[])) };
     }
-    let of_text = in_record(entries, key).or_else(|| with_semicolons(entries, key));
+    let of_text = in_record(entries, key).or_else(|| without_comma(entries, key));
     of_text.or_else(|| clue_of_unreached(entries, key)).or_else(|| lost(entries, files).cloned()).unwrap_or_else(|| {
         let alike = clue_of_alike(entries, key);
         alike.or_else(|| clue_of_older(entries, document, key)).unwrap_or_else(|| clue_of_nearest(entries, key))
@@ -55,13 +55,30 @@ fn in_record(entries: &Entries<'_>, key: &[u8]) -> Option<Clue> {
     Some(Clue { place: Some(place), advice: Some(Seen::RecordIsRis.with(&[])) })
 }
 
-/// What is said of keys that are parted by semicolons, of which at least one is an entry's.
-fn with_semicolons(entries: &Entries<'_>, key: &[u8]) -> Option<Clue> {
+/// What is said of keys between which no comma stands: of several that are parted by semicolons at least one is an entry's, and of two with another sign or nothing between them both are.
+fn without_comma(entries: &Entries<'_>, key: &[u8]) -> Option<Clue> {
     let keys: Vec<&[u8]> =
         key.split(|byte| *byte == b';').map(<[u8]>::trim_ascii).filter(|key| !key.is_empty()).collect();
     let is_it = keys.len() > 1 && keys.iter().any(|key| entries.entry(key).is_some());
-    let advice = || Seen::SemicolonInCite.with(&[&plain(&keys.join(&b","[..]))]);
-    is_it.then(|| Clue { place: None, advice: Some(advice()) })
+    let keys = if is_it { keys } else { two_keys(entries, key)?.to_vec() };
+    let advice = Seen::SemicolonInCite.with(&[&plain(&keys.join(&b","[..]))]);
+    Some(Clue { place: None, advice: Some(advice) })
+}
+
+/// How long a key is that may be two, and how long each of these is where nothing stands between them.
+const LONGEST_OF_TWO: usize = 200;
+const LEAST_OF_TWO: usize = 4;
+
+/// The keys of two entries that stand here one after the other, with one sign or nothing between them.
+fn two_keys<'k>(entries: &Entries<'_>, key: &'k [u8]) -> Option<[&'k [u8]; 2]> {
+    let pairs = (1..key.len().min(LONGEST_OF_TWO)).flat_map(|at| {
+        let (left, right) = key.split_at(at);
+        let is_long = left.len().min(right.len()) >= LEAST_OF_TWO;
+        let after_sign = right.split_first().filter(|(sign, _)| sign.is_ascii_punctuation()).map(|(_, rest)| rest);
+        [Some(right).filter(|_| is_long), after_sign].into_iter().flatten().map(move |right| [left, right])
+    });
+    let is_entry = |key: &[u8]| entries.entry(key).is_some();
+    pairs.filter(|[left, right]| left != right).find(|[left, right]| is_entry(left) && is_entry(right))
 }
 
 /// What is said of a key that stands in an entry whose beginning can't be read.
@@ -159,7 +176,7 @@ pub fn is_lost(entries: &Entries<'_>, files: &Files, key: &[u8]) -> bool {
             && entries.unread(key).is_none()
             && entries.unreached(key).is_none()
             && entries.in_record(key).is_none()
-            && with_semicolons(entries, key).is_none()
+            && without_comma(entries, key).is_none()
     };
     !key.is_empty() && is_nowhere() && lost(entries, files).is_some()
 }
@@ -359,6 +376,23 @@ mod tests {
         assert_eq!(advice, "mend that item: a `}` or a quote is missing above `two`");
         let (place, _) = clue_of("@misc{one, note = {x\n@misc{two, note = 1}}}\n", "two");
         assert_eq!(place, "`two` stands at d.bib:2, in a value of @misc{one}, which begins at d.bib:1");
+    }
+
+    #[test]
+    fn two_keys_want_a_comma() {
+        let keys = [
+            ("lee1.ray2", "lee1,ray2"),
+            ("lee1ray2", "lee1,ray2"),
+            ("lee1;zz", "lee1,zz"),
+            ("lee1.lee1", ""),
+            ("kl", ""),
+            ("ray2.3", ""),
+        ];
+        for (keys, meant) in keys {
+            let (_, advice) = clue_of("@misc{lee1} @misc{ray2} @misc{k} @misc{l}", keys);
+            let is_it = advice == Seen::SemicolonInCite.with(&[meant]);
+            assert_eq!(is_it, !meant.is_empty(), "{keys}: {advice}");
+        }
     }
 
     #[test]

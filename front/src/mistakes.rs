@@ -245,6 +245,10 @@ impl<'a> Place<'_, 'a> {
         let (_, end) = self.text.span(self.text.line_of(self.place));
         let has_more = self.text.bytes[self.place..end].contains(&b'"');
         let is_it = self.text.bytes[start] == b'"' && !has_more;
+        let is_before_comma = self.text.bytes[self.place + 1..].trim_ascii_start().starts_with(b",");
+        if is_it && is_before_comma {
+            return Some(Seen::BraceForQuote.with(&[&self.owner()?, &self.line(self.place)]));
+        }
         is_it.then(|| Some(Seen::SecondQuote.with(&[&self.owner()?, &self.line(start)]))).flatten()
     }
 
@@ -279,8 +283,20 @@ impl<'a> Place<'_, 'a> {
         let all = of_fields.map(|(name, value)| (name, value.clone())).chain(open).filter(|_| self.item.is_entry());
         let mut found = all.filter_map(|(name, value)| Some((name, value.start, self.field_in(&value)?)));
         let (name, start, taken) = found.next()?;
+        if let Some(end) = self.ends_by_quote(start..taken) {
+            return Some(Seen::QuoteForBrace.with(&[&plain(name), &self.line(end)]));
+        }
         let taken_in = (plain(name_at(self.text.bytes, taken)), self.line(taken));
         Some(Seen::RunsOn.with(&[&plain(name), &self.line(start), &taken_in.0, &taken_in.1]))
+    }
+
+    /// Where a value that begins with a brace ends with a quote, before a comma or what comes next.
+    fn ends_by_quote(&self, value: Range<usize>) -> Option<usize> {
+        let text = self.text.bytes[value.clone()].trim_ascii_end();
+        let text = text.strip_suffix(b",").unwrap_or(text).trim_ascii_end();
+        let is_one =
+            text.starts_with(b"{") && text.ends_with(b"\"") && text.iter().filter(|byte| **byte == b'"').count() == 1;
+        is_one.then(|| value.start + text.len() - 1)
     }
 
     /// Where a value looks like a field, `name = {`: where one of its lines begins, or else after a comma.
@@ -463,6 +479,8 @@ mod tests {
         assert_eq!(advice("@misc{a,\n x = {T {U},\n y = 1\n}\n@misc{b}"), runs_on);
         assert_eq!(advice("@misc{a,\n x = \"T,\n y = {1}\n}\n"), runs_on);
         assert_eq!(advice("@misc{a,\n x = {T,\n y = 2\n}\n"), runs_on);
+        assert_eq!(advice("@misc{a,\n x = {T\",\n y = {1}\n}\n@misc{b}"), Seen::QuoteForBrace.with(&["x", "d.bib:2"]));
+        assert_eq!(advice("@misc{a,\n x = \"T},\n y = {1}\n}\n"), Seen::BraceForQuote.with(&["x", "d.bib:2"]));
         let on_one_line = |name: &str| {
             format!(
                 "close the value of `{name}`, which begins at d.bib:1: it has taken in what looks like the field `zz` (d.bib:1)"

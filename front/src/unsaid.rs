@@ -14,10 +14,12 @@ use crate::letter_values::parts;
 use crate::missing_entry::LostField;
 use crate::mistakes::is_hidden;
 use crate::nearest::nearest;
+use crate::persons::{self, Persons};
 use crate::shown_line::ShownLine;
 use crate::style_read::StyleNames;
 use crate::terminal::{Terminal, plain};
 use crate::text::find;
+use std::cell::LazyCell;
 use std::collections::{HashMap, HashSet};
 use std::ops::Range;
 
@@ -31,6 +33,9 @@ const ADDRESSES: [&str; 2] = ["url", "doi"];
 
 /// Fields in which the name of a string is meant to be one.
 const OF_STRINGS: [&str; 4] = ["journal", "month", "publisher", "series"];
+
+/// Fields that are lists of names.
+const OF_NAMES: [&str; 2] = ["author", "editor"];
 
 /// Words that no person's name has; `python/btx/doctor.py` has the same.
 #[rustfmt::skip]
@@ -116,7 +121,12 @@ struct Known<'k> {
     is_utf8: bool,
     /// Of which fields the style changes the case.
     cased: Cased<'k>,
+    /// The names of all persons, where they are asked for.
+    persons: LazyPersons<'k>,
 }
+
+/// The names of all persons, once they were asked for.
+type LazyPersons<'k> = LazyCell<Persons, Box<dyn FnOnce() -> Persons + 'k>>;
 
 /// A place that is shown, and what to do about it.
 pub struct Shown<'b, 'a> {
@@ -151,6 +161,7 @@ impl<'b, 'a> Unsaid<'b, 'a> {
             has_label: has_label_of_year(style.bytes),
             is_utf8: is_in_utf8(files, document),
             cased: Cased::new(style.bytes),
+            persons: LazyCell::new(Box::new(|| Persons::of(entries))),
         };
         let mut cited = HashSet::new();
         let keys = cited_keys(files).filter(|key| cited.insert(Folded(key))).take(MOST_ENTRIES);
@@ -201,7 +212,15 @@ impl<'b, 'a> Unsaid<'b, 'a> {
         if let Some(doubt) = doubt(field, inside, known.has_label) {
             found(start + doubt.place, doubt.seen, doubt.names);
         }
-        if let Some(doubt) = lost_case(inside).filter(|_| known.cased.changes(stored.item.kind, field)) {
+        if let Some(doubt) = Some(inside).filter(|_| is_list_of_names(field)).and_then(|names| {
+            let key = stored.item.key.map_or(&b""[..], |key| key.name);
+            persons::doubt(names).or_else(|| known.persons.exchanged(names, key))
+        }) {
+            found(start + doubt.place, doubt.seen, doubt.names);
+        }
+        if let Some(doubt) =
+            lost_case(inside).filter(|_| stored.item.fault.is_none() && known.cased.changes(stored.item.kind, field))
+        {
             found(start + doubt.place, doubt.seen, doubt.names);
         }
         if known.is_utf8
@@ -279,6 +298,11 @@ fn is_one_of(name: &[u8], names: &[&str]) -> bool {
     names.iter().any(|known| name.eq_ignore_ascii_case(known.as_bytes()))
 }
 
+/// Whether a field is a list of names.
+pub fn is_list_of_names(field: &[u8]) -> bool {
+    is_one_of(field, &OF_NAMES)
+}
+
 /// The text of a value that is one text in braces or quotes.
 fn whole_text(bytes: &[u8], value: &Range<usize>) -> Option<Range<usize>> {
     let parts = parts(&bytes[value.clone()]);
@@ -292,7 +316,7 @@ fn seen_in(name: &[u8], bytes: &[u8], text: &Range<usize>, strings: &HashSet<Fol
     if is_one_of(name, &OF_STRINGS) {
         return strings.contains(&Folded(inside.trim_ascii())).then_some((text.start, Seen::StringAsText));
     }
-    let is_of_names = is_one_of(name, &["author", "editor"]);
+    let is_of_names = is_list_of_names(name);
     let in_names = is_of_names.then(|| seen_in_names(inside)).flatten();
     let dollar = || odd_dollar(inside).filter(|_| !is_one_of(name, &NO_TEXTS)).map(|place| (place, Seen::OddDollars));
     in_names.or_else(dollar).map(|(place, seen)| (text.start + place, seen))
@@ -373,12 +397,14 @@ fn seen_in_names(names: &[u8]) -> Option<(usize, Seen)> {
 
 /// A name of several words that no person's has.
 fn bare_organization(name: &[(usize, &[u8])]) -> Option<(usize, Seen)> {
-    let is_its_word = |word: &[u8]| {
-        let word = word.strip_suffix(b",").unwrap_or(word);
-        ORGANIZATIONS.iter().any(|known| word.eq_ignore_ascii_case(known.as_bytes()))
-    };
-    let is_it = name.len() > 1 && name.iter().any(|(_, word)| is_its_word(word));
+    let is_it = name.len() > 1 && name.iter().any(|(_, word)| is_word_of_organization(word));
     is_it.then(|| (name[0].0, Seen::BareOrganization))
+}
+
+/// Whether a word, with or without a comma after it, is one that no person's name has.
+pub fn is_word_of_organization(word: &[u8]) -> bool {
+    let word = word.strip_suffix(b",").unwrap_or(word);
+    ORGANIZATIONS.iter().any(|known| word.eq_ignore_ascii_case(known.as_bytes()))
 }
 
 /// A name of two commas whose middle part has several words, so that each part is a name: no Jr has two words.

@@ -372,9 +372,16 @@ fn read_words(mut words: impl Iterator<Item = Vec<u8>>, explain: Explain, jobs_l
     }
     match &mut jobs[..] {
         [job] => asked.job = std::mem::take(job),
-        _ => return Err(b"Need exactly one file argument.".into()),
+        [] => return Err(b"Need exactly one file argument.".into()),
+        jobs => return Err(several(jobs)),
     }
     Ok(Asked::Run(Box::new(asked)))
+}
+
+/// What is said of several names where one is wanted. A name with spaces may be meant by them.
+fn several(jobs: &[Vec<u8>]) -> Vec<u8> {
+    let whole = jobs.join(&b' ');
+    [&b"Need exactly one file argument. A name with spaces stands in quotes: \""[..], &whole, b"\"."].concat()
 }
 
 #[cfg(test)]
@@ -453,7 +460,8 @@ mod tests {
         assert_eq!(refused(&["-terse=1", "a"]), "option '-terse' doesn't allow an argument");
         assert_eq!(refused(&["a", "-min"]), "option '-min-crossrefs' requires an argument");
         assert_eq!(refused(&[]), "Need exactly one file argument.");
-        assert_eq!(refused(&["a", "b"]), "Need exactly one file argument.");
+        let several = "Need exactly one file argument. A name with spaces stands in quotes: \"a b\".";
+        assert_eq!(refused(&["a", "b"]), several);
         assert!(refused(&["-line=10", "a"]).contains("20 to 1000"));
     }
 

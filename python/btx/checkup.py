@@ -13,9 +13,10 @@ from .bibtext import Item, Lines, read
 from .commands import STATUS_REFUSED, Words, broken_pipe
 from .doctor import CHECKS, JOURNALS, MONTHS, Citation, Finding, Source, Style, examine, lines_of
 from .doctor_run import findings_of_run, in_order_of_job, stem_of
-from .remedies import SEEN, missed_field, of_items, remedy_of, said
+from .remedies import SEEN, field_for_each_name, missed_field, not_hidden, of_items, of_missing, remedy_of, said
 from .reports import shown
 from .searching import MOST_BYTES, Search, content_of, found_search
+from .usual import near_type
 
 __all__ = ["citations_of", "main"]
 
@@ -27,6 +28,8 @@ BIBDATA = re.compile(rb"(?m)^\\bibdata\{([^}\r\n \t]*)\}\r?$")
 MOST_AUX = 1000
 # How many entries that nothing cites are named in the line for all.
 MOST_NAMED = 5
+# What the style of a job says itself, as far as it counts there.
+SAID_BY_STYLE = frozenset(("missing-field", "missing-in-parent", "unusual-type"))
 # What to do about the findings of checks whose texts don't say it.
 OF_CHECKS = {
     "fields-in-text": "count the braces of the entry above: it may end too early",
@@ -104,7 +107,7 @@ def findings_of(job: Optional[str], sources: List[Source], style: Optional[Style
     auxes = list(aux_files(job))
     citations = [citation for aux in auxes for citation in citations_of_file(aux)]
     sources = in_order_of_job(sources, auxes)
-    found = examine(sources, style, citations)
+    found = [finding for finding in examine(sources, style, citations) if finding.check not in SAID_BY_STYLE]
     logged = findings_of_run(job, sources, auxes, citations, search)
     found = without_consequences(found + logged.findings, logged.is_whole)
     order = {id(source): number for number, source in enumerate(sources)}
@@ -113,6 +116,8 @@ def findings_of(job: Optional[str], sources: List[Source], style: Optional[Style
 
 def without_consequences(found: List[Finding], is_whole: bool) -> List[Finding]:
     """The findings without those that follow from others: warnings of an entry with a mistake, and entries that aren't cited where the citations aren't all known."""
+    named = {finding.key for finding in found if finding.check == "logged-error" and finding.text.startswith("Too many commas")}
+    found = [it for it in found if it.check not in ("names-by-commas", "names-by-sign") or it.key not in named]
     causes = {finding.key for finding in found if finding.check in ("mistake", "undefined-string", "logged-error")}
     follow = {"uncited"} if not is_whole else set()
     slipped = {finding.key for finding in found if finding.check == "mistake"}
@@ -154,6 +159,16 @@ class Remedies:
             if number not in self.of_places:
                 self.of_places[number] = of_items(finding.source.name, finding.source.text, lines, self.items_of(finding.source))
             return self.of_places[number].get(finding.start)
+        if finding.check == "repeated-key":
+            return self.of_repeated(finding, lines) or remedy_of(finding.text)
+        if finding.check == "repeated-field":
+            name = shown(finding.source.text[finding.start : finding.end].decode("utf8", "replace"))
+            return self.first(field_for_each_name(finding.source.text, item, name) for item in self.around(finding)) or remedy_of(finding.text)
+        if finding.check == "unusual-type":
+            near = near_type(finding.source.text[finding.start + 1 : finding.end].decode("utf8", "replace").lower())
+            return f"write `@{near}`" if near else "write a type of BibTeX's, such as `@misc`"
+        if finding.check.startswith("missing-"):
+            return self.of_missing(finding)
         if finding.check == "undefined-string":
             return self.of_string(finding) or remedy_of(finding.text, strings=self.names(True))
         if finding.check == "logged-warning":
@@ -161,6 +176,29 @@ class Remedies:
         if finding.check == "no-entry":
             return self.of_entry(finding)
         return of_aux(finding) or remedy_of(finding.text, self.names(False) if finding.key else [])
+
+    @staticmethod
+    def first(found: Iterator[Optional[str]]) -> Optional[str]:
+        return next((it for it in found if it is not None), None)
+
+    def around(self, finding: Finding) -> Iterator[Item]:
+        """The entry in which a finding stands."""
+        return (item for item in self.items_of(finding.source) if item.start <= finding.start < item.end and item.is_entry)
+
+    def of_repeated(self, finding: Finding, lines: Lines) -> Optional[str]:
+        """What to do about a second entry of a key, where the first one was meant to be hidden."""
+        key = finding.key.lower()
+        firsts = (item for item in self.items_of(finding.source) if item.is_entry and (item.key or b"").decode("utf8", "surrogateescape").lower() == key)
+        return self.first(not_hidden(finding.source.name, finding.source.text, lines, item) for item in firsts)
+
+    def of_missing(self, finding: Finding) -> Optional[str]:
+        """What to do about a field that an entry lacks, and its parent as well."""
+        found = re.match("the field (.*) is missing", finding.text)
+        for item in self.around(finding):
+            parent = (item.value_of(b"crossref") or b"").strip().lower()
+            its = next((it for _, it in self.all(False) if parent and (it.key or b"").lower() == parent), None)
+            return of_missing(finding.source.text, item, found[1] if found else "", its)
+        return None
 
     def of_string(self, finding: Finding) -> Optional[str]:
         """What to do about a string that is defined after its use."""

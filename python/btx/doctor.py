@@ -13,7 +13,9 @@ from typing import Dict, FrozenSet, Iterable, Iterator, List, NamedTuple, Option
 
 from .bibtext import ENDS_TEXT, Database, Field, Item, Lines, field_of, read, undefined_strings
 from .bsttext import StyleText, read_style
+from .doubts import OTHER_SPACE, SIGN, TEXTS, TWO_WORDS, Persons, has_words, list_in_braces, lost_words, may_lose, names_by_commas, sign_by_names, sign_of_tex
 from .reading import ENTRY, without_collection
+from .usual import ALONE, EITHER, FIELDS, REQUIRED, missing_fields, near_field
 from .values import BRACE
 
 __all__ = ["CHECKS", "Check", "Citation", "Finding", "Source", "Style", "examine"]
@@ -42,9 +44,22 @@ CHECKS = {
         Check("et-al", "warning", "A guess: a name has the words et al.; BibTeX's word for this is `and others`."),
         Check("others-inside", "warning", "Exact: `others` isn't the last name, so no style takes it for et al."),
         Check("bare-organization", "warning", "A guess: a name has a word such as Institute and isn't in braces of its own, so it is read as a person's."),
+        Check("names-by-sign", "warning", "A guess: a list of names has a semicolon or an `&`, where BibTeX wants ` and `."),
+        Check("names-by-commas", "warning", "A guess for a name with two commas, each of whose parts has several words; exact for one with more: a run logs it where a style takes the names."),
+        Check("no-break-space", "warning", "Exact: BibTeX parts no words at such a space, so two names, or two words of a name, are one."),
+        Check("list-in-braces", "warning", "A guess: all of a list of names stands in braces of its own, so it is one name."),
+        Check("names-exchanged", "warning", "A guess, by the other names of the databases and the entry's key: the last name stands first, and no comma after it."),
         Check("von-letter", "info", "Exact, by RULES' von: such a word isn't abbreviated, and a style sorts the name by it."),
         Check("empty-field", "info", "Exact: the value is whitespace alone."),
         Check("odd-dollars", "warning", "Exact: the number of `$` without a backslash is odd, but for addresses; TeX stops where a style prints the field."),
+        Check("sign-of-tex", "warning", "Exact that LaTeX stops at the sign, or takes it for a comment, where a style prints the field."),
+        Check("not-utf8", "warning", "Exact: a byte of the file isn't UTF-8. Said once; a document in another encoding may be meant."),
+        Check("unusual-type", "info", "Exact, without --style: TeX's standard styles don't have the type, so they treat the entry as `misc`."),
+        Check("misspelt-field", "warning", "A guess: the name of a field differs in a letter or two from one that the styles read, and the entry doesn't have that one."),
+        Check("missing-field", "info", "Exact, without --style, by the table of BibTeX's manual (btxdoc) for its types: plain, abbrv, alpha and unsrt warn of most of these fields."),
+        Check("missing-in-parent", "info", "Exact, by the same table: neither the entry nor its parent has the field, where the parent is in the databases."),
+        Check("year-of-words", "warning", "Exact: the year doesn't end in two digits, of which styles such as alpha make a label."),
+        Check("lost-capitals", "info", "A guess: styles such as plain write a title in small letters, but for its first letter and what is in braces."),
         Check("one-hyphen", "info", "A guess: a range of pages is written with two hyphens."),
         Check("month-text", "info", "A guess: a month that is written out can't be shortened by a style; `jan` can."),
         Check("unread-field", "info", "Exact, with --style: its ENTRY list doesn't have the field, so a run ignores it."),
@@ -68,9 +83,22 @@ SAID = {
     "et-al": "et al. is taken as a name: write `and others`",
     "others-inside": "`others` is the word for et al. as the last name alone",
     "bare-organization": "an organization is read as a person, of first and last names: put its whole name into braces of its own",
+    "names-by-sign": "{}",
+    "names-by-commas": "{}",
+    "no-break-space": "a no-break space ({}): BibTeX parts no words at it, so two names or two words of a name are one",
+    "list-in-braces": "the whole list of names stands in braces of its own, so it is one name: take the second pair away",
+    "names-exchanged": "{1} is taken as the last name: write `{0}, {1}`, with a comma, or `{1} {0}`",
     "von-letter": "{} is taken as von by its letter {}: put the first letter into braces with its accent as TeX's command, or write Last, First",
     "empty-field": "the field {} is empty",
     "odd-dollars": "a `$` has no other one: write `\\$` where no formula is meant",
+    "sign-of-tex": "{}",
+    "not-utf8": "the byte {} isn't UTF-8: save the file as UTF-8",
+    "unusual-type": "TeX's standard styles don't have the type {}",
+    "misspelt-field": "the usual styles read no field {}: is it `{}`?",
+    "missing-field": "the field {} is missing, which BibTeX's manual requires of `{}`",
+    "missing-in-parent": "the field {} is missing in the entry and its parent; BibTeX's manual requires it of `{}`",
+    "year-of-words": "the year `{}` doesn't end in two digits: write the number alone, and the words in `note`",
+    "lost-capitals": "styles such as plain write {} in small letters: put what keeps its capital letters into braces, as `{{{}}}`",
     "one-hyphen": "a range of pages with one hyphen: write `--`",
     "month-text": "the month as text: write `{}`, without braces",
     "unread-field": "the style doesn't read the field {}",
@@ -111,6 +139,12 @@ PARTS_NAMES = re.compile(rb"[ \t\r\n]and(?=[ \t\r\n])", re.IGNORECASE)
 NAME_PARTS = re.compile(rb"[ \t\r\n~]+")
 NAME_WORD = re.compile(rb"[^ \t\r\n~,-]+")
 LEAST_TITLE = 12
+# The types whose titles styles such as plain write in small letters; how many words that lose them are named.
+LOWERED = frozenset(b"article conference inbook incollection inproceedings mastersthesis misc techreport unpublished".split())
+MOST_LOST = 4
+# All bytes but the signs at which LaTeX may stop.
+NO_SIGN = bytes(byte for byte in range(256) if byte not in b"_&^%#")
+NONE: FrozenSet[bytes] = frozenset()
 
 
 class Source(NamedTuple):
@@ -181,6 +215,8 @@ def examine(
     with without_collection():
         for number, source in enumerate(sources):
             examiner.examine(number, source)
+        examiner.compare_persons()
+        examiner.compare_parents()
         if citations is not None:
             examiner.compare_citations(citations)
     found = examiner.found if not off else [it for it in examiner.found if it[3] not in off]
@@ -197,6 +233,7 @@ def finding_of(found: Local, source: Source) -> Finding:
 class Examiner:
     """Examines databases one after another, and keeps what later ones are compared with.
 
+    near_fields: of each unusual name of a field the one that may be meant. of_persons, children: the lists of names, and the entries with a parent, which are looked at when all databases are read.
     works: what tells the works of the entries that aren't compared with others yet. firsts: of each doi, and of each title with its year, the key of the first entry. plain_names:
     lists of names of which nothing is said. found: in any order."""
 
@@ -209,6 +246,9 @@ class Examiner:
         self.works: List[Work] = []
         self.firsts: Dict[object, bytes] = {}
         self.plain_names: Set[bytes] = set()
+        self.near_fields: Dict[bytes, Optional[bytes]] = {}
+        self.of_persons: List[Tuple[int, Source, Database, Item, int, bytes]] = []
+        self.children: List[Tuple[int, Source, Item, Dict[bytes, int]]] = []
         self.found: List[Found] = []
         self.number, self.source = 0, Source("", b"")
         self.database = Database(b"", [], {})
@@ -224,6 +264,7 @@ class Examiner:
         self.strings = self.database.strings
         items = self.database.items
         self.text_between(0, items[0].start if items else len(source.text))
+        self.encoding()
         self.examine_items(items, len(source.text), known)
         self.found.extend((number, start, end, check, what, key, source) for start, end, check, what, key in repeated_works(self.works, self.firsts))
         self.works = []
@@ -283,6 +324,14 @@ class Examiner:
             numbers = self.first_of_each(item, names)
         if self.style is not None:
             self.unread(item, self.style, numbers)
+        kind = item.kind
+        if self.style is None and kind not in REQUIRED:
+            self.say("unusual-type", item.start, item.kind_end, item.key, kind)
+        if not FIELDS.issuperset(numbers):
+            self.misspelt(item, numbers)
+        # (a style in use has a table of its own; and most entries have all that is required)
+        if self.style is None and item.slip is None and (kind in EITHER or b"crossref" in numbers or not ALONE.get(kind, NONE) <= numbers.keys()):
+            self.required(item, numbers)
         if records.marks.find(1, first, last) >= 0:
             self.empty(item, numbers)
         for name, examine in EXAMINED:
@@ -290,6 +339,8 @@ class Examiner:
                 examine(self, item, numbers[name])
         if self.source.text.find(b"$", item.start, item.end) >= 0:
             self.dollars(item, numbers)
+        if self.source.text[item.start : item.end].translate(None, NO_SIGN):
+            self.signs(item, numbers)
         self.work(item, numbers)
 
     def first_of_each(self, item: Item, names: List[bytes]) -> Dict[bytes, int]:
@@ -314,6 +365,35 @@ class Examiner:
             for name, number in numbers.items():
                 if name not in style.fields:
                     self.say("unread-field", *self.name_of(item, number), item.key, name)
+
+    def encoding(self) -> None:
+        """Says which byte of the file isn't UTF-8, if one isn't."""
+        text = self.source.text
+        try:
+            text.decode("utf8")
+        except UnicodeDecodeError as error:
+            if text[:2] not in (b"\xff\xfe", b"\xfe\xff"):
+                self.say("not-utf8", error.start, error.start + 1, None, f"{text[error.start]:02X}")
+
+    def misspelt(self, item: Item, numbers: Dict[bytes, int]) -> None:
+        """Looks for a field whose name differs in a letter or two from one that the styles read."""
+        for name in numbers.keys() - FIELDS:
+            if name not in self.near_fields:
+                self.near_fields[name] = near_field(name)
+            near = self.near_fields[name]
+            if near is not None and near not in numbers and (self.style is None or name not in self.style.fields):
+                self.say("misspelt-field", *self.name_of(item, numbers[name]), item.key, name, near)
+
+    def required(self, item: Item, numbers: Dict[bytes, int]) -> None:
+        """Says which fields an entry lacks. One with a parent may have them from that."""
+        if b"crossref" in numbers:
+            self.children.append((self.number, self.source, item, numbers))
+            return
+        for fields in missing_fields(item.kind, numbers):
+            self.missing(item, fields)
+
+    def missing(self, item: Item, fields: Tuple[bytes, ...], check: str = "missing-field") -> None:
+        self.say(check, item.key_end - len(item.key or b""), item.key_end, item.key, b" or ".join(fields), item.kind)
 
     def empty(self, item: Item, numbers: Dict[bytes, int]) -> None:
         """Says which fields are empty."""
@@ -346,12 +426,14 @@ class Examiner:
     def names(self, item: Item, number: int) -> None:
         """Examines the names of a field."""
         value = item.records.value(number)
+        self.of_persons.append((self.number, self.source, self.database, item, number, value))
         if value in self.plain_names:
             return
         lowered = value.lower()
         # (first what takes less time)
         has_organization = not WORDS_OF_ORGANIZATIONS.isdisjoint(lowered.translate(TO_SPACES).split()) and OF_ORGANIZATIONS.search(value) is not None
-        if not has_organization and value.isascii() and not has_others_inside(value, lowered) and not has_et_al(value, lowered):
+        is_list = value.count(b",") > lowered.count(b" and ") + 1 or b";" in value or b"&" in value or value.startswith(b"{")
+        if not has_organization and not is_list and value.isascii() and not has_others_inside(value, lowered) and not has_et_al(value, lowered):
             self.plain_names.add(value)
             return
         field = self.text_of(item, number)
@@ -370,6 +452,18 @@ class Examiner:
         if VON.search(hidden):
             for start, end in spans_of_names(hidden):
                 self.von(item, offset, hidden, start, end)
+        self.list_of_names(item, offset, text, hidden)
+
+    def list_of_names(self, item: Item, offset: int, text: bytes, hidden: bytes) -> None:
+        """Looks for names that aren't parted by ` and `."""
+        for check, seen in (("names-by-sign", sign_by_names(hidden)), ("names-by-commas", names_by_commas(hidden, spans_of_names(hidden)))):
+            if seen is not None and (check == "names-by-sign" or b";" not in hidden):
+                self.say(check, offset + seen.start, offset + seen.end, item.key, seen.what)
+        space = OTHER_SPACE.search(hidden)
+        if space is not None:
+            self.say("no-break-space", offset + space.start(), offset + space.end(), item.key, f"U+{ord(space[0].decode()):04X}")
+        if list_in_braces(text, OF_ORGANIZATIONS):
+            self.say("list-in-braces", offset, offset + len(text), item.key)
 
     def others(self, item: Item, offset: int, hidden: bytes) -> None:
         """Looks for `others` before the last name."""
@@ -394,6 +488,36 @@ class Examiner:
             if sum(found[0] == b"$" for found in DOLLAR.finditer(value)) % 2:
                 field = field_of(item.records, number)
                 self.say("odd-dollars", self.database.start(field), field.end, item.key)
+
+    def signs(self, item: Item, numbers: Dict[bytes, int]) -> None:
+        """Looks for signs at which LaTeX stops, in the fields that are set as texts."""
+        search, value_of = SIGN.search, item.records.value
+        for name in TEXTS.intersection(numbers):
+            if search(value_of(numbers[name])) is None or (self.style is not None and name not in self.style.fields):
+                continue
+            field = self.text_of(item, numbers[name])
+            seen = None if field is None else sign_of_tex(self.database.raw(field))
+            if field is not None and seen is not None:
+                start = self.database.start(field) + 1
+                self.say("sign-of-tex", start + seen.start, start + seen.end, item.key, seen.what)
+
+    def year(self, item: Item, number: int) -> None:
+        value = item.records.value(number)
+        if not value[-2:].isdigit() and has_words(value):
+            field = field_of(item.records, number)
+            self.say("year-of-words", self.database.start(field), field.end, item.key, value)
+
+    def title(self, item: Item, number: int) -> None:
+        """Looks for words of a title that lose their capital letters."""
+        value = item.records.value(number)
+        if item.kind not in LOWERED or item.slip is not None or not may_lose(value):
+            return
+        field = self.text_of(item, number)
+        lost = [] if field is None else lost_words(hide_braces(self.database.raw(field).replace(b".", b";")))
+        if field is not None and lost:
+            start = self.database.start(field) + 1
+            (place, word), words = lost[0], b", ".join(b"`" + word + b"`" for _, word in lost[:MOST_LOST])
+            self.say("lost-capitals", start + place, start + place + len(word), item.key, words, word)
 
     def von(self, item: Item, offset: int, hidden: bytes, start: int, end: int) -> None:
         """Looks for a word of a name that begins with a capital letter outside ASCII and is taken as von by its next letter."""
@@ -421,6 +545,36 @@ class Examiner:
             if field is not None:
                 self.say("month-text", self.database.start(field), field.end, item.key, field.value[:3].lower())
 
+    # ---- all databases ----
+
+    def compare_persons(self) -> None:
+        """Looks for names whose first word is the last name, as the names of all entries show it."""
+        persons = Persons()
+        persons.add({value: None for *_, value in self.of_persons if b"{" not in value})
+        for at, source, database, item, number, value in self.of_persons:
+            if b"," in value or b"{" in value or TWO_WORDS.search(value) is None:
+                continue
+            for family, given in persons.exchanged(value, item.key or b""):
+                self.number, self.source, self.database = at, source, database
+                field = field_of(item.records, number)
+                self.say("names-exchanged", database.start(field), field.end, item.key, family, given)
+
+    def compare_parents(self) -> None:
+        """Says which fields an entry lacks that its parent lacks as well, where that is there."""
+        if not self.children:
+            return
+        entries: Dict[bytes, Item] = {}
+        for _, _, database in self.databases:
+            for item in database.items:
+                if item.is_entry and not item.is_repeated:
+                    entries.setdefault((item.key or b"").lower(), item)
+        for number, source, item, numbers in self.children:
+            parent = entries.get(item.records.value(numbers[b"crossref"]).strip().lower())
+            its = [] if parent is None else parent.records.names_between(parent.at + 1, parent.last)
+            self.number, self.source = number, source
+            for fields in missing_fields(item.kind, {*numbers, *its}) if parent is not None else []:
+                self.missing(item, fields, "missing-in-parent")
+
     # ---- citations ----
 
     def compare_citations(self, citations: List[Citation]) -> None:
@@ -446,7 +600,14 @@ class Examiner:
                 self.say("uncited", item.key_end - len(key), item.key_end, item.key)
 
 
-EXAMINED = ((b"author", Examiner.names), (b"editor", Examiner.names), (b"pages", Examiner.pages), (b"month", Examiner.month))
+EXAMINED = (
+    (b"author", Examiner.names),
+    (b"editor", Examiner.names),
+    (b"pages", Examiner.pages),
+    (b"month", Examiner.month),
+    (b"year", Examiner.year),
+    (b"title", Examiner.title),
+)
 
 
 def repeated_works(works: List[Work], firsts: Dict[object, bytes]) -> Iterator[Local]:

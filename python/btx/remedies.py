@@ -8,17 +8,27 @@ from typing import Dict, Iterable, List, Optional, Tuple
 
 from .bibtext import REPEATED, Item, Lines
 
-__all__ = ["GENERAL", "SEEN", "missed_field", "of_items", "of_mistake", "remedy_of", "said"]
+__all__ = ["GENERAL", "SEEN", "field_for_each_name", "missed_field", "not_hidden", "of_items", "of_missing", "of_mistake", "remedy_of", "said"]
 
 # What a text shows where a mistake was met. $1, $2 and so on are names and places.
 SEEN = {
     "NoKey": "write the entry's key first: `@$1{KEY, $2 = ..`",
+    "KeyOfWords": "write the key without whitespace: `$1`",
     "NoCommaAfterKey": "put a comma after the key `$1`",
     "NoComma": "put a comma after the value of `$1`, which ends at $2",
     "NoEquals": "put an `=` after `$1`",
     "QuoteTooEarly": "close the value of `$1`, which begins at $2: the quote before this place ends it",
     "QuoteInText": 'put the quote in the value of `$1` into braces, as in `{\\"o}`: it ends the value',
     "QuotesInText": "put the whole value of `$1` into braces, and write ``..'' within it: the quote before this place ends the value",
+    "RunsOn": "close the value of `$1`, which begins at $2: it has taken in what looks like the field `$3` ($4)",
+    "QuoteForBrace": "write `}` in the place of the quote that ends $2: the value of `$1` begins with a brace",
+    "BraceTooMany": "count the braces in the value of `$1`: a `}` too many ends it before this place",
+    "NoHash": "join the parts of the value of `$1` by `#`; a quote within quotes stands in braces",
+    "NotHidden": "take out the `@` of $1: neither `%` nor `@comment` hides an entry",
+    "FieldForEachName": "write one field `$1` with ` and ` between the names: `$1 = {$2}`",
+    "AddField": "add $1 to the entry",
+    "AddPart": "add $1 to the entry; a whole book is `@book`",
+    "AddBooktitle": "add `booktitle = $1` to the parent: an entry takes only fields of the same name from it",
     "NotClosed": "close $1: a `}` is missing above this line",
     "NotClosedAtEnd": "close $1: its last `$2` is missing",
     "BreaksOff": "export or copy the file once more: it breaks off in $1. Or write what is missing there, and close it by `$2`",
@@ -87,8 +97,9 @@ GENERAL = {
 }
 
 NAME = re.compile(rb"[^\x00-\x20\"#%'(),={}]*")
-# How many lines an entry may have in which a file breaks off.
+# How many lines an entry may have in which a file breaks off; how long a key is that another one follows directly.
 MOST_LINES = 60
+LEAST_OF_TWO = 4
 # Names that biblatex has for fields, and fields that entries of one type have in the place of others.
 OF_BIBLATEX = {"journal": "journaltitle", "year": "date", "address": "location", "booktitle": "maintitle", "number": "issue"}
 OF_OTHER_TYPES = {"booktitle": ["journal"], "journal": ["booktitle"], "school": ["institution"], "institution": ["school"], "publisher": ["organization", "institution"]}
@@ -102,6 +113,10 @@ DEGREES = ("PhD", "Ph.D.", "Ph.D", "MD", "M.D.", "MSc", "Dr.", "Prof.")
 # Letters that look like digits.
 DIGITS = str.maketrans("OolI", "0011")
 MONTH = re.compile(rb"(?i:jan|feb|mar|apr|may|jun|jul|aug|sep|oct|nov|dec)")
+# What looks like a field: where a line begins, or after a comma.
+BEGINS_FIELD = re.compile(rb'\n[ \t]*([A-Za-z][^\x00-\x20"#%\'(),={}]*)\s*=\s*[{"0-9]')
+FIELD_AFTER_COMMA = re.compile(rb',[ \t]*([A-Za-z][^\x00-\x20"#%\'(),={}]*)\s*=\s*[{"]')
+WHITE = re.compile(rb"\s*")
 TEXTS = re.compile(rb"\"[^\"]*\"|\{[^{}]*\}")
 
 
@@ -133,6 +148,9 @@ def remedy_of(text: str, keys: Iterable[str] = (), strings: Iterable[str] = ()) 
     """What to do about a message; the keys and the strings are those that it may have meant."""
     found = re.fullmatch(r'I didn\'t find a database entry for "(.*)"', text, re.DOTALL)
     near = nearest(found[1], keys) if found else None
+    pair = two_keys(found[1], keys) if found else None
+    if pair:
+        return said(SEEN["SemicolonInCite"], ",".join(pair))
     if found and has_key(found[1].split(";"), keys):
         return said(SEEN["SemicolonInCite"], ",".join(part.strip() for part in found[1].split(";") if part.strip()))
     if found and near:
@@ -148,7 +166,7 @@ def remedy_of(text: str, keys: Iterable[str] = (), strings: Iterable[str] = ()) 
     if number:
         return said(SEEN["LetterForDigit"], *number)
     found = re.fullmatch(r'Too many commas in name [0-9]+ of "(.*)"', text, re.DOTALL)
-    one, names = (one_name(found[1]), names_by_commas(found[1])) if found else (None, None)
+    one, names = (one_name(found[1]), names_by_semicolons(found[1]) or names_by_commas(found[1])) if found else (None, None)
     if one or names:
         return said(SEEN["CommasOfOneName"], one) if one else said(SEEN["NamesByCommas"], names or "")
     return f"is it `{near}`?" if near else general(text)
@@ -158,6 +176,17 @@ def has_key(parts: List[str], keys: Iterable[str]) -> bool:
     """Whether several keys stand here, of which an entry has one."""
     known = {key.lower() for key in keys} if len(parts) > 1 else set()
     return sum(bool(part.strip()) for part in parts) > 1 and any(part.strip().lower() in known for part in parts)
+
+
+def two_keys(key: str, keys: Iterable[str]) -> Optional[Tuple[str, str]]:
+    """The keys of two entries that stand here one after the other, with one sign or nothing between them."""
+    known = {name.lower() for name in keys}
+    if key.lower() in known:
+        return None
+    pairs = ((key[:at], key[at + sign :]) for at in range(1, len(key)) for sign in (0, 1) if not sign or not key[at].isalnum())
+    found = ((left, right) for left, right in pairs if left.lower() in known and right.lower() in known and left != right)
+    # (short keys with nothing between them are rather one key)
+    return next(((left, right) for left, right in found if len(left + right) < len(key) or min(len(left), len(right)) >= LEAST_OF_TWO), None)
 
 
 def number_meant(word: str) -> Optional[Tuple[str, str]]:
@@ -174,6 +203,12 @@ def one_name(quoted: str) -> Optional[str]:
     suffixes = [part for part in parts if SUFFIX.fullmatch(part)]
     is_one = len(others) == 2 and len(suffixes) < 2 and not re.search(" and ", quoted, re.IGNORECASE)
     return ", ".join([others[0], *suffixes, others[1]]) if is_one else None
+
+
+def names_by_semicolons(quoted: str) -> Optional[str]:
+    """Names that are parted by semicolons, with `and` between them."""
+    names = [name.strip() for name in quoted.split(";") if name.strip()]
+    return " and ".join(names) if len(names) > 1 and not re.search("[{}]", quoted) else None
 
 
 def names_by_commas(quoted: str) -> Optional[str]:
@@ -237,11 +272,14 @@ class Slipped:
         if not item.fields:
             if here == b"=":
                 return said(SEEN["NoKey"], word(item.kind), key)
-            return said(SEEN["NotClosed"], self.begins()) if self.is_other_item() else said(SEEN["NoCommaAfterKey"], key)
+            return said(SEEN["NotClosed"], self.begins()) if self.is_other_item() else self.after_key(key)
         field = item.fields[-1]
         owner, is_in_line = word(self.text[field.name_start : field.name_end]), self.lines.line_of(field.end - 1) == self.line
         if field.end == self.place and self.text[self.place - 1 : self.place] == b'"':
             return self.after_quote(owner, field.after)
+        runs_on = self.runs_on()
+        if runs_on is not None:
+            return runs_on
         if self.is_other_item():
             return said(SEEN["NotClosed"], self.begins())
         if here in b"})" and here:
@@ -262,7 +300,32 @@ class Slipped:
         is_on_its_own = self.text[self.place - 1 : self.place].isspace() or not value[-1:].isalnum()
         if here and is_on_its_own and (b"#" in TEXTS.sub(b"", value) or owner.lower() == "month" and MONTH.fullmatch(name)):
             return said(SEEN["NoHashBefore"], owner, here)
-        return said(SEEN["BareValue"], owner) if value[:1] not in (b"{", b'"') else None
+        is_text, begins_text = value[:1] == b"{", self.text[self.place : self.place + 1] in (b"{", b'"')
+        if value[:1] == b'"' or begins_text and value[:1] != b"\\":
+            return said(SEEN["NoHash"], owner)
+        return said(SEEN["BraceTooMany" if is_text else "BareValue"], owner)
+
+    def after_key(self, key: str) -> str:
+        """After a key something stands in its line that isn't a comma: a part of the key, if a comma comes after it."""
+        name = NAME.match(self.text, self.place)
+        is_key = name is not None and bool(name[0]) and self.text[name.end() : name.end() + 20].lstrip().startswith(b",")
+        if name is None or not is_key or self.lines.line_of(self.item.key_end) != self.line:
+            return said(SEEN["NoCommaAfterKey"], key)
+        return said(SEEN["KeyOfWords"], key + word(name[0]))
+
+    def runs_on(self) -> Optional[str]:
+        """The first value that goes on over what looks like another field."""
+        for field in self.item.fields:
+            found = BEGINS_FIELD.search(self.text, field.after, field.end) or FIELD_AFTER_COMMA.search(self.text, field.after, field.end)
+            if found is None:
+                continue
+            begin = WHITE.match(self.text, field.after).end()  # type: ignore[union-attr]
+            taken, owner = found.start(1), word(self.text[field.name_start : field.name_end])
+            before = self.text[begin:taken].rstrip().rstrip(b",").rstrip()
+            if before[:1] == b"{" and before[-1:] == b'"' and before.count(b'"') == 1:
+                return said(SEEN["QuoteForBrace"], owner, self.at(begin + len(before) - 1))
+            return said(SEEN["RunsOn"], owner, self.at(begin), word(found[1]), self.at(taken))
+        return None
 
     def after_quote(self, owner: str, start: int) -> str:
         """A quote ends the value earlier than it was meant."""
@@ -283,6 +346,39 @@ class Slipped:
         return said(SEEN["BreaksOff"], self.begins(), closing) if is_near and is_last else None
 
 
+def is_hidden(text: bytes, item: Item) -> bool:
+    """Whether an entry was meant to be hidden: its line begins with a `%` or a `@comment`."""
+    start = text[text.rfind(b"\n", 0, item.start) + 1 : item.start].lstrip()[:8]
+    return item.is_entry and (start.startswith(b"%") or start.lower() == b"@comment")
+
+
+def not_hidden(name: str, text: bytes, lines: Lines, item: Item) -> Optional[str]:
+    """What to do about an entry that was meant to be hidden."""
+    if not is_hidden(text, item):
+        return None
+    kind = word(text[item.start + 1 : item.kind_end])
+    return said(SEEN["NotHidden"], f"@{kind}{{{word(item.key or b'')}}}, which begins at {name}:{lines.line_of(item.start) + 1}")
+
+
+def field_for_each_name(text: bytes, item: Item, name: str) -> Optional[str]:
+    """What to do about several fields of names in one entry."""
+    values = [word(field.value) for field in item.fields if word(field.name).lower() == name.lower()]
+    is_it = name.lower() in ("author", "editor") and len(values) > 1 and len(set(values)) == len(values)
+    return said(SEEN["FieldForEachName"], name, " and ".join(values)) if is_it else None
+
+
+def of_missing(text: bytes, item: Item, names: str, parent: Optional[Item]) -> str:
+    """What to do about a field that BibTeX's manual requires."""
+    found = missed_field(text, item, f"empty {names} in it")
+    if found is not None:
+        return found
+    title = None if parent is None or names != "booktitle" else parent.value_of(b"title")
+    if title:
+        return said(SEEN["AddBooktitle"], "{" + word(title) + "}")
+    shown = " or ".join(f"`{name}`" for name in names.split(" or "))
+    return said(SEEN["AddPart" if names == "chapter or pages" else "AddField"], shown)
+
+
 def word(text: bytes) -> str:
     return text.decode("utf8", "surrogateescape")
 
@@ -293,6 +389,9 @@ def of_mistake(name: str, text: bytes, lines: Lines, item: Item) -> Optional[str
         return GENERAL[REPEATED]
     if text[:2] in (b"\xff\xfe", b"\xfe\xff"):
         return said(SEEN["FileIsUtf16"], name)
+    hidden = not_hidden(name, text, lines, item)
+    if hidden is not None:
+        return hidden
     slipped, error = Slipped(name, text, lines, item), item.slip.text
     here = text[slipped.place : slipped.place + 1]
     found: Optional[str] = None

@@ -17,7 +17,7 @@ from btx.diagnosing import diagnose
 from btx.doctor import CHECKS, NO_TEXTS, ORGANIZATIONS, SAID, Citation, Source, Style, examine, hide_braces
 from btx.documents import Document
 from btx.pieces import Pieces
-from btx.remedies import GENERAL, SEEN, remedy_of
+from btx.remedies import GENERAL, SEEN, remedy_of, said
 from btx.workspace import Workspace
 from tests.jobs import SOURCES
 from tests.spoilt import SEEDS, SIGNS, logged, run_module, seeds, spoilt
@@ -40,12 +40,31 @@ ROWS = [
     ("von-letter", "@misc{k, author = {<Émile> Zola}}".encode(), "@misc{k, author = {Zola, Émile and {\\'E}mile Zola and Émile and ÉA Zola and É{\\'M}ile Zola}}".encode()),
     ("bare-organization", b"@misc{k, author = {A Bee and <World Health Organization>}}", b"@misc{k, author = {{World Health Organization} and UNESCO and Committee and Pat O'Groups}}"),
     ("bare-organization", "@misc{k, editor = \"<Universität zu Köln>\"}".encode(), "@misc{k, editor = {{Universität zu Köln} and Jo Universitätsen}}".encode()),
+    ("names-by-sign", b"@misc{k, author = {Bee, A.<;> Dee, C.}}", b"@misc{k, author = {{Bee; Dee} and Bee, A. and {Smith \\& Sons}}}"),
+    ("names-by-sign", b"@misc{k, author = {A. Bee <\\&> C. Dee}}", b"@misc{k, author = {A. Bee and C. Dee}}"),
+    ("names-by-commas", b"@misc{k, author = {<Ann Bee, Cid Dee, Eve Eff>}}", b"@misc{k, author = {King, Jr., Martin and Bee, A. and de la Cruz, Jr., A. B.}}"),
+    ("names-by-commas", b"@misc{k, author = {<Bee, A., Dee, C.>}}", b"@misc{k, author = {Bee, A. and Dee, C.}}"),
+    ("no-break-space", b"@misc{k, author = {A. Bee<\xc2\xa0>and C. Dee}}", "@misc{k, author = {Émile Zola and {A.\xa0Bee}}}".encode()),
+    ("list-in-braces", b"@misc{k, author = {<{Bee, A. and Dee, C.}>}}", b"@misc{k, author = {{Centre for Disease Prevention and Control}}} @misc{j, author = {{Food and Drug Administration}}}"),
+    ("names-exchanged", b"@misc{mccarthy1960, author = <{McCarthy John}>} @misc{k, author = {John D. Hobby}}", b"@misc{k, author = {McCarthy John}} @misc{j, author = {John D. Hobby}}"),
+    ("sign-of-tex", b"@misc{k, note = {doi:10.1007/978-3<_>2}}", b"@misc{k, note = {A \\& B, $a_b$ and \\url{a_b}}, url = {a_b}}"),
+    ("sign-of-tex", b"@article{k, journal = {Law <&> Order}}", b"@article{k, journal = {Law \\& Order}, author = {A & B}}"),
+    ("not-utf8", b"@misc{k, note = {M<\xfc>ller}}", "@misc{k, note = {Müller}}".encode()),
+    ("unusual-type", b"<@online>{k}", b"@misc{k}"),
+    ("misspelt-field", b"@misc{k, <page> = 1}", b"@misc{k, pages = 1, page = 2, date = 3, url2 = 4, idnumber = 5}"),
+    ("missing-field", b"@manual{<k>}", b"@manual{k, title = {T}} @misc{j} @online{l}"),
+    ("missing-in-parent", b"@manual{<k>, crossref = {p}} @misc{p}", b"@manual{k, crossref = {p}} @misc{p, title = {T}} @manual{l, crossref = {m}}"),
+    ("year-of-words", b"@misc{k, year = <{to appear}>}", b"@misc{k, year = {1998}} @misc{j, year = {in press 2001}} @misc{l, year = {(1998)}}"),
+    ("lost-capitals", b"@misc{k, title = {A structure for <DNA> of it}}", b"@misc{k, title = {A Structure for {DNA}}} @book{j, title = {A structure for DNA}} @misc{l, title = {On Low-Cost Printers}}"),
+    ("lost-capitals", b"@misc{k, title = {The small words of a <Franklin>}}", b"@misc{k, title = {Digital Halftoning with texture control}}"),
     ("odd-dollars", b"@misc{k, title = <{On $n}>}", b"@misc{k, title = {On $n$, \\$5, \\\\$m$ and \\url{http://a.b/$c}}, url = {http://a.b/$c}, doi = {$}}"),
     ("odd-dollars", b"@misc{k, title = <{On \\\\$n} # { or m}>}", b"@misc{k, title = {On $n} # { or m$}}"),
     ("empty-field", b"@misc{k, note = <{ \n}>}", b"@misc{k, note = {a}, x = 0}"),
     ("one-hyphen", b"@misc{k, pages = <{1-2}>}", b"@misc{k, pages = {1--2, a-b}}"),
     ("month-text", b"@misc{k, month = <\"January\">}", b"@misc{k, month = jan} @misc{j, month = {Spring}}"),
 ]
+# What is found when all databases are read, and not in pieces of a text.
+OF_WHOLE = frozenset(("not-utf8", "names-exchanged", "missing-in-parent"))
 OF_STYLE = [
     ("unread-field", b"@misc{k, <note> = {A}}", b"@misc{k, title = {A}, crossref = {x}}"),
     ("unknown-type", b"<@article>{k}", b"@book{k}"),
@@ -155,7 +174,7 @@ class Edited(unittest.TestCase):
                 for edit in range(25):
                     with self.subTest(seed=seed, edit=edit):
                         source, most = Source("d.bib", text), maker.choice((None, None, 5))
-                        self.assertEqual(pieces.examine(source, styles[seed % 2], most), examine([source], styles[seed % 2], most=most))
+                        self.assertEqual(pieces.examine(source, styles[seed % 2], most), examine([source], styles[seed % 2], off=OF_WHOLE, most=most))
                         self.assertEqual(b"".join(piece.text for piece in pieces.all), text)
                     at, other = maker.randrange(len(text) + 1), maker.randrange(len(text) + 1)
                     to = min(len(text), at + maker.randrange(30))
@@ -321,6 +340,10 @@ ITERATE {call.type$}
     def test_keys_and_names_with_other_signs(self):
         _, lines = self.said({"d.bib": b"@misc{k} @misc{l}"}, b"\\citation{k;l}\n\\bibdata{d}\n\\bibstyle{plain}\n")
         self.assertIn("    what to do: " + SEEN["SemicolonInCite"].replace("$1", "k,l"), lines)
+        for key, meant in (("lee1.ray2", "lee1,ray2"), ("lee1ray2", "lee1,ray2"), ("lee1.lee1", None), ("kl", None)):
+            said_of = remedy_of(f'I didn\'t find a database entry for "{key}"', ["lee1", "ray2", "k", "l"])
+            self.assertEqual(said_of == said(SEEN["SemicolonInCite"], meant or ""), meant is not None, key)
+        self.assertEqual(remedy_of('Too many commas in name 1 of "A, B; C, D"'), said(SEEN["NamesByCommas"], "A, B and C, D"))
         for names, meant in (("Underwood, Paul, Jr., PhD", "Underwood, Jr., Paul"), ("Lee, Ann, MD, PhD", "Lee, Ann")):
             self.assertEqual(remedy_of(f'Too many commas in name 1 of "{names}"'), SEEN["CommasOfOneName"].replace("$1", meant))
         self.assertEqual(remedy_of('Too many commas in name 1 of "A, B, C, D"'), SEEN["NamesByCommas"].replace("$1", "A, B and C, D"))
@@ -358,6 +381,19 @@ class WhatToDo(unittest.TestCase):
         (b"@misc(k, note = 1}", "close this item by `)`, since it is opened by `(`: @misc{k}, which begins at d.bib:1"),
         (b"@misc{k,\n % old\n note = 1}", SEEN["CommentSign"]),
         (b"@misc{k,, note = 1}", SEEN["CommaTwice"]),
+        (b"@misc{k l, note = 1}", SEEN["KeyOfWords"].replace("$1", "kl")),
+        (b'@misc{k, month = jul "/" oct}', SEEN["NoHash"].replace("$1", "month")),
+        (b"@misc{k, note = {A}b, year = 1}", SEEN["BraceTooMany"].replace("$1", "note")),
+        (b"@misc{k,\n note = {A,\n year = {1}\n}\n@misc{l}", said(SEEN["RunsOn"], "note", "d.bib:2", "year", "d.bib:3")),
+        (b'@misc{k,\n note = {A",\n year = {1}\n}\n@misc{l}', said(SEEN["QuoteForBrace"], "note", "d.bib:2")),
+        (b"% @misc{k,\n% note = 1}", said(SEEN["NotHidden"], "@misc{k}, which begins at d.bib:1")),
+        (b"% @misc{k}\n@misc{k}", said(SEEN["NotHidden"], "@misc{k}, which begins at d.bib:1")),
+        (b"@misc{k, author = {A B}, author = {C D}}", said(SEEN["FieldForEachName"], "author", "A B and C D")),
+        (b"@misc{k, note = {A}, note = {B}}", "delete one of the two"),
+        (b"@inbook{k, author = {A}, title = {T}, publisher = {P}, year = 1}", said(SEEN["AddPart"], "`chapter` or `pages`")),
+        (b"@manual{k}", said(SEEN["AddField"], "`title`")),
+        (b"@inproceedings{k, author = {A}, title = {T}, year = 1, crossref = {p}} @misc{p, title = {T}}", said(SEEN["AddBooktitle"], "{T}")),
+        (b"@online{k}", "write `@misc`"),
         (b"@misc{k, note = in press}", SEEN["BareValue"].replace("$1", "note")),
         (b"\xff\xfe@\0m\0", "save d.bib as UTF-8: it is in UTF-16"),
         (b"@misc{k, month = sept}", "is it `sep`?"),
@@ -393,7 +429,7 @@ class WhatToDo(unittest.TestCase):
 
 class Cost(unittest.TestCase):
     def test_no_step_of_python_is_made_for_each_field(self):
-        entry = b"@article{k%d,\n  author = {Ann Lee and Bo Ray},\n  title = {A Title That Is Long Enough %d},\n  year = {2000},\n" + b"".join(b"  x%d = {1},\n" % it for it in range(40)) + b"}\n"
+        entry = b"@article{k%d,\n  author = {Ann Lee and Bo Ray},\n  title = {A Title That Is Long Enough %d},\n  journal = {J},\n  year = {2000},\n" + b"".join(b"  x%d = {1},\n" % it for it in range(40)) + b"}\n"
         steps, more = (calls_of(lambda number=number: found_in(b"".join(entry % (it, it) for it in range(number)))) for number in (300, 1200))
         self.assertLess(more, 4.2 * steps)
         self.assertLess(more, 30 * 1200)

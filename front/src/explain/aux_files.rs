@@ -5,6 +5,7 @@ use crate::advice::{Section, Seen};
 use crate::aux_text::{broken_off, not_taken};
 use crate::document::{Document, job_that_includes};
 use crate::log::Message;
+use crate::shown_line::ShownLine;
 use crate::terminal::plain;
 use crate::text::find;
 use std::io::{self, Write};
@@ -13,6 +14,7 @@ impl<'a, W: Write> Explainer<'a, W> {
     pub(super) fn in_aux_file(&mut self, message: &Message<'a>) -> io::Result<()> {
         let Some(spot) = self.sources.spot(message) else { return self.advise(&[Section::Aux], message.text) };
         self.page.show_line(&spot)?;
+        self.show_part(message.text)?;
         let end = self.sources.text(&spot.file.name).map(|text| text.bytes.len() - text.span(spot.number).1);
         let is_last = end == Some(0) && message.text == b"No \"}\"";
         if let Some(broken) = broken_off(self.files).filter(|file| is_last && file.name == spot.file.name) {
@@ -54,9 +56,29 @@ impl<'a, W: Write> Explainer<'a, W> {
             Some(Seen::OfBiblatex.with(&[stem]))
         } else {
             let document = self.document();
-            document.as_ref().as_ref().and_then(|document| advice_of_document(document, text))
+            let document = document.as_ref().as_ref();
+            document.and_then(|document| self.typed(document, text).or_else(|| advice_of_document(document, text)))
         };
         advice.map_or(Ok(false), |advice| self.page.put_advice_once(&advice).map(|()| true))
+    }
+
+    /// What to do about a document without citations in which a key is typed.
+    fn typed(&mut self, document: &Document, error: &[u8]) -> Option<String> {
+        let entries = self.entries();
+        let (keys, number) = document.typed_key(|key| entries.entry(key).is_some())?;
+        let (keys, at) = (plain(keys), format!("{}:{number}", plain(shown_path(&document.file))));
+        (error == b"I found no \\citation commands").then(|| Seen::TypedCitation.with(&[&keys, &at]))
+    }
+
+    /// Shows the line of the document that reads a part whose `.aux` file isn't there.
+    fn show_part(&mut self, error: &[u8]) -> io::Result<()> {
+        let part = error.strip_prefix(b"I couldn't open auxiliary file ").and_then(|name| name.strip_suffix(b".aux"));
+        let document = self.document();
+        let found = document.as_ref().as_ref().and_then(|document| Some((document, document.line_of_part(part?)?)));
+        let Some((document, (number, line))) = found else { return Ok(()) };
+        let name = plain(shown_path(&document.file));
+        let lines = ShownLine { name: &name, number, line, mark: None }.lines(self.page.terminal);
+        self.page.put_lines(&lines)
     }
 
     /// Whether the job is of a document with `biblatex` whose bibliography another program makes.

@@ -6,6 +6,7 @@ use crate::database::{Inside, Item};
 use crate::entries::Stored;
 use crate::hints::is_usual_type;
 use crate::job::{File, Files};
+use crate::letter_values::texts;
 use crate::log::{Message, Place};
 use crate::missing_entry::meant_string;
 use crate::mistakes::{begun_value, number_meant, what_hides, what_to_do};
@@ -13,8 +14,35 @@ use crate::nearest::nearest;
 use crate::repeats::Strings;
 use crate::sources::Spot;
 use crate::terminal::plain;
-use crate::text::{Text, find};
+use crate::text::{Text, find, split_first};
+use crate::unsaid::is_list_of_names;
 use std::io::{self, Write};
+
+/// Types of `biblatex`, and those of BibTeX's usual styles for such works.
+const TYPES_OF_BIBLATEX: [(&str, &str); 22] = [
+    ("artwork", "misc"),
+    ("audio", "misc"),
+    ("bookinbook", "inbook"),
+    ("collection", "book"),
+    ("dataset", "misc"),
+    ("electronic", "misc"),
+    ("image", "misc"),
+    ("inreference", "incollection"),
+    ("movie", "misc"),
+    ("mvbook", "book"),
+    ("mvcollection", "book"),
+    ("mvproceedings", "proceedings"),
+    ("online", "misc"),
+    ("patent", "misc"),
+    ("periodical", "misc"),
+    ("reference", "book"),
+    ("report", "techreport"),
+    ("software", "misc"),
+    ("suppbook", "inbook"),
+    ("thesis", "phdthesis"),
+    ("video", "misc"),
+    ("www", "misc"),
+];
 
 /// What is known of the messages on databases.
 #[derive(Default)]
@@ -62,6 +90,7 @@ impl<'a, W: Write> Explainer<'a, W> {
             begun.map_or(Ok(()), |begun| self.page.put_place(&begun))?;
         }
         let seen = self.seen_in(message, &spot, &text, &item).or_else(|| self.misnamed_type(message.text, &item));
+        let seen = seen.or_else(|| self.type_of_biblatex(message.text, &item));
         if seen.is_some() {
             return Ok(seen);
         }
@@ -69,8 +98,33 @@ impl<'a, W: Write> Explainer<'a, W> {
         let below = self.seen_below(&meant, message.text, spot.file, &item);
         let meant = plain(&meant);
         self.page.put_place(&format!("is it `{meant}`?"))?;
+        if let Some(kind) = meant.strip_prefix('@') {
+            return Ok(Some(Seen::NearType.with(&[&plain(item.kind), kind])));
+        }
         let string = between(message.text, b"string name \"", b"\" is undefined");
         Ok(below.or_else(|| string.map(|name| Seen::NearString.with(&[&meant, &plain(name)]))))
+    }
+
+    /// What to do about an entry of a type of `biblatex`, where the style has a type for such works.
+    fn type_of_biblatex(&mut self, message: &[u8], item: &Item<'a>) -> Option<String> {
+        let is_it = |(its, _): &&(&str, &str)| item.kind.eq_ignore_ascii_case(its.as_bytes());
+        let (_, ours) = TYPES_OF_BIBLATEX.iter().find(is_it).filter(|_| message.starts_with(b"entry type for "))?;
+        let style = self.sources.style_names();
+        let has_one = style.functions_above_read().any(|name| name.eq_ignore_ascii_case(ours.as_bytes()));
+        has_one.then(|| Seen::OfBiblatexType.with(&[&plain(item.kind), ours]))
+    }
+
+    /// What to do about a second field of names of an entry: one person in each isn't what a run reads.
+    fn field_for_each_name(&self, message: &[u8], text: &Text<'a>, item: &Item<'a>) -> Option<String> {
+        let (_, name) = split_first(message.strip_prefix(b"I'm ignoring ")?, b"'s extra \"")?;
+        let name = name.strip_suffix(b"\" field").filter(|name| is_list_of_names(name))?;
+        let inside = Inside::of(text.bytes, item);
+        let of_name = inside.fields.iter().zip(&inside.values).filter(|(field, _)| field.eq_ignore_ascii_case(name));
+        let lists: Vec<&[u8]> =
+            of_name.flat_map(|(_, value)| texts(text.bytes, value)).map(|at| &text.bytes[at]).collect();
+        let are_different = lists.iter().enumerate().all(|(at, list)| !lists[..at].contains(list));
+        let all = plain(&lists.join(&b" and "[..]));
+        (lists.len() > 1 && are_different).then(|| Seen::FieldForEachName.with(&[&plain(name), &all]))
     }
 
     /// What to do about a message of a database, where its text shows what was meant.
@@ -82,6 +136,9 @@ impl<'a, W: Write> Explainer<'a, W> {
         }
         if let Some(name) = between(message.text, b"string name \"", b"\" is undefined") {
             return self.seen_of_string(name, spot, item);
+        }
+        if let Some(advice) = self.field_for_each_name(message.text, text, item) {
+            return Some(advice);
         }
         let first = item.key.filter(|_| message.text == b"Repeated entry");
         let hidden = first.and_then(|key| {
@@ -149,7 +206,9 @@ impl<'a, W: Write> Explainer<'a, W> {
             let known = self.known_strings();
             let is_known = |name: &[u8]| known.iter().any(|known| known.eq_ignore_ascii_case(name));
             let (left, right) = (&name[..at], &name[at + 1..]);
-            return (is_known(left) && is_known(right)).then(|| Seen::MonthsInOne.with(&[&plain(left), &plain(right)]));
+            if is_known(left) && is_known(right) {
+                return Some(Seen::MonthsInOne.with(&[&plain(left), &plain(right)]));
+            }
         }
         self.defined_below(name, file, item)
     }

@@ -4,7 +4,7 @@ use super::{Explainer, MOST_OF_SCENE, shown_path};
 use crate::advice::Seen;
 use crate::aux_text::cited_keys;
 use crate::database::Folded;
-use crate::document::Document;
+use crate::document::{Document, Named};
 use crate::hints::{Of, hints};
 use crate::shown_line::ShownLine;
 use crate::style_read::StyleRead;
@@ -39,8 +39,10 @@ impl<'a, W: Write> Explainer<'a, W> {
         let document = self.document();
         let unsaid = Unsaid::new(self.entries(), files, &style, &strings, document.as_ref().as_ref());
         let (more, unread) = (unsaid.more(), unsaid.unread());
-        let shown: Vec<(Vec<String>, String)> =
+        let mut shown: Vec<(Vec<String>, String)> =
             unsaid.shown().into_iter().map(|shown| (shown.lines(terminal), shown.advice)).collect();
+        // (what was said at a message isn't said again)
+        shown.retain(|(_, advice)| !self.page.has_given(advice));
         if !shown.is_empty() {
             writeln!(self.page.out, "BibTeX has no message on these, but they may not be meant so:")?;
         }
@@ -92,6 +94,7 @@ impl<'a, W: Write> Explainer<'a, W> {
             };
             self.page.put_advice_once(&Seen::NatbibStyle.with(&[&fit, &style]))?;
         }
+        self.named_with_ending(document)?;
         let (mut seen, files) = (HashSet::new(), self.files);
         let new = cited_keys(files).filter(|key| *key != b"*" && seen.insert(Folded(key)));
         let lacked: Vec<&[u8]> = new.filter(|key| document.lacks(key)).collect();
@@ -107,5 +110,19 @@ impl<'a, W: Write> Explainer<'a, W> {
             self.page.out,
             "(The `.aux` file cites what isn't in {name}: {shown}{dots}. Run LaTeX again, if they aren't cited any more.)"
         )
+    }
+
+    /// A database that the document names with its ending.
+    fn named_with_ending(&mut self, document: &Document) -> io::Result<()> {
+        let names = document.names(Named::Database);
+        let has_ending = |name: &[u8]| name.ends_with(b".bib");
+        let Some((name, _)) = names.iter().find(|(name, _)| has_ending(name)) else { return Ok(()) };
+        let Some((line, number, place)) = document.place_of(Named::Database, name) else { return Ok(()) };
+        let file = plain(shown_path(&document.file));
+        writeln!(self.page.out, "This was found, but other programs look for a file of another name:")?;
+        let lines = ShownLine { name: &file, number, line, mark: Some(place) }.lines(self.page.terminal);
+        self.page.put_lines(&lines)?;
+        let stems = names.iter().map(|(name, _)| plain(name.strip_suffix(b".bib").unwrap_or(name)));
+        self.page.put_advice_once(&Seen::EndingInName.with(&[&stems.collect::<Vec<_>>().join(",")]))
     }
 }

@@ -1,9 +1,10 @@
 //! Messages on what was not found: entries, parents, and files.
 
 use super::{Explainer, between, missing_key, shown_path};
-use crate::advice::Section;
+use crate::advice::{Section, Seen};
 use crate::document::Named;
 use crate::log::Message;
+use crate::search::path_of;
 use crate::shown_line::ShownLine;
 use crate::sources::Spot;
 use crate::terminal::plain;
@@ -53,7 +54,9 @@ impl<'a, W: Write> Explainer<'a, W> {
         if let Some(spot) = self.sources.spot(message) {
             self.show_named_file(&spot, text)?;
             let meant = beside::meant(text, self.files);
-            return meant.map_or(Ok(false), |meant| self.page.put_place(&meant).map(|()| false));
+            meant.map_or(Ok(()), |meant| self.page.put_place(&meant))?;
+            let advice = self.folder_of_job(text).or_else(|| self.older_names(text));
+            return advice.map_or(Ok(false), |advice| self.page.put_advice_once(&advice).map(|()| true));
         }
         if let Some(child) = between(text, b"A bad cross reference--entry \"", b"\" refers to entry \"") {
             return self.bad_parent(child, text);
@@ -66,6 +69,33 @@ impl<'a, W: Write> Explainer<'a, W> {
             return self.found_no_command(text);
         }
         self.of_style(text).map(|()| false)
+    }
+
+    /// What to do about a file that stands beside the `.aux` file, where the job is run from another folder.
+    fn folder_of_job(&self, message: &[u8]) -> Option<String> {
+        let slash = self.files.top.iter().rposition(|byte| *byte == b'/')?;
+        let (folder, top) = (&self.files.top[..slash], &self.files.top[slash + 1..]);
+        let (_, name) = named_file(message)?;
+        let is_there = path_of(&[folder, b"/", name].concat()).is_file();
+        let variable = if name.ends_with(b".bst") { "BSTINPUTS" } else { "BIBINPUTS" };
+        let job = plain(top.strip_suffix(b".aux").unwrap_or(top));
+        is_there.then(|| Seen::InFolderOfJob.with(&[&plain(folder), &plain(name), &job, variable]))
+    }
+
+    /// What to do about a file that the document doesn't name any more.
+    fn older_names(&mut self, message: &[u8]) -> Option<String> {
+        let (named, name) = named_file(message)?;
+        let document = self.document();
+        let document = document.as_ref().as_ref()?;
+        let names = document.names(named);
+        let (_, number) = *names.first()?;
+        let stem = name.get(..name.len() - ENDING)?;
+        let is_named = names.iter().any(|(its, _)| *its == name || *its == stem);
+        let all: Vec<&[u8]> = names.iter().map(|(name, _)| *name).collect();
+        let command = if named == Named::Style { "bibliographystyle" } else { "bibliography" };
+        let command = format!("\\{command}{{{}}}", plain(&all.join(&b","[..])));
+        let at = format!("{}:{number}", plain(shown_path(&document.file)));
+        (!is_named).then(|| Seen::OlderNames.with(&[&at, &command]))
     }
 
     /// Says of a parent that wasn't found where it may be. The run logs a second message about it, of which nothing more is said then.
@@ -112,10 +142,8 @@ impl<'a, W: Write> Explainer<'a, W> {
 
     /// The line of the document that names a file which wasn't found, or else that of the `.aux` file.
     fn show_named_file(&mut self, spot: &Spot<'a>, message: &[u8]) -> io::Result<()> {
-        let is_style = message.starts_with(b"I couldn't open style file ");
-        let (named, ending) = if is_style { (Named::Style, &b".bst"[..]) } else { (Named::Database, &b".bib"[..]) };
-        let whole = split_first(message, b" file ").map_or(&b""[..], |(_, name)| name);
-        let stem = whole.strip_suffix(ending).unwrap_or(whole);
+        let (named, whole) = named_file(message).unwrap_or((Named::Database, b""));
+        let stem = &whole[..whole.len().saturating_sub(ENDING)];
         if self.show_in_document(named, stem)? || self.show_in_document(named, whole)? {
             return Ok(());
         }
@@ -137,6 +165,15 @@ impl<'a, W: Write> Explainer<'a, W> {
         let line = database.text.line(number);
         self.page.show_line(&Spot { file, number, line, part: None, item: None })
     }
+}
+
+/// How many bytes the ending of a database or a style has.
+const ENDING: usize = 4;
+
+/// The database or the style that a message says wasn't found.
+fn named_file(message: &[u8]) -> Option<(Named, &[u8])> {
+    let database = message.strip_prefix(b"I couldn't open database file ").map(|name| (Named::Database, name));
+    database.or_else(|| message.strip_prefix(b"I couldn't open style file ").map(|name| (Named::Style, name)))
 }
 
 /// The child and the parent of the message on a parent that isn't there.

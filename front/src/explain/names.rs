@@ -9,6 +9,9 @@ use crate::text::split_first;
 /// What to do about names that are parted by commas, with `and` between them; None where it isn't seen which parts are one name.
 pub(super) fn names_by_commas(error: &[u8]) -> Option<String> {
     let (_, quoted) = split_first(error.strip_prefix(b"Too many commas in name ")?, b"\"")?;
+    if let Some(names) = names_by_semicolons(quoted.strip_suffix(b"\"")?) {
+        return Some(Seen::NamesByCommas.with(&[&names]));
+    }
     let parts: Vec<&[u8]> = quoted.strip_suffix(b"\"")?.split(|byte| *byte == b',').map(<[u8]>::trim_ascii).collect();
     let is_in_words = |part: &&[u8]| part.contains(&b' ');
     let has_other = parts.iter().any(|part| part.is_empty() || part.contains(&b'{') || part.contains(&b'}'));
@@ -29,6 +32,14 @@ pub(super) fn names_by_commas(error: &[u8]) -> Option<String> {
         false => return None,
     };
     Some(Seen::NamesByCommas.with(&[&names.join(" and ")]))
+}
+
+/// Names that are parted by semicolons, with `and` between them.
+fn names_by_semicolons(quoted: &[u8]) -> Option<String> {
+    let names = quoted.split(|byte| *byte == b';').map(<[u8]>::trim_ascii).filter(|name| !name.is_empty());
+    let is_in_braces = quoted.iter().any(|byte| matches!(byte, b'{' | b'}'));
+    let names: Vec<String> = names.filter(|_| !is_in_braces).map(plain).collect();
+    (names.len() > 1 && quoted.contains(&b';')).then(|| names.join(" and "))
 }
 
 /// What stands after a name and is no part of it.

@@ -20,6 +20,8 @@ pub(super) struct Page<'a, W: Write> {
     pub(super) terminal: &'a Terminal,
     /// What was said of files, of entries that weren't found, and of parts of entries; each is said once.
     pub(super) said: HashSet<String>,
+    /// All that was said to do.
+    given: HashSet<String>,
     /// What was said last to do: messages that follow from one mistake may have the same advice, which is given once.
     last_advice: String,
     /// What was said to do about the line, where that is wanted apart.
@@ -29,7 +31,7 @@ pub(super) struct Page<'a, W: Write> {
 
 impl<'a, W: Write> Page<'a, W> {
     pub(super) fn new(terminal: &'a Terminal, out: W) -> Page<'a, W> {
-        Page { terminal, said: HashSet::new(), last_advice: String::new(), advice: None, out }
+        Page { terminal, said: HashSet::new(), given: HashSet::new(), last_advice: String::new(), advice: None, out }
     }
 
     /// Lines that were laid out before, such as one of a file with its mark.
@@ -59,10 +61,16 @@ impl<'a, W: Write> Page<'a, W> {
             return Ok(());
         }
         self.last_advice = text.to_string();
+        self.given.insert(text.to_string());
         if let Some(advice) = &mut self.advice {
             advice.push(text.to_string());
         }
         self.indented(&format!("what to do: {text}")).iter().try_for_each(|line| writeln!(self.out, "{line}"))
+    }
+
+    /// Whether this was said to do, or more of it.
+    pub(super) fn has_given(&self, text: &str) -> bool {
+        self.given.iter().any(|given| given.starts_with(text))
     }
 
     /// Where something stands; once.

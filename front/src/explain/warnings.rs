@@ -4,8 +4,9 @@ use super::Explainer;
 use crate::advice::{self, Section};
 use crate::database::Inside;
 use crate::entries::Stored;
+use crate::lacking;
 use crate::log::{Message, Place, Severity};
-use crate::missing_entry::{lost_fields, meant_field};
+use crate::missing_entry::{Clue, lost_fields, meant_field};
 use crate::repeats::Warnings;
 use crate::terminal::plain;
 use std::io::{self, Write};
@@ -73,9 +74,13 @@ impl<'a, W: Write> Explainer<'a, W> {
     /// What of an entry is lost, where a style's warning may come from that, and what to do: a field of another name, or text after its end.
     fn lost_of(&mut self, key: &[u8], warning: &[u8]) -> (Vec<String>, Option<String>) {
         let style = self.sources.style_names();
-        let Some(stored) = self.entries().entry(key) else { return (Vec::new(), None) };
+        let entries = self.entries();
+        let Some(stored) = entries.entry(key) else { return (Vec::new(), None) };
         let (meant, lost) = (meant_field(&style, stored, warning).unwrap_or_default(), lost_fields(stored));
-        ([meant.place, lost].into_iter().flatten().collect(), meant.advice)
+        let is_seen = meant != Clue::default() || lost.is_some();
+        let lacking = if is_seen { None } else { lacking::clue(entries, &style, stored, warning) };
+        let lacking = lacking.unwrap_or_default();
+        ([meant.place, lost, lacking.place].into_iter().flatten().collect(), meant.advice.or(lacking.advice))
     }
 
     /// The error above from which a style's warning of this entry follows: the entry wasn't read to its end, or a string of it isn't defined.

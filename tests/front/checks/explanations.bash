@@ -50,6 +50,7 @@ Error--\"A\" is not an integer while executing + for entry k
     what to do: push the operands in the order in which the function takes them; a field that may be missing goes through \`empty\$\` or \`missing\$\` first
 Warning--empty title in bare
     for @misc{bare}, which begins at $2d.bib:6
+    what to do: add \`title\` to the entry
 (1 more key has no entry: it may stand in e.bib, which wasn't found)
 (1 more error is like \`Error--\"A\" is not an integer while executing + for entry k\` in line 3 of the style; for two)
 Ended: finished, warnings 4, errors 8, steps 36
