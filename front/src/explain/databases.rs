@@ -147,8 +147,9 @@ impl<'a, W: Write> Explainer<'a, W> {
         });
         let is_fault = item.fault.is_some_and(|fault| fault.as_bytes() == message.text);
         let hidden = hidden.or_else(|| what_hides(spot.file, text, item).filter(|_| is_fault || first.is_some()));
-        let hidden =
-            hidden.or_else(|| self.of_other_case(first?.name)).or_else(|| self.other_work(first?.name, text, item));
+        let hidden = hidden
+            .or_else(|| self.of_other_case(first?.name, text, item))
+            .or_else(|| self.other_work(first?.name, text, item));
         let fault = Some(item.end).filter(|_| is_fault);
         hidden.or_else(|| what_to_do(spot.file, text, item, fault?, message.text))
     }
@@ -157,11 +158,13 @@ impl<'a, W: Write> Explainer<'a, W> {
     fn other_work(&mut self, key: &[u8], text: &Text<'a>, item: &Item<'a>) -> Option<String> {
         let Stored { database, item: first } = self.entries().entry(key)?;
         let (first, second) = (title_of(database.text.bytes, first)?, title_of(text.bytes, item)?);
-        let is_part = |whole: &[u8], part: &[u8]| find(whole, part).is_some();
-        let is_other = !is_part(&first, &second) && !is_part(&second, &first);
-        let new =
-            (b'b'..=b'z').map(|letter| [key, &[letter]].concat()).find(|new| self.entries().entry(new).is_none())?;
-        is_other.then(|| Seen::OtherWork.with(&[&plain(&new)]))
+        let new = self.new_key(key)?;
+        (!has_one_of_both(&first, &second)).then(|| Seen::OtherWork.with(&[&plain(&new)]))
+    }
+
+    /// A key with a letter at its end that no entry has.
+    fn new_key(&mut self, key: &[u8]) -> Option<Vec<u8>> {
+        (b'b'..=b'z').map(|letter| [key, &[letter]].concat()).find(|new| self.entries().entry(new).is_none())
     }
 
     /// What to do about an entry of a usual type, where the style has a function whose name is nearly the type's, and is no usual one.
@@ -176,16 +179,19 @@ impl<'a, W: Write> Explainer<'a, W> {
         Some(Seen::StyleMisnames.with(&[&plain(name), &at, &plain(&item.kind.to_ascii_lowercase())]))
     }
 
-    /// Which of two entries to remove whose keys differ in their case alone: the one that isn't cited so.
-    fn of_other_case(&mut self, second: &'a [u8]) -> Option<String> {
-        let first = self.entries().entry(second)?.item.key?.name;
+    /// What to do about two entries whose keys differ in their case alone. The one that isn't cited so is removed where both are one work, and else gets another key.
+    fn of_other_case(&mut self, second: &'a [u8], text: &Text<'a>, item: &Item<'a>) -> Option<String> {
+        let Stored { database, item: one } = self.entries().entry(second)?;
+        let (first, is_one_work) = (one.key?.name, is_one_work((database.text.bytes, one), (text.bytes, item)));
         let named = self.sources.names().key(second)?;
         let spot = self.sources.spot_of_name(named, second.len())?;
         let (start, end) = spot.part?;
         let cited = spot.line.get(start..end)?;
         let other = [first, second].into_iter().find(|key| *key != cited && first != second)?;
-        let is_cited = cited == first || cited == second;
-        is_cited.then(|| Seen::RemoveOther.with(&[&plain(other), &plain(cited)]))
+        let names = [plain(other), plain(cited), plain(&self.new_key(other)?)];
+        let [other_name, cited_name, new] = names.each_ref().map(String::as_str);
+        let seen = if is_one_work { Seen::RemoveOther } else { Seen::OtherCase };
+        (cited == first || cited == second).then(|| seen.with(&[other_name, cited_name, new]))
     }
 
     /// What to do about a string that isn't defined, where it is below, or where its name isn't one.
@@ -280,11 +286,28 @@ fn in_order(files: &Files, moved: &File, before: &File) -> String {
 
 /// The letters and digits of an entry's title, in lower case.
 fn title_of(bytes: &[u8], item: &Item<'_>) -> Option<Vec<u8>> {
+    letters_of(bytes, item, b"title")
+}
+
+/// The letters and digits of a field of an entry, in small letters.
+fn letters_of(bytes: &[u8], item: &Item<'_>, field: &[u8]) -> Option<Vec<u8>> {
     let inside = Inside::of(bytes, item);
-    let of_title = inside.fields.iter().zip(&inside.values).find(|(name, _)| name.eq_ignore_ascii_case(b"title"));
-    let title: Vec<u8> =
-        bytes[of_title?.1.clone()].iter().filter(|byte| byte.is_ascii_alphanumeric()).copied().collect();
-    (!title.is_empty()).then(|| title.to_ascii_lowercase())
+    let found = inside.fields.iter().zip(&inside.values).find(|(name, _)| name.eq_ignore_ascii_case(field));
+    let letters: Vec<u8> =
+        bytes[found?.1.clone()].iter().filter(|byte| byte.is_ascii_alphanumeric()).copied().collect();
+    (!letters.is_empty()).then(|| letters.to_ascii_lowercase())
+}
+
+/// Whether one of two texts stands in the other one.
+fn has_one_of_both(first: &[u8], second: &[u8]) -> bool {
+    find(first, second).is_some() || find(second, first).is_some()
+}
+
+/// Whether two entries have one title or one doi.
+fn is_one_work(first: (&[u8], &Item<'_>), second: (&[u8], &Item<'_>)) -> bool {
+    let both = |field: &[u8]| Some((letters_of(first.0, first.1, field)?, letters_of(second.0, second.1, field)?));
+    both(b"title").is_some_and(|(first, second)| has_one_of_both(&first, &second))
+        || both(b"doi").is_some_and(|(first, second)| first == second)
 }
 
 /// Whether advice on one entry is about all of its kind, so that it is given once.

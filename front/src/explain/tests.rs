@@ -41,7 +41,7 @@ Error--Repeated entry--line 3 of file d.bib
                     ^
     in @misc{K}, which begins at d.bib:3
     the first is @misc{k}, which begins at d.bib:1
-    what to do: remove the entry `K`: the document cites `k`, and case doesn't tell keys apart
+    what to do: give the entry `K` another key, such as `Kb`, and cite it by that: the document cites `k`, and case doesn't tell keys apart. Remove it only if it is the same work
 ";
     assert_eq!(explain(log, "", "@misc{k,\n note 1}\n@misc{K}\n"), wanted);
 }

@@ -103,8 +103,10 @@ mistake follows_from_a_string '@article{k, author = {A. B}, journal = zz}\n' "th
 # keys
 mistake near_parent '@article{k, author = {A. B}, crossref = {vol95}}\n@book{vol1995}\n' 'is it `vol1995`, which begins at d.bib:2?' 'write `crossref = {vol1995}`' "the entry's parent wasn't found"
 mistake parent_above '@book{vol}\n@misc{k, author = {A. B}, crossref = {vol}}\n@misc{l, author = {C. D}}\n' 'move `vol` below all entries that name it, or cite it'
-mistake other_case '@misc{K, author = {A. B}}\n@misc{k, author = {C. D}}\n@misc{l, author = {E. F}}\n' "remove the entry \`K\`: the document cites \`k\`, and case doesn't tell keys apart"
-mistake another_work '@misc{k, author = {A. B}, title = {Of hens}}\n@misc{K, title = {Of ducks}}\n@misc{l, author = {E. F}}\n' "remove the entry \`K\`: the document cites \`k\`, and case doesn't tell keys apart"
+mistake other_case '@misc{K, author = {A. B}}\n@misc{k, author = {C. D}}\n@misc{l, author = {E. F}}\n' "give the entry \`K\` another key, such as \`Kb\`, and cite it by that: the document cites \`k\`, and case doesn't tell keys apart. Remove it only if it is the same work"
+mistake another_work '@misc{k, author = {A. B}, title = {Of hens}}\n@misc{K, title = {Of ducks}}\n@misc{l, author = {E. F}}\n' "give the entry \`K\` another key, such as \`Kb\`, and cite it by that: the document cites \`k\`, and case doesn't tell keys apart. Remove it only if it is the same work"
+mistake one_work '@misc{k, author = {A. B}, title = {Of hens}}\n@misc{K, title = {Of {Hens}}}\n@misc{l, author = {E. F}}\n' "remove the entry \`K\`: the document cites \`k\`, and case doesn't tell keys apart"
+mistake one_doi '@misc{k, author = {A. B}, title = {Of hens}, doi = {10.1/X}}\n@misc{K, title = {Hens}, doi = {10.1/x}}\n@misc{l, author = {E. F}}\n' "remove the entry \`K\`: the document cites \`k\`, and case doesn't tell keys apart"
 mistake another_title '@misc{k, author = {A. B}, title = {Of hens}}\n@misc{k, title = {Of ducks}}\n@misc{l, author = {E. F}}\n' 'give the second another key, such as `kb`, and cite it by that: its title is another one'
 mistake the_same_title '@misc{k, author = {A. B}, title = {Of hens}}\n@misc{k, title = {{Of Hens}}}\n@misc{l, author = {E. F}}\n' 'remove one of the two'
 mistake record_of_ris '@misc{k, author = {A. B}}\n\nTY  - JOUR\nID  - l\nER  - \n' '`l` stands at d.bib:4, in a record of RIS (from line 3), which isn'"'"'t read' 'export that record as BibTeX: what stands there is RIS'
