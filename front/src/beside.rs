@@ -61,6 +61,16 @@ pub fn meant(error: &[u8], files: &Files) -> Option<String> {
     meant_among(name, &there, ".bib")
 }
 
+/// The name, without its ending, of the one database that is likely to be meant by one that wasn't found: one of nearly this name, or the only one of the folder.
+pub fn database_meant(name: &[u8], files: &Files) -> Option<Vec<u8>> {
+    let mut there = names(".bib");
+    there.retain(|there| files.file(there).is_none());
+    let stem = |name: &[u8]| name.strip_suffix(b".bib").unwrap_or(name).to_vec();
+    let stems: Vec<Vec<u8>> = there.iter().map(|name| stem(name)).collect();
+    let near = nearest(&stem(base(name)), stems.iter().map(Vec::as_slice)).map(<[u8]>::to_vec);
+    near.or_else(|| stems.into_iter().next().filter(|_| there.len() == 1))
+}
+
 /// Which `.aux` file may be meant by one that isn't there.
 pub fn meant_job(name: &[u8]) -> Option<String> {
     meant_among(name, &names(".aux"), ".aux")

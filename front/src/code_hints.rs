@@ -45,7 +45,7 @@ fn asked_twice(code: &Code<'_>) -> Vec<Hint> {
             "`{}` is asked here once more, inside an `if$` that asks the same: is another variable meant in one of the two?",
             test.join(" ")
         );
-        Some(Hint { line: code.line(open + 1), text, sort: Of::List })
+        Some(Hint { line: code.line(open + 1), text, sort: Of::Test })
     };
     (0..code.count()).filter(|open| code.kind(*open) == Kind::Open).filter_map(said).collect()
 }

@@ -151,14 +151,14 @@ impl Document {
         found.into_iter().map(|(_, name, number)| (name, number)).collect()
     }
 
-    /// A key that is typed in square brackets, as `[knuth84]`, and the number of its line.
-    pub fn typed_key(&self, is_key: impl Fn(&[u8]) -> bool) -> Option<(&[u8], usize)> {
-        self.lines().find_map(|(number, line)| {
+    /// The keys that are typed in square brackets, as `[knuth84]`, and the number of the line of each.
+    pub fn typed_keys(&self, is_key: impl Fn(&[u8]) -> bool) -> Vec<(&[u8], usize)> {
+        let are_keys = |keys: &[u8]| keys.split(|byte| *byte == b',').all(|key| is_key(key.trim_ascii()));
+        let typed = self.lines().flat_map(|(number, line)| {
             let after = line.split(|byte| *byte == b'[').skip(1);
-            let typed = after.filter_map(|rest| Some(&rest[..rest.iter().position(|byte| *byte == b']')?]));
-            let are_keys = |keys: &&[u8]| keys.split(|byte| *byte == b',').all(|key| is_key(key.trim_ascii()));
-            typed.into_iter().find(are_keys).map(|keys| (keys, number))
-        })
+            after.filter_map(move |rest| Some((&rest[..rest.iter().position(|byte| *byte == b']')?], number)))
+        });
+        typed.filter(|(keys, _)| are_keys(keys)).collect()
     }
 
     /// The line that reads this part of the document, and its number.
@@ -259,8 +259,8 @@ mod tests {
         let document = document("\\bibliography{b,a}\nSee [k, l] and [3].\n% [m]\n\\include{part}\n");
         assert_eq!(document.names(Named::Database), [(&b"b"[..], 1), (b"a", 1)]);
         assert_eq!(document.names(Named::Style), []);
-        let known = |keys: &'static [u8]| document.typed_key(|key| keys.contains(&key[0]));
-        assert_eq!([known(b"kl"), known(b"k"), known(b"m")], [Some((&b"k, l"[..], 2)), None, None]);
+        let known = |keys: &'static [u8]| document.typed_keys(|key| keys.contains(&key[0]));
+        assert_eq!([known(b"kl"), known(b"k3"), known(b"m")], [vec![(&b"k, l"[..], 2)], vec![(&b"3"[..], 2)], vec![]]);
         assert_eq!(document.line_of_part(b"part").map(|(number, _)| number), Some(4));
         assert_eq!(document.line_of_part(b"par"), None);
     }

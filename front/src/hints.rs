@@ -31,6 +31,8 @@ pub enum Of {
     Loop,
     /// The list, which may be another one than is meant.
     List,
+    /// The list likewise, by a test that is asked twice: warnings of the same function may follow from it.
+    Test,
 }
 
 /// How a name is used.

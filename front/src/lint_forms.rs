@@ -36,11 +36,15 @@ pub fn write_for_people(check: &StyleCheck, terminal: &Terminal, out: &mut impl 
     }
     let code = code_of(check);
     let style = Style { path: &path, code: &code, terminal, has_mistakes: check.messages.count > 0 };
+    // (warnings of its function may follow from a test that is asked twice)
+    for hint in check.hints.iter().filter(|hint| hint.sort == Of::Test) {
+        writeln!(out, "{path}:{}: hint: {}", hint.line, hint.text)?;
+    }
     write(&style, &check.found, check.entries.as_deref(), out)?;
     write_constants(&style, check, out)?;
     // (a loop that doesn't end may be why the check doesn't)
     let are_loops_first = matches!(check.verdict, Some(Verdict::Incomplete(_)));
-    for hint in check.hints.iter().filter(|hint| hint.sort != Of::Loop || are_loops_first) {
+    for hint in check.hints.iter().filter(|hint| hint.sort != Of::Test && (hint.sort != Of::Loop || are_loops_first)) {
         writeln!(out, "{path}:{}: hint: {}", hint.line, hint.text)?;
     }
     write_verdict(&style, check, out)?;

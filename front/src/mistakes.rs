@@ -196,10 +196,11 @@ impl<'a> Place<'_, 'a> {
             return Some(seen);
         }
         Some(match (first, self.byte()) {
-            (b'{', Some(b'{' | b'"')) | (b'"', _) => Seen::NoHash.with(&[&owner]),
+            (b'"', _) => Seen::NoHash.with(&[&owner, "; a quote within quotes stands in braces"]),
+            (b'{', Some(b'{' | b'"')) => Seen::NoHash.with(&[&owner, ""]),
             (b'{', _) => Seen::BraceTooMany.with(&[&owner]),
             (b'\\', _) => Seen::BareValue.with(&[&owner]),
-            (_, Some(b'{' | b'"')) => Seen::NoHash.with(&[&owner]),
+            (_, Some(b'{' | b'"')) => Seen::NoHash.with(&[&owner, ""]),
             _ => Seen::BareValue.with(&[&owner]),
         })
     }
@@ -427,7 +428,10 @@ mod tests {
         assert_eq!(advice("@misc{a, x = {T} y = 1}"), "put a comma after the value of `x`, which ends at d.bib:1");
         assert_eq!(advice("@misc{a, month = \"T\" jan, y = 1}"), Seen::NoHashBefore.with(&["month", "`jan`"]));
         assert_eq!(advice("@misc{a, x = {A {T}} may, y = 1}"), Seen::BraceTooMany.with(&["x"]));
-        assert_eq!(advice("@misc{a, x = \"#\" jan, y = 1}"), Seen::NoHash.with(&["x"]));
+        assert_eq!(
+            advice("@misc{a, x = \"#\" jan, y = 1}"),
+            Seen::NoHash.with(&["x", "; a quote within quotes stands in braces"])
+        );
         for text in ["12 # \" \" jan", "jan # {--} jan"] {
             assert_eq!(
                 advice(&format!("@misc{{a, x = {text}, y = 1}}")),
@@ -438,7 +442,7 @@ mod tests {
         assert_eq!(advice("@misc{a, x = s # {T} \"U\", y = 1}"), Seen::NoHashBefore.with(&["x", "the quote"]));
         assert_eq!(advice("@misc{a, year = 2O12}"), Seen::LetterForDigit.with(&["2012", "O"]));
         assert_eq!(advice("@misc{a, year = 20l2, y = 1}"), Seen::LetterForDigit.with(&["2012", "l"]));
-        assert_eq!(advice("@misc{a, x = {T} \"S\"}"), Seen::NoHash.with(&["x"]));
+        assert_eq!(advice("@misc{a, x = {T} \"S\"}"), Seen::NoHash.with(&["x", ""]));
         for text in ["jan + {T}", "{T} + s", "\"T\" +\n \"U\""] {
             assert_eq!(advice(&format!("@misc{{a, x = {text}, y = 1}}")), Seen::PlusForHash.with(&["x"]), "{text}");
         }

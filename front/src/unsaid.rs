@@ -105,9 +105,21 @@ impl<'b, 'a> Found<'b, 'a> {
 pub struct Unsaid<'b, 'a> {
     found: Vec<Found<'b, 'a>>,
     /// For each field that the style doesn't read how many entries have it, and one of a near name that it reads.
-    unread: HashMap<Folded<'a>, (usize, Option<String>)>,
+    unread: HashMap<Folded<'a>, Unread<'b, 'a>>,
     /// The databases in which a byte was found that isn't UTF-8.
     of_bytes: HashSet<*const u8>,
+}
+
+/// A field that the style doesn't read.
+#[derive(Debug)]
+struct Unread<'b, 'a> {
+    /// How many entries have it.
+    count: usize,
+    /// One of a near name that the style reads.
+    near: Option<String>,
+    /// Where it stands first.
+    stored: Stored<'b, 'a>,
+    place: usize,
 }
 
 /// What is known of a style and of the document.
@@ -187,10 +199,12 @@ impl<'b, 'a> Unsaid<'b, 'a> {
                 self.look_at_text(stored, name, text, known);
             } else if !is_read && known.style.fields().next().is_some() && !is_one_of(name, &KEPT) {
                 let lacked = known.style.fields().filter(|known| !has(known));
-                let unread = self.unread.entry(Folded(name)).or_insert_with(|| (0, nearest(name, lacked).map(plain)));
-                unread.0 += 1;
-                if unread.0 == 1 && is_one_of(name, &ADDRESSES) {
-                    let (text, place) = (value.clone(), place_in(bytes, name));
+                let place = place_in(bytes, name);
+                let new = || Unread { count: 0, near: nearest(name, lacked).map(plain), stored, place };
+                let unread = self.unread.entry(Folded(name)).or_insert_with(new);
+                unread.count += 1;
+                if unread.count == 1 && is_one_of(name, &ADDRESSES) {
+                    let text = value.clone();
                     let names = vec![plain(name)];
                     let seen = Seen::UnprintedAddress;
                     self.found.push(Found { stored, field: name, text, place, seen, names });
@@ -248,14 +262,35 @@ impl<'b, 'a> Unsaid<'b, 'a> {
         self.found.len().saturating_sub(MOST_SHOWN)
     }
 
-    /// The fields that the style doesn't read, those of most entries first; None where there is none.
+    /// Leaves out the fields of which a message said that the style doesn't know them.
+    pub fn leave_out(&mut self, fields: &HashSet<Folded<'_>>) {
+        self.unread.retain(|name, _| !fields.iter().any(|field| field.0.eq_ignore_ascii_case(name.0)));
+    }
+
+    /// The fields that the style doesn't read, those of most entries first.
+    fn unread_in_order(&self) -> Vec<(&'a [u8], &Unread<'b, 'a>)> {
+        let mut all: Vec<_> = self.unread.iter().map(|(name, unread)| (name.0, unread)).collect();
+        all.sort_by_key(|(name, unread)| (unread.near.is_none(), usize::MAX - unread.count, *name));
+        all
+    }
+
+    /// The first place of each field that may be a misspelt one, with the entry and what to do.
+    pub fn misspelt(&self) -> Vec<(Shown<'b, 'a>, String)> {
+        let shown = self.unread_in_order().into_iter().filter_map(|(name, unread)| {
+            let advice = Seen::OtherFieldName.with(&[&plain(name), unread.near.as_ref()?]);
+            let (stored, place) = (unread.stored, unread.place);
+            let item = begins_item(stored.database.file, &stored.database.text, stored.item);
+            Some((Shown { stored, place, advice }, format!("in {item}")))
+        });
+        shown.take(MOST_SHOWN).collect()
+    }
+
+    /// The fields that the style doesn't read, in words; None where there is none.
     pub fn unread(&self) -> Option<String> {
-        let mut all: Vec<(&[u8], usize, &Option<String>)> =
-            self.unread.iter().map(|(name, (count, near))| (name.0, *count, near)).collect();
-        all.sort_by_key(|(name, count, near)| (near.is_none(), usize::MAX - count, *name));
-        let text = |(name, count, near): &(&[u8], usize, &Option<String>)| {
-            let times = if *count == 1 { String::new() } else { format!(" ({count} times)") };
-            let near = near.as_ref().map_or(String::new(), |near| format!(", is it `{near}`?"));
+        let all = self.unread_in_order();
+        let text = |(name, unread): &(&[u8], &Unread<'_, '_>)| {
+            let times = if unread.count == 1 { String::new() } else { format!(" ({} times)", unread.count) };
+            let near = unread.near.as_ref().map_or(String::new(), |near| format!(", is it `{near}`?"));
             format!("`{}`{times}{near}", plain(name))
         };
         let shown: Vec<String> = all.iter().take(MOST_FIELDS).map(text).collect();
@@ -529,6 +564,10 @@ mod tests {
             Some("(Of the cited entries the style doesn't read: `pagse`, is it `pages`?; `url` (2 times))")
         );
         assert_eq!(unread("@misc{k, title = {T}}"), None);
+        let misspelt: Vec<(usize, String)> = with_unsaid(two, |unsaid| {
+            unsaid.misspelt().into_iter().map(|(shown, _)| (shown.place, shown.advice)).collect()
+        });
+        assert_eq!(misspelt, [(9, "write `pages` for `pagse`".to_string())]);
         let found =
             with_unsaid(two, |unsaid| unsaid.found.iter().map(|found| (found.place, found.seen)).collect::<Vec<_>>());
         assert_eq!(found, [(20, Seen::UnprintedAddress)]);

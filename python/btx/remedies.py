@@ -23,7 +23,7 @@ SEEN = {
     "RunsOn": "close the value of `$1`, which begins at $2: it has taken in what looks like the field `$3` ($4)",
     "QuoteForBrace": "write `}` in the place of the quote that ends $2: the value of `$1` begins with a brace",
     "BraceTooMany": "count the braces in the value of `$1`: a `}` too many ends it before this place",
-    "NoHash": "join the parts of the value of `$1` by `#`; a quote within quotes stands in braces",
+    "NoHash": "join the parts of the value of `$1` by `#`$2",
     "NotHidden": "take out the `@` of $1: neither `%` nor `@comment` hides an entry",
     "FieldForEachName": "write one field `$1` with ` and ` between the names: `$1 = {$2}`",
     "AddField": "add $1 to the entry",
@@ -71,10 +71,10 @@ GENERAL = {
     "I found no \\bibdata command": "write `\\bibliography{refs}` with the name of your database, and run LaTeX; with `biblatex`, give it the option `backend=bibtex`",
     "I found no \\bibstyle command": "write `\\bibliographystyle{plain}`, or another style, and run LaTeX; with `biblatex`, give it the option `backend=bibtex`",
     "I couldn't open style file ~": (
-        "correct the name in `\\bibliographystyle`, or put the style beside the `.aux` file. It is looked for there, along BSTINPUTS and in TeX's folders; may you read the file?"
+        "correct the name in `\\bibliographystyle`, or put the style beside the `.aux` file. It is looked for there, along BSTINPUTS and in TeX's folders; check that you may read it"
     ),
     "I couldn't open database file ~": (
-        "correct the name in `\\bibliography`, or put the database beside the `.aux` file. It is looked for there, along BIBINPUTS and in TeX's folders; may you read the file?"
+        "correct the name in `\\bibliography`, or put the database beside the `.aux` file. It is looked for there, along BIBINPUTS and in TeX's folders; check that you may read it"
     ),
     "I was expecting a name": "write the name; a field's name begins with no digit",
     "I was expecting a { or a (": "open the item by a brace; an `@` in text between items begins one",
@@ -302,7 +302,7 @@ class Slipped:
             return said(SEEN["NoHashBefore"], owner, here)
         is_text, begins_text = value[:1] == b"{", self.text[self.place : self.place + 1] in (b"{", b'"')
         if value[:1] == b'"' or begins_text and value[:1] != b"\\":
-            return said(SEEN["NoHash"], owner)
+            return said(SEEN["NoHash"], owner, "; a quote within quotes stands in braces" if value[:1] == b'"' else "")
         return said(SEEN["BraceTooMany" if is_text else "BareValue"], owner)
 
     def after_key(self, key: str) -> str:

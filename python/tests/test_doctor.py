@@ -382,7 +382,7 @@ class WhatToDo(unittest.TestCase):
         (b"@misc{k,\n % old\n note = 1}", SEEN["CommentSign"]),
         (b"@misc{k,, note = 1}", SEEN["CommaTwice"]),
         (b"@misc{k l, note = 1}", SEEN["KeyOfWords"].replace("$1", "kl")),
-        (b'@misc{k, month = jul "/" oct}', SEEN["NoHash"].replace("$1", "month")),
+        (b'@misc{k, month = jul "/" oct}', SEEN["NoHash"].replace("$1", "month").replace("$2", "")),
         (b"@misc{k, note = {A}b, year = 1}", SEEN["BraceTooMany"].replace("$1", "note")),
         (b"@misc{k,\n note = {A,\n year = {1}\n}\n@misc{l}", said(SEEN["RunsOn"], "note", "d.bib:2", "year", "d.bib:3")),
         (b'@misc{k,\n note = {A",\n year = {1}\n}\n@misc{l}', said(SEEN["QuoteForBrace"], "note", "d.bib:2")),

@@ -62,12 +62,20 @@ impl<'a, W: Write> Explainer<'a, W> {
         advice.map_or(Ok(false), |advice| self.page.put_advice_once(&advice).map(|()| true))
     }
 
-    /// What to do about a document without citations in which a key is typed.
+    /// What to do about a document without citations in which keys are typed.
     fn typed(&mut self, document: &Document, error: &[u8]) -> Option<String> {
         let entries = self.entries();
-        let (keys, number) = document.typed_key(|key| entries.entry(key).is_some())?;
+        let typed = document.typed_keys(|key| entries.entry(key).is_some());
+        let ((keys, number), more) = typed.split_first()?;
         let (keys, at) = (plain(keys), format!("{}:{number}", plain(shown_path(&document.file))));
-        (error == b"I found no \\citation commands").then(|| Seen::TypedCitation.with(&[&keys, &at]))
+        let shown =
+            more.iter().take(MOST_OF_SCENE).map(|(keys, number)| format!("`[{}]` in line {number}", plain(keys)));
+        let dots = if more.len() > MOST_OF_SCENE { ", .." } else { "" };
+        let more = match more.len() {
+            0 => String::new(),
+            count => format!(", and {count} more so: {}{dots}", shown.collect::<Vec<_>>().join(", ")),
+        };
+        (error == b"I found no \\citation commands").then(|| Seen::TypedCitation.with(&[&keys, &at, &more]))
     }
 
     /// Shows the line of the document that reads a part whose `.aux` file isn't there.

@@ -32,13 +32,28 @@ impl<'a, W: Write> Explainer<'a, W> {
         if more > 0 { self.page.put_place(&format!("({entries} fields after the end)")) } else { Ok(()) }
     }
 
+    /// Lines, and what to do about them.
+    fn put_all(&mut self, shown: Vec<(Vec<String>, String)>) -> io::Result<()> {
+        shown.iter().try_for_each(|(lines, advice)| {
+            self.page.put_lines(lines)?;
+            self.page.put_advice_once(advice)
+        })
+    }
+
     /// What the run doesn't log of the entries that are cited.
     pub(super) fn unsaid(&mut self) -> io::Result<()> {
         let style = self.sources.style_names();
         let (strings, files, terminal) = (self.known_strings(), self.files, self.page.terminal);
         let document = self.document();
-        let unsaid = Unsaid::new(self.entries(), files, &style, &strings, document.as_ref().as_ref());
+        let lacked_fields = std::mem::take(&mut self.styles.lacked_fields);
+        let mut unsaid = Unsaid::new(self.entries(), files, &style, &strings, document.as_ref().as_ref());
+        unsaid.leave_out(&lacked_fields);
         let (more, unread) = (unsaid.more(), unsaid.unread());
+        let misspelt: Vec<_> = unsaid
+            .misspelt()
+            .into_iter()
+            .map(|(shown, item)| (shown.lines(terminal).into_iter().chain([item]).collect(), shown.advice))
+            .collect();
         let mut shown: Vec<(Vec<String>, String)> =
             unsaid.shown().into_iter().map(|shown| (shown.lines(terminal), shown.advice)).collect();
         // (what was said at a message isn't said again)
@@ -46,14 +61,12 @@ impl<'a, W: Write> Explainer<'a, W> {
         if !shown.is_empty() {
             writeln!(self.page.out, "BibTeX has no message on these, but they may not be meant so:")?;
         }
-        for (lines, advice) in shown {
-            self.page.put_lines(&lines)?;
-            self.page.put_advice_once(&advice)?;
-        }
+        self.put_all(shown)?;
         if more > 0 {
             self.page.put_place(&format!("({more} more {} like these)", if more == 1 { "is" } else { "are" }))?;
         }
         unread.map_or(Ok(()), |unread| writeln!(self.page.out, "{unread}"))?;
+        self.put_all(misspelt)?;
         document.as_ref().as_ref().map_or(Ok(()), |document| self.unsaid_of_document(document))
     }
 
@@ -64,7 +77,7 @@ impl<'a, W: Write> Explainer<'a, W> {
         };
         let name = plain(shown_path(file));
         let hints = hints(&StyleRead::new(bytes));
-        for hint in hints.iter().filter(|hint| hint.sort == Of::List).take(MOST_OF_SCENE) {
+        for hint in hints.iter().filter(|hint| matches!(hint.sort, Of::List | Of::Test)).take(MOST_OF_SCENE) {
             self.put_unsaid_of_style(&name)?;
             self.page.put_place(&format!("{name}:{}: {}", hint.line, hint.text))?;
         }

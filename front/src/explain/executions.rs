@@ -4,6 +4,7 @@ use super::names::{names_by_commas, one_name};
 use super::{Explainer, MOST_OF_SCENE, shown_path};
 use crate::advice::{self, Advice, Section, Seen};
 use crate::code_places::{Code, Declared};
+use crate::database::Folded;
 use crate::entries::Stored;
 use crate::hints::loop_without_end;
 use crate::lint_warnings::{Fault, Warnings};
@@ -155,7 +156,7 @@ impl<'a, W: Write> Explainer<'a, W> {
         Some((plain(owner), plain(name), is_of_entry))
     }
 
-    /// Whether an error of the stack may follow from one above, for the same entry: a function that finds a wrong operand, or none, leaves less than it does else.
+    /// Whether an error may follow from one above: from a mistake in the text of its function; or, of the stack, from one for the same entry. A function that finds a wrong operand, or none, leaves less than it does else.
     fn follows_in_visit(&mut self, message: &Message<'a>, entry: Option<&'a [u8]>) -> bool {
         let Some(fault) = Fault::of_message(message.text) else { return false };
         let command = message.scene.map_or(0, |scene| scene.command().line);
@@ -163,7 +164,12 @@ impl<'a, W: Write> Explainer<'a, W> {
         let is_of_stack = matches!(fault, Fault::EmptyStack | Fault::LeftOver);
         let is_behind = self.execution.failed == Some(visit);
         self.execution.failed = Some(visit).filter(|_| fault != Fault::LeftOver);
-        is_of_stack && (is_behind || self.styles.first.is_some())
+        let mistake = |scene: &Scene| {
+            let mut functions = self.styles.functions.iter();
+            functions.any(|(of, line)| *of == Folded(scene.at.owner()) && *line <= scene.at.line as usize)
+        };
+        let is_of_mistake = message.scene.is_some_and(mistake);
+        is_of_mistake || is_of_stack && (is_behind || self.styles.first.is_some())
     }
 
     /// Says from which error above one of the stack may follow.

@@ -21,6 +21,8 @@ const OF_CITE: &str = "(LaTeX writes this line for a `\\cite` in the document)";
 pub(super) struct Missing {
     /// How many keys have no entry since a database isn't there or has none.
     lost_keys: u64,
+    /// Whether it was said of a file that wasn't found what its name is meant to be.
+    is_renamed: bool,
     /// The entries whose parents weren't found.
     pub(super) children: HashSet<Vec<u8>>,
     /// The parents that weren't found, of which it was said where they may be.
@@ -56,6 +58,8 @@ impl<'a, W: Write> Explainer<'a, W> {
             let meant = beside::meant(text, self.files);
             meant.map_or(Ok(()), |meant| self.page.put_place(&meant))?;
             let advice = self.folder_of_job(text).or_else(|| self.older_names(text));
+            let advice = advice.or_else(|| self.other_database(text, spot.line));
+            self.missing.is_renamed |= advice.is_some();
             return advice.map_or(Ok(false), |advice| self.page.put_advice_once(&advice).map(|()| true));
         }
         if let Some(child) = between(text, b"A bad cross reference--entry \"", b"\" refers to entry \"") {
@@ -80,6 +84,16 @@ impl<'a, W: Write> Explainer<'a, W> {
         let variable = if name.ends_with(b".bst") { "BSTINPUTS" } else { "BIBINPUTS" };
         let job = plain(top.strip_suffix(b".aux").unwrap_or(top));
         is_there.then(|| Seen::InFolderOfJob.with(&[&plain(folder), &plain(name), &job, variable]))
+    }
+
+    /// What to do about a database whose name is likely to be another one: the command as it is meant.
+    fn other_database(&self, message: &[u8], line: &[u8]) -> Option<String> {
+        let (_, name) = named_file(message).filter(|(named, _)| *named == Named::Database)?;
+        let meant = beside::database_meant(name, self.files)?;
+        let names = between(line, b"\\bibdata{", b"}")?.split(|byte| *byte == b',');
+        let stem = name.strip_suffix(b".bib")?;
+        let names: Vec<&[u8]> = names.map(|its| if its == stem || its == name { &meant[..] } else { its }).collect();
+        Some(Seen::OtherDatabase.with(&[&plain(&names.join(&b","[..])), &plain(name)]))
     }
 
     /// What to do about a file that the document doesn't name any more.
@@ -124,7 +138,10 @@ impl<'a, W: Write> Explainer<'a, W> {
         let (files, document) = (self.files, self.document());
         let clue = missing_entry::clue(self.entries(), files, document.as_ref().as_ref(), key);
         clue.place.map_or(Ok(()), |place| self.page.put_place(&place))?;
+        let is_of_name = missing_entry::lost_database(files).is_some() && self.missing.is_renamed;
         match clue.advice {
+            // (what to do about the database's name was said above)
+            Some(advice) if is_of_name && advice.starts_with("look for ") => Ok(()),
             Some(advice) => self.page.put_advice_once(&advice),
             None => self.advise(&[Section::Entries], text),
         }

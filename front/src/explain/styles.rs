@@ -12,6 +12,7 @@ use crate::style_text::{
 };
 use crate::terminal::{ERROR_COLOUR, plain};
 use crate::text::Text;
+use std::collections::{HashMap, HashSet};
 use std::io::{self, Write};
 
 /// How many errors of a style are kept from which others may follow; that of a missing brace always is.
@@ -40,6 +41,10 @@ pub(super) struct StyleMistakes<'a> {
     causes: Vec<Cause<'a>>,
     /// Where the first mistake is.
     pub(super) first: Option<String>,
+    /// The functions in which there are mistakes, with the line of the first.
+    pub(super) functions: HashMap<Folded<'a>, usize>,
+    /// The fields that ENTRY lacks by a message.
+    pub(super) lacked_fields: HashSet<Folded<'a>>,
     /// The line of the last message, if it is one of a style.
     last: usize,
     /// What was said last of a brace that is missing, or of one too many.
@@ -80,6 +85,9 @@ impl<'a, W: Write> Explainer<'a, W> {
         let above = commands[..commands.partition_point(|command| command.start <= place)].last();
         let is_no_command = message.text.ends_with(b" isn't a command") || message.text == b"I was expecting a command";
         if let Some(around) = above.filter(|_| !is_no_command) {
+            if let Some(name) = around.name.filter(|_| around.is("function")) {
+                self.styles.functions.entry(Folded(name)).or_insert(spot.number);
+            }
             self.page.put_place(&format!("in {}", begins(spot.file, &text, around)))?;
         }
         if self.styles.has_room() && !costs_a_token(message.text, above) {
@@ -121,8 +129,15 @@ impl<'a, W: Write> Explainer<'a, W> {
         if !self.styles.has_room() {
             return Ok(None);
         }
+        if let Some(below) = function_below(commands, name, around) {
+            self.styles.causes.push(Cause::new(spot, Defined::one(name)));
+            let [above, below] = [around.map_or(spot.number, |around| text.line_of(around.start)), text.line_of(below)];
+            let lines = [above, below].map(|line| line.to_string());
+            return Ok(Some(Seen::FunctionBelow.with(&[&plain(name), &lines[0], &lines[1]])));
+        }
         let entry = commands.iter().find(|command| command.is("entry")).filter(|_| is_field(text.bytes, name));
         self.unknown_name(name, spot, text, commands, entry.is_some())?;
+        self.styles.lacked_fields.extend(entry.map(|_| Folded(name)));
         Ok(entry.map(|entry| {
             let at = format!("{}:{}", plain(shown_path(spot.file)), text.line_of(entry.start));
             Seen::FieldNotInEntry.with(&[&plain(name), &at])
@@ -272,6 +287,13 @@ impl<'a, W: Write> Explainer<'a, W> {
         }
         Ok(())
     }
+}
+
+/// Where the function of this name begins, if it is defined below a command that uses it.
+fn function_below(commands: &[Command<'_>], name: &[u8], around: Option<&Command<'_>>) -> Option<usize> {
+    let start = around?.start;
+    let is_it = |command: &&Command<'_>| command.is("function") && command.name.map(Folded) == Some(Folded(name));
+    commands.iter().find(is_it).map(|command| command.start).filter(|below| *below > start)
 }
 
 /// Fields of databases, also those that no standard style reads.

@@ -117,7 +117,8 @@ fn a_misspelt_name_of_a_command_is_named() {
     let of_none = said("nosuch", 7);
     assert!(!of_none.contains("is it") && !of_none.contains("the style defines it"), "{of_none}");
     let below = said("end", 9);
-    assert!(below.contains("    the style defines it, but not above this place, or in a command"), "{below}");
+    let moved = "    what to do: move the function `end` above line 9: it is defined in line 11, below its use\n";
+    assert!(below.ends_with(moved), "{below}");
 }
 
 #[test]

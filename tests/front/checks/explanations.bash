@@ -11,7 +11,7 @@ wants_explained() {
 Error--I couldn't open database file e.bib
     job.aux:3: \\bibdata{d,e}
                           ^
-    what to do: correct the name in \`\\bibliography\`, or put the database beside the \`.aux\` file. It is looked for there, along BIBINPUTS and in TeX's folders; may you read the file?
+    what to do: correct the name in \`\\bibliography\`, or put the database beside the \`.aux\` file. It is looked for there, along BIBINPUTS and in TeX's folders; check that you may read it
 Error--nosuch is an unknown function--line 4 of file s.bst
     $2s.bst:4:   nosuch }
     ${3-}           ^
@@ -32,7 +32,7 @@ Error--Repeated entry--line 4 of file d.bib
     ${3-}                ^
     in @misc{K}, which begins at $2d.bib:4
     the first is @misc{k}, which begins at $2d.bib:1
-    what to do: remove the entry \`K\`: the document cites \`k\`, and case doesn't tell keys apart
+    what to do: give the entry \`K\` another key, such as \`Kb\`, and cite it by that: the document cites \`k\`, and case doesn't tell keys apart. Remove it only if it is the same work
 Error--A bad cross reference--entry \"two\" refers to entry \"p\", which doesn't exist
     for @misc{two}, which begins at $2d.bib:5
     it may stand in e.bib, which wasn't found

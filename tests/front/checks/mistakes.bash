@@ -119,7 +119,7 @@ mistake html '<!DOCTYPE html>\n<style>@media print { }</style>\n' 'download d.bi
 mistake ris 'TY  - JOUR\nAU  - B, A\n' 'export d.bib as BibTeX: what stands in it is RIS'
 mistake one_line '@misc{k,\r author {A. B}}\r' 'save d.bib with the line ends of Unix or Windows'
 mistake empty '' 'no entry stands in d.bib' '(1 more key has no entry: no entry stands in d.bib)'
-mistake_of_job other_database k,l,m refs s 'this folder has d.bib' 'it may stand in refs.bib, which wasn'"'"'t found' '(2 more keys have no entry: they may stand in refs.bib, which wasn'"'"'t found)'
+mistake_of_job other_database k,l,m refs s 'this folder has d.bib' 'write `\bibliography{d}` and run LaTeX, or put `refs.bib` beside' 'it may stand in refs.bib, which wasn'"'"'t found' '(2 more keys have no entry: they may stand in refs.bib, which wasn'"'"'t found)'
 mistake_of_job semicolon 'k;on-sets' d s 'write `k,on-sets` in the `\cite`, with a comma between two keys, and run LaTeX'
 mistake_of_job dash 'on–sets,k' d s '`on–sets` has an en dash (U+2013): is it `on-sets`, which begins at d.bib:2?' 'write `on-sets` in the `\cite`, with the `-` of the keyboard'
 mistake_of_job space_between_databases k,l 'd, e' s 'not taken from this line: `e`' "it may stand in e.bib, which wasn't read (job.aux:2)" 'mend the error at job.aux:2 first'
@@ -359,6 +359,30 @@ run_search -explain job
 wants_words "$folder/stdout" 'take out the `@` of @misc{k}, which begins at d.bib:1: neither `%` nor `@comment` hides an entry'
 end
 
+begin mistakes_typed_keys
+printf '%s\n' 'See [one] and [two].' 'Also [3] and [one,two].' >job.tex
+printf '%s\n' '@misc{one, title = {T}}' '@misc{two, title = {T}}' >d.bib
+printf '%s\n' '\bibdata{d}' '\bibstyle{s}' >job.aux
+run_search -explain job
+wants_words "$folder/stdout" 'write `\cite{one}` in the place of `[one]` (job.tex:1), and 2 more so: `[two]` in line 1, `[one,two]` in line 2, and run LaTeX'
+end
+
+begin mistakes_renamed_database
+write_author_style
+mv d.bib refs.bib
+printf '%s\n' '\citation{k}' '\bibdata{literature}' '\bibstyle{s}' >job.aux
+run_search -explain job
+wants_words "$folder/stdout" 'what to do: write `\bibliography{refs}` and run LaTeX, or put `literature.bib` beside'
+! grep -q 'look for literature.bib' "$folder/stdout" || complaints+=("what to do is said twice: $(cat "$folder/stdout")")
+end
+
+begin mistakes_in_the_function_of_an_error
+printf '%s\n' 'ENTRY {title}{}{}' 'INTEGERS {n}' 'FUNCTION {misc}' '{ #2 '"'"'n :=' ' title n 1 > pop$ pop$ }' 'READ' 'ITERATE {call.type$}' >s.bst
+run_search -explain job
+wants_words "$folder/stdout" 'write `#1`: an integer begins with `#`' 'this may follow from the error above at s.bst:5'
+! grep -q 'push the operands in the order' "$folder/stdout" || complaints+=("what follows has its own advice: $(cat "$folder/stdout")")
+end
+
 begin mistakes_without_a_message
 write_author_style
 printf '%s\n' '\citation{a,b,c,d,e,f,g}' '\bibdata{d}' '\bibstyle{s}' >job.aux
@@ -369,7 +393,7 @@ run_search -explain job
 wants_status 0
 for words in 'BibTeX has no message on these, but they may not be meant so:' 'd.bib:1: @misc{a, author = {A. B}, month = {jan}' 'write `month = jan`, without braces or quotes: then it is the string of this name' 'take out this `and`' \
     'write `and others`, of which the style makes et al.' 'write ` and ` between two names' 'with two commas this is one' 'put `and others` after the last name' 'this style never prints `url`' \
-    "(Of the cited entries the style doesn't read: \`tilte\`, is it \`title\`?; \`url\` (2 times))"; do
+    "(Of the cited entries the style doesn't read: \`tilte\`, is it \`title\`?; \`url\` (2 times))" 'in @misc{d}, which begins at d.bib:4' 'what to do: write `title` for `tilte`'; do
     wants_words "$folder/stdout" "$words"
 done
 ! grep -qE 'd.bib:[78]' "$folder/stdout" || complaints+=("what is right is shown: $(cat "$folder/stdout")")
