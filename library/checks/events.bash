@@ -34,7 +34,7 @@ for example in "${jobs[@]}"; do
     end
 done
 
-# The place of each line: a word of the style's text, points of a database, tokens of functions with and without a name, and of the test of a loop; and lines that have none.
+# The place of each line: a word of the style's text, points of a database, tokens of functions with and without a name, and of the test of a loop, a command; and lines that have none.
 begin places.each_phase
 printf '\\citation{k,n}\n\\bibdata{d}\n\\bibdata{e}\n\\bibstyle{s}\n' >job.aux
 cat >s.bst <<'end'
@@ -81,7 +81,7 @@ Error--STRUNG isn'"'"'t a command--line 5 of file s.bst
 Error--unknown is an unknown function--line 7 of file s.bst
   s.bst:7:162-169 `unknown`
 Error--You can'"'"'t pop an empty literal stack while executing pop$
-  -
+  s.bst:8:184-191 `EXECUTE`
 Error--"" is not an integer while executing while$
   s.bst:9:227-233 9.2 `while$`
 Error--You can'"'"'t pop an empty literal stack while executing pop$

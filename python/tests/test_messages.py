@@ -87,7 +87,9 @@ class Lines(unittest.TestCase):
         self.assertEqual((files["s.bst"][slice(*shown_place.span)], shown_place.column(files["s.bst"])), (b"top$", 8))
         database = shown["I was expecting a value"]
         self.assertEqual((database.file, database.line, database.span, database.column(files["d.bib"])), ("d.bib", 2, (23, 23), 1))
-        self.assertIsNone(shown["You can't pop an empty literal stack"])
+        # (no token is executed there: it is the command)
+        command = shown["You can't pop an empty literal stack"]
+        self.assertEqual((files["s.bst"][slice(*command.span)], command.line, command.function, command.token), (b"EXECUTE", 3, None, None))
         for message in result.messages:
             if message.line is not None:
                 self.assertEqual((message.file, message.line), (message.place.file, message.place.line))
