@@ -166,7 +166,7 @@ impl<'a, W: Write> Explainer<'a, W> {
         self.execution.failed = Some(visit).filter(|_| fault != Fault::LeftOver);
         let mistake = |scene: &Scene| {
             let mut functions = self.styles.functions.iter();
-            functions.any(|(of, line)| *of == Folded(scene.at.owner()) && *line <= scene.at.line as usize)
+            functions.any(|(of, line)| *of == Folded(scene.at.owner()) && *line <= scene.at.line)
         };
         let is_of_mistake = message.scene.is_some_and(mistake);
         is_of_mistake || is_of_stack && (is_behind || self.styles.first.is_some())
