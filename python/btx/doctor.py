@@ -47,7 +47,7 @@ CHECKS = {
         Check("names-by-sign", "warning", "A guess: a list of names has a semicolon or an `&`, where BibTeX wants ` and `."),
         Check("names-by-commas", "warning", "A guess for a name with two commas, each of whose parts has several words; exact for one with more: a run logs it where a style takes the names."),
         Check("no-break-space", "warning", "Exact: BibTeX parts no words at such a space, so two names, or two words of a name, are one."),
-        Check("list-in-braces", "warning", "A guess: all of a list of names stands in braces of its own, so it is one name."),
+        Check("list-in-braces", "warning", "A guess: all of a list of names stands in braces of its own, so it is one name. Each has a comma, an initial or a first name that the databases know."),
         Check("names-exchanged", "warning", "A guess, by the other names of the databases and the entry's key: the last name stands first, and no comma after it."),
         Check("von-letter", "info", "Exact, by RULES' von: such a word isn't abbreviated, and a style sorts the name by it."),
         Check("empty-field", "info", "Exact: the value is whitespace alone."),
@@ -548,16 +548,26 @@ class Examiner:
     # ---- all databases ----
 
     def compare_persons(self) -> None:
-        """Looks for names whose first word is the last name, as the names of all entries show it."""
+        """Looks for names whose first word is the last name, and for lists in braces, as the names of all entries show it."""
         persons = Persons()
         persons.add({value: None for *_, value in self.of_persons if b"{" not in value})
         for at, source, database, item, number, value in self.of_persons:
+            if value.startswith(b"{") and not list_in_braces(value, OF_ORGANIZATIONS) and list_in_braces(value, OF_ORGANIZATIONS, persons.firsts):
+                self.number, self.source, self.database = at, source, database
+                self.known_list(item, number)
             if b"," in value or b"{" in value or TWO_WORDS.search(value) is None:
                 continue
             for family, given in persons.exchanged(value, item.key or b""):
                 self.number, self.source, self.database = at, source, database
                 field = field_of(item.records, number)
                 self.say("names-exchanged", database.start(field), field.end, item.key, family, given)
+
+    def known_list(self, item: Item, number: int) -> None:
+        """Says that a list stands in braces, of whose persons the other names alone show it."""
+        field = self.text_of(item, number)
+        if field is not None:
+            start = self.database.start(field) + 1
+            self.say("list-in-braces", start, start + len(self.database.raw(field)), item.key)
 
     def compare_parents(self) -> None:
         """Says which fields an entry lacks that its parent lacks as well, where that is there."""
