@@ -40,7 +40,7 @@ CHECKS = {
         Check("unknown-type", "warning", "Exact, with --style: a run that stores the entry logs it."),
         Check("fields-in-text", "warning", "A guess: text between items is ignored by a run, and this looks like fields of an entry."),
         Check("repeated-doi", "warning", "Exact that the dois are equal, but for case and a resolver's address."),
-        Check("repeated-title", "info", "A guess: title and year are equal, but for case, TeX's commands and punctuation."),
+        Check("repeated-title", "info", "A guess: title and year, or the year of `date`, are equal, but for case, TeX's commands and punctuation."),
         Check("et-al", "warning", "A guess: a name has the words et al.; BibTeX's word for this is `and others`."),
         Check("others-inside", "warning", "Exact: `others` isn't the last name, so no style takes it for et al."),
         Check("bare-organization", "warning", "A guess: a name has a word such as Institute and isn't in braces of its own, so it is read as a person's."),
@@ -139,6 +139,8 @@ PARTS_NAMES = re.compile(rb"[ \t\r\n]and(?=[ \t\r\n])", re.IGNORECASE)
 NAME_PARTS = re.compile(rb"[ \t\r\n~]+")
 NAME_WORD = re.compile(rb"[^ \t\r\n~,-]+")
 LEAST_TITLE = 12
+# The year of a date.
+OF_DATE = re.compile(rb"[0-9]{4}")
 # The types whose titles styles such as plain write in small letters; how many words that lose them are named.
 LOWERED = frozenset(b"article conference inbook incollection inproceedings mastersthesis misc techreport unpublished".split())
 MOST_LOST = 4
@@ -413,8 +415,17 @@ class Examiner:
         if b"title" in numbers:
             value = records.value(numbers[b"title"])
             title = (TEX_COMMAND.sub(b"", value) if b"\\" in value else value).lower().translate(None, NOT_TITLE)
-            if len(title) >= LEAST_TITLE:
-                self.works.append(("repeated-title", (title, records.value(numbers[b"year"]) if b"year" in numbers else b""), key, item.key_end))
+            year = self.year_of_work(item, numbers)
+            if year and len(title) >= LEAST_TITLE:
+                self.works.append(("repeated-title", (title, year), key, item.key_end))
+
+    def year_of_work(self, item: Item, numbers: Dict[bytes, int]) -> bytes:
+        """Its year, or that of its date; empty where it has neither."""
+        value_of = item.records.value
+        if b"year" in numbers:
+            return value_of(numbers[b"year"])
+        date = OF_DATE.match(value_of(numbers[b"date"])) if b"date" in numbers else None
+        return date[0] if date else b""
 
     # ---- fields ----
 

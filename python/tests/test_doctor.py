@@ -138,6 +138,14 @@ class Checks(unittest.TestCase):
         ):
             self.assertEqual(said(names), [], names)
 
+    def test_works_have_the_same_year(self):
+        works = b"@misc{a, title = {A Title That Is Long}%s} @misc{b, title = {A Title That Is Long}%s}"
+        said = lambda one, two: [it.check for it in found_in(works % (one, two)) if it.check == "repeated-title"]
+        for one, two in ((b", date = {2001-02}", b", date = {2001-03-04}"), (b", year = 2001", b", date = {2001-02}"), (b", year = 2001", b", year = 2001, date = {2002}")):
+            self.assertEqual(said(one, two), ["repeated-title"], (one, two))
+        for one, two in ((b"", b""), (b", date = {2001-02}", b", date = {2002-02}"), (b", date = {2001}", b""), (b", date = {}", b", year = {}"), (b", date = {undated}", b", date = {unknown}")):
+            self.assertEqual(said(one, two), [], (one, two))
+
     def test_all_checks_have_a_row(self):
         rows = {name for name, *_ in (*ROWS, *OF_STYLE)} | {"no-entry", "logged-error", "logged-warning", "uncited"}
         self.assertEqual(rows, set(CHECKS))
