@@ -48,7 +48,7 @@ CHECKS = {
         Check("names-by-commas", "warning", "A guess for a name with two commas, each of whose parts has several words; exact for one with more: a run logs it where a style takes the names."),
         Check("no-break-space", "warning", "Exact: BibTeX parts no words at such a space, so two names, or two words of a name, are one."),
         Check("list-in-braces", "warning", "A guess: all of a list of names stands in braces of its own, so it is one name. Each has a comma, an initial or a first name that the databases know."),
-        Check("names-exchanged", "warning", "A guess, by the other names of the databases and the entry's key: the last name stands first, and no comma after it."),
+        Check("names-exchanged", "info", "A guess, by the other names of the databases and the entry's key: the last name stands first, and no comma after it."),
         Check("von-letter", "info", "Exact, by RULES' von: such a word isn't abbreviated, and a style sorts the name by it."),
         Check("empty-field", "info", "Exact: the value is whitespace alone."),
         Check("odd-dollars", "warning", "Exact: the number of `$` without a backslash is odd, but for addresses; TeX stops where a style prints the field."),

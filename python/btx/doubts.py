@@ -5,7 +5,7 @@
 from __future__ import annotations
 
 import re
-from typing import Container, Dict, Iterable, Iterator, List, NamedTuple, Optional, Tuple
+from typing import Container, Dict, Iterable, Iterator, List, NamedTuple, Optional, Set, Tuple
 
 __all__ = ["OTHER_SPACE", "Persons", "SIGN", "TEXTS", "TWO_WORDS", "has_words", "list_in_braces", "lost_words", "may_lose", "names_by_commas", "sign_by_names", "sign_of_tex"]
 
@@ -153,6 +153,8 @@ class Persons:
     def __init__(self) -> None:
         self.firsts: Dict[bytes, int] = {}
         self.lasts: Dict[bytes, int] = {}
+        # the names of two words without a comma
+        self.pairs: Set[Tuple[bytes, bytes]] = set()
 
     def add(self, lists: Iterable[bytes]) -> None:
         """Counts the names of lists."""
@@ -165,6 +167,8 @@ class Persons:
                 continue
             if not comma and family[0] in SUFFIXES and len(words) > 2:
                 family = words[-2:-1]
+            if not comma and len(words) == 2:
+                self.pairs.add((words[0], words[1]))
             self.firsts[words[0]] = self.firsts.get(words[0], 0) + 1
             self.lasts[family[0]] = self.lasts.get(family[0], 0) + 1
 
@@ -179,4 +183,6 @@ class Persons:
         # (the name itself counts once as well)
         is_whole = min(len(family), len(given)) >= LEAST_LETTERS and b"." not in family + given
         is_known = self.firsts.get(given, 0) > 0 and self.lasts.get(given) == 1 and self.firsts.get(family) == 1
+        # (of two names that stand against each other neither tells)
+        is_known = is_known and (given, family) not in self.pairs
         return is_whole and is_known and given not in key and (self.lasts.get(family, 0) > 0 or key.startswith(family))

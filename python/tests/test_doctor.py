@@ -146,6 +146,12 @@ class Checks(unittest.TestCase):
         for one, two in ((b"", b""), (b", date = {2001-02}", b", date = {2002-02}"), (b", date = {2001}", b""), (b", date = {}", b", year = {}"), (b", date = {undated}", b", date = {unknown}")):
             self.assertEqual(said(one, two), [], (one, two))
 
+    def test_of_two_exchanged_names_neither_tells(self):
+        said = lambda text: [it.check for it in found_in(text) if it.check == "names-exchanged"]
+        self.assertEqual(said(b"@misc{k, author = {Wei Zhang and Zhang Wei}}"), [])
+        self.assertEqual(said(b"@misc{zhang1, author = {Zhang Wei}} @misc{k, author = {Wei~Zhang}}"), [])
+        self.assertEqual(said(b"@misc{k, author = {Zhang Wei}} @misc{j, author = {Zhang, Wei}}"), ["names-exchanged"])
+
     def test_all_checks_have_a_row(self):
         rows = {name for name, *_ in (*ROWS, *OF_STYLE)} | {"no-entry", "logged-error", "logged-warning", "uncited"}
         self.assertEqual(rows, set(CHECKS))
