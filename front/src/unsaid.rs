@@ -228,7 +228,8 @@ impl<'b, 'a> Unsaid<'b, 'a> {
         }
         if let Some(doubt) = Some(inside).filter(|_| is_list_of_names(field)).and_then(|names| {
             let key = stored.item.key.map_or(&b""[..], |key| key.name);
-            persons::doubt(names).or_else(|| known.persons.exchanged(names, key))
+            let is_first = |word: &[u8]| known.persons.is_first(word);
+            persons::doubt(names, is_first).or_else(|| known.persons.exchanged(names, key))
         }) {
             found(start + doubt.place, doubt.seen, doubt.names);
         }
