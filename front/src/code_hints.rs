@@ -31,7 +31,7 @@ fn asked_twice(code: &Code<'_>) -> Vec<Hint> {
             let test = |end: usize| {
                 let tokens = end.checked_sub(*length)?..end;
                 (end <= code.count() && is_test(code, tokens.clone()))
-                    .then(|| tokens.map(|at| Folded(code.of(at))).collect::<Vec<_>>())
+                    .then(|| tokens.map(|at| same_of(code.of(at))).collect::<Vec<_>>())
             };
             let inner = open + 1 + length;
             let is_inner = inner < code.count() && is_branch(inner);
@@ -48,6 +48,11 @@ fn asked_twice(code: &Code<'_>) -> Vec<Hint> {
         Some(Hint { line: code.line(open + 1), text, sort: Of::Test })
     };
     (0..code.count()).filter(|open| code.kind(*open) == Kind::Open).filter_map(said).collect()
+}
+
+/// What equal tokens share: a name whatever its case, and a text in quotes to the byte.
+fn same_of(token: &[u8]) -> Result<Folded<'_>, &[u8]> {
+    if token.starts_with(b"\"") { Err(token) } else { Ok(Folded(token)) }
 }
 
 /// How many tokens a test has that is looked at: two operands and what compares them, or one and what asks for it.
@@ -188,6 +193,11 @@ mod tests {
         };
         assert_eq!(of("n #1 >\n{ n #1 > { \"a\" } { \"b\" } if$ } 's if$"), [(4, text.to_string())]);
         assert_eq!(of("n #1 > { \"a\" }\n{ n #1 > { \"a\" } { \"b\" } if$ } if$"), [(4, text.to_string())]);
+        let asked = |first: &str, second: &str| {
+            of(&format!("s \"{first}\" = {{ \"a\" }}\n{{ {second} = {{ \"a\" }} {{ \"b\" }} if$ }} if$")).len()
+        };
+        assert_eq!(asked("(Author, Year)", "S \"(Author, Year)\""), 1);
+        assert_eq!(asked("(AUTHOR, YEAR)", "s \"(Author, YEAR)\""), 0);
         assert_eq!(of("i #1 >\n{ n #1 > { \"a\" } { \"b\" } if$ } 's if$"), []);
         assert_eq!(of("s empty$ { s empty$ 'skip$ 'pop$ if$ } { } if$"), []);
     }

@@ -236,6 +236,14 @@ fn after_group(text: &[u8], at: usize) -> usize {
     text.len()
 }
 
+/// Where the groups end that follow one another from here on; the same place where none does.
+fn after_groups(text: &[u8], mut at: usize) -> usize {
+    while text.get(at) == Some(&b'{') {
+        at = after_group(text, at);
+    }
+    at
+}
+
 // ---- names ----
 
 /// What comes after a last name.
@@ -342,7 +350,7 @@ fn lost_command(text: &[u8]) -> Option<Doubt> {
         let is_after_line_end = at.checked_sub(1).is_some_and(|before| text[before] == b'\\');
         if is_it && !is_after_line_end && !LETTERS.contains(&word) {
             let behind = at + 1 + word.len();
-            let end = if text.get(behind) == Some(&b'{') { after_group(text, behind) } else { behind };
+            let end = after_groups(text, behind);
             let (argument, command) = (plain(&text[behind..end]), plain(&text[at..behind]));
             let names = vec![command.clone() + &argument, command.to_ascii_lowercase() + &argument];
             return Some(Doubt { place: at, seen: Seen::LosesCase, names });
@@ -561,6 +569,8 @@ mod tests {
     #[test]
     fn commands_keep_their_case_in_braces() {
         let said = |text: &str| lost_case(text.as_bytes()).map(|doubt| (doubt.place, doubt.names.join(" ")));
+        assert_eq!(said("On \\SI{3}{\\%} of it"), Some((3, "\\SI{3}{\\%} \\si{3}{\\%}".to_string())));
+        assert_eq!(said("On {\\SI{3}{\\%}} of it"), None);
         assert_eq!(said("Models in \\LaTeX and"), Some((10, "\\LaTeX \\latex".into())));
         assert_eq!(said("Erd\\H{o}s"), Some((3, "\\H{o} \\h{o}".into())));
         for whole in ["{\\LaTeX}", "\\emph{In \\TeX}", "\\AA ngstr", "\\\\The", "\\alpha", "{A} \\O B", "\\"] {

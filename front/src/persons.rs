@@ -20,9 +20,15 @@ const MOST_WORDS: usize = 5;
 /// Spaces that look like that of the keyboard, and at which no words are parted.
 const SPACES: [(&str, &str); 3] = [("\u{A0}", "U+00A0"), ("\u{2009}", "U+2009"), ("\u{202F}", "U+202F")];
 
-/// What is seen in a list of names by itself.
-pub fn doubt(names: &[u8]) -> Option<Doubt> {
-    other_space(names).or_else(|| list_in_braces(names))
+/// Words of organizations that may be persons' names too, so that they tell nothing where no list stands in braces; `python/btx/doubts.py` has the same.
+#[rustfmt::skip]
+const OF_COMPANIES: [&str; 17] = [
+    "administration", "agency", "authority", "board", "co", "companies", "company", "corp", "division", "inc", "limited", "ltd", "museum", "office", "press", "service", "services",
+];
+
+/// What is seen in a list of names by itself. `is_first` says whether a word is known as somebody's first name.
+pub fn doubt(names: &[u8], is_first: impl Fn(&[u8]) -> bool) -> Option<Doubt> {
+    other_space(names).or_else(|| list_in_braces(names, is_first))
 }
 
 /// Whether each place of a text stands outside of braces.
@@ -62,7 +68,7 @@ fn is_after_and(text: &[u8]) -> bool {
 }
 
 /// A list of several persons that is one name, since all of it stands in braces of its own.
-fn list_in_braces(names: &[u8]) -> Option<Doubt> {
+fn list_in_braces(names: &[u8], is_first: impl Fn(&[u8]) -> bool) -> Option<Doubt> {
     let trimmed = names.trim_ascii();
     let inside = trimmed.strip_prefix(b"{")?.strip_suffix(b"}")?;
     if outside(&trimmed[..trimmed.len() - 1]).any(|is_outside| is_outside) {
@@ -70,7 +76,7 @@ fn list_in_braces(names: &[u8]) -> Option<Doubt> {
     }
     let words: Vec<&[u8]> = words_of(inside).collect();
     let all: Vec<&[&[u8]]> = words.split(|word| word.eq_ignore_ascii_case(b"and")).collect();
-    let is_list = all.len() > 1 && all.iter().all(|name| is_person(name));
+    let is_list = all.len() > 1 && all.iter().all(|name| is_person(name, &is_first));
     let place = names.len() - names.trim_ascii_start().len();
     is_list.then_some(Doubt { place, seen: Seen::ListInBraces, names: Vec::new() })
 }
@@ -79,14 +85,23 @@ fn words_of(names: &[u8]) -> impl Iterator<Item = &[u8]> {
     names.split(|byte| byte.is_ascii_whitespace() || *byte == b'~').filter(|word| !word.is_empty())
 }
 
-/// Whether words look like a person's name: `Last, First`, or a few words that begin with capital letters.
-fn is_person(name: &[&[u8]]) -> bool {
+/// Whether words are a person's name: `Last, First`, or a few words that begin with capital letters, one of them an initial or the first one a known first name.
+fn is_person(name: &[&[u8]], is_first: impl Fn(&[u8]) -> bool) -> bool {
     let begins_large = |word: &&[u8]| word.first().is_some_and(|byte| !byte.is_ascii_lowercase());
+    let is_initial = |word: &&[u8]| matches!(word, [letter, b'.'] if letter.is_ascii_uppercase());
     let commas = name.iter().filter(|word| word.ends_with(b",")).count();
     let has_comma = commas == 1 && name.last().is_some_and(|last| !last.ends_with(b","));
     let has_size = name.len() > 1 && name.len() <= MOST_WORDS;
-    let is_one = has_comma || commas == 0 && name.iter().all(begins_large);
-    has_size && is_one && !name.iter().any(|word| is_word_of_organization(word))
+    let shows_first = || name.iter().any(is_initial) || name.first().is_some_and(|word| is_first(word));
+    let is_one = has_comma || commas == 0 && name.iter().all(begins_large) && shows_first();
+    has_size && is_one && !name.iter().any(|word| is_word_of_organization(word) || is_of_company(word))
+}
+
+/// Whether a word, with or without a comma or a point after it, is one of a company or the like.
+fn is_of_company(word: &[u8]) -> bool {
+    let word = word.strip_suffix(b",").unwrap_or(word);
+    let word = word.strip_suffix(b".").unwrap_or(word);
+    OF_COMPANIES.iter().any(|known| word.eq_ignore_ascii_case(known.as_bytes()))
 }
 
 // ---- exchanged names ----
@@ -141,6 +156,11 @@ impl Persons {
         self.uses.get(&word.to_ascii_lowercase()).copied().unwrap_or_default()
     }
 
+    /// Whether a word is somebody's first name.
+    pub fn is_first(&self, word: &[u8]) -> bool {
+        self.uses(word).first > 0
+    }
+
     /// A name of two words of which the first one is the last name, as other names and the entry's key show it.
     pub fn exchanged(&self, names: &[u8], key: &[u8]) -> Option<Doubt> {
         if names.iter().any(|byte| matches!(byte, b'{' | b',')) {
@@ -187,7 +207,7 @@ mod tests {
     use crate::job::{File, Files};
 
     fn seen(names: &str) -> Option<(usize, Seen)> {
-        doubt(names.as_bytes()).map(|doubt| (doubt.place, doubt.seen))
+        doubt(names.as_bytes(), |word| word == b"Ann").map(|doubt| (doubt.place, doubt.seen))
     }
 
     #[test]
@@ -202,7 +222,7 @@ mod tests {
 
     #[test]
     fn a_list_in_braces_is_one_name() {
-        for list in ["{Rivest, R. L. and Shamir, A.}", "{Ann Bee and C. Dee}", " {Zo{\\\"e} Bee and Dee, C.}"] {
+        for list in ["{Rivest, R. L. and Shamir, A.}", "{Ann Bee and C. Dee}", " {Bee, Zo{\\\"e} and C. Dee}"] {
             assert_eq!(seen(list).map(|(_, seen)| seen), Some(Seen::ListInBraces), "{list}");
         }
         for one in [
@@ -212,6 +232,13 @@ mod tests {
             "{Ann Bee} and {C. Dee}",
             "{Bell Laboratories and Ann Bee}",
             "{Ann Bee}",
+            "{National Aeronautics and Space Administration}",
+            "{U.S. Fish and Wildlife Service}",
+            "{Standards Australia and Standards New Zealand}",
+            "{Pantagraph Printing and Stationery Company}",
+            "{Dee, Bee and Ann Company, Inc.}",
+            "{A. Bee and Press Limited}",
+            "{Zoe Bee and C. Dee}",
             "",
         ] {
             assert_eq!(seen(one), None, "{one}");

@@ -175,9 +175,7 @@ impl<'b, 'a> Unsaid<'b, 'a> {
             cased: Cased::new(style.bytes),
             persons: LazyCell::new(Box::new(|| Persons::of(entries))),
         };
-        let mut cited = HashSet::new();
-        let keys = cited_keys(files).filter(|key| cited.insert(Folded(key))).take(MOST_ENTRIES);
-        for stored in keys.filter_map(|key| entries.entry(key)) {
+        for stored in cited_entries(entries, files) {
             unsaid.look_at(stored, &known);
         }
         unsaid
@@ -228,7 +226,8 @@ impl<'b, 'a> Unsaid<'b, 'a> {
         }
         if let Some(doubt) = Some(inside).filter(|_| is_list_of_names(field)).and_then(|names| {
             let key = stored.item.key.map_or(&b""[..], |key| key.name);
-            persons::doubt(names).or_else(|| known.persons.exchanged(names, key))
+            let is_first = |word: &[u8]| known.persons.is_first(word);
+            persons::doubt(names, is_first).or_else(|| known.persons.exchanged(names, key))
         }) {
             found(start + doubt.place, doubt.seen, doubt.names);
         }
@@ -300,16 +299,22 @@ impl<'b, 'a> Unsaid<'b, 'a> {
     }
 }
 
+/// The entries that a job cites, each once: all of them with `*`.
+fn cited_entries<'b, 'a>(entries: &'b Entries<'a>, files: &'a Files) -> Vec<Stored<'b, 'a>> {
+    let (mut cited, mut has_all) = (HashSet::new(), false);
+    let keys = cited_keys(files).inspect(|key| has_all |= *key == b"*").filter(|key| cited.insert(Folded(key)));
+    let named: Vec<_> = keys.filter_map(|key| entries.entry(key)).take(MOST_ENTRIES).collect();
+    if has_all { entries.each().take(MOST_ENTRIES).collect() } else { named }
+}
+
 /// The fields that stand after the end of an entry that a job cites, and how many further entries have one.
 pub fn after_ends<'b, 'a>(entries: &'b Entries<'a>, files: &'a Files) -> (Vec<Shown<'b, 'a>>, usize) {
-    let mut cited = HashSet::new();
-    let keys = cited_keys(files).filter(|key| cited.insert(Folded(key))).take(MOST_ENTRIES);
     let lost = |stored: Stored<'b, 'a>| {
         let LostField { name, start } = LostField::after(stored)?;
         let item = begins_item(stored.database.file, &stored.database.text, stored.item);
         Some(Shown { stored, place: start, advice: Seen::FieldAfterEnd.with(&[&item, &plain(name)]) })
     };
-    let mut shown: Vec<Shown<'_, '_>> = keys.filter_map(|key| entries.entry(key)).filter_map(lost).collect();
+    let mut shown: Vec<Shown<'_, '_>> = cited_entries(entries, files).into_iter().filter_map(lost).collect();
     let more = shown.len().saturating_sub(MOST_SHOWN);
     shown.truncate(MOST_SHOWN);
     (shown, more)
@@ -463,6 +468,17 @@ mod tests {
         let entries = Entries::new(&files);
         let style = StyleNames::new(b"ENTRY {author month pages title}{}{}");
         look(&Unsaid::new(&entries, &files, &style, &[b"jan", b"cacm"], None))
+    }
+
+    #[test]
+    fn all_entries_are_looked_at_where_all_are_cited() {
+        let count = |cited: &str| {
+            let top = file("a.aux", &format!("\\citation{{{cited}}}\n\\bibdata{{d}}\n\\bibstyle{{s}}\n"));
+            let database = file("d.bib", "@misc{k, title = {$}} @misc{l, title = {$}} @string{s = {$}}");
+            let files = Files { top: b"a.aux".to_vec(), all: vec![top, database] };
+            Unsaid::new(&Entries::new(&files), &files, &StyleNames::new(b"ENTRY {title}{}{}"), &[], None).found.len()
+        };
+        assert_eq!([count("*"), count("k,*"), count("k"), count("k,K"), count("m")], [2, 2, 1, 1, 0]);
     }
 
     #[test]

@@ -40,15 +40,15 @@ CHECKS = {
         Check("unknown-type", "warning", "Exact, with --style: a run that stores the entry logs it."),
         Check("fields-in-text", "warning", "A guess: text between items is ignored by a run, and this looks like fields of an entry."),
         Check("repeated-doi", "warning", "Exact that the dois are equal, but for case and a resolver's address."),
-        Check("repeated-title", "info", "A guess: title and year are equal, but for case, TeX's commands and punctuation."),
+        Check("repeated-title", "info", "A guess: title and year, or the year of `date`, are equal, but for case, TeX's commands and punctuation."),
         Check("et-al", "warning", "A guess: a name has the words et al.; BibTeX's word for this is `and others`."),
         Check("others-inside", "warning", "Exact: `others` isn't the last name, so no style takes it for et al."),
         Check("bare-organization", "warning", "A guess: a name has a word such as Institute and isn't in braces of its own, so it is read as a person's."),
         Check("names-by-sign", "warning", "A guess: a list of names has a semicolon or an `&`, where BibTeX wants ` and `."),
         Check("names-by-commas", "warning", "A guess for a name with two commas, each of whose parts has several words; exact for one with more: a run logs it where a style takes the names."),
         Check("no-break-space", "warning", "Exact: BibTeX parts no words at such a space, so two names, or two words of a name, are one."),
-        Check("list-in-braces", "warning", "A guess: all of a list of names stands in braces of its own, so it is one name."),
-        Check("names-exchanged", "warning", "A guess, by the other names of the databases and the entry's key: the last name stands first, and no comma after it."),
+        Check("list-in-braces", "warning", "A guess: all of a list of names stands in braces of its own, so it is one name. Each has a comma, an initial or a first name that the databases know."),
+        Check("names-exchanged", "info", "A guess, by the other names of the databases and the entry's key: the last name stands first, and no comma after it."),
         Check("von-letter", "info", "Exact, by RULES' von: such a word isn't abbreviated, and a style sorts the name by it."),
         Check("empty-field", "info", "Exact: the value is whitespace alone."),
         Check("odd-dollars", "warning", "Exact: the number of `$` without a backslash is odd, but for addresses; TeX stops where a style prints the field."),
@@ -139,6 +139,8 @@ PARTS_NAMES = re.compile(rb"[ \t\r\n]and(?=[ \t\r\n])", re.IGNORECASE)
 NAME_PARTS = re.compile(rb"[ \t\r\n~]+")
 NAME_WORD = re.compile(rb"[^ \t\r\n~,-]+")
 LEAST_TITLE = 12
+# The year of a date.
+OF_DATE = re.compile(rb"[0-9]{4}")
 # The types whose titles styles such as plain write in small letters; how many words that lose them are named.
 LOWERED = frozenset(b"article conference inbook incollection inproceedings mastersthesis misc techreport unpublished".split())
 MOST_LOST = 4
@@ -413,8 +415,17 @@ class Examiner:
         if b"title" in numbers:
             value = records.value(numbers[b"title"])
             title = (TEX_COMMAND.sub(b"", value) if b"\\" in value else value).lower().translate(None, NOT_TITLE)
-            if len(title) >= LEAST_TITLE:
-                self.works.append(("repeated-title", (title, records.value(numbers[b"year"]) if b"year" in numbers else b""), key, item.key_end))
+            year = self.year_of_work(item, numbers)
+            if year and len(title) >= LEAST_TITLE:
+                self.works.append(("repeated-title", (title, year), key, item.key_end))
+
+    def year_of_work(self, item: Item, numbers: Dict[bytes, int]) -> bytes:
+        """Its year, or that of its date; empty where it has neither."""
+        value_of = item.records.value
+        if b"year" in numbers:
+            return value_of(numbers[b"year"])
+        date = OF_DATE.match(value_of(numbers[b"date"])) if b"date" in numbers else None
+        return date[0] if date else b""
 
     # ---- fields ----
 
@@ -548,16 +559,26 @@ class Examiner:
     # ---- all databases ----
 
     def compare_persons(self) -> None:
-        """Looks for names whose first word is the last name, as the names of all entries show it."""
+        """Looks for names whose first word is the last name, and for lists in braces, as the names of all entries show it."""
         persons = Persons()
         persons.add({value: None for *_, value in self.of_persons if b"{" not in value})
         for at, source, database, item, number, value in self.of_persons:
+            if value.startswith(b"{") and not list_in_braces(value, OF_ORGANIZATIONS) and list_in_braces(value, OF_ORGANIZATIONS, persons.firsts):
+                self.number, self.source, self.database = at, source, database
+                self.known_list(item, number)
             if b"," in value or b"{" in value or TWO_WORDS.search(value) is None:
                 continue
             for family, given in persons.exchanged(value, item.key or b""):
                 self.number, self.source, self.database = at, source, database
                 field = field_of(item.records, number)
                 self.say("names-exchanged", database.start(field), field.end, item.key, family, given)
+
+    def known_list(self, item: Item, number: int) -> None:
+        """Says that a list stands in braces, of whose persons the other names alone show it."""
+        field = self.text_of(item, number)
+        if field is not None:
+            start = self.database.start(field) + 1
+            self.say("list-in-braces", start, start + len(self.database.raw(field)), item.key)
 
     def compare_parents(self) -> None:
         """Says which fields an entry lacks that its parent lacks as well, where that is there."""

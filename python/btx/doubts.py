@@ -5,7 +5,7 @@
 from __future__ import annotations
 
 import re
-from typing import Dict, Iterable, Iterator, List, NamedTuple, Optional, Tuple
+from typing import Container, Dict, Iterable, Iterator, List, NamedTuple, Optional, Set, Tuple
 
 __all__ = ["OTHER_SPACE", "Persons", "SIGN", "TEXTS", "TWO_WORDS", "has_words", "list_in_braces", "lost_words", "may_lose", "names_by_commas", "sign_by_names", "sign_of_tex"]
 
@@ -24,6 +24,9 @@ WORD = re.compile(rb"[^ \t\r\n~]+")
 TWO_WORDS = re.compile(rb"(?:\A|\sand\s)\s*[^\s~]{3,}[\s~]+[^\s~]{3,}\s*(?:\Z|\sand\s)", re.IGNORECASE)
 BY_SIGN = re.compile(rb";|(?<![^ \t\r\n~])\\?&(?![^ \t\r\n~])")
 WHOLE_IN_BRACES = re.compile(rb"[ \t\r\n]*\{((?:[^{}]|\{[^{}]*\})*)\}[ \t\r\n]*")
+# A word that is one initial; words of organizations that may be persons' names too, so that they tell nothing where no list stands in braces. front/src/persons.rs has the same.
+INITIAL = re.compile(rb"[A-Z]\.")
+OF_COMPANIES = frozenset(b"administration agency authority board co companies company corp division inc limited ltd museum office press service services".split())
 # The words of a title, those with a hyphen between them as one (`X-ray`).
 TITLE_WORD = re.compile(rb"[A-Za-z]+(?:-[A-Za-z]+)*")
 # A long word after the first one, which tells whether a title has capital letters without names; a capital letter after another letter.
@@ -87,19 +90,29 @@ def names_by_commas(hidden: bytes, spans: Iterable[Tuple[int, int]]) -> Optional
     return None
 
 
-def list_in_braces(text: bytes, is_of_organization: "re.Pattern[bytes]") -> bool:
-    """Whether a list of several persons is one name, since all of it stands in braces of its own."""
+def list_in_braces(text: bytes, is_of_organization: "re.Pattern[bytes]", firsts: Container[bytes] = ()) -> bool:
+    """Whether a list of several persons is one name, since all of it stands in braces of its own. firsts: what is known as somebody's first name, in lower case."""
     found = WHOLE_IN_BRACES.fullmatch(text)
     names = PARTS_NAMES.split(found[1]) if found else []
-    return len(names) > 1 and all(is_person(name, is_of_organization) for name in names)
+    return len(names) > 1 and all(is_person(name, is_of_organization, firsts) for name in names)
 
 
-def is_person(name: bytes, is_of_organization: "re.Pattern[bytes]") -> bool:
-    """Whether words look like a person's name: `Last, First`, or a few words that begin with capital letters."""
+def is_person(name: bytes, is_of_organization: "re.Pattern[bytes]", firsts: Container[bytes]) -> bool:
+    """Whether words are a person's name: `Last, First`, or a few words that begin with capital letters, one of them an initial or the first one a known first name."""
     words = WORD.findall(name)
+    if not 1 < len(words) <= MOST_WORDS or is_of_organization.search(name) or any(is_of_company(word) for word in words):
+        return False
     commas = sum(word.endswith(b",") for word in words)
-    is_one = commas == 1 and not words[-1].endswith(b",") or not commas and not any(word[:1].islower() for word in words)
-    return is_one and 1 < len(words) <= MOST_WORDS and is_of_organization.search(name) is None
+    if commas:
+        return commas == 1 and not words[-1].endswith(b",")
+    shows_first = words[0].lower() in firsts or any(INITIAL.fullmatch(word) for word in words)
+    return shows_first and not any(word[:1].islower() for word in words)
+
+
+def is_of_company(word: bytes) -> bool:
+    """Whether a word, with or without a comma or a point after it, is one of a company or the like."""
+    word = word[:-1] if word.endswith(b",") else word
+    return (word[:-1] if word.endswith(b".") else word).lower() in OF_COMPANIES
 
 
 def may_lose(title: bytes) -> bool:
@@ -140,6 +153,8 @@ class Persons:
     def __init__(self) -> None:
         self.firsts: Dict[bytes, int] = {}
         self.lasts: Dict[bytes, int] = {}
+        # the names of two words without a comma
+        self.pairs: Set[Tuple[bytes, bytes]] = set()
 
     def add(self, lists: Iterable[bytes]) -> None:
         """Counts the names of lists."""
@@ -152,6 +167,8 @@ class Persons:
                 continue
             if not comma and family[0] in SUFFIXES and len(words) > 2:
                 family = words[-2:-1]
+            if not comma and len(words) == 2:
+                self.pairs.add((words[0], words[1]))
             self.firsts[words[0]] = self.firsts.get(words[0], 0) + 1
             self.lasts[family[0]] = self.lasts.get(family[0], 0) + 1
 
@@ -166,4 +183,6 @@ class Persons:
         # (the name itself counts once as well)
         is_whole = min(len(family), len(given)) >= LEAST_LETTERS and b"." not in family + given
         is_known = self.firsts.get(given, 0) > 0 and self.lasts.get(given) == 1 and self.firsts.get(family) == 1
+        # (of two names that stand against each other neither tells)
+        is_known = is_known and (given, family) not in self.pairs
         return is_whole and is_known and given not in key and (self.lasts.get(family, 0) > 0 or key.startswith(family))

@@ -1,7 +1,7 @@
 """The findings of a database that is edited, from one text to the next: it is examined piece by piece, as `renewing.py` has them, and what was found in a piece is kept.
 
 A text is read first, which takes less time than its examination: then its mistakes are known. Whether two entries are one work is said of all pieces together. What is found is what
-`examine` of `doctor.py` finds in the whole text, but for what it finds when all databases are read: names that are exchanged, and fields that a parent lacks. A text of an editor is UTF-8."""
+`examine` of `doctor.py` finds in the whole text, but for what it finds when all databases are read: names that are exchanged, lists in braces that other names show, and fields that a parent lacks. A text of an editor is UTF-8."""
 
 from __future__ import annotations
 

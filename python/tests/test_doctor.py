@@ -122,6 +122,36 @@ class Checks(unittest.TestCase):
         found = found_in(b"@misc{k}", citations=[Citation(b"*", aux, 0), Citation(b"zz", aux, 2)])
         self.assertEqual([it.check for it in found], ["no-entry"])
 
+    def test_a_list_in_braces_is_one_of_persons(self):
+        known = b"@misc{a, author = {Ann Xi and Bob Yu}} @misc{b, author = {{%s}}}"
+        said = lambda names: [it.check for it in found_in(known % names) if it.check == "list-in-braces"]
+        for names in (b"Bee, A. and Dee, C.", b"A. Bee and C. Dee", b"Ann Bee and Bob Dee", b"Ann Bee and C. Dee"):
+            self.assertEqual(said(names), ["list-in-braces"], names)
+        for names in (
+            b"National Aeronautics and Space Administration",
+            b"U.S. Fish and Wildlife Service",
+            b"Standards Australia and Standards New Zealand",
+            b"Pantagraph Printing and Stationery Company",
+            b"Dee, Bee and Ann Company, Inc.",
+            b"A. Bee and Press Limited",
+            b"Zoe Bee and Bob Dee",
+        ):
+            self.assertEqual(said(names), [], names)
+
+    def test_works_have_the_same_year(self):
+        works = b"@misc{a, title = {A Title That Is Long}%s} @misc{b, title = {A Title That Is Long}%s}"
+        said = lambda one, two: [it.check for it in found_in(works % (one, two)) if it.check == "repeated-title"]
+        for one, two in ((b", date = {2001-02}", b", date = {2001-03-04}"), (b", year = 2001", b", date = {2001-02}"), (b", year = 2001", b", year = 2001, date = {2002}")):
+            self.assertEqual(said(one, two), ["repeated-title"], (one, two))
+        for one, two in ((b"", b""), (b", date = {2001-02}", b", date = {2002-02}"), (b", date = {2001}", b""), (b", date = {}", b", year = {}"), (b", date = {undated}", b", date = {unknown}")):
+            self.assertEqual(said(one, two), [], (one, two))
+
+    def test_of_two_exchanged_names_neither_tells(self):
+        said = lambda text: [it.check for it in found_in(text) if it.check == "names-exchanged"]
+        self.assertEqual(said(b"@misc{k, author = {Wei Zhang and Zhang Wei}}"), [])
+        self.assertEqual(said(b"@misc{zhang1, author = {Zhang Wei}} @misc{k, author = {Wei~Zhang}}"), [])
+        self.assertEqual(said(b"@misc{k, author = {Zhang Wei}} @misc{j, author = {Zhang, Wei}}"), ["names-exchanged"])
+
     def test_all_checks_have_a_row(self):
         rows = {name for name, *_ in (*ROWS, *OF_STYLE)} | {"no-entry", "logged-error", "logged-warning", "uncited"}
         self.assertEqual(rows, set(CHECKS))
