@@ -116,6 +116,20 @@ class Shapes(unittest.TestCase):
         base = btx.read(b"@misc{k, a = {" + b"x" * 1_000_001 + b"}, b = {y}}")
         self.assertEqual((dict(base["k"]), [message.text for message in base.messages]), ({"b": "y"}, ["the value of a has more than 1,000,000 bytes"]))
 
+    def test_long_strings_and_preambles(self):
+        long = b"x" * 1_000_001
+        for text, span, name in (
+            (b"@ String ( a_b = {%s})" % long, (11, 14), "a_b"),
+            (b"@Preamble {{%s}}" % long, (0, 9), "@Preamble"),
+            (b"@string{s = {%s}}@string{t = s # {x}}" % long[1:], (1_000_023, 1_000_024), "t"),
+        ):
+            with self.subTest(name=name):
+                found = [(message.text, message.is_error, message.key, message.place.span) for message in btx.read(text).messages]
+                self.assertEqual(found, [(f"the value of {name} has more than 1,000,000 bytes", True, None, span)])
+                files = {"j.aux": b"\\citation{*}\n\\bibdata{d}\n\\bibstyle{s}\n", "s.bst": b"ENTRY{t}{}{}READ", "d.bib": text}
+                self.assertEqual(btx.run("j", files).report.end, btx.End.LIMIT_STRING)
+        self.assertEqual(btx.read(b"@string{a = {%s}}@preamble{{%s}}" % (long[1:], long[1:])).messages, [])
+
     def test_records_that_need_more_room(self):
         base = btx.read(b"@misc{k" + b",a=1" * 100_000 + b"}")
         self.assertEqual(len(list(base["k"])), 1)
