@@ -3,6 +3,7 @@
 import os
 import pathlib
 import pickle
+import random
 import re
 import tempfile
 import time
@@ -90,6 +91,16 @@ class Shapes(unittest.TestCase):
         self.assertEqual((place.line, place.column, TEXT[slice(*place.span)]), (6, 14, b'title = jcs # "~" # zz'))
         self.assertEqual((self.base["j"].raw, self.base["j"].is_whole, entry.is_whole), (b"@misc{j, note ", False, True))
 
+    def test_places_on_one_line_in_any_order(self):
+        odd = "@misc{é, y = {\U0001d400}}ß".encode() + b"@misc{\xff, \xa9 = {\xe9}}\xe2\x82@misc{\xc3,\xa9=1}\xc3"
+        text = odd * 20 + b"\n" + odd + b"\r\n" + odd
+        entries = list(btx.read(text))
+        for entry in (*entries, *reversed(entries), *random.Random(3).choices(entries, k=200)):
+            for place in (entry.place, *map(entry.place_of, entry)):
+                start = text.rfind(b"\n", 0, place.span[0]) + 1
+                column = len(text[start : place.span[0]].decode("utf8", "surrogateescape")) + 1
+                self.assertEqual((place.line, place.column), (text.count(b"\n", 0, start) + 1, column))
+
     def test_strings_and_preamble(self):
         self.assertEqual(self.base.strings, {"jcs": "Journal of Counting Systems"})
         self.assertEqual(self.base.preamble, "\\\\xJournal of Counting Systems")
@@ -115,6 +126,14 @@ class Shapes(unittest.TestCase):
     def test_long_values(self):
         base = btx.read(b"@misc{k, a = {" + b"x" * 1_000_001 + b"}, b = {y}}")
         self.assertEqual((dict(base["k"]), [message.text for message in base.messages]), ({"b": "y"}, ["the value of a has more than 1,000,000 bytes"]))
+
+    def test_a_name_counts_whose_value_is_too_long(self):
+        long, short = b"title = {" + b"x" * 1_000_001 + b"}", b"Title = {short}"
+        for fields, wanted, extra in ((long + b", " + short, {"b": "y"}, "Title"), (short + b", " + long, {"title": "short", "b": "y"}, "title")):
+            base = btx.read(b"@misc{k, " + fields + b", b = {y}}")
+            self.assertEqual(dict(base["k"]), wanted)
+            self.assertEqual(base["k"].place_of("title").column, 10)
+            self.assertEqual(base.messages[-1].text, f'I\'m ignoring k\'s extra "{extra}" field')
 
     def test_long_strings_and_preambles(self):
         long = b"x" * 1_000_001
@@ -146,6 +165,17 @@ class Shapes(unittest.TestCase):
                 btx.read(path.with_name("none.bib"))
         for source in (bytearray(TEXT), memoryview(TEXT)):
             self.assertEqual(len(btx.read(source)), 4)
+
+    def test_a_file_that_is_too_long_is_not_read(self):
+        with tempfile.TemporaryDirectory() as folder:
+            path = pathlib.Path(folder, "d.bib")
+            path.touch()
+            os.truncate(path, 3 << 30)
+            begin = time.process_time()
+            with self.assertRaises(btx.DatabaseTooLong) as raised:
+                btx.read(path)
+            self.assertEqual(raised.exception.length, 3 << 30)
+            self.assertLess(time.process_time() - begin, 1)
 
     def test_it_is_pickled(self):
         again = pickle.loads(pickle.dumps(self.base))
@@ -206,6 +236,14 @@ class Cost(unittest.TestCase):
         self.assertEqual(sum(len(entry.fields) for entry in base), 240_000)
         self.assertLess(read, 1.5)
         self.assertLess(time.process_time() - begin - read, 3)
+
+    def test_places_on_one_line_take_a_linear_time(self):
+        for entries in (list, lambda base: reversed(list(base))):
+            base = btx.read(b"@misc{k, note = {A}, year = 1984} " * 40_000)
+            begin = time.process_time()
+            for entry in entries(base):
+                entry.place.column
+            self.assertLess(time.process_time() - begin, 2)
 
     def test_long_texts_take_a_linear_time(self):
         size = 100_000
