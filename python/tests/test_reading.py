@@ -13,7 +13,7 @@ import btx
 from tests.made import entries_by_run, names_for_style
 from tests.spoilt import logged, of_tex_live, spoilt
 
-SPOILT = int(os.environ.get("BTX_TEST_SPOILT", "600"))
+SPOILT = int(os.environ.get("BTX_TEST_SPOILT", "1200"))
 TEXT = b'''@String{jcs = {Journal of   Counting
   Systems}}
 @Article{Kay, Title = "A" # {  b }, journal = jcs, month = feb, year = 1984, title = {no}}
@@ -211,19 +211,33 @@ class BesideRuns(unittest.TestCase):
     def test_spoilt_databases(self):
         self.assertGreater(sum(self.same(text) for text in spoilt(SPOILT)), SPOILT)
 
-    def test_mistakes_are_those_that_are_logged(self):
+    def same_messages(self, text):
+        """Compares the messages with what a run logs: their texts, and their lines. A field that is ignored counts without its line: a message has that of its name, and the log the one on
+        which its value ends."""
+        base = btx.read(text, {})
+        names = {name.encode("utf8", "surrogateescape") for entry in base for name in entry}
+        messages = [(message.place.line, message.text) for message in base.messages]
+        found = logged(text, names)
+        self.assertEqual(sorted(text for _, text in found), sorted(text for _, text in messages), text)
+        self.assertEqual(*(sorted(it for it in those if not it[1].startswith("I'm ignoring")) for those in (found, messages)), text)
+        return len(found)
+
+    def test_messages_of_tex_live(self):
+        paths = of_tex_live()
+        if not paths:
+            self.skipTest("there is no TeX Live")
         total = 0
-        for text in spoilt(SPOILT, seed=65):
-            base = btx.read(text, {})
-            if len({lower(entry.key) for entry in base}) < len(base):
-                continue
-            names = {name.encode("utf8", "surrogateescape") for entry in base for name in entry}
-            mistakes = [(mistake.place.line, mistake.text) for mistake in base.messages]
-            lines = {line for line, text in mistakes if not text.startswith("I'm ignoring")}
-            found = logged(text, names)
-            self.assertEqual(sorted(text for _, text in found), sorted(text for _, text in mistakes), text)
-            self.assertEqual({line for line, text in found if not text.startswith("I'm ignoring")}, lines, text)
-            total += len(found)
+        for path in paths:
+            with self.subTest(path=path.name):
+                total += self.same_messages(re.sub(rb"(?i)crossref", b"crossreg", path.read_bytes()))
+        self.assertGreater(total, 1000)
+
+    def test_messages_of_spoilt_databases(self):
+        total = 0
+        for text in spoilt(SPOILT):
+            base = btx.read(text)
+            if len({lower(entry.key) for entry in base}) == len(base):
+                total += self.same_messages(text)
         self.assertGreater(total, SPOILT // 2)
 
 
