@@ -32,6 +32,7 @@ MOST_NAMED = 5
 SAID_BY_STYLE = frozenset(("missing-field", "missing-in-parent", "unusual-type"))
 # What to do about the findings of checks whose texts don't say it.
 OF_CHECKS = {
+    "long-value": "shorten it, or divide it: a run stores at most 1,000,000 bytes of a value",
     "fields-in-text": "count the braces of the entry above: it may end too early",
     "repeated-doi": "keep one of the two entries, and cite that one",
     "repeated-title": "keep one of the two entries, if they are one work",

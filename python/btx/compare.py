@@ -291,6 +291,9 @@ def compared(job: Job, budget: int, program: Optional[str], seconds: float, room
     since what it started may still run. Copies are made in `room`, which is where temporary files are if none is named."""
     with ONE_AT_A_TIME:
         try:
+            link = job.link_out()
+            if link is not None:
+                return not_run(job, f"{link} is a link that leads out of the folder, so none of its lines is shown")
             os.chdir(job.folder)
             here = search_here()
             options = replace(here.options(Options()), budget=budget, most_list=MOST_BYTES, most_log=MOST_BYTES)

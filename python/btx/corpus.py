@@ -5,7 +5,7 @@ from __future__ import annotations
 import os
 import re
 from dataclasses import dataclass
-from typing import Callable, Dict, FrozenSet, Iterable, List, Optional, Set
+from typing import Callable, Dict, FrozenSet, Iterable, List, Optional, Set, Tuple
 
 __all__ = ["Job", "found_jobs", "state_of"]
 
@@ -13,16 +13,20 @@ INCLUDED = re.compile(rb"^\\@input\{([^}\n]*)\}", re.MULTILINE)
 NAMES_A_STYLE = re.compile(rb"^\\bibstyle\{", re.MULTILINE)
 # An `.aux` file that is longer is taken for a job without being looked through.
 LONGEST = 100_000_000
+# The files of a job that a stranger may have made links.
+ENDINGS = (b".aux", b".bbl", b".blg")
 
 
 @dataclass(frozen=True)
 class Job:
     """An `.aux` file with a `.bbl` beside it.
 
-    folder: where BibTeX is run. name: the job's name there, without `.aux`. Both are bytes, as the system has them."""
+    folder: where BibTeX is run. name: the job's name there, without `.aux`. within: the folders that were searched for jobs, or none where that is its own folder. All are bytes, as the
+    system has them."""
 
     folder: bytes
     name: bytes
+    within: Tuple[bytes, ...] = ()
 
     @property
     def path(self) -> bytes:
@@ -31,6 +35,18 @@ class Job:
 
     def shown(self) -> str:
         return os.fsdecode(self.path)
+
+    def link_out(self) -> Optional[str]:
+        """The name of its first file that is a link which leads out of the folders that were searched, if one is."""
+        folders = [os.path.realpath(folder) for folder in self.within or (self.folder,)]
+        for path in (self.path + ending for ending in ENDINGS):
+            if os.path.islink(path) and not any(is_below(os.path.realpath(path), folder) for folder in folders):
+                return os.fsdecode(os.path.basename(path))
+        return None
+
+
+def is_below(path: bytes, folder: bytes) -> bool:
+    return os.path.commonpath([path, folder]) == folder
 
 
 @dataclass(frozen=True)
@@ -46,6 +62,8 @@ def found_jobs(folders: Iterable[bytes], complain: Callable[[str], None]) -> Lis
 
     An `.aux` file that another one includes is no job of its own, unless it names a style: then it is a chapter with a list of its own, and is
     run where the other one is. `complain` gets the reason why a folder can't be read."""
+    folders = list(folders)
+    within = tuple(os.path.abspath(os.path.dirname(folder) if os.path.isfile(folder) else folder) for folder in folders)
     files = sorted(aux_files(folders, complain))
     scanned = {path: scanned_file(path) for path in files}
     includers = includers_of(scanned)
@@ -55,10 +73,10 @@ def found_jobs(folders: Iterable[bytes], complain: Callable[[str], None]) -> Lis
             continue
         includer = includers.get(path)
         if includer is None:
-            jobs.append(Job(os.path.dirname(path), os.path.basename(path)[:-4]))
+            jobs.append(Job(os.path.dirname(path), os.path.basename(path)[:-4], within))
         elif scanned[path].names_a_style:
             folder = os.path.dirname(includer)
-            jobs.append(Job(folder, os.path.relpath(path, folder)[:-4]))
+            jobs.append(Job(folder, os.path.relpath(path, folder)[:-4], within))
     return jobs
 
 

@@ -14,7 +14,7 @@ from typing import Dict, FrozenSet, Iterable, Iterator, List, NamedTuple, Option
 from .bibtext import ENDS_TEXT, Database, Field, Item, Lines, field_of, read, undefined_strings
 from .bsttext import StyleText, read_style
 from .doubts import OTHER_SPACE, SIGN, TEXTS, TWO_WORDS, Persons, has_words, list_in_braces, lost_words, may_lose, names_by_commas, sign_by_names, sign_of_tex
-from .reading import ENTRY, without_collection
+from .reading import ENTRY, PREAMBLE, STRING, without_collection
 from .usual import ALONE, EITHER, FIELDS, REQUIRED, missing_fields, near_field
 from .values import BRACE
 
@@ -35,6 +35,7 @@ CHECKS = {
         Check("mistake", "error", "Exact: a run logs the same text for the same line."),
         Check("repeated-key", "error", "Exact: a run that stores both entries logs it; what follows the key isn't read."),
         Check("repeated-field", "warning", "Exact: a run logs it where the style reads the field."),
+        Check("long-value", "error", "Exact: the value has more than 1,000,000 bytes, so a run that stores it ends with `limit string`."),
         Check("undefined-string", "warning", "Exact with --style; else the strings that TeX's standard styles define count as defined."),
         Check("no-entry", "warning", "Exact for the databases that are named: a run of the job logs it."),
         Check("unknown-type", "warning", "Exact, with --style: a run that stores the entry logs it."),
@@ -74,6 +75,7 @@ SAID = {
     "mistake": "{}",
     "repeated-key": "{}",
     "repeated-field": "I'm ignoring {}'s extra \"{}\" field",
+    "long-value": "the value of {} has more than 1,000,000 bytes",
     "undefined-string": 'string name "{}" is {}',
     "no-entry": 'I didn\'t find a database entry for "{}"',
     "unknown-type": 'entry type for "{}" isn\'t style-file defined',
@@ -281,8 +283,17 @@ class Examiner:
                 self.say("undefined-string", unknown.part.start, unknown.part.end, key_of(unknown.item), name, what)
         self.between_items(items, end)
         for item in items:
-            if item.records.kinds[item.at] == ENTRY and (item.slip is None or not item.is_repeated):
+            kind = item.records.kinds[item.at]
+            if kind == ENTRY and (item.slip is None or not item.is_repeated):
                 self.entry(item)
+            elif kind in (STRING, PREAMBLE) and not item.records.is_whole[item.at]:
+                self.long_value(item)
+
+    def long_value(self, item: Item) -> None:
+        """Says that a string's or a preamble's value is too long."""
+        name = item.key or b"@" + item.kind
+        start, end = (item.start, item.kind_end) if item.key is None else (item.key_end - len(name), item.key_end)
+        self.say("long-value", start, end, None, name)
 
     def between_items(self, items: List[Item], end: int) -> None:
         """Says where the reading of an item ends with a mistake, and looks for fields in the text between items."""
@@ -334,6 +345,8 @@ class Examiner:
         # (a style in use has a table of its own; and most entries have all that is required)
         if self.style is None and item.slip is None and (kind in EITHER or b"crossref" in numbers or not ALONE.get(kind, NONE) <= numbers.keys()):
             self.required(item, numbers)
+        if records.is_whole.find(0, first, last) >= 0:
+            self.long_fields(item, numbers)
         if records.marks.find(1, first, last) >= 0:
             self.empty(item, numbers)
         for name, examine in EXAMINED:
@@ -397,12 +410,18 @@ class Examiner:
     def missing(self, item: Item, fields: Tuple[bytes, ...], check: str = "missing-field") -> None:
         self.say(check, item.key_end - len(item.key or b""), item.key_end, item.key, b" or ".join(fields), item.kind)
 
+    def long_fields(self, item: Item, numbers: Dict[bytes, int]) -> None:
+        """Says which fields have a value that is too long, of those that the style reads."""
+        for name, number in numbers.items():
+            if not item.records.is_whole[number] and (self.style is None or name in self.style.fields):
+                self.say("long-value", *self.name_of(item, number), item.key, name)
+
     def empty(self, item: Item, numbers: Dict[bytes, int]) -> None:
         """Says which fields are empty."""
         records = item.records
         for number in records.lacking(item.at + 1, item.last):
             name = records.name(number)
-            if not records.text_len[number] and numbers[name] == number:
+            if not records.text_len[number] and records.is_whole[number] and numbers[name] == number:
                 field = field_of(records, number)
                 if self.database.is_text(field):
                     self.say("empty-field", self.database.start(field), field.end, item.key, name)

@@ -2,14 +2,18 @@
 
 from __future__ import annotations
 
+import re
 from typing import Iterator, List, NamedTuple, Optional, Set, Tuple
 
 from .messages import decoded
 from .reading import ENTRY, FIELD, PREAMBLE, STRING, WRONG, Bibliography, Mistake, Place, encoded
-from .records import LowerNames, Records
+from .records import LowerNames, Records, places_of
 from .values import Part, has_names, parts_of, value_of
 
 __all__ = ["Undefined", "mistakes_of", "undefined_strings", "values_of"]
+
+# What opens a string or a preamble, and the whitespace after it.
+OPENS = re.compile(rb"[({][ \t\r\n]*")
 
 
 class Undefined(NamedTuple):
@@ -33,7 +37,8 @@ class Found(NamedTuple):
 def mistakes_of(base: Bibliography) -> List[Mistake]:
     """All that is wrong in a database, by place."""
     places, columns = Places(base.text), Records(base.text, 0, len(base.text), base._records, base._texts, LowerNames())
-    found = sorted([*ended(base), *repeated_entries(base), *unread_fields(base, columns), *unknown_strings(base, columns)], key=lambda it: (it.start, it.end))
+    unread = [*unread_fields(base, columns), *long_values(base, columns)]
+    found = sorted([*ended(base), *repeated_entries(base), *unread, *unknown_strings(base, columns)], key=lambda it: (it.start, it.end))
     return [Mistake(it.text, base.file, places.of(it.start, it.end), it.is_error, key_of(base, it.entry)) for it in found]
 
 
@@ -90,8 +95,25 @@ def unread_fields(base: Bibliography, columns: Records) -> Iterator[Found]:
             if lowered in known:
                 yield Found(start, start + len(name), f'I\'m ignoring {decoded(base._text(entry))}\'s extra "{decoded(name)}" field', entry)
             elif not columns.is_whole[at]:
-                yield Found(start, start + len(name), f"the value of {decoded(name)} has more than 1,000,000 bytes", entry, True)
+                yield Found(start, start + len(name), too_long(name), entry, True)
             known.add(lowered)
+
+
+def long_values(base: Bibliography, columns: Records) -> Iterator[Found]:
+    """The strings and the preambles whose value is too long for a run: each by its name, or by the `@preamble`."""
+    for at in places_of(0, columns.is_whole, 0, len(columns.is_whole)):
+        opening = OPENS.search(base.text, columns.starts[at]) if columns.kinds[at] in (STRING, PREAMBLE) else None
+        if opening is None:
+            continue
+        name, start = base._name(at), opening.end()
+        if columns.kinds[at] == PREAMBLE:
+            start = columns.starts[at]
+            name = base.text[start : opening.start()].rstrip()
+        yield Found(start, start + len(name), too_long(name), None, True)
+
+
+def too_long(name: bytes) -> str:
+    return f"the value of {decoded(name)} has more than 1,000,000 bytes"
 
 
 def unknown_strings(base: Bibliography, columns: Records) -> Iterator[Found]:
@@ -119,9 +141,9 @@ def undefined_strings(base: Bibliography, columns: Records) -> Iterator[Undefine
     for at in [at for at, kind in enumerate(kinds) if kind in (STRING, PREAMBLE) or (kind == FIELD and marks[at])]:
         name = columns.name(at)
         if kinds[at] == FIELD:
-            if kinds.rfind(ENTRY, 0, at) != entry:
-                entry, names = kinds.rfind(ENTRY, 0, at), set()
-                begin = entry + 1
+            latest = kinds.rfind(ENTRY, 0, at)
+            if latest != entry:
+                entry, begin, names = latest, latest + 1, set()
             names.update(columns.names_between(begin, at))
             begin = at
         _, start, end = next(values_of(base, at, at + 1))

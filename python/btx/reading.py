@@ -14,11 +14,12 @@ import os
 import pathlib
 import re
 from types import MappingProxyType
-from typing import Any, Dict, FrozenSet, Iterator, List, Mapping, NamedTuple, Optional, Sequence, Tuple, Union, overload
+from typing import Any, Dict, FrozenSet, Iterator, List, Mapping, NamedTuple, Optional, Sequence, Set, Tuple, Union, overload
 
 from .library import RECORD, Buffer, read_records
 from .messages import decoded
 from .refusals import DatabaseTooLong
+from .searching import MOST_BYTES
 
 __all__ = ["MONTHS", "Bibliography", "Entries", "Entry", "Mistake", "Place", "Source", "read"]
 
@@ -203,6 +204,8 @@ class Bibliography:
         self._texts = texts
         self._kinds = records[::SIZE]
         self._names = LowerNames()
+        # The line of the last place that was asked for, how many bytes are before it, and its column.
+        self._passed = 0, 0, 1
         self.entries = Entries(self)
 
     def __getstate__(self) -> Dict[str, Any]:
@@ -280,15 +283,18 @@ class Bibliography:
         return self._texts[start : start + length]
 
     def _fields(self, at: int) -> Dict[str, str]:
-        """The fields whose records begin here."""
+        """The fields whose records begin here. One whose first value is too long isn't there, whatever comes after it: a run ignores a second one."""
         values: Dict[str, str] = {}
+        left_out: Set[str] = set()
         records, texts, names, unpack, place = self._records, self._texts, self._names, RECORD.unpack_from, at * SIZE
         while place < len(records):
             kind, is_whole, _, _, _, name_at, name_len, text_at, text_len = unpack(records, place)
             if kind != FIELD:
                 break
             name = names[texts[name_at : name_at + name_len]]
-            if is_whole and name not in values:
+            if not is_whole:
+                left_out.add(name)
+            elif name not in values and name not in left_out:
                 values[name] = str(texts[text_at : text_at + text_len], "utf8", "surrogateescape")
             place += SIZE
         return values
@@ -304,9 +310,14 @@ class Bibliography:
         return self._number(self._last(at), 3)
 
     def _place(self, at: int, end: int) -> Place:
-        """The place from the first byte of a record to `end`."""
+        """The place from the first byte of a record to `end`. On one line, columns are counted on from the last place that was asked for. (A record begins with a
+        byte of ASCII or after one, so no character of UTF-8 is divided there.)"""
         start, line = self._number(at, 2), self._number(at, 4)
-        column = len(decoded(self.text[self.text.rfind(b"\n", 0, start) + 1 : start])) + 1
+        known_line, passed, column = self._passed
+        if known_line != line:
+            passed, column = self.text.rfind(b"\n", 0, start) + 1, 1
+        column += len(decoded(self.text[passed:start])) - len(decoded(self.text[start:passed]))
+        self._passed = line, start, column
         return Place(line, column, (start, end))
 
 
@@ -326,8 +337,17 @@ def read(source: Source, strings: Mapping[str, str] = MONTHS) -> Bibliography:
         file, text = NAMELESS, bytes(source)
     else:
         path = pathlib.Path(source)
-        file, text = path.name, path.read_bytes()
+        file, text = path.name, content_of(path)
     return read_text(text, file, strings)
+
+
+def content_of(path: pathlib.Path) -> bytes:
+    """The bytes of a file. One that is too long isn't read."""
+    with path.open("rb") as file:
+        length = os.fstat(file.fileno()).st_size
+        if length > MOST_BYTES:
+            raise DatabaseTooLong(length)
+        return file.read()
 
 
 def read_text(text: bytes, file: str, strings: Mapping[str, str]) -> Bibliography:

@@ -1,6 +1,7 @@
 """Why a call gives no result: each reason is an exception of its own.
 
-Each has its facts as attributes. Its arguments are those facts, and its text is made of them, so that pickle can hand it to another process."""
+Each has its facts as attributes, as far as there are any. Its arguments are those facts, and its text is made of them, so that pickle can hand it to another process. MemoryRefused,
+FileUnknown and Refusal itself have a text alone: of them the library says no more."""
 
 from __future__ import annotations
 
@@ -86,7 +87,7 @@ class MemoryRefused(Refusal, MemoryError):
 
 
 class FileUnknown(Refusal, LookupError):
-    """The job needs a file of which nothing was said. `run` looks for all files that a job needs, so it never raises this."""
+    """The job needs a file of which nothing was said. Which one it is the library doesn't say: `needs` does. `run` looks for all files that a job needs, so it never raises this."""
 
 
 class StyleTooLong(Refusal, ValueError):

@@ -267,6 +267,46 @@ class Comparisons(InFolder):
         })
         self.assertLess(time.monotonic() - began, 15)
 
+    def test_links_that_lead_out_of_the_folder(self):
+        secret = pathlib.Path(tempfile.mkdtemp())
+        self.addCleanup(shutil.rmtree, secret)
+        (secret / "passwd").write_bytes(b"root:SECRET\n")
+        for ending in ("aux", "bbl", "blg"):
+            file = self.job(ending, b"k: T\n") / f"job.{ending}"
+            file.unlink(missing_ok=True)
+            file.symlink_to(secret / "passwd")
+        (self.folder / "step").symlink_to(secret)
+        file = self.job("by a folder", b"") / "job.bbl"
+        file.unlink()
+        file.symlink_to("../step/passwd")
+        said = {name: ("not run", f"job.{name} is a link that leads out of the folder, so none of its lines is shown") for name in ("aux", "bbl", "blg")}
+        self.assertEqual(self.outcomes(), {**said, "by a folder": said["bbl"]})
+        page = self.folder / "page.html"
+        for words in ((), ("--json",), ("--html", page), ("--with", self.program('echo SECRET >"$1.bbl"'))):
+            with self.subTest(words=words):
+                status, printed = self.compare(*words)
+                self.assertEqual((status, "SECRET" in printed, "is a link that leads out" in printed), (3, False, True))
+        self.assertNotIn("SECRET", page.read_text())
+        self.assertIn("is a link that leads out", page.read_text())
+
+    def test_links_that_stay_in_the_folder(self):
+        (self.folder / "lists").mkdir()
+        (self.folder / "lists" / "one.bbl").write_bytes(b"k: U\n")
+        (self.job("one", None) / "job.bbl").symlink_to("../lists/one.bbl")
+        (self.job("two", None) / "job.bbl").symlink_to("../one/job.bbl")
+        self.assertEqual(self.outcomes(), {name: ("different", Cause.OTHER.value) for name in ("one", "two")})
+        self.assertIn("job.bbl is a link", self.compare_folder(self.folder / "two" / "job.aux"))
+        with tempfile.TemporaryDirectory() as other:
+            link = pathlib.Path(other, "link")
+            link.symlink_to(self.folder)
+            self.assertEqual(json.loads(self.compare_folder(link))["results"][0]["outcome"], "different")
+
+    def compare_folder(self, folder):
+        printed = io.StringIO()
+        with contextlib.redirect_stdout(printed):
+            compare.main([str(folder), "--json"])
+        return printed.getvalue()
+
     def test_table_and_status(self):
         self.job("equal", b"k: T\n")
         self.assertEqual(self.compare()[0], 0)

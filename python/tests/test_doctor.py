@@ -24,11 +24,15 @@ from tests.spoilt import SEEDS, SIGNS, logged, run_module, seeds, spoilt
 
 STYLE = b"ENTRY {author title year} {} {}\nMACRO {acm} {\"ACM\"}\nFUNCTION {book} {}\nFUNCTION {misc} {}\nREAD\n"
 TITLE = b"title = {A Title That Is Long}, year = 2000"
+LONG = b"x" * 1_000_001
 # A check; a text with its finding, which is marked by < and >; one without.
 ROWS = [
     ("mistake", b"@misc{k, note <1>}", b"@misc{k, note = 1}"),
     ("repeated-key", b"@misc{k} @misc{<K>}", b"@misc{k} @misc{kk}"),
     ("repeated-field", b"@misc{k, note = {A}, <Note> = {B}}", b"@misc{k, note = {A}, notes = {B}}"),
+    ("long-value", b"@misc{k, <note> = {" + LONG + b"}}", b"@misc{k, note = {" + LONG[1:] + b"}}"),
+    ("long-value", b"@ String ( <ab>={" + LONG + b"})", b"@string{ab={" + LONG[1:] + b"}}"),
+    ("long-value", b"<@Preamble> {{" + LONG + b"}}", b"@preamble{{" + LONG[1:] + b"}}"),
     ("undefined-string", b"@misc{k, note = {A} # <zz>}", b"@string{ZZ = {z}} @misc{k, note = zz # jan # jacm}"),
     ("undefined-string", b"@string{s = <s> # {a}}", b"@string{s = {a}} @string{t = s}"),
     ("fields-in-text", b"@misc{k}\n  <note> = {A}\n", b"@misc{k}\n see note, or a = b\n"),
@@ -113,6 +117,11 @@ class Checks(unittest.TestCase):
             with self.subTest(check=name):
                 text = marked.replace(b"<", b"").replace(b">", b"")
                 self.assertNotIn(name, {finding.check for finding in found_in(text, off=frozenset([name]))})
+
+    def test_a_value_that_is_too_long_is_not_empty(self):
+        text = b"@string{s = {%s}} @misc{k, x = s, note = s # {%s}, y = {%s}}" % (LONG[1:], b"a", LONG)
+        self.assertEqual([it.text for it in found_in(text) if it.check in ("long-value", "empty-field")], [f"the value of {name} has more than 1,000,000 bytes" for name in ("note", "y")])
+        self.assertEqual([it.text for it in found_in(text, Style(STYLE)) if it.check == "long-value"], [])
 
     def test_citations(self):
         aux = Source("j.aux", b"k,zz,K")

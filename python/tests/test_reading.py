@@ -3,6 +3,7 @@
 import os
 import pathlib
 import pickle
+import random
 import re
 import tempfile
 import time
@@ -12,7 +13,7 @@ import btx
 from tests.made import entries_by_run, names_for_style
 from tests.spoilt import logged, of_tex_live, spoilt
 
-SPOILT = int(os.environ.get("BTX_TEST_SPOILT", "600"))
+SPOILT = int(os.environ.get("BTX_TEST_SPOILT", "1200"))
 TEXT = b'''@String{jcs = {Journal of   Counting
   Systems}}
 @Article{Kay, Title = "A" # {  b }, journal = jcs, month = feb, year = 1984, title = {no}}
@@ -90,6 +91,16 @@ class Shapes(unittest.TestCase):
         self.assertEqual((place.line, place.column, TEXT[slice(*place.span)]), (6, 14, b'title = jcs # "~" # zz'))
         self.assertEqual((self.base["j"].raw, self.base["j"].is_whole, entry.is_whole), (b"@misc{j, note ", False, True))
 
+    def test_places_on_one_line_in_any_order(self):
+        odd = "@misc{é, y = {\U0001d400}}ß".encode() + b"@misc{\xff, \xa9 = {\xe9}}\xe2\x82@misc{\xc3,\xa9=1}\xc3"
+        text = odd * 20 + b"\n" + odd + b"\r\n" + odd
+        entries = list(btx.read(text))
+        for entry in (*entries, *reversed(entries), *random.Random(3).choices(entries, k=200)):
+            for place in (entry.place, *map(entry.place_of, entry)):
+                start = text.rfind(b"\n", 0, place.span[0]) + 1
+                column = len(text[start : place.span[0]].decode("utf8", "surrogateescape")) + 1
+                self.assertEqual((place.line, place.column), (text.count(b"\n", 0, start) + 1, column))
+
     def test_strings_and_preamble(self):
         self.assertEqual(self.base.strings, {"jcs": "Journal of Counting Systems"})
         self.assertEqual(self.base.preamble, "\\\\xJournal of Counting Systems")
@@ -116,6 +127,28 @@ class Shapes(unittest.TestCase):
         base = btx.read(b"@misc{k, a = {" + b"x" * 1_000_001 + b"}, b = {y}}")
         self.assertEqual((dict(base["k"]), [message.text for message in base.messages]), ({"b": "y"}, ["the value of a has more than 1,000,000 bytes"]))
 
+    def test_a_name_counts_whose_value_is_too_long(self):
+        long, short = b"title = {" + b"x" * 1_000_001 + b"}", b"Title = {short}"
+        for fields, wanted, extra in ((long + b", " + short, {"b": "y"}, "Title"), (short + b", " + long, {"title": "short", "b": "y"}, "title")):
+            base = btx.read(b"@misc{k, " + fields + b", b = {y}}")
+            self.assertEqual(dict(base["k"]), wanted)
+            self.assertEqual(base["k"].place_of("title").column, 10)
+            self.assertEqual(base.messages[-1].text, f'I\'m ignoring k\'s extra "{extra}" field')
+
+    def test_long_strings_and_preambles(self):
+        long = b"x" * 1_000_001
+        for text, span, name in (
+            (b"@ String ( a_b = {%s})" % long, (11, 14), "a_b"),
+            (b"@Preamble {{%s}}" % long, (0, 9), "@Preamble"),
+            (b"@string{s = {%s}}@string{t = s # {x}}" % long[1:], (1_000_023, 1_000_024), "t"),
+        ):
+            with self.subTest(name=name):
+                found = [(message.text, message.is_error, message.key, message.place.span) for message in btx.read(text).messages]
+                self.assertEqual(found, [(f"the value of {name} has more than 1,000,000 bytes", True, None, span)])
+                files = {"j.aux": b"\\citation{*}\n\\bibdata{d}\n\\bibstyle{s}\n", "s.bst": b"ENTRY{t}{}{}READ", "d.bib": text}
+                self.assertEqual(btx.run("j", files).report.end, btx.End.LIMIT_STRING)
+        self.assertEqual(btx.read(b"@string{a = {%s}}@preamble{{%s}}" % (long[1:], long[1:])).messages, [])
+
     def test_records_that_need_more_room(self):
         base = btx.read(b"@misc{k" + b",a=1" * 100_000 + b"}")
         self.assertEqual(len(list(base["k"])), 1)
@@ -132,6 +165,17 @@ class Shapes(unittest.TestCase):
                 btx.read(path.with_name("none.bib"))
         for source in (bytearray(TEXT), memoryview(TEXT)):
             self.assertEqual(len(btx.read(source)), 4)
+
+    def test_a_file_that_is_too_long_is_not_read(self):
+        with tempfile.TemporaryDirectory() as folder:
+            path = pathlib.Path(folder, "d.bib")
+            path.touch()
+            os.truncate(path, 3 << 30)
+            begin = time.process_time()
+            with self.assertRaises(btx.DatabaseTooLong) as raised:
+                btx.read(path)
+            self.assertEqual(raised.exception.length, 3 << 30)
+            self.assertLess(time.process_time() - begin, 1)
 
     def test_it_is_pickled(self):
         again = pickle.loads(pickle.dumps(self.base))
@@ -167,19 +211,33 @@ class BesideRuns(unittest.TestCase):
     def test_spoilt_databases(self):
         self.assertGreater(sum(self.same(text) for text in spoilt(SPOILT)), SPOILT)
 
-    def test_mistakes_are_those_that_are_logged(self):
+    def same_messages(self, text):
+        """Compares the messages with what a run logs: their texts, and their lines. A field that is ignored counts without its line: a message has that of its name, and the log the one on
+        which its value ends."""
+        base = btx.read(text, {})
+        names = {name.encode("utf8", "surrogateescape") for entry in base for name in entry}
+        messages = [(message.place.line, message.text) for message in base.messages]
+        found = logged(text, names)
+        self.assertEqual(sorted(text for _, text in found), sorted(text for _, text in messages), text)
+        self.assertEqual(*(sorted(it for it in those if not it[1].startswith("I'm ignoring")) for those in (found, messages)), text)
+        return len(found)
+
+    def test_messages_of_tex_live(self):
+        paths = of_tex_live()
+        if not paths:
+            self.skipTest("there is no TeX Live")
         total = 0
-        for text in spoilt(SPOILT, seed=65):
-            base = btx.read(text, {})
-            if len({lower(entry.key) for entry in base}) < len(base):
-                continue
-            names = {name.encode("utf8", "surrogateescape") for entry in base for name in entry}
-            mistakes = [(mistake.place.line, mistake.text) for mistake in base.messages]
-            lines = {line for line, text in mistakes if not text.startswith("I'm ignoring")}
-            found = logged(text, names)
-            self.assertEqual(sorted(text for _, text in found), sorted(text for _, text in mistakes), text)
-            self.assertEqual({line for line, text in found if not text.startswith("I'm ignoring")}, lines, text)
-            total += len(found)
+        for path in paths:
+            with self.subTest(path=path.name):
+                total += self.same_messages(re.sub(rb"(?i)crossref", b"crossreg", path.read_bytes()))
+        self.assertGreater(total, 1000)
+
+    def test_messages_of_spoilt_databases(self):
+        total = 0
+        for text in spoilt(SPOILT):
+            base = btx.read(text)
+            if len({lower(entry.key) for entry in base}) == len(base):
+                total += self.same_messages(text)
         self.assertGreater(total, SPOILT // 2)
 
 
@@ -192,6 +250,14 @@ class Cost(unittest.TestCase):
         self.assertEqual(sum(len(entry.fields) for entry in base), 240_000)
         self.assertLess(read, 1.5)
         self.assertLess(time.process_time() - begin - read, 3)
+
+    def test_places_on_one_line_take_a_linear_time(self):
+        for entries in (list, lambda base: reversed(list(base))):
+            base = btx.read(b"@misc{k, note = {A}, year = 1984} " * 40_000)
+            begin = time.process_time()
+            for entry in entries(base):
+                entry.place.column
+            self.assertLess(time.process_time() - begin, 2)
 
     def test_long_texts_take_a_linear_time(self):
         size = 100_000
