@@ -70,6 +70,11 @@ impl Advice<'_> {
         ["Name ~ in ", "Too many commas "].iter().any(|begin| ROWS[self.number].1.starts_with(begin))
     }
 
+    /// Whether the message is about a name that a list of names doesn't have.
+    pub fn is_of_number_of_name(&self) -> bool {
+        ROWS[self.number].1.starts_with("There is no name number ")
+    }
+
     /// Whether the message is about a type of entry that the style doesn't know.
     pub fn is_of_unknown_type(&self) -> bool {
         ROWS[self.number].1.starts_with("entry type for ")
@@ -195,6 +200,7 @@ pub enum Seen {
     NearKey,
     AlikeKey,
     AlikeName,
+    OtherForm,
     SpaceInName,
     NearString,
     NearParent,
@@ -254,6 +260,16 @@ pub enum Seen {
     AddPart,
     FillField,
     AddToParent,
+    NamesInOneValue,
+    AndTwice,
+    BackslashAtEnd,
+    OneOfBoth,
+    AccentApart,
+    DashOfPages,
+    CommentLine,
+    YearWithLetter,
+    RunOlderAux,
+    OtherStyle,
 }
 
 impl Seen {
@@ -332,6 +348,7 @@ impl Seen {
             Seen::KeyNotInDocument => "run LaTeX again, then BibTeX: `$1` isn't in $2, so the `.aux` file is older",
             Seen::NearKey => "write `$2` in the place of `$1` in the `\\cite`, and run LaTeX",
             Seen::AlikeKey => "write `$2` in the `\\cite`, with the `$1` of the keyboard, and run LaTeX",
+            Seen::OtherForm => "copy the key `$1` from the database into the `\\cite`, and run LaTeX: it looks the same as the one there, and has other bytes",
             Seen::AlikeName => "write the name once more, with the `$1` of the keyboard: `$2`",
             Seen::SpaceInName => "write the name once more, without that space: `$1`",
             Seen::NearString => "write `$1`, or define `$2` by `@string` above its use",
@@ -386,6 +403,16 @@ impl Seen {
             Seen::TypedCitation => "write `\\cite{$1}` in the place of `[$1]` ($2)$3, and run LaTeX",
             Seen::OtherWork => "give the second another key, such as `$1`, and cite it by that: its title is another one",
             Seen::StyleMisnames => "call the style's function `$1` ($2) `$3`, as the type is called",
+            Seen::NamesInOneValue => "put all names into one pair of braces: `$1 = {$2}`",
+            Seen::AndTwice => "take out one of the two `and`: between them stands no name",
+            Seen::BackslashAtEnd => "write `$\\rbrace$` for a brace that is to be printed: BibTeX counts the brace of `\\}`, so it ends the value here",
+            Seen::OneOfBoth => "take `$1` or `$2` out of the entry: this style prints only one of them",
+            Seen::AccentApart => "write $1: an `$2` and an accent of its own ($3) stand here, at which LaTeX stops",
+            Seen::DashOfPages => "write `$1`: the dash here ($2) is no hyphen, by which this style knows that there are several pages",
+            Seen::CommentLine => "take this comment out: a database has no comments inside an entry",
+            Seen::YearWithLetter => "write the number alone, `$1 = $3`; or put all of it into braces, `$1 = {$2}`, where the style makes no label of the year",
+            Seen::RunOlderAux => "run LaTeX, then BibTeX: $2 is older than $1, and doesn't cite `$3`",
+            Seen::OtherStyle => "keep one `\\bibliographystyle` and run LaTeX: `$1` ($2) is in effect, since it stands first; take it away if `$3` (line $4) is meant",
             Seen::LoopWithoutEnd => "change $1 in the body of this loop ($2): its test reads nothing else, so the loop never ends",
         }
     }

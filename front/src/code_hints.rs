@@ -17,9 +17,8 @@ const MOST_BACK: usize = 4;
 const LEAST_CALLS: usize = 2;
 
 /// The hints on the code of a style.
-pub fn code_hints(style: &[u8]) -> Vec<Hint> {
-    let code = Code::new(style);
-    [exchanged_cases(&code), of_calls(&code), asked_twice(&code), uncut_keys(&code)].concat()
+pub fn code_hints(code: &Code<'_>) -> Vec<Hint> {
+    [exchanged_cases(code), of_calls(code), asked_twice(code), uncut_keys(code)].concat()
 }
 
 /// The hints on tests that an `if$` asks again in one of its own branches, as in `n #1 > { n #1 > {..} {..} if$ } 's if$`.
@@ -165,7 +164,7 @@ mod tests {
         let style = format!(
             "ENTRY {{pages volume}}{{}}{{}}\nFUNCTION {{dash}} {{}} FUNCTION {{tie}} {{ * }}\nFUNCTION {{f}} {{\n{body} }}\n"
         );
-        code_hints(style.as_bytes()).into_iter().map(|hint| (hint.line, hint.text)).collect()
+        code_hints(&Code::new(style.as_bytes())).into_iter().map(|hint| (hint.line, hint.text)).collect()
     }
 
     #[test]
@@ -189,7 +188,7 @@ mod tests {
         let text = "`n #1 >` is asked here once more, inside an `if$` that asks the same: is another variable meant in one of the two?";
         let of = |body: &str| {
             let style = format!("INTEGERS {{n i}} STRINGS {{s}}\nFUNCTION {{f}} {{\n{body}\n}}\n");
-            code_hints(style.as_bytes()).into_iter().map(|hint| (hint.line, hint.text)).collect::<Vec<_>>()
+            code_hints(&Code::new(style.as_bytes())).into_iter().map(|hint| (hint.line, hint.text)).collect::<Vec<_>>()
         };
         assert_eq!(of("n #1 >\n{ n #1 > { \"a\" } { \"b\" } if$ } 's if$"), [(4, text.to_string())]);
         assert_eq!(of("n #1 > { \"a\" }\n{ n #1 > { \"a\" } { \"b\" } if$ } if$"), [(4, text.to_string())]);

@@ -61,6 +61,8 @@ pub struct Code<'a> {
     declared: HashMap<Folded<'a>, Declaration>,
     /// The tokens `:=` that come after each quoted name.
     assigned: HashMap<Folded<'a>, Vec<usize>>,
+    /// Of each brace the token that is its other one, if there is one.
+    others: Vec<Option<u32>>,
 }
 
 /// What a name is declared as, and where it stands there.
@@ -79,6 +81,23 @@ fn assigned<'a>(bytes: &'a [u8], tokens: &[Token]) -> HashMap<Folded<'a>, Vec<us
         }
     }
     found
+}
+
+/// Of each token, if it is a brace, the other one of its pair: styles nest them a million deep, so nobody looks for it twice.
+fn other_braces(tokens: &[Token]) -> Vec<Option<u32>> {
+    let (mut open, mut others) = (Vec::new(), vec![None; tokens.len()]);
+    for (index, token) in tokens.iter().enumerate() {
+        match token.kind {
+            Kind::Open => open.push(index),
+            Kind::Close => {
+                if let Some(first) = open.pop() {
+                    (others[first], others[index]) = (u32::try_from(index).ok(), u32::try_from(first).ok());
+                }
+            }
+            _ => {}
+        }
+    }
+    others
 }
 
 /// The names that commands declare, with what each of them is.
@@ -117,7 +136,8 @@ impl<'a> Code<'a> {
     pub fn new(bytes: &'a [u8]) -> Code<'a> {
         let text = Text::new(bytes);
         let tokens: Vec<Token> = Tokens::new(bytes).collect();
-        Code { declared: declared(&text), assigned: assigned(bytes, &tokens), tokens, text }
+        let (declared, assigned) = (declared(&text), assigned(bytes, &tokens));
+        Code { declared, assigned, others: other_braces(&tokens), tokens, text }
     }
 
     /// What a style declares a name as.
@@ -156,6 +176,15 @@ impl<'a> Code<'a> {
         found.into_iter().map(|(_, name)| name).collect()
     }
 
+    /// The functions of the style, in the order of the text.
+    pub fn functions(&self) -> Vec<&'a [u8]> {
+        let is_function = |declaration: &Declaration| matches!(declaration.sort, Declared::Function { .. });
+        let all = self.declared.iter().filter(|(_, declaration)| is_function(declaration));
+        let mut found: Vec<(usize, &'a [u8])> = all.map(|(name, declaration)| (declaration.start, name.0)).collect();
+        found.sort_unstable();
+        found.into_iter().map(|(_, name)| name).collect()
+    }
+
     /// Whether no `:=` to this variable is seen to get a value that isn't of this kind, `a string` or `an integer`. The place is that of one that does.
     pub fn gets_only(&self, variable: &[u8], at: CodePlace<'_, '_>, kind: &str) -> bool {
         let all = self.assigned.get(&Folded(variable)).into_iter().flatten().filter(|index| **index != at.index);
@@ -165,6 +194,11 @@ impl<'a> Code<'a> {
             Some(Left::Text(_) | Left::Field(_)) => kind == "a string",
             None => true,
         })
+    }
+
+    /// The tokens `:=` that assign to this variable.
+    pub(crate) fn assignments_to<'s>(&'s self, variable: &'s [u8]) -> &'s [usize] {
+        self.assigned.get(&Folded(variable)).map_or(&[], Vec::as_slice)
     }
 
     /// How many tokens there are.
@@ -267,18 +301,16 @@ impl<'a> Code<'a> {
     /// The function in braces, or the one token, that ends directly before this token: its first token and its last one.
     pub(crate) fn operand_before(&self, index: usize) -> Option<(usize, usize)> {
         let last = index.checked_sub(1)?;
-        let mut depth = 0_usize;
-        for first in (0..=last).rev() {
-            match self.tokens[first].kind {
-                Kind::Close => depth += 1,
-                Kind::Open => depth = depth.checked_sub(1)?,
-                _ => {}
-            }
-            if depth == 0 {
-                return Some((first, last));
-            }
+        match self.tokens.get(last)?.kind {
+            Kind::Close => Some((self.other_brace(last)?, last)),
+            Kind::Open => None,
+            _ => Some((last, last)),
         }
-        None
+    }
+
+    /// The other brace of a pair.
+    fn other_brace(&self, index: usize) -> Option<usize> {
+        self.others.get(index).copied().flatten().map(|other| other as usize)
     }
 
     /// The functions that each function of the style names, quoted or not, each where it stands first, in the order of the text.
@@ -311,18 +343,11 @@ impl<'a> Code<'a> {
 
     /// The token that closes what this one opens.
     pub(crate) fn closing(&self, open: usize) -> Option<usize> {
-        let mut depth = 0_usize;
-        for index in open..self.tokens.len() {
-            match self.tokens[index].kind {
-                Kind::Open => depth += 1,
-                Kind::Close => depth = depth.checked_sub(1)?,
-                _ => {}
-            }
-            if depth == 0 {
-                return Some(index);
-            }
+        match self.tokens.get(open)?.kind {
+            Kind::Open => self.other_brace(open),
+            Kind::Close => None,
+            _ => Some(open),
         }
-        None
     }
 
     /// The `while$` of the style, in the order of the text: the function in which each stands, and its line.
@@ -332,13 +357,17 @@ impl<'a> Code<'a> {
 
     /// The tokens that execute the function `name`, in the order of the text, each after the function in which it stands.
     pub(crate) fn executed(&self, name: &[u8]) -> Vec<(&'a [u8], usize)> {
-        let commands = commands(self.text.bytes);
         let is_it = |index: &usize| self.kind(*index) == Kind::Name && Folded(self.of(*index)) == Folded(name);
+        let found: Vec<usize> = (0..self.tokens.len()).filter(is_it).collect();
+        if found.is_empty() {
+            return Vec::new();
+        }
+        let commands = commands(self.text.bytes);
         let placed = |index: usize| {
             let above = commands.partition_point(|command| command.start < self.tokens[index].start);
             Some((commands[..above].last()?.name?, index))
         };
-        (0..self.tokens.len()).filter(is_it).filter_map(placed).collect()
+        found.into_iter().filter_map(placed).collect()
     }
 
     /// The fields of which a function asks by `empty$` or `missing$` whether they are there.
@@ -395,6 +424,14 @@ impl<'a> Code<'a> {
     pub fn place_in(&self, line: usize, text: &[u8], number: Option<usize>) -> Option<CodePlace<'_, 'a>> {
         self.index(line, text, number).map(|index| CodePlace { code: self, index })
     }
+}
+
+/// Functions that nearly each style defines, and that leave a number.
+const LOGICAL: [&str; 3] = ["not", "and", "or"];
+
+/// Whether a name is one of these.
+fn is_logical(name: &[u8]) -> bool {
+    LOGICAL.iter().any(|logical| name.eq_ignore_ascii_case(logical.as_bytes()))
 }
 
 /// Among how many tokens of one text in a line a place is looked for at most.
@@ -478,7 +515,8 @@ impl<'a> CodePlace<'_, 'a> {
         let (first, last) = self.code.operand_before(self.index)?;
         let before = first.checked_sub(1)?;
         let is_function = first < last || self.code.kind(first) == Kind::Quoted;
-        let is_number = self.code.kind(before) == Kind::Name && advice::leaves_number(self.code.of(before));
+        let name = self.code.of(before);
+        let is_number = self.code.kind(before) == Kind::Name && (advice::leaves_number(name) || is_logical(name));
         (is_function && is_number).then(|| (self.code.line(first), self.code.line(last)))
     }
 
@@ -487,6 +525,13 @@ impl<'a> CodePlace<'_, 'a> {
         let is_function = |(first, last): (usize, usize)| first < last || self.code.kind(first) == Kind::Quoted;
         let body = self.code.operand_before(self.index).filter(|body| is_function(*body));
         body.and_then(|(first, _)| self.code.operand_before(first)).is_some_and(is_function)
+    }
+
+    /// Whether the function in braces directly before it ends by one that leaves a number.
+    pub fn ends_by_number(self) -> bool {
+        let last = self.code.operand_before(self.index).filter(|(first, last)| first + 1 < *last);
+        let name = last.map(|(_, last)| self.code.of(last - 1));
+        name.is_some_and(|name| advice::leaves_number(name) || is_logical(name))
     }
 
     /// The brace that closes the test of a `while$` here.

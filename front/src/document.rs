@@ -186,6 +186,12 @@ impl Document {
         self.words.as_ref().is_some_and(|words| !words.contains(key)) && find(key, b"ontrol").is_none()
     }
 
+    /// Whether it was changed after the file at this path.
+    pub fn is_newer_than(&self, path: &[u8]) -> bool {
+        let changed = |path: &[u8]| fs::metadata(path_of(path)).and_then(|data| data.modified()).ok();
+        changed(&self.file.path).zip(changed(path)).is_some_and(|(its, other)| its > other)
+    }
+
     /// The line of a command with an argument, such as `\bibliography`.
     pub fn line_of(&self, command: &[u8]) -> Option<usize> {
         let whole = [command, b"{"].concat();

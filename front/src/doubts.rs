@@ -2,6 +2,7 @@
 
 use crate::advice::Seen;
 use crate::mistakes::number_meant;
+use crate::sign_doubts::lost_formula;
 use crate::terminal::plain;
 use crate::text::find;
 
@@ -47,7 +48,7 @@ pub fn doubt(name: &[u8], text: &[u8], has_label: bool) -> Option<Doubt> {
     let is_address = is_in(name, &ADDRESSES);
     if is_address || is_in(name, &TEXTS) {
         let signs = |text| if is_address { backslash(text) } else { sign(text) };
-        return entity(text, is_address).or_else(|| signs(text));
+        return entity(text, is_address).or_else(|| signs(text)).or_else(|| backslash_at_end(text));
     }
     if is_in(name, &[b"author", b"editor"]) {
         return entity(text, false).or_else(|| suffix(text)).or_else(|| initials(text));
@@ -149,6 +150,13 @@ fn backslash(text: &[u8]) -> Option<Doubt> {
     let before = pairs.checked_sub(1).filter(|before| text[*before] == b'{' && text.get(pairs + 2) == Some(&b'}'));
     let (place, written) = before.map_or((pairs, format!("\\{sign}")), |before| (before, format!("{{\\{sign}}}")));
     Some(Doubt { place, seen: Seen::BackslashInUrl, names: vec![sign, written] })
+}
+
+/// A backslash at the end of a text: the brace after it was meant to be printed.
+fn backslash_at_end(text: &[u8]) -> Option<Doubt> {
+    let backslashes = text.iter().rev().take_while(|byte| **byte == b'\\').count();
+    let place = text.len().checked_sub(1).filter(|_| backslashes % 2 == 1)?;
+    Some(Doubt { place, seen: Seen::BackslashAtEnd, names: Vec::new() })
 }
 
 /// A sign at which LaTeX stops where it stands in text. A text whose `$` aren't paired is left alone.
@@ -332,9 +340,9 @@ fn initials(text: &[u8]) -> Option<Doubt> {
 /// Commands of letters, of which BibTeX changes the case as it does of the letters of ASCII.
 const LETTERS: [&[u8]; 5] = [b"O", b"L", b"OE", b"AE", b"AA"];
 
-/// What loses its capital letters outside of braces, where the style changes the case of the text: a command, or else a word.
+/// What loses its capital letters outside of braces, where the style changes the case of the text: a command, or else a formula or a word.
 pub fn lost_case(text: &[u8]) -> Option<Doubt> {
-    lost_command(text).or_else(|| lost_word(text))
+    lost_command(text).or_else(|| lost_formula(text)).or_else(|| lost_word(text))
 }
 
 /// A command whose name has a capital letter.
@@ -490,7 +498,7 @@ mod tests {
         assert_eq!(seen.names, ["`DNA`, `X-ray`, `Franklin`", "`Gosling`", "DNA"]);
         assert_eq!(lost("On iPhones, \\LaTeX"), Some((12, "\\latex".into())));
         for text in [
-            "The {IBM} of $AB$ and {\\TeX}",
+            "The {IBM} of {$AB$} and {\\TeX}",
             "ALL IN LARGE LETTERS",
             "On X-rays",
             "On A",

@@ -1,6 +1,7 @@
 //! The items of a job's databases: by their lines, and the entries by their keys.
 
 use crate::alike::{Alike, alike};
+use crate::composed::composed;
 use crate::database::{Folded, Item, Items, key_at};
 use crate::job::{File, Files};
 use crate::missing_entry::Clue;
@@ -297,6 +298,19 @@ impl<'a> Entries<'a> {
         let mut found = known.filter_map(|known| Some((known.0, alike(known.0)?)));
         let (known, alike) = found.find(|(_, alike)| Folded(&alike.name) == Folded(key))?;
         self.entry(known).map(|stored| (stored, alike, false))
+    }
+
+    /// The entry whose key is this one, which no entry has, with its letters in another form.
+    pub fn in_other_form(&self, key: &[u8]) -> Option<Stored<'_, 'a>> {
+        let whole = composed(key);
+        let found = whole.as_deref().and_then(|whole| self.entry(whole));
+        if found.is_some() || key.is_ascii() {
+            return found;
+        }
+        let whole = whole.unwrap_or_else(|| key.to_vec());
+        let mut known = self.by_key().keys().filter(|known| self.left.get() > 0 && !known.0.is_ascii());
+        let known = known.find(|known| composed(known.0).is_some_and(|it| Folded(&it) == Folded(&whole)))?;
+        self.entry(known.0)
     }
 
     /// The first entry of this key that stands in the text of another item.

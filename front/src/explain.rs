@@ -12,6 +12,7 @@ mod page;
 mod styles;
 #[cfg(test)]
 mod tests;
+mod unlogged;
 mod warnings;
 
 use self::databases::{DatabaseMistakes, is_of_whole_job};
@@ -97,6 +98,8 @@ impl<'a> Adviser<'a> {
 /// Explains the lines of a log. What it knows of the messages of each kind stands in the module that explains these.
 struct Explainer<'a, W: Write> {
     files: &'a Files,
+    /// The list that the run wrote; empty where it isn't at hand.
+    list: &'a [u8],
     part: Part,
     sources: Sources<'a>,
     entries: Option<Entries<'a>>,
@@ -124,6 +127,7 @@ impl<'a, W: Write> Explainer<'a, W> {
     fn new(log: &Log<'a>, files: &'a Files, part: Part, terminal: &'a Terminal, out: W) -> Self {
         Explainer {
             files,
+            list: log.list,
             part,
             sources: Sources::new(files),
             entries: None,
@@ -224,6 +228,7 @@ impl<'a, W: Write> Explainer<'a, W> {
         if end.is_finished() && self.part == Part::Whole {
             self.after_ends()?;
             self.unsaid()?;
+            self.empty_label()?;
             if end.errors == 0 {
                 self.unsaid_of_style()?;
             }

@@ -3,14 +3,17 @@
 
 use crate::advice::operands;
 use crate::code_hints::code_hints;
+use crate::code_places::Code;
 use crate::database::Folded;
+use crate::list_hints::list_hints;
+use crate::loops::{Loops, MOST_TOKENS, of_loops, spans_of};
 use crate::style_read::{DeclaredName, Sort, StyleRead};
 use crate::style_text::{Command, Kind, Token};
 use crate::terminal::plain;
 use crate::text::Text;
 pub use crate::usual_types::is_usual_type;
 use crate::usual_types::of_types;
-use std::collections::{HashMap, HashSet};
+use std::collections::HashMap;
 use std::iter::Peekable;
 use std::ops::Range;
 
@@ -61,7 +64,9 @@ pub fn hints(style: &StyleRead<'_>) -> Vec<Hint> {
         Some(Hint { line: text.line_of(declared.start), text: text_of, sort: Of::Use })
     });
     let of_styles = of_sort(style, &text, &uses).into_iter().chain(of_unused(style, &text, &uses));
-    let of_styles = of_styles.chain(of_types(style, &text, &uses)).chain(code_hints(style.names.bytes));
+    let code = Code::new(style.names.bytes);
+    let of_styles =
+        of_styles.chain(of_types(style, &text, &uses)).chain(code_hints(&code)).chain(list_hints(style, &code));
     let others = of_pieces(style, &text).into_iter().chain(of_loops(style, &text)).chain(of_styles);
     let mut hints: Vec<Hint> = of_names.chain(others).collect();
     hints.sort_by_key(|hint| hint.line);
@@ -220,395 +225,8 @@ fn name_that_touches<'a>(bytes: &'a [u8], command: &Command<'a>) -> Option<&'a [
     command.name.filter(|_| is_run && bytes.get(command.start + command.word.len()) == Some(&b'{'))
 }
 
-// ---- loops ----
-
-/// Built-in functions of a test that reads nothing but what stands in it: how many literals each takes, and how many it leaves.
-const PURE: [(&str, usize, usize); 16] = [
-    ("=", 2, 1),
-    (">", 2, 1),
-    ("<", 2, 1),
-    ("+", 2, 1),
-    ("-", 2, 1),
-    ("*", 2, 1),
-    ("empty$", 1, 1),
-    ("text.length$", 1, 1),
-    ("num.names$", 1, 1),
-    ("substring$", 3, 1),
-    ("chr.to.int$", 1, 1),
-    ("text.prefix$", 2, 1),
-    ("duplicate$", 1, 2),
-    ("pop$", 1, 0),
-    ("skip$", 0, 0),
-    ("swap$", 2, 2),
-];
-
-/// Functions that nearly each style defines, and how many numbers each takes; it leaves one.
-const LOGICAL: [(&str, usize); 3] = [("not", 1), ("and", 2), ("or", 2)];
-
-/// How deep braces stand in each other in a test that is followed.
-const MOST_NESTED: usize = 8;
-
-/// How many tokens are looked at for all loops of a style.
-const MOST_TOKENS: usize = 2_000_000;
-
-/// The tokens of a style, as its loops need them.
-struct Loops<'a> {
-    style: &'a StyleRead<'a>,
-    /// For each closing brace the opening one, by their numbers, in the order of the closing ones.
-    opened: Vec<(usize, usize)>,
-    variables: HashSet<Folded<'a>>,
-    /// Those of INTEGERS.
-    counters: HashSet<Folded<'a>>,
-    /// The tokens of each function of the style, its name included, in the order of the text.
-    spans: Vec<Range<usize>>,
-    /// The same, by the function's name.
-    functions: HashMap<Folded<'a>, Range<usize>>,
-}
-
-/// A loop: the numbers of the tokens in the braces of its test and of its body, and of its `while$`.
-#[derive(Debug, Clone)]
-struct Loop {
-    test: Range<usize>,
-    body: Range<usize>,
-    end: usize,
-}
-
-/// The loops that don't change what their test reads: such a loop isn't entered, or doesn't end. And those in which a counter doesn't count.
-fn of_loops<'a>(style: &'a StyleRead<'a>, text: &Text<'_>) -> Vec<Hint> {
-    let ends: Vec<usize> = (0..style.tokens.len()).filter(|end| is_while(style, *end)).collect();
-    if ends.is_empty() {
-        return Vec::new();
-    }
-    let loops = Loops::new(style);
-    let line = |token: usize| text.line_of(style.tokens[token].start);
-    let (mut left, mut given) = (MOST_TOKENS, Given::default());
-    let mut found = Vec::new();
-    for of_while in ends.into_iter().filter_map(|end| loops.loop_of(end)) {
-        let lines = (line(of_while.body.start - 1), line(of_while.end));
-        let endless = loops.endless(&of_while, lines, &mut left);
-        let said = endless.into_iter().chain(loops.still(&of_while, lines, &mut given, &mut left));
-        let begin = line(of_while.test.start - 1);
-        found.extend(said.map(|text| Hint { line: begin, text, sort: Of::Loop }));
-    }
-    found
-}
-
-/// A loop that doesn't end once it is entered, or once a turn of it changes nothing.
-#[derive(Debug, PartialEq, Eq)]
-pub struct Endless {
-    /// The variables that its test reads, and that its body never changes.
-    pub never: String,
-    /// Those of its test that some turns alone change.
-    pub sometimes: String,
-    /// The lines of its body.
-    pub body: String,
-}
-
-/// Of the loop whose `while$` is the one of this line, why it doesn't end, as far as the text shows that.
-pub fn loop_without_end(bytes: &[u8], line: usize) -> Option<Endless> {
-    let (text, style) = (Text::new(bytes), StyleRead::new(bytes));
-    let line_of = |token: usize| text.line_of(style.tokens[token].start);
-    let mut ends = (0..style.tokens.len()).filter(|end| is_while(&style, *end) && line_of(*end) == line);
-    let end = ends.next().filter(|_| ends.next().is_none())?;
-    let loops = Loops::new(&style);
-    let (of_while, mut left) = (loops.loop_of(end)?, MOST_TOKENS);
-    let (never, sometimes) = loops.read_in_vain(&of_while, &mut left).filter(|(never, _)| !never.is_empty())?;
-    let body = in_lines((line_of(of_while.body.start - 1), line_of(end)));
-    Some(Endless { never: listed(&never, "or"), sometimes: listed(&sometimes, "or"), body })
-}
-
-/// Whether the token of this number is `while$`.
-fn is_while(style: &StyleRead<'_>, number: usize) -> bool {
-    style.of(&style.tokens[number]).eq_ignore_ascii_case(b"while$")
-}
-
-/// The lines of a loop's body, in words.
-fn in_lines((first, last): (usize, usize)) -> String {
-    if first == last { format!("line {first}") } else { format!("lines {first}-{last}") }
-}
-
-/// Names in a row.
-fn listed(names: &[Folded<'_>], word: &str) -> String {
-    let names: Vec<String> = names.iter().map(|name| plain(name.0)).collect();
-    names.join(&format!(" {word} "))
-}
-
-/// For each closing brace the opening one.
-fn opened(tokens: &[Token]) -> Vec<(usize, usize)> {
-    let (mut open, mut opened) = (Vec::new(), Vec::new());
-    for (place, token) in tokens.iter().enumerate() {
-        match token.kind {
-            Kind::Open => open.push(place),
-            Kind::Close => opened.extend(open.pop().map(|begin| (place, begin))),
-            _ => {}
-        }
-    }
-    opened
-}
-
-/// The tokens of each function, its name included, in the order of the text.
-fn spans_of(style: &StyleRead<'_>) -> Vec<Range<usize>> {
-    let mut at = 0;
-    // (the places that are asked for only rise)
-    let mut first_from = |place: usize| {
-        at += style.tokens[at..].iter().take_while(|token| token.start < place).count();
-        at
-    };
-    let ends = style.names.commands.iter().skip(1).map(|next| next.start).chain([style.names.bytes.len()]);
-    let functions = style.names.commands.iter().zip(ends).filter(|(command, _)| command.is("function"));
-    functions.map(|(command, end)| first_from(command.start) + 1..first_from(end)).collect()
-}
-
-/// Where the function that was looked at last assigns to its variables.
-#[derive(Default)]
-struct Given<'a> {
-    /// The function's tokens.
-    function: Range<usize>,
-    /// For each name after a quote the number of its first token, and whether there is another.
-    places: HashMap<Folded<'a>, (usize, bool)>,
-}
-
-impl<'a> Given<'a> {
-    /// Looks at a function, if it isn't the one that was looked at last.
-    fn look_at(&mut self, style: &StyleRead<'a>, function: Range<usize>) {
-        if self.function == function {
-            return;
-        }
-        self.places.clear();
-        for place in function.clone().filter(|place| style.tokens[*place].kind == Kind::Quoted) {
-            let name = Folded(&style.of(&style.tokens[place])[1..]);
-            self.places.entry(name).and_modify(|(_, again)| *again = true).or_insert((place, false));
-        }
-        self.function = function;
-    }
-
-    /// Whether the function assigns once to a variable: a number, before this token.
-    fn is_once(&self, style: &StyleRead<'_>, name: Folded<'_>, before: usize) -> bool {
-        let is_number = |place: usize| place > 0 && style.tokens[place - 1].kind == Kind::Integer;
-        self.places.get(&name).is_some_and(|(place, again)| !again && *place < before && is_number(*place))
-    }
-}
-
-impl<'a> Loops<'a> {
-    fn new(style: &'a StyleRead<'a>) -> Loops<'a> {
-        let of_sort = |is_it: fn(Sort) -> bool| {
-            let declared = style.names.declared.iter().filter(move |declared| is_it(declared.sort));
-            declared.map(|declared| Folded(declared.name)).collect()
-        };
-        let spans = spans_of(style);
-        let named = spans.iter().filter_map(|span| {
-            let name = style.tokens.get(span.clone())?.iter().find(|token| token.kind == Kind::Name)?;
-            Some((Folded(style.of(name)), span.clone()))
-        });
-        Loops {
-            style,
-            opened: opened(&style.tokens),
-            variables: of_sort(|sort| matches!(sort, Sort::Integer | Sort::Text)),
-            counters: of_sort(|sort| sort == Sort::Integer),
-            functions: named.collect(),
-            spans,
-        }
-    }
-
-    /// The tokens in the braces that end directly before a token.
-    fn braces_before(&self, index: usize) -> Option<Range<usize>> {
-        let close = index.checked_sub(1)?;
-        let found = self.opened.binary_search_by_key(&close, |(close, _)| *close).ok()?;
-        Some(self.opened[found].1 + 1..close)
-    }
-
-    /// The loop whose `while$` this token is, where both of its functions stand in braces directly before it.
-    fn loop_of(&self, end: usize) -> Option<Loop> {
-        let body = self.braces_before(end)?;
-        let test = self.braces_before(body.start - 1)?;
-        Some(Loop { test, body, end })
-    }
-
-    /// The function in which a token stands.
-    fn function_around(&self, token: usize) -> Option<Range<usize>> {
-        let behind = self.spans.partition_point(|span| span.start <= token);
-        self.spans[..behind].last().filter(|span| span.contains(&token)).cloned()
-    }
-
-    /// The variables that the test of a loop reads and that the loop never changes, and those that it changes, where a turn of it may change none.
-    fn read_in_vain(&self, of_while: &Loop, left: &mut usize) -> Option<(Vec<Folded<'a>>, Vec<Folded<'a>>)> {
-        let read = self.read_by(of_while.test.clone())?;
-        let (sometimes, never): (Vec<_>, Vec<_>) =
-            read.iter().copied().partition(|name| self.may_change(of_while.body.clone(), *name, left));
-        let is_in_vain = sometimes.is_empty() || !never.is_empty() && self.may_stay(of_while, left);
-        is_in_vain.then_some((never, sometimes))
-    }
-
-    /// What is said of a loop that changes nothing that its test reads, or of which a turn may change nothing.
-    fn endless(&self, of_while: &Loop, lines: (usize, usize), left: &mut usize) -> Option<String> {
-        let ((never, sometimes), body) = (self.read_in_vain(of_while, left)?, in_lines(lines));
-        let may = if sometimes.is_empty() {
-            String::new()
-        } else {
-            format!(", and a turn of it may change neither that nor {}", listed(&sometimes, "or"))
-        };
-        Some(if never.is_empty() {
-            format!("does this loop end? Its test always leaves the same (body: {body})")
-        } else {
-            format!(
-                "does this loop end? Its body ({body}) never changes {}, which its test reads{may}",
-                listed(&never, "or")
-            )
-        })
-    }
-
-    /// Whether a turn of a loop may assign to no variable that its test or its body reads.
-    fn may_stay(&self, of_while: &Loop, left: &mut usize) -> bool {
-        let tokens = of_while.test.clone().chain(of_while.body.clone());
-        let names = tokens.filter(|at| self.style.tokens[*at].kind == Kind::Name);
-        let names = names.map(|at| Folded(self.style.of(&self.style.tokens[at])));
-        let read: HashSet<Folded<'_>> = names.filter(|name| self.variables.contains(name)).collect();
-        self.may_pass(of_while.body.clone(), &read, MOST_NESTED, left).unwrap_or(false)
-    }
-
-    /// Whether there is a way through these tokens that assigns to none of these variables; None where that isn't seen.
-    fn may_pass(
-        &self,
-        tokens: Range<usize>,
-        read: &HashSet<Folded<'_>>,
-        nested: usize,
-        left: &mut usize,
-    ) -> Option<bool> {
-        *left = left.checked_sub(tokens.len())?;
-        let (mut blocks, mut at): (Vec<Option<bool>>, usize) = (Vec::new(), tokens.start);
-        while at < tokens.end {
-            let (kind, name) = (self.style.tokens[at].kind, self.style.of(&self.style.tokens[at]));
-            at += 1;
-            match kind {
-                Kind::Open => {
-                    let close = self.closing(at, tokens.end)?;
-                    blocks.push(self.may_pass(at..close, read, nested.checked_sub(1)?, left));
-                    at = close + 1;
-                }
-                Kind::Quoted if self.variables.contains(&Folded(&name[1..])) && read.contains(&Folded(&name[1..])) => {
-                    return Some(false);
-                }
-                Kind::Quoted => {
-                    blocks.push(PURE.iter().any(|(pure, ..)| pure.as_bytes() == &name[1..]).then_some(true))
-                }
-                Kind::Name if name == b"if$" => {
-                    let (no, yes) = (blocks.pop()??, blocks.pop()??);
-                    if !yes && !no {
-                        return Some(false);
-                    }
-                }
-                Kind::Name if name == b":=" => drop(blocks.pop()),
-                Kind::Name if self.functions.contains_key(&Folded(name)) => drop(self.logical(name)?),
-                Kind::Name if name == b"while$" => return None,
-                _ => {}
-            }
-        }
-        Some(true)
-    }
-
-    /// How many literals one of the functions `not`, `and` and `or` takes, if the style defines it and it assigns nothing.
-    fn logical(&self, name: &[u8]) -> Option<usize> {
-        let (_, takes) = LOGICAL.iter().find(|(logical, _)| name.eq_ignore_ascii_case(logical.as_bytes()))?;
-        let mut tokens = self.style.tokens[self.functions.get(&Folded(name))?.clone()].iter();
-        (!tokens.any(|token| self.style.of(token) == b":=")).then_some(*takes)
-    }
-
-    /// What is said of a loop whose body uses variables that were given a number above it, and that nothing in its function changes.
-    fn still(&self, of_while: &Loop, lines: (usize, usize), given: &mut Given<'a>, left: &mut usize) -> Option<String> {
-        *left = left.checked_sub(of_while.body.len())?;
-        given.look_at(self.style, self.function_around(of_while.end)?);
-        let (mut names, mut seen): (Vec<Folded<'a>>, HashSet<Folded<'a>>) = (Vec::new(), HashSet::new());
-        for token in self.style.tokens[of_while.body.clone()].iter().filter(|token| token.kind == Kind::Name) {
-            let name = Folded(self.style.of(token));
-            let is_given = || given.is_once(self.style, name, of_while.test.start);
-            if self.counters.contains(&name) && seen.insert(name) && is_given() {
-                names.push(name);
-            }
-        }
-        names.retain(|name| !self.may_change(of_while.body.clone(), *name, left));
-        let body = in_lines(lines);
-        let all = listed(&names, "and");
-        (!names.is_empty()).then(|| format!("does this loop count? Its body ({body}) uses {all} and never changes it"))
-    }
-
-    /// The variables that a test reads; None where it also reads the stack, a field, or what a function of the style does.
-    fn read_by(&self, test: Range<usize>) -> Option<Vec<Folded<'a>>> {
-        self.depth_after(test.clone(), 0, MOST_NESTED).filter(|depth| *depth == 1)?;
-        let mut seen = HashSet::new();
-        let names = self.style.tokens[test].iter().map(|token| Folded(self.style.of(token)));
-        Some(names.filter(|name| self.variables.contains(name) && seen.insert(*name)).collect())
-    }
-
-    /// How many literals stand on the stack after these tokens, of which `depth` did before. None where they take what stood there before all of them, or where that isn't seen.
-    fn depth_after(&self, tokens: Range<usize>, depth: usize, nested: usize) -> Option<usize> {
-        let (mut depth, mut blocks, mut at) = (depth, Vec::new(), tokens.start);
-        while at < tokens.end {
-            let (kind, name) = (self.style.tokens[at].kind, self.style.of(&self.style.tokens[at]));
-            at += 1;
-            if kind == Kind::Open {
-                let close = self.closing(at, tokens.end)?;
-                blocks.push(at..close);
-                at = close + 1;
-            } else if name == b"if$" {
-                let (no, yes, below) = (blocks.pop()?, blocks.pop()?, depth.checked_sub(1)?);
-                let [yes, no] = [yes, no].map(|block| self.depth_after(block, below, nested.checked_sub(1)?));
-                depth = yes.filter(|_| yes == no)?;
-            } else if kind == Kind::Integer || kind == Kind::Text || self.variables.contains(&Folded(name)) {
-                depth += 1;
-            } else if let Some(takes) = self.logical(name).filter(|_| kind == Kind::Name) {
-                depth = depth.checked_sub(takes)? + 1;
-            } else {
-                let (_, takes, leaves) =
-                    PURE.iter().find(|(pure, ..)| kind == Kind::Name && pure.as_bytes() == name)?;
-                depth = depth.checked_sub(*takes)? + leaves;
-            }
-            if !blocks.is_empty() && kind != Kind::Open {
-                return None;
-            }
-        }
-        blocks.is_empty().then_some(depth)
-    }
-
-    /// The token that closes the braces whose first token is `from`.
-    fn closing(&self, from: usize, end: usize) -> Option<usize> {
-        let mut depth = 0_usize;
-        for at in from..end {
-            match self.style.tokens[at].kind {
-                Kind::Close if depth == 0 => return Some(at),
-                Kind::Close => depth -= 1,
-                Kind::Open => depth += 1,
-                _ => {}
-            }
-        }
-        None
-    }
-
-    /// Whether a variable comes after a quote in these tokens, or in the functions that they name. It may do where `left` tokens don't suffice to see.
-    fn may_change(&self, body: Range<usize>, wanted: Folded<'a>, left: &mut usize) -> bool {
-        let (mut open, mut seen) = (vec![body], HashSet::new());
-        while let Some(span) = open.pop() {
-            if span.len() > *left {
-                return true;
-            }
-            *left -= span.len();
-            let tokens = &self.style.tokens[span];
-            for token in tokens.iter().filter(|token| matches!(token.kind, Kind::Name | Kind::Quoted)) {
-                let text = self.style.of(token);
-                let name = Folded(if token.kind == Kind::Quoted { &text[1..] } else { text });
-                if token.kind == Kind::Quoted && name == wanted {
-                    return true;
-                }
-                if let Some(function) = self.functions.get(&name).filter(|_| seen.insert(name)) {
-                    open.push(function.clone());
-                }
-            }
-        }
-        false
-    }
-}
-
 /// The number that `#N` is.
-fn integer(text: &[u8]) -> Option<i64> {
+pub(crate) fn integer(text: &[u8]) -> Option<i64> {
     std::str::from_utf8(text.get(1..)?).ok()?.parse().ok()
 }
 
@@ -658,52 +276,10 @@ mod tests {
     }
 
     #[test]
-    fn loops_that_change_nothing_are_named() {
-        let of = |body: &str| {
-            said(&format!(
-                "INTEGERS {{i}} STRINGS {{s}}\nFUNCTION {{c.d}} {{#1 'i := i pop$ \"\" 's := s pop$}}\nFUNCTION {{a.b}} {{\n{body}\n}}\nEXECUTE {{a.b}} EXECUTE {{c.d}}"
-            ))
-        };
-        let changes = "does this loop end? Its body (lines 5-6) never changes i, which its test reads";
-        assert_eq!(of("{i #0 >}\n{i int.to.str$ write$\n} while$"), [(4, changes.to_string())]);
-        let same = "does this loop end? Its test always leaves the same (body: line 4)";
-        assert_eq!(of("{#1} {skip$} while$"), [(4, same.to_string())]);
-        let counts = "does this loop count? Its body (line 5) uses i and never changes it";
-        assert_eq!(
-            of("#1 'i := \"xx\" 's :=\n{s empty$ not} {i pop$ s #2 global.max$ substring$ 's :=} while$"),
-            [(5, counts.to_string())]
-        );
-        for body in [
-            "{i #0 >} {i #1 - 'i :=} while$",
-            "{i #0 >} {c.d} while$",
-            "{duplicate$ #0 >} {#1 -} while$",
-            "'i {skip$} while$",
-            "{i} 'c.d while$",
-            "#1 'i := {s empty$} {i pop$ i #1 + 'i := \"\" 's :=} while$",
-            "s num.names$ 'i := {s empty$} {i pop$ \"\" 's :=} while$",
-            "{#0 >} {skip$} while$",
-            "{s empty$ {#0} {#0 #1} if$} {skip$} while$",
-        ] {
-            assert_eq!(of(body), []);
-        }
-    }
-
-    #[test]
-    fn tests_with_branches_are_followed() {
-        let style = "INTEGERS {n} STRINGS {s}\nFUNCTION {a.b} {\n{ s n #1 substring$ \".\" =\n n #0 > {} {pop$ #0} if$ }\n{n #1 - pop$}\nwhile$ }\nEXECUTE {a.b}";
-        let line = "does this loop end? Its body (lines 5-6) never changes s or n, which its test reads";
-        assert!(said(style).contains(&(3, line.to_string())), "{:?}", said(style));
-        let found = loop_without_end(style.as_bytes(), 6);
-        let wanted = Endless { never: "s or n".into(), sometimes: String::new(), body: "lines 5-6".into() };
-        assert_eq!(found, Some(wanted));
-        assert_eq!(loop_without_end(style.as_bytes(), 5), None);
-    }
-
-    #[test]
     fn constants_in_unused_functions_are_looked_at() {
         let style = |commands: &str| {
             said(&format!(
-                "FUNCTION {{f.g}} {{\n\"A\" \"{{ll}}\" #1 format.name$ #1 #2 >\n\"4\" - #1 #2 + write$}}\nREAD\n{commands}"
+                "FUNCTION {{f.g}} {{\n\"A\" \"{{ll}}\" #1 format.name$ #1 #2 >\n\"4\" - #1 #2 + write$ newline$}}\nREAD\n{commands}"
             ))
         };
         let named = |begin: &str| format!("{begin}: no run shows that, since its function is never used");
@@ -727,7 +303,7 @@ mod tests {
         assert_eq!(style("SORT\nITERATE {pre.sort}\n"), [(5, below.to_string())]);
         assert_eq!(style("ITERATE {pre.sort}\nSORT\nITERATE {pre.sort}\n"), []);
         assert_eq!([style("ITERATE {pre.sort}\nSORT\n"), style("ITERATE {pre.sort}\n%SORT\n")], [vec![], vec![]]);
-        assert_eq!(style("FUNCTION {c.d} {sort.key$ write$}\nITERATE {pre.sort}\nITERATE {c.d}\n"), []);
+        assert_eq!(style("FUNCTION {c.d} {sort.key$ write$ newline$}\nITERATE {pre.sort}\nITERATE {c.d}\n"), []);
     }
 
     #[test]
@@ -740,17 +316,5 @@ mod tests {
         assert_eq!(said("READ FUNCTION{f}{}\n").len(), 1);
         assert_eq!(said(""), []);
         assert_eq!(said("FUNCTION"), []);
-    }
-    #[test]
-    fn turns_that_change_nothing_are_seen() {
-        let of = |turn: &str| {
-            let style = format!(
-                "INTEGERS {{n}} STRINGS {{s t}}\nFUNCTION {{not}} {{{{#0}} {{#1}} if$}}\nFUNCTION {{and}} {{'skip$ {{pop$ #0}} if$}}\n\
-                FUNCTION {{a.b}} {{\n{{ n not t empty$ not and }}\n{{ t \"-\" = {{ #1 'n := }} {{ t #2 #9 substring$ {turn} }} if$ }}\nwhile$ }}\nEXECUTE {{a.b}}"
-            );
-            loop_without_end(style.as_bytes(), 7).map(|endless| (endless.never, endless.sometimes))
-        };
-        assert_eq!(of("'s :="), Some(("t".into(), "n".into())));
-        assert_eq!([of("'t :="), of("'s := s 't :=")], [None, None]);
     }
 }

@@ -25,8 +25,8 @@
 //! | [`explain`] and its modules, [`entries`], [`shown_line`], [`advice`] | what follows a message for its reader: where it stands, and what to do |
 //! | [`mistakes`] | what an author did where a database can't be read on |
 //! | [`beside`] | which file may be meant by one that isn't there, and what a file is that isn't what its name says |
-//! | [`unsaid`], [`doubts`], [`persons`] | what no run logs of the cited entries |
-//! | [`document`], [`alike`] | the document beside the `.aux` file; characters that look like one of the keyboard |
+//! | [`unsaid`], [`doubts`], [`sign_doubts`], [`persons`] | what no run logs of the cited entries |
+//! | [`document`], [`alike`], [`composed`] | the document beside the `.aux` file; characters that look like one of the keyboard; letters in two forms |
 //! | [`missing_entry`], [`nearest`] | where an entry may be that wasn't found, and which name may be meant by one that isn't known |
 //! | [`lacking`] | which field an entry lacks that a style asks for |
 //! | [`letters`], [`languages`], [`letter_places`], [`plain_entries`], [`letter_values`], [`letter_codes`], [`style_keys`], [`keyed_hash`], [`letter_run`] | letters outside ASCII: half letters in a list, and the order of a language |
@@ -38,6 +38,7 @@
 //! | [`repeats`] | errors of an execution that repeat |
 //! | [`style_check`], [`style_read`], [`hints`] | what can be said of a style before any document uses it |
 //! | [`code_hints`] | hints on operands in another order, on a test that is asked twice, and on a key to sort by that isn't cut |
+//! | [`list_hints`] | hints on what the list of a style lacks, or has otherwise than it is meant |
 //! | [`usual_types`] | the types that styles usually know |
 //! | [`constants`] | constants that the function after them can't take |
 //! | [`lint_types`] | for entries of which types that is said |
@@ -54,11 +55,13 @@ pub mod advice;
 pub mod alike;
 pub mod aux_text;
 pub mod beside;
+pub mod branches;
 #[allow(unsafe_code)]
 pub mod btx;
 pub mod cased;
 pub mod code_hints;
 pub mod code_places;
+pub mod composed;
 pub mod confined_program;
 pub mod constants;
 pub mod database;
@@ -92,8 +95,10 @@ pub mod lint_text;
 pub mod lint_ties;
 pub mod lint_types;
 pub mod lint_warnings;
+pub mod list_hints;
 pub mod literals;
 pub mod log;
+pub mod loops;
 pub mod message_places;
 pub mod missing_entry;
 pub mod mistakes;
@@ -113,6 +118,7 @@ pub mod search;
 pub mod search_program;
 pub mod shapes;
 pub mod shown_line;
+pub mod sign_doubts;
 pub mod sources;
 pub mod style_check;
 pub mod style_keys;

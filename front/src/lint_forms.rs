@@ -3,12 +3,13 @@
 use crate::btx::Verdict;
 use crate::code_places::Code;
 use crate::explain;
-use crate::hints::Of;
+use crate::hints::{Hint, Of};
 use crate::lint_ends::{Ends, Proved, Reason};
 use crate::lint_text::{Style, groups, verdict, write};
 use crate::lint_types::Types;
 use crate::lint_warnings::Warning;
 use crate::log::Log;
+use crate::loops::counts_towards;
 use crate::shapes::Part;
 use crate::shown_line::ShownLine;
 use crate::style_check::StyleCheck;
@@ -32,7 +33,8 @@ pub fn code_of(check: &StyleCheck) -> Code<'_> {
 pub fn write_for_people(check: &StyleCheck, terminal: &Terminal, out: &mut impl Write) -> io::Result<()> {
     let path = path_of(check);
     if check.messages.count > 0 {
-        explain::write(&Log::new(&check.messages.log), &check.files, Part::Mistakes, terminal, out)?;
+        let log = Log::new(&check.messages.log).with_places(&check.messages.places);
+        explain::write(&log, &check.files, Part::Mistakes, terminal, out)?;
     }
     let code = code_of(check);
     let style = Style { path: &path, code: &code, terminal, has_mistakes: check.messages.count > 0 };
@@ -40,11 +42,13 @@ pub fn write_for_people(check: &StyleCheck, terminal: &Terminal, out: &mut impl 
     for hint in check.hints.iter().filter(|hint| hint.sort == Of::Test) {
         writeln!(out, "{path}:{}: hint: {}", hint.line, hint.text)?;
     }
-    write(&style, &check.found, check.entries.as_deref(), out)?;
+    let causes = write(&style, &check.found, check.entries.as_deref(), out)?;
     write_constants(&style, check, out)?;
     // (a loop that doesn't end may be why the check doesn't)
     let are_loops_first = matches!(check.verdict, Some(Verdict::Incomplete(_)));
-    for hint in check.hints.iter().filter(|hint| hint.sort != Of::Test && (hint.sort != Of::Loop || are_loops_first)) {
+    let (unused, others): (Vec<&Hint>, Vec<&Hint>) = check.hints.iter().partition(|hint| unused_name(hint).is_some());
+    write_unused(&path, &unused, out)?;
+    for hint in others.iter().filter(|hint| hint.sort != Of::Test && (hint.sort != Of::Loop || are_loops_first)) {
         writeln!(out, "{path}:{}: hint: {}", hint.line, hint.text)?;
     }
     write_verdict(&style, check, out)?;
@@ -56,7 +60,58 @@ pub fn write_for_people(check: &StyleCheck, terminal: &Terminal, out: &mut impl 
     for hint in check.hints.iter().filter(|hint| hint.sort == Of::Loop && !are_loops_first) {
         writeln!(out, "{path}:{}: hint: {unsaid}{}", hint.line, hint.text)?;
     }
-    Ok(())
+    above(check, causes).map_or(Ok(()), |above| writeln!(out, "{path}: above: {above}"))
+}
+
+/// The variable that a hint says to have no use.
+fn unused_name(hint: &Hint) -> Option<&str> {
+    hint.text.strip_prefix("the variable ")?.strip_suffix(" is never used")
+}
+
+/// How many variables without a use are named in one line, from three on.
+const MOST_UNUSED: usize = 8;
+
+/// Writes which variables have no use: many in one line, so that they don't hide the other hints.
+fn write_unused(path: &str, unused: &[&Hint], out: &mut impl Write) -> io::Result<()> {
+    if unused.len() < 3 {
+        return unused.iter().try_for_each(|hint| writeln!(out, "{path}:{}: hint: {}", hint.line, hint.text));
+    }
+    let named = |hint: &&Hint| Some(format!("{} (line {})", unused_name(hint)?, hint.line));
+    let mut names: Vec<String> = unused.iter().take(MOST_UNUSED).filter_map(named).collect();
+    let more = unused.len().saturating_sub(MOST_UNUSED);
+    names.extend(Some(format!("{more} more")).filter(|_| more > 0));
+    let line = unused.first().map_or(0, |hint| hint.line);
+    writeln!(out, "{path}:{line}: hint: these variables are never used: {}", names.join(", "))
+}
+
+/// How many lines are named at most in the last line.
+const MOST_LINES: usize = 8;
+
+/// What stands above the verdict that is to be looked at, with its lines; None where there is nothing.
+fn above(check: &StyleCheck, causes: Vec<usize>) -> Option<String> {
+    let counted = |lines: Vec<usize>, word: &str| {
+        let (count, plural) = (lines.len(), if lines.len() == 1 || word.ends_with('`') { "" } else { "s" });
+        let mut known: Vec<usize> = lines.into_iter().filter(|line| *line > 0).collect();
+        known.sort_unstable();
+        known.dedup();
+        let dots = if known.len() > MOST_LINES { ", .." } else { "" };
+        known.truncate(MOST_LINES);
+        let of_lines = if known.len() == 1 { "line" } else { "lines" };
+        let known: Vec<String> = known.iter().map(usize::to_string).collect();
+        let known = if known.is_empty() { String::new() } else { format!(" ({of_lines} {}{dots})", known.join(", ")) };
+        (count > 0).then(|| format!("{count} {word}{plural}{known}"))
+    };
+    let constants = check.constants.iter().map(|constant| constant.line);
+    let warnings = check.found.shown().into_iter().map(Warning::line).chain(constants).collect();
+    let hints = check.hints.iter().map(|hint| hint.line).collect();
+    let messages = match check.messages.count {
+        0 => None,
+        1 => Some("1 message".to_string()),
+        count => Some(format!("{count} messages")),
+    };
+    let all = [messages, counted(causes, "unequal `if$`"), counted(warnings, "warning"), counted(hints, "hint")];
+    let all: Vec<String> = all.into_iter().flatten().collect();
+    (!all.is_empty()).then(|| all.join(", "))
 }
 
 /// Writes the constants that functions can't take.
@@ -120,6 +175,9 @@ fn write_ends(path: &str, check: &StyleCheck, out: &mut impl Write) -> io::Resul
     match check.ends() {
         None => Ok(()),
         Some(Ends::Unproved(reason)) => {
+            if let Some(said) = counting(check, reason) {
+                return writeln!(out, "{path}: no bound is known: {said}");
+            }
             writeln!(out, "{path}: not known to end: {}", reason.in_words())?;
             if check.is_clean() { writeln!(out, "    {CLEAN_WITHOUT_END}") } else { Ok(()) }
         }
@@ -145,7 +203,23 @@ fn write_others(check: &StyleCheck, proved: &Proved, reason: &Reason, out: &mut 
         [name] => format!("the type {name}"),
         names => format!("the types {}", names.join(", ")),
     };
-    writeln!(out, "    not known to end for entries of {types}: {}", reason.in_words())
+    match counting(check, reason) {
+        Some(said) => writeln!(out, "    no bound is known for entries of {types}: {said}"),
+        None => writeln!(out, "    not known to end for entries of {types}: {}", reason.in_words()),
+    }
+}
+
+/// What is said of a loop without a known bound that counts towards its end at each turn, so that nothing suggests that it doesn't come to it.
+fn counting(check: &StyleCheck, reason: &Reason) -> Option<String> {
+    let Reason::Token { next, spot } = reason else { return None };
+    let line = spot.call.line;
+    let is_suspect = check.hints.iter().any(|hint| hint.sort == Of::Loop);
+    let (counter, bound) =
+        counts_towards(code_of(check).text.bytes, line).filter(|_| next == b"while$" && !is_suspect)?;
+    Some(format!(
+        "`while$` in line {line}, in {}, counts {counter} on to {bound} at each turn; a bound is known of loops that count down, and of some others",
+        plain(spot.owner())
+    ))
 }
 
 /// Writes for which types of entries something is said.

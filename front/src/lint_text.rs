@@ -1,6 +1,7 @@
 //! The warnings of a style in words for its designer.
 
 use crate::advice;
+use crate::branches::{branches_in_words, difference, left_by};
 use crate::code_places::{Code, CodePlace};
 use crate::lint_entry::Shown;
 use crate::lint_ties::{Ties, varies};
@@ -9,7 +10,8 @@ use crate::literals::shortage;
 use crate::notes::Spot;
 use crate::operands::{
     MEND_TEST, Said, TEST_LEAVES, asked_instead, assigned, assigned_backwards, assigned_without_entry, compared,
-    exchanged, in_other_order, left_out, let_through, lone_branch, pushed, tested, unquoted, without_entry,
+    exchanged, exchanged_in_loop, in_other_order, integer_in_quotes, left_out, let_through, lone_branch, pushed,
+    tested, unquoted, without_entry,
 };
 use crate::shown_line::ShownLine;
 use crate::terminal::{Terminal, plain};
@@ -151,6 +153,9 @@ fn operand_of(warning: &Warning, place: CodePlace<'_, '_>) -> Option<Said> {
         return Some((what, advice));
     }
     let is_number_wanted = match operand.wanted {
+        Some(Wanted::Integer) if integer_in_quotes(place).is_some() => {
+            return integer_in_quotes(place).map(|advice| (what, advice));
+        }
         Some(Wanted::Integer) => true,
         Some(Wanted::Text) => false,
         _ => return None,
@@ -159,7 +164,7 @@ fn operand_of(warning: &Warning, place: CodePlace<'_, '_>) -> Option<Said> {
 }
 
 /// What is said of a `while$` whose test may leave no integer. Of its own two functions the notes name the one that is wrong.
-fn test_of(warning: &Warning, place: Option<CodePlace<'_, '_>>) -> Option<Said> {
+fn test_of(warning: &Warning, place: Option<CodePlace<'_, '_>>, code: &Code<'_>) -> Option<Said> {
     if warning.next != b"while$" || warning.operand.is_some() {
         return None;
     }
@@ -168,7 +173,9 @@ fn test_of(warning: &Warning, place: Option<CodePlace<'_, '_>>) -> Option<Said> 
         Some(Fault::EmptyStack) if place?.is_behind_two_functions() => "it may leave nothing here",
         _ => return None,
     };
-    let said = place.and_then(tested).unwrap_or_else(|| (usual.to_string(), MEND_TEST.to_string()));
+    let exchanged = place.and_then(|place| exchanged_in_loop(code, place)).map(|advice| (usual.to_string(), advice));
+    let said = exchanged.or_else(|| place.and_then(tested));
+    let said = said.unwrap_or_else(|| (usual.to_string(), MEND_TEST.to_string()));
     Some((format!("{TEST_LEAVES}: {}", said.0), said.1))
 }
 
@@ -189,7 +196,7 @@ fn without_entry_of(warning: &Warning, code: &Code<'_>) -> Option<Said> {
 pub fn said_of(warning: &Warning, code: &Code<'_>) -> (String, String) {
     let usual = || (what_of(warning), advice_of(warning));
     let place = warning.places.first().and_then(|spot| code.place(spot, &warning.next));
-    if let Some(said) = test_of(warning, place) {
+    if let Some(said) = test_of(warning, place, code) {
         return said;
     }
     let Some(place) = place else { return usual() };
@@ -198,6 +205,9 @@ pub fn said_of(warning: &Warning, code: &Code<'_>) -> (String, String) {
         return (format!("`{next}` takes VALUE 'VARIABLE: {what}"), advice);
     }
     match (warning.fault, &warning.missing) {
+        (Some(Fault::EmptyStack), None) if lone_branch(place, &warning.next).is_some() => {
+            (what_of(warning), lone_branch(place, &warning.next).unwrap_or_default())
+        }
         (Some(Fault::EmptyStack), None) => {
             let shortage = shortage(code, &warning.places, &warning.next);
             (what_of(warning), shortage.map_or_else(|| advice_of(warning), |shortage| shortage.advice()))
@@ -473,7 +483,14 @@ fn write_cause(style: &Style<'_, '_>, cause: &Cause, others: &[usize], out: &mut
     writeln!(out, "{}:{}: {}", style.path, cause.spot.call.line, cause_text(style.code, cause))?;
     style.write_line(&cause.spot, b"if$", out)?;
     write_lines("and, which may follow from it,", others, out)?;
-    writeln!(out, "    what to do: let both leave the same number; warnings below may follow from this")
+    let difference = difference(cause.grows);
+    if let (Some([first, second]), Some((more, _))) = (branches_in_words(style.code, cause), &difference) {
+        writeln!(out, "    the first: {first}")?;
+        writeln!(out, "    the second: {second}")?;
+        writeln!(out, "    so: {more}")?;
+    }
+    let advice = difference.map_or("let both leave the same number".to_string(), |(_, advice)| advice);
+    writeln!(out, "    what to do: {advice}; warnings below may follow from this")
 }
 
 /// Writes the causes that are shown. Those that may follow from another one of the same function are named with it.
@@ -567,6 +584,7 @@ fn write_group(
     write_lines("and", &lines.collect::<Vec<_>>(), out)?;
     let tied = ties.of(first);
     let advice = advice_behind(&tied, advice);
+    let left = leaving(style.code, first).filter(|_| tied.is_empty());
     let here = Above::of(first, &advice);
     let origin = ties_of(&tied).or_else(|| above.origin(&here));
     let advice = if above.advice == advice { "as above".to_string() } else { advice };
@@ -575,15 +593,18 @@ fn write_group(
         ("for entries of type", types_of(group)),
         ("when", conditions_of(first)),
         ("called from", way_of(first)),
+        ("left by", left),
         ("may follow from", origin),
         ("what to do", Some(advice)),
     ];
-    for (label, text) in said {
-        if let Some(text) = text {
-            writeln!(out, "    {label}: {text}")?;
-        }
-    }
-    Ok(())
+    let mut said = said.into_iter().filter_map(|(label, text)| Some((label, text?)));
+    said.try_for_each(|(label, text)| writeln!(out, "    {label}: {text}"))
+}
+
+/// Which functions that a command runs leave literals, of the warning that it may leave some.
+fn leaving(code: &Code<'_>, warning: &Warning) -> Option<String> {
+    let item = warning.item.as_ref().filter(|_| warning.fault == Some(Fault::LeftOver))?;
+    left_by(code, item.argument()?)
 }
 
 /// Writes an entry that shows a warning.
@@ -635,13 +656,13 @@ fn write_mistaken(
     Ok(())
 }
 
-/// Writes all warnings of a style; `entries` says of each that is shown whether an entry shows it, where that was asked.
+/// Writes all warnings of a style; `entries` says of each that is shown whether an entry shows it, where that was asked. Answers the lines of the unequal `if$` that are shown.
 pub fn write(
     style: &Style<'_, '_>,
     found: &Warnings,
     entries: Option<&[Shown]>,
     out: &mut impl Write,
-) -> io::Result<()> {
+) -> io::Result<Vec<usize>> {
     let shown = found.shown();
     let follows = |warning: &Warning| style.has_mistakes && left_out_of(warning, style.code).is_some();
     let following: Vec<&Warning> = shown.iter().copied().filter(|warning| follows(warning)).collect();
@@ -668,7 +689,8 @@ pub fn write(
         write_group(style, &warnings, &ties, &mut above, out)?;
         entry.map_or(Ok(()), |entry| write_entry(entry, out))?;
     }
-    write_behind(style, &behind, &shown, out)
+    write_behind(style, &behind, &shown, out)?;
+    Ok(causes.iter().map(|cause| cause.spot.call.line).collect())
 }
 
 /// How many warnings are shown that may follow from one unequal `if$`, where many do.

@@ -73,6 +73,34 @@ enum Quoted<'a> {
     Named(&'a [u8]),
 }
 
+/// What some code takes and leaves, token by token.
+#[derive(Debug, Clone, Default, PartialEq, Eq)]
+pub struct Traced {
+    /// For each literal that it takes of those that were there before, the token that takes it.
+    pub takers: Vec<usize>,
+    /// For each literal that it leaves, the token that pushed it.
+    pub left: Vec<usize>,
+    /// The token that names it, where it is a function that isn't in braces.
+    pub named: Option<usize>,
+}
+
+impl Traced {
+    /// Adds what a token does.
+    fn add(&mut self, at: usize, step: Change, token: &[u8]) {
+        let of_two = self.left.len().checked_sub(2);
+        match (token, of_two) {
+            (b"swap$", Some(second)) => self.left.swap(second, second + 1),
+            (b"duplicate$", _) if !self.left.is_empty() => self.left.push(at),
+            _ => {
+                let missing = step.takes.saturating_sub(self.left.len());
+                self.left.truncate(self.left.len() - (step.takes - missing));
+                self.takers.extend(std::iter::repeat_n(at, missing));
+                self.left.extend(std::iter::repeat_n(at, step.leaves));
+            }
+        }
+    }
+}
+
 /// How deep functions are followed into those that they name or quote, and how many tokens are looked at for one fault.
 const MOST_DEPTH: usize = 200;
 const MOST_TOKENS: usize = 100_000;
@@ -143,10 +171,17 @@ impl<'c, 'a> Literals<'c, 'a> {
     }
 
     fn one_by_one(&mut self, tokens: Range<usize>) -> Option<Change> {
-        let (mut change, mut quoted, mut at) = (Change::default(), Vec::new(), tokens.start);
+        let mut change = Change::default();
+        self.each(tokens, |_, step| change = change.then(step))?;
+        Some(change)
+    }
+
+    /// Goes over these tokens of one body: each that is executed is given with what it does.
+    fn each(&mut self, tokens: Range<usize>, mut met: impl FnMut(usize, Change)) -> Option<()> {
+        let (mut quoted, mut at) = (Vec::new(), tokens.start);
         while at < tokens.end {
             self.tokens_left = self.tokens_left.checked_sub(1)?;
-            let text = self.code.of(at);
+            let (text, executed) = (self.code.of(at), at);
             let step = match self.code.kind(at) {
                 Kind::Open => {
                     let close = self.code.closing(at).filter(|close| *close < tokens.end)?;
@@ -167,10 +202,42 @@ impl<'c, 'a> Literals<'c, 'a> {
                 Kind::Name => self.of_name(text)?,
                 _ => return None,
             };
-            change = change.then(step);
+            met(executed, step);
             at += 1;
         }
-        Some(change)
+        Some(())
+    }
+
+    /// What these tokens of one body take and leave, token by token.
+    fn traced(&mut self, tokens: Range<usize>) -> Option<Traced> {
+        let (code, mut traced) = (self.code, Traced::default());
+        self.each(tokens, |at, step| traced.add(at, step, code.of(at)))?;
+        Some(traced)
+    }
+
+    /// What a function that stands quoted in the code takes and leaves, token by token. One that is named counts as one token.
+    fn traced_quoted(&mut self, first: usize, quoted: &Quoted<'a>) -> Option<Traced> {
+        match quoted {
+            Quoted::InBraces(tokens) => self.traced(tokens.clone()),
+            Quoted::Named(name) => {
+                let (change, mut traced) = (self.of_name(name)?, Traced { named: Some(first), ..Traced::default() });
+                traced.add(first, change, name);
+                Some(traced)
+            }
+        }
+    }
+
+    /// What both functions before the `if$` that this token is take and leave.
+    pub fn of_branches(&mut self, index: usize) -> Option<[Traced; 2]> {
+        let (place, second) = self.quoted_before(index)?;
+        let (first, of_first) = self.quoted_before(place)?;
+        Some([self.traced_quoted(first, &of_first)?, self.traced_quoted(place, &second)?])
+    }
+
+    /// What the body of a function of the style takes and leaves.
+    pub fn of_body(&mut self, name: &[u8]) -> Option<Traced> {
+        let (_, tokens) = self.code.function(name)?;
+        self.traced(tokens.start + 1..tokens.end - 1)
     }
 
     /// The function that stands quoted directly before a token, and its first token.

@@ -117,17 +117,24 @@ pub struct Log<'a> {
     scenes: Option<&'a Scenes>,
     /// Whether a signal ended the run.
     pub is_interrupted: bool,
+    /// The list that the run wrote; empty where it isn't at hand.
+    pub list: &'a [u8],
 }
 
 impl<'a> Log<'a> {
     /// The log that these bytes are.
     pub fn new(bytes: &'a [u8]) -> Self {
-        Log { bytes, printed: &[], places: None, scenes: None, is_interrupted: false }
+        Log { bytes, printed: &[], places: None, scenes: None, is_interrupted: false, list: b"" }
     }
 
     /// The same log, in which no message begins in these parts, since a style printed them.
     pub fn with_printed(self, printed: &'a [Range<usize>]) -> Self {
         Log { printed, ..self }
+    }
+
+    /// The same log, of a run that wrote this list.
+    pub fn with_list(self, list: &'a [u8]) -> Self {
+        Log { list, ..self }
     }
 
     /// The same log, whose messages were met at these places.

@@ -5,6 +5,7 @@ use crate::advice::Seen;
 use crate::alike::alike;
 use crate::aux_text::unread_database;
 use crate::beside::what_is_odd;
+use crate::composed::composed;
 use crate::database::{Inside, name_at};
 use crate::document::Document;
 use crate::entries::{Entries, Skipped, Stored};
@@ -42,7 +43,7 @@ pub fn clue(entries: &Entries<'_>, files: &Files, document: Option<&Document>, k
     }
     let of_text = in_record(entries, key).or_else(|| without_comma(entries, key));
     of_text.or_else(|| clue_of_unreached(entries, key)).or_else(|| lost(entries, files).cloned()).unwrap_or_else(|| {
-        let alike = clue_of_alike(entries, key);
+        let alike = clue_of_form(entries, key).or_else(|| clue_of_alike(entries, key));
         alike.or_else(|| clue_of_older(entries, document, key)).unwrap_or_else(|| clue_of_nearest(entries, key))
     })
 }
@@ -100,6 +101,20 @@ fn clue_of_alike(entries: &Entries<'_>, key: &[u8]) -> Option<Clue> {
         (format!("`{name}`, {}, has {}: is it that one?", begins(stored), alike.what), Seen::AlikeName)
     };
     Some(Clue { place: Some(place), advice: Some(seen.with(&[&sign, &plain(&alike.name)])) })
+}
+
+/// What is said of a key that differs from an entry's only in how letters with marks are written.
+fn clue_of_form(entries: &Entries<'_>, key: &[u8]) -> Option<Clue> {
+    let stored = entries.in_other_form(key)?;
+    let name = plain(stored.item.key?.name);
+    let (here, there) = match composed(key) {
+        Some(_) => ("a mark follows its letter", "both are one character"),
+        None => ("a letter and its mark are one character", "the mark follows it"),
+    };
+    let place = format!("`{name}`, {}, is this key in another form: here {here}, there {there}", begins(stored));
+    let is_parent = entries.parent(key).is_some();
+    let seen = if is_parent { Seen::NearParent } else { Seen::OtherForm };
+    Some(Clue { place: Some(place), advice: Some(seen.with(&[&name])) })
 }
 
 /// What is said of a key that the document doesn't have any more, and that no entry names as its parent.
@@ -376,6 +391,21 @@ mod tests {
         assert_eq!(advice, "mend that item: a `}` or a quote is missing above `two`");
         let (place, _) = clue_of("@misc{one, note = {x\n@misc{two, note = 1}}}\n", "two");
         assert_eq!(place, "`two` stands at d.bib:2, in a value of @misc{one}, which begins at d.bib:1");
+    }
+
+    #[test]
+    fn a_key_in_another_form_is_found() {
+        let text = "@misc{mu\u{308}ller} @misc{\u{e9}lie, crossref = {ce\u{301}zanne}} @misc{c\u{e9}zanne}";
+        let (place, advice) = clue_of(text, "m\u{fc}ller");
+        let there =
+            "is this key in another form: here a letter and its mark are one character, there the mark follows it";
+        assert_eq!(place, format!("`mu\u{308}ller`, which begins at d.bib:1, {there}"));
+        assert_eq!(advice, Seen::OtherForm.with(&["mu\u{308}ller"]));
+        let (place, advice) = clue_of(text, "ce\u{301}zanne");
+        assert!(place.ends_with("here a mark follows its letter, there both are one character"), "{place}");
+        assert_eq!(advice, "write `crossref = {c\u{e9}zanne}`");
+        assert_eq!(clue_of(text, "m\u{fa}ller").1, "");
+        assert_eq!(clue_of(text, "E\u{301}lie").1, "");
     }
 
     #[test]

@@ -7,6 +7,7 @@ use crate::job::File;
 use crate::letter_values::parts;
 use crate::terminal::plain;
 use crate::text::Text;
+use crate::unsaid::is_list_of_names;
 use std::ops::Range;
 
 /// How many bytes of an item's line are looked at for what an author takes for a comment.
@@ -38,6 +39,12 @@ pub fn what_to_do(file: &File, text: &Text<'_>, item: &Item<'_>, place: usize, e
         b"Illegal end of database file" => place.at_end(),
         _ => None,
     }
+}
+
+/// What to do about the first value of an entry that has taken in what looks like the next field.
+pub fn what_runs_on(file: &File, text: &Text<'_>, item: &Item<'_>) -> Option<String> {
+    let inside = Inside::of(text.bytes, item);
+    Place { file, text, item, place: item.end, inside }.runs_on()
 }
 
 /// What to do about an entry that was meant to be hidden.
@@ -179,6 +186,14 @@ impl<'a> Place<'_, 'a> {
         }
     }
 
+    /// The names of a list of which each has braces or quotes of its own, with `and` between them: `{Doe, Jane} and {Roe, Max}`.
+    fn names_in_one(&self, value: &Range<usize>, word: &[u8]) -> Option<String> {
+        self.inside.fields.last().filter(|field| is_list_of_names(field) && word.eq_ignore_ascii_case(b"and"))?;
+        let line = &self.text.bytes[value.start..self.text.span(self.text.line_of(self.place)).1];
+        let all: Vec<&[u8]> = parts(line).into_iter().map(|part| &line[part]).collect();
+        (all.len() > 1).then(|| plain(&all.join(&b" and "[..])))
+    }
+
     fn after_value(&self, value: &Range<usize>) -> Option<String> {
         let (owner, first) = (self.owner()?, self.text.bytes[value.start]);
         if self.byte() == Some(b';') {
@@ -194,6 +209,12 @@ impl<'a> Place<'_, 'a> {
         }
         if let Some(seen) = self.letter_for_digit(value, word).or_else(|| self.part_without_hash(value, word, &owner)) {
             return Some(seen);
+        }
+        if let Some(seen) = self.year_with_letter(value, word, &owner) {
+            return Some(seen);
+        }
+        if let Some(names) = self.names_in_one(value, word) {
+            return Some(Seen::NamesInOneValue.with(&[&owner, &names]));
         }
         Some(match (first, self.byte()) {
             (b'"', _) => Seen::NoHash.with(&[&owner, "; a quote within quotes stands in braces"]),
@@ -211,6 +232,15 @@ impl<'a> Place<'_, 'a> {
         let (number, letter) =
             number_meant(&self.text.bytes[value.start..value.end + word.len()]).filter(|_| is_whole)?;
         Some(Seen::LetterForDigit.with(&[&number, &letter.to_string()]))
+    }
+
+    /// A year of four digits with a letter after it, as `1972a`.
+    fn year_with_letter(&self, value: &Range<usize>, word: &[u8], owner: &str) -> Option<String> {
+        let year = &self.text.bytes[value.clone()];
+        let is_year = year.len() == 4 && year.iter().all(u8::is_ascii_digit) && value.end == self.place;
+        let is_letter = word.len() == 1 && word[0].is_ascii_alphabetic() && owner.eq_ignore_ascii_case("year");
+        let whole = plain(&[year, word].concat());
+        (is_year && is_letter).then(|| Seen::YearWithLetter.with(&[owner, &whole, &plain(year)]))
     }
 
     /// A part of a value before which a `#` is missing: the name of a month, or one after other parts that are joined.
@@ -340,11 +370,20 @@ impl<'a> Place<'_, 'a> {
         let is_field = self.item.entry_key().is_some();
         match self.byte()? {
             b'{' | b'(' if self.item.kind.is_empty() => Some(Seen::NoType.with(&[])),
-            b'%' if is_field => Some(Seen::CommentSign.with(&[])),
+            b'%' if is_field => Some(self.comment().with(&[])),
             b',' if is_field => Some(Seen::CommaTwice.with(&[])),
             b'}' | b')' if is_field => self.other_brace(),
             _ => None,
         }
+    }
+
+    /// What to do about a line that begins with `%`: without that sign it is a field, or none.
+    fn comment(&self) -> Seen {
+        let rest = &self.text.bytes[self.place..self.text.span(self.text.line_of(self.place)).1];
+        let begin = rest.iter().position(|byte| !matches!(byte, b'%' | b' ' | b'\t')).unwrap_or(rest.len());
+        let name = name_at(rest, begin);
+        let is_field = !name.is_empty() && rest[begin + name.len()..].trim_ascii_start().starts_with(b"=");
+        if is_field { Seen::CommentSign } else { Seen::CommentLine }
     }
 
     /// The value of a string or a preamble has ended, and the item's end doesn't come after it.
@@ -447,6 +486,8 @@ mod tests {
             assert_eq!(advice(&format!("@misc{{a, x = {text}, y = 1}}")), Seen::PlusForHash.with(&["x"]), "{text}");
         }
         assert_eq!(advice("@misc{a, x = {A {T}} S}, y = 1}"), Seen::BraceTooMany.with(&["x"]));
+        let names = Seen::NamesInOneValue.with(&["author", "Doe, Jane and Roe, {M.} and X"]);
+        assert_eq!(advice("@misc{a, author = {Doe, Jane} and {Roe, {M.}} and \"X\",\n y = {1}}"), names);
         for bare in ["1-2", "12A", "A title", "in press"] {
             assert_eq!(advice(&format!("@misc{{a, x = {bare}, y = 1}}")), Seen::BareValue.with(&["x"]), "{bare}");
         }
@@ -509,7 +550,9 @@ mod tests {
         assert_eq!(advice("@misc{a, x: {T}}"), "write `x = ..`, with an `=` in the place of the `:`");
         assert_eq!(advice("@misc{a, x : {T}}"), "write `x = ..`, with an `=` in the place of the `:`");
         assert_eq!(advice("@misc{a, book title = {T}}"), "write the field's name without whitespace: `booktitle = ..`");
-        assert_eq!(advice("@misc{a, % x\n y = 1}"), Seen::CommentSign.with(&[]));
+        assert_eq!(advice("@misc{a, % x\n y = 1}"), Seen::CommentLine.with(&[]));
+        assert_eq!(advice("@misc{a,\n %% x = 2\n y = 1}"), Seen::CommentSign.with(&[]));
+        assert_eq!(advice("@misc{a, year = 1972a}"), Seen::YearWithLetter.with(&["year", "1972a", "1972"]));
         assert_eq!(advice("@misc{a, x = , y = 1}"), "write the value of `x` after the `=`, or take the field out");
     }
 

@@ -4,6 +4,7 @@ use crate::advice::{self, Seen};
 use crate::code_places::{Code, CodePlace, Declared, Left};
 use crate::database::Folded;
 use crate::lint_warnings::{Value, text_of_classes};
+use crate::literals::{Literals, Traced};
 use crate::scene::{Call, Scene};
 use crate::terminal::plain;
 
@@ -36,6 +37,16 @@ pub fn tested(place: CodePlace<'_, '_>) -> Option<Said> {
         Left::Field(name) => format!("it leaves `{}`, a field", plain(name)),
     };
     Some((what, MEND_TEST.to_string()))
+}
+
+/// What to do about a `while$` before which the body stands first: the other function leaves the number that a test leaves.
+pub fn exchanged_in_loop(code: &Code<'_>, place: CodePlace<'_, '_>) -> Option<String> {
+    let index = code.token_at(place.start())?;
+    let [first, second] = Literals::new(code).of_branches(index)?;
+    let ends_by_number = place.ends_by_number();
+    let are_exchanged = first == Traced::default() && second.takers.is_empty() && second.left.len() == 1;
+    (are_exchanged && ends_by_number)
+        .then(|| "these two are exchanged: write the test first, and then the body, `{TEST} {BODY} while$`".to_string())
 }
 
 /// What to do where a function that takes one operand finds one of another kind: whether the one that it wants stands below that.
@@ -202,7 +213,7 @@ fn as_integer(text: &[u8]) -> Option<String> {
 }
 
 /// What to do about a function that takes an integer and gets a string of digits, which stands just before it.
-fn integer_in_quotes(place: CodePlace<'_, '_>) -> Option<String> {
+pub fn integer_in_quotes(place: CodePlace<'_, '_>) -> Option<String> {
     let text = |back: usize| match place.value(back)? {
         Left::Text(text) => as_integer(text),
         _ => None,

@@ -117,16 +117,18 @@ struct Uses {
 #[derive(Debug, Default)]
 pub struct Persons {
     uses: HashMap<Vec<u8>, Uses>,
+    /// All names, in lower case, with a space between two words.
+    names: HashSet<Vec<u8>>,
 }
 
 impl Persons {
     /// Looks through the entries of all databases.
     pub fn of(entries: &Entries<'_>) -> Persons {
-        let (mut persons, mut known) = (Persons::default(), HashSet::new());
+        let mut persons = Persons::default();
         for stored in entries.each().take(MOST_ENTRIES) {
             for names in lists_of(stored) {
                 for name in names.split(|word| word.eq_ignore_ascii_case(b"and")) {
-                    if known.insert(name.join(&b' ').to_ascii_lowercase()) {
+                    if persons.names.insert(name.join(&b' ').to_ascii_lowercase()) {
                         persons.add(name);
                     }
                 }
@@ -187,7 +189,10 @@ impl Persons {
         let names_other = find(&key, &given.to_ascii_lowercase()).is_some();
         // (the name itself counts once as well)
         let is_known = others.first > 0 && others.last == 1 && its.first == 1;
-        is_whole(family) && is_whole(given) && is_known && !names_other && (its.last > 0 || is_of_key)
+        // (of two names that stand against each other neither tells; python/btx/doubts.py has the same)
+        let has_other = self.names.contains(&[given, family].join(&b' ').to_ascii_lowercase());
+        let is_shown = is_known && !has_other && !names_other && (its.last > 0 || is_of_key);
+        is_whole(family) && is_whole(given) && is_shown
     }
 }
 
@@ -257,10 +262,14 @@ mod tests {
         let found = Some((9, "McCarthy, John".to_string()));
         assert_eq!(exchanged("John D. Hobby", "mccarthy1960", "McCarthy John"), found);
         assert_eq!(exchanged("McCarthy, John", "k", "McCarthy John"), found);
+        assert_eq!(exchanged("John McCarthy Hobby", "mccarthy1960", "McCarthy John"), found);
         assert_eq!(exchanged("John D. Hobby", "k", "McCarthy John"), None);
         assert_eq!(exchanged("Ann Bee", "mccarthy1960", "McCarthy John"), None);
         assert_eq!(exchanged("Gay, Ann and Walker Bee", "walker1988", "Gay Walker"), None);
         assert_eq!(exchanged("Elton John and John Dee", "mccarthy1960", "McCarthy John"), None);
         assert_eq!(exchanged("John Dee", "john1960", "John McCarthy"), None);
+        assert_eq!(exchanged("McCarthy, John", "k", "John McCarthy and McCarthy John"), None);
+        assert_eq!(exchanged("John~McCarthy", "mccarthy1960", "McCarthy John"), None);
+        assert_eq!(exchanged("john mccarthy and McCarthy, John", "k", "McCarthy John"), None);
     }
 }

@@ -6,6 +6,7 @@ use crate::log::{Message, Place, Severity};
 use crate::notes::Token;
 use crate::scene::{Call, Scene};
 use crate::terminal::plain;
+use crate::text::split_first;
 use std::collections::{HashMap, HashSet};
 
 /// For how many entries it is said that an error repeats for them.
@@ -205,6 +206,8 @@ pub struct OfData<'a> {
     follow: u64,
     same: u64,
     keys: Vec<&'a [u8]>,
+    /// How many errors weren't explained since they only ask for another name of a list that was asked for too many.
+    numbers: u64,
 }
 
 impl<'a> OfData<'a> {
@@ -215,6 +218,9 @@ impl<'a> OfData<'a> {
         let Some(advice) = advice::find(&[Section::Execution], message.text) else { return false };
         if advice.is_of_name() {
             return self.has_name(key, message.text);
+        }
+        if advice.is_of_number_of_name() {
+            return self.has_number(key, message.text);
         }
         let Some(command) = message.scene.map(Scene::command) else { return false };
         let is_known = match (self.lacks.get_mut(key), lacked) {
@@ -245,8 +251,17 @@ impl<'a> OfData<'a> {
         is_known
     }
 
+    /// Whether for this list of names of an entry another name that isn't there was asked for; then it is counted.
+    fn has_number(&mut self, key: &'a [u8], text: &'a [u8]) -> bool {
+        let names = split_first(text, b" in \"").map_or(text, |(_, names)| names);
+        let is_known = !self.names.insert((key, names));
+        self.numbers += u64::from(is_known);
+        is_known
+    }
+
     /// What is said of those that weren't explained since this was asked last.
     pub fn texts(&mut self) -> Vec<String> {
+        let numbers = std::mem::take(&mut self.numbers);
         let (follow, same, keys) =
             (std::mem::take(&mut self.follow), std::mem::take(&mut self.same), std::mem::take(&mut self.keys));
         let errors = |count: u64, one: &str, more: &str| match count {
@@ -257,7 +272,10 @@ impl<'a> OfData<'a> {
         let follow = errors(follow, "follows", "follow").map(|text| format!("{text} from that)"));
         let names = || format!("the same, for {}: the style takes these names more than once)", in_a_row(&keys));
         let same = errors(same, "is", "are").map(|text| format!("{text} {}", names()));
-        follow.into_iter().chain(same).collect()
+        let numbers = errors(numbers, "asks", "ask").map(|text| {
+            format!("{text} for further names of that list: a loop of the style counts on past its last name)")
+        });
+        follow.into_iter().chain(same).chain(numbers).collect()
     }
 }
 
@@ -326,6 +344,27 @@ mod tests {
         let wanted = "(1 more error is the same, for a: the style takes these names more than once)";
         assert_eq!(data.texts(), [wanted]);
         assert!(data.texts().is_empty());
+    }
+
+    #[test]
+    fn names_that_are_not_there_are_counted() {
+        let error = |number: u32, names: &str, key: &str| {
+            format!(
+                "Error--There is no name number {number} in \"{names}\" while executing format.name$ for entry {key}\n"
+            )
+        };
+        let log = [error(2, "x", "a"), error(3, "x", "a"), error(4, "x", "a"), error(2, "x", "b"), error(2, "y", "a")];
+        let log = log.concat();
+        let mut data = OfData::default();
+        let mut had = Vec::new();
+        for line in Log::new(log.as_bytes()).lines() {
+            let Content::Message(message) = line.content else { panic!() };
+            had.push(data.has(&message, None));
+        }
+        assert_eq!(had, [false, true, true, false, false]);
+        let wanted =
+            "(2 more errors ask for further names of that list: a loop of the style counts on past its last name)";
+        assert_eq!(data.texts(), [wanted]);
     }
 
     #[test]

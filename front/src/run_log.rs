@@ -64,7 +64,7 @@ impl RunLog<'_> {
     /// The log as the library wrote it, with the places in the style.
     pub fn log(&self) -> Log<'_> {
         let is_interrupted = matches!(self.interrupted, Some(Interrupted::Run(_)));
-        self.ran.lines_of_log().with_scenes(&self.scenes).interrupted(is_interrupted)
+        self.ran.lines_of_log().with_scenes(&self.scenes).with_list(&self.ran.list).interrupted(is_interrupted)
     }
 
     /// The whole log, as it stands in the `.blg`.

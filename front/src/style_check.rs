@@ -3,6 +3,7 @@
 use crate::btx::{self, Answer, MemoryRefused, Options, Rooms, Verdict};
 use crate::code_places::{Code, Declared};
 use crate::constants::{Constant, constants};
+use crate::event_places::{LogPlaces, Placed};
 use crate::exit::{Failure, words_of};
 use crate::hints::{Hint, hints};
 use crate::job::{File, Files};
@@ -11,7 +12,7 @@ use crate::lint_entry::{Shown, entries};
 use crate::lint_types::{Types, types_of};
 use crate::lint_warnings::{Warnings, read};
 use crate::literals::unequal;
-use crate::log::{Content, Place};
+use crate::log::{Content, Line, Message, Place};
 use crate::style_read::{StyleNames, StyleRead};
 use crate::style_text::{Kind, Token, Tokens, commands};
 use crate::system::trying;
@@ -43,10 +44,23 @@ const ROOM: usize = 1 << 24;
 pub struct Messages {
     /// They, as lines of a log.
     pub log: Vec<u8>,
+    /// Where each of them was met in the text.
+    pub places: LogPlaces,
     /// How many there are.
     pub count: usize,
     /// Whether the text was read to its end: a long log may stand before a mistake.
     pub is_whole: bool,
+}
+
+impl Messages {
+    /// Adds a line of a run's log.
+    fn add(&mut self, line: &Line<'_>) {
+        if let Content::Message(Message { met: Some(place), .. }) = &line.content {
+            self.places.known.push(Placed { at: self.log.len(), place: **place });
+        }
+        self.log.extend([line.bytes, b"\n"].concat());
+        self.count += 1;
+    }
 }
 
 /// What was found of a style.
@@ -230,8 +244,8 @@ fn messages_by(files: &Files) -> Result<Messages, MemoryRefused> {
         Answer::ListFull | Answer::LogFull => (false, usize::MAX),
         Answer::Memory => return Err(MemoryRefused),
     };
-    let lines = log.lines().filter(|line| is_of_text(&line.content)).map(|line| line.bytes).take(errors);
-    let lines: Vec<&[u8]> = lines.collect();
-    let log = lines.iter().flat_map(|line| [line, &b"\n"[..]]).collect::<Vec<_>>().concat();
-    Ok(Messages { log, count: lines.len(), is_whole })
+    let mut messages = Messages { log: Vec::new(), places: LogPlaces::default(), count: 0, is_whole };
+    messages.places.are_first = ran.places.are_first;
+    log.lines().filter(|line| is_of_text(&line.content)).take(errors).for_each(|line| messages.add(&line));
+    Ok(messages)
 }

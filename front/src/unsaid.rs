@@ -16,6 +16,7 @@ use crate::mistakes::is_hidden;
 use crate::nearest::nearest;
 use crate::persons::{self, Persons};
 use crate::shown_line::ShownLine;
+use crate::sign_doubts::{accent, dash};
 use crate::style_read::StyleNames;
 use crate::terminal::{Terminal, plain};
 use crate::text::find;
@@ -129,6 +130,8 @@ struct Known<'k> {
     strings: HashSet<Folded<'k>>,
     /// Whether it takes a label from the end of the year.
     has_label: bool,
+    /// Whether it looks for a hyphen, by which it knows that there are several pages.
+    asks_for_hyphen: bool,
     /// Whether the document is likely to be in UTF-8.
     is_utf8: bool,
     /// Of which fields the style changes the case.
@@ -171,6 +174,7 @@ impl<'b, 'a> Unsaid<'b, 'a> {
             style,
             strings: strings.iter().map(|name| Folded(name)).collect(),
             has_label: has_label_of_year(style.bytes),
+            asks_for_hyphen: find(style.bytes, b"\"-\"").is_some(),
             is_utf8: is_in_utf8(files, document),
             cased: Cased::new(style.bytes),
             persons: LazyCell::new(Box::new(|| Persons::of(entries))),
@@ -222,6 +226,10 @@ impl<'b, 'a> Unsaid<'b, 'a> {
             found(place, seen, Vec::new());
         }
         if let Some(doubt) = doubt(field, inside, known.has_label) {
+            found(start + doubt.place, doubt.seen, doubt.names);
+        }
+        let dash = || Some(inside).filter(|_| known.asks_for_hyphen && is_one_of(field, &["pages"])).and_then(dash);
+        if let Some(doubt) = accent(inside).filter(|_| !is_one_of(field, &NO_TEXTS)).or_else(dash) {
             found(start + doubt.place, doubt.seen, doubt.names);
         }
         if let Some(doubt) = Some(inside).filter(|_| is_list_of_names(field)).and_then(|names| {
@@ -418,6 +426,9 @@ fn seen_in_names(names: &[u8]) -> Option<(usize, Seen)> {
         return Some((words[at].0, Seen::AndAtEnd));
     }
     for (number, (place, word)) in words.iter().enumerate() {
+        if number > 0 && is(number, &[b"and"]) && is(number - 1, &[b"and"]) {
+            return Some((*place, Seen::AndTwice));
+        }
         let is_et_al = is(number, &[b"et", b"et."]) && is(number + 1, &[b"al", b"al.", b"al.,"]);
         if is_et_al {
             return Some((*place, Seen::EtAl));
@@ -508,6 +519,7 @@ mod tests {
         let seen = |names: &str| seen_in_names(names.as_bytes());
         assert_eq!(seen("A. B and C. D and"), Some((14, Seen::AndAtEnd)));
         assert_eq!(seen("and A. B"), Some((0, Seen::AndAtEnd)));
+        assert_eq!(seen("A. B and\nAnd C. D"), Some((9, Seen::AndTwice)));
         assert_eq!(seen("A. B et al."), Some((5, Seen::EtAl)));
         assert_eq!(seen("A. B and others and C. D"), Some((9, Seen::OthersInside)));
         assert_eq!(seen("B, A.; D, C."), Some((5, Seen::NamesBySign)));

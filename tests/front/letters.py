@@ -1,15 +1,16 @@
 """Letters outside ASCII in lists of references.
 
-    python3 letters.py orders SEARCH             names of each language, sorted by -letters: prints each pair in another order than the language's, and each label of other letters
+    python3 letters.py orders SEARCH [peers]     names of each language, sorted by -letters: prints each pair of rows made for the rules that is in another order than the language's, and each
+                                                 label of other letters; then a table: for names of people, how many of each 900 pairs are in another order than CLDR's. With `peers` the
+                                                 table has bibtex, bibtexu and biber, too (letter_orders.py)
     python3 letters.py styles SEARCH FOLDER..    a database full of such letters by each style below the folders: in how many lists there is half a letter, and what else is odd
     python3 letters.py costs SEARCH [RUNS]       what -letters=de costs in `plain`, which kpsewhich finds: instructions, which valgrind counts, and the least processor time of RUNS runs each way, in turns
 
-SEARCH is the program bibtex-search. The last line of `orders` is the number of pairs. That of `costs` says in how many jobs the instructions are within the bar, and the exit status is 1
-where they aren't in all.
+SEARCH is the program bibtex-search. The exit status of `orders` is 1 where a pair of those rows or a label is wrong, or where -letters has more than 2 of each 900 pairs in another order. The last
+line of `costs` says in how many jobs the instructions are within the bar, and its exit status is 1 where they aren't in all.
 """
 
 import collections
-import itertools
 import os
 import pathlib
 import random
@@ -19,7 +20,9 @@ import sys
 import tempfile
 import unicodedata
 
-# Names by their language, each in the order that it wants: CLDR's, as Perl's Unicode::Collate::Locale 1.31 has it, but that a comma counts, and `w` isn't `v`.
+import letter_orders
+
+# Names that exercise each rule, by their language, each in the order that it wants. Some are made up; names_by_language.txt has those of people.
 NAMES = {
     "de": "Gauß, Carl Friedrich|Gauss, Christian|Gödel, Kurt|Goethe, Johann|Götz, Karl|Möbius, August|Moser, Jürgen|Mozart, Wolfgang|Mueller, Ferdinand von|Muller, Hermann Joseph|Müller, Johannes|Ohm, Georg|Ömer, Ali|Österreicher, Max|Schröder, Ernst|Schrödinger, Erwin|Schroeder, Manfred",
     "pl": "Cybulski, Zbigniew|Czech, Jan|Ćwik, Anna|Luszczki, Zygmunt|Lwów, Adam|Ładny, Jan|Łukasiewicz, Jan|Sierpiński, Wacław|Sikorski, Roman|Szymański, Piotr|Śniadecki, Jan|Świerczek, Antoni|Zaremba, Stanisław|Zygmund, Antoni|Źródłowski, Piotr|Żeromski, Stefan",
@@ -40,18 +43,6 @@ NAMES = {
     "nl": "Bolk, Lodewijk|Bölke, Jan|Elsschot, Willem|Éluard, Piet|Ïsaak, Jan|Isings, Ans",
     "en": "Bronson, Bo|Brontë, Anne|Brontz, Al|Eiffel, Guy|Éire, Sean|Opie, Iona|Öpik, Ernst",
 }
-
-# A style that sorts as plain does, and makes the labels of alpha's lists of one author.
-STYLE = """ENTRY {author} {} {label}
-FUNCTION {book} {"\\bibitem[" label * "]{" * cite$ * "}" * write$ newline$}
-FUNCTION {presort}
-{ author #1 "{ll}" format.name$ #3 text.prefix$ 'label :=
-  author #1 "{vv{ } }{ll{ }}{  ff{ }}" format.name$ purify$ "l" change.case$ 'sort.key$ := }
-READ
-ITERATE {presort}
-SORT
-ITERATE {call.type$}
-"""
 
 TITLES = [
     "Über die Ästhetik: Öffentliche Räume", "Études sur l'Œuvre de Évariste", "Łąka i Źródło: Świat", "İstanbul'da Işık ve Şehir", "Ñandú: Écologie", "Änglar och Öar", "Čeština: Řeč a Žánr",
@@ -75,27 +66,20 @@ def run(search, *words):
     return pathlib.Path("job.bbl").read_bytes(), done.stdout.decode("utf-8", "replace")
 
 
-def check_orders(search):
-    pathlib.Path("s.bst").write_text(STYLE)
-    pairs = 0
+def check_rows(search):
+    """Whether a pair of NAMES is in another order than the one that is wanted, or a label has other letters. Prints each, and the number of pairs."""
+    pairs, is_bad = 0, False
     for language, row in NAMES.items():
         names = row.split("|")
-        # (in another order than the one that is wanted)
-        keys = ["k%d" % number for number in range(len(names))]
-        pathlib.Path("job.aux").write_text(aux(sorted(keys, key=lambda key: key[::-1]), "s"))
-        pathlib.Path("d.bib").write_text("".join('@book{%s, author = "%s"}\n' % pair for pair in zip(keys, names)))
-        listed, printed = run(search, "-letters=" + language)
-        items = re.findall(r"\\bibitem\[(.*)\]\{k(\d+)\}", listed.decode())
-        if len(items) != len(names) or "without -letters" in printed:
-            print(f"{language}: {printed}")
-        for (_, first), (_, second) in itertools.combinations(items, 2):
-            pairs += 1
-            if int(first) > int(second):
-                print(f"{language}: {names[int(first)]} before {names[int(second)]}")
-        for label, number in items:
-            if label != names[int(number)].split(",")[0][:3]:
-                print(f"{language}: the label of {names[int(number)]} is {label}")
-    print(pairs)
+        counts, faults = letter_orders.compare_language(search, language, names, names, [])
+        if counts.get("-letters"):
+            faults.append(f"{language}: {counts['-letters']} pairs in another order: {row}")
+        pairs += len(names) * (len(names) - 1) // 2
+        for fault in faults:
+            print(fault)
+            is_bad = True
+    print(f"{pairs:,} pairs of rows made for the rules{'' if is_bad else ', all in order'}")
+    return is_bad
 
 
 def is_whole(listed):
@@ -212,11 +196,13 @@ def main(what, search, *folders):
             is_above = check_costs(search, runs)
             os.chdir("/")
         return is_above
+    with_peers = folders == ("peers",)
     search, folders = pathlib.Path(search).resolve(), [pathlib.Path(folder).resolve() for folder in folders]
     with tempfile.TemporaryDirectory() as room:
         os.chdir(room)
-        check_orders(search) if what == "orders" else check_styles(search, folders)
+        is_bad = check_styles(search, folders) if what == "styles" else check_rows(search) | letter_orders.check(search, with_peers)
         os.chdir("/")
+    return is_bad
 
 
 if __name__ == "__main__":

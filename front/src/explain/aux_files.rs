@@ -1,20 +1,22 @@
 //! Messages on `.aux` files: where they stand, and what to do in the document.
 
-use super::{Explainer, MOST_OF_SCENE, shown_path};
+use super::{Explainer, MOST_OF_SCENE, between, shown_path};
 use crate::advice::{Section, Seen};
 use crate::aux_text::{broken_off, not_taken};
-use crate::document::{Document, job_that_includes};
+use crate::document::{Document, Named, job_that_includes};
 use crate::log::Message;
 use crate::shown_line::ShownLine;
 use crate::terminal::plain;
-use crate::text::find;
+use crate::text::{find, split_first};
 use std::io::{self, Write};
 
 impl<'a, W: Write> Explainer<'a, W> {
     pub(super) fn in_aux_file(&mut self, message: &Message<'a>) -> io::Result<()> {
         let Some(spot) = self.sources.spot(message) else { return self.advise(&[Section::Aux], message.text) };
         self.page.show_line(&spot)?;
+        self.missing.faulty_commands.extend(command_of(spot.line).map(<[u8]>::to_vec));
         self.show_part(message.text)?;
+        self.show_named_twice(message.text, spot.line)?;
         let end = self.sources.text(&spot.file.name).map(|text| text.bytes.len() - text.span(spot.number).1);
         let is_last = end == Some(0) && message.text == b"No \"}\"";
         if let Some(broken) = broken_off(self.files).filter(|file| is_last && file.name == spot.file.name) {
@@ -29,7 +31,10 @@ impl<'a, W: Write> Explainer<'a, W> {
                 return self.page.put_advice_once(&Seen::CommasBetweenKeys.with(&[&keys]));
             }
         }
-        self.advise(&[Section::Aux], message.text)
+        match self.other_style(message.text) {
+            Some(advice) => self.page.put_advice_once(&advice),
+            None => self.advise(&[Section::Aux], message.text),
+        }
     }
 
     /// The keys of entries that stand in one citation with whitespace between them, with commas in its place.
@@ -47,6 +52,11 @@ impl<'a, W: Write> Explainer<'a, W> {
         let Some(top) = self.files.with_ending(".aux").next() else { return Ok(false) };
         let name = plain(shown_path(top));
         self.page.put_place_once(&format!("{name}: the whole file was read, and those that it includes"))?;
+        let is_faulty = between(text, b"I found no ", b" command")
+            .is_some_and(|command| self.missing.faulty_commands.contains(command));
+        if is_faulty {
+            return self.page.put_place("this may follow from the error above: that line wasn't taken").map(|()| true);
+        }
         let stem = name.strip_suffix(".aux").unwrap_or(&name);
         let advice = if let Some(broken) = broken_off(self.files) {
             Some(Seen::AuxBreaksOff.with(&[&plain(shown_path(broken))]))
@@ -89,11 +99,51 @@ impl<'a, W: Write> Explainer<'a, W> {
         self.page.put_lines(&lines)
     }
 
+    /// Shows where the document has what an error of the `.aux` file calls another one: a style, a database, or a key in another spelling.
+    fn show_named_twice(&mut self, error: &'a [u8], line: &'a [u8]) -> io::Result<()> {
+        if let Some((_, key)) =
+            error.strip_prefix(b"Case mismatch error between cite keys ").and_then(|keys| split_first(keys, b" and "))
+        {
+            self.show_in_document(Named::Key, key)?;
+            let found =
+                self.entries().entry(key).and_then(|stored| Some((stored.database.file, stored.item.key?.name)));
+            let Some((file, name)) = found else { return Ok(()) };
+            return self.page.put_place(&format!("{} has `{}`", plain(shown_path(file)), plain(name)));
+        }
+        let named = match error {
+            b"Illegal, another \\bibstyle command" => Named::Style,
+            b"Illegal, another \\bibdata command" => Named::Database,
+            _ => return Ok(()),
+        };
+        let argument = line.split(|byte| matches!(byte, b'{' | b'}')).nth(1).unwrap_or_default();
+        let first = argument.split(|byte| *byte == b',').next().unwrap_or_default();
+        self.show_in_document(named, first.trim_ascii()).map(|_| ())
+    }
+
+    /// What to do about a second style: which of them is in effect, and where the document names both.
+    fn other_style(&mut self, error: &[u8]) -> Option<String> {
+        if error != b"Illegal, another \\bibstyle command" {
+            return None;
+        }
+        let document = self.document();
+        let document = document.as_ref().as_ref()?;
+        let names = document.names(Named::Style);
+        let [(first, first_line), .., (last, last_line)] = names[..] else { return None };
+        let (path, first, last) = (plain(shown_path(&document.file)), plain(first), plain(last));
+        Some(Seen::OtherStyle.with(&[&first, &format!("{path}:{first_line}"), &last, &last_line.to_string()]))
+    }
+
     /// Whether the job is of a document with `biblatex` whose bibliography another program makes.
     fn is_of_biblatex(&self) -> bool {
         let top = self.files.with_ending(".aux").next().and_then(|file| file.bytes.as_deref());
         top.is_some_and(|bytes| find(bytes, b"\\abx@aux@").is_some())
     }
+}
+
+/// The command that a line of an `.aux` file begins with.
+fn command_of(line: &[u8]) -> Option<&[u8]> {
+    let end = line.iter().position(|byte| *byte == b'{')?;
+    line.starts_with(b"\\").then(|| &line[..end])
 }
 
 /// What to do about an `.aux` file that `\include` has made: the job to run instead, where it is known.

@@ -1,6 +1,7 @@
 //! What the check of the style says of an error of its execution: the unequal `if$` from which it may follow, and what to do at its place.
 
 use super::{Explainer, shown_path};
+use crate::branches::{branches_in_words, difference};
 use crate::code_places::Code;
 use crate::lint_text::{cause_text, said_of};
 use crate::lint_ties::Ties;
@@ -19,10 +20,18 @@ use std::rc::Rc;
 pub(super) struct Said {
     /// The `if$` from which it may follow: its line, and its place in that.
     cause: Option<(usize, Option<usize>)>,
-    /// What is said of that `if$`.
+    /// What is said of that `if$`, and what each of its branches does.
     text: String,
+    branches: Option<[String; 2]>,
     /// What to do.
     pub(super) advice: Option<String>,
+}
+
+impl Said {
+    /// Whether it names an `if$` from which the error may follow.
+    pub(super) fn has_cause(&self) -> bool {
+        self.cause.is_some()
+    }
 }
 
 impl<'a, W: Write> Explainer<'a, W> {
@@ -52,6 +61,9 @@ impl<'a, W: Write> Explainer<'a, W> {
             return self.page.put_place(&format!("this may follow from the unequal `if$` in line {number} as well"));
         }
         self.page.put_place(&text)?;
+        if let Some([first, second]) = &said.branches {
+            self.page.put_place(&format!("the first: {first}; the second: {second}"))?;
+        }
         let Some(style) = self.sources.text(&file.name) else { return Ok(()) };
         let lines = ShownLine { name: &name, number, line: style.line(number), mark }.lines(self.page.terminal);
         self.page.put_lines(&lines)
@@ -82,11 +94,15 @@ fn said_of_met(found: &Warnings, met: &Warning, code: &Code<'_>) -> Said {
     let causes = ties.of(noted.filter(|_| !met.places.is_empty()).unwrap_or(met));
     if let Some(cause) = causes.first() {
         let mark = code.place(&cause.spot, b"if$").map(|place| place.mark());
+        let how = difference(cause.grows).and_then(|(_, advice)| Some(advice.split_once(": ")?.1.to_string()));
         let advice = format!(
-            "let both branches of the `if$` in line {} leave the same number of literals",
-            cause.spot.call.line
+            "let both branches of the `if$` in line {} leave the same number of literals{}",
+            cause.spot.call.line,
+            how.map_or(String::new(), |how| format!(": {how}"))
         );
-        return Said { cause: Some((cause.spot.call.line, mark)), text: cause_text(code, cause), advice: Some(advice) };
+        let cause_at = Some((cause.spot.call.line, mark));
+        let branches = branches_in_words(code, cause);
+        return Said { cause: cause_at, text: cause_text(code, cause), branches, advice: Some(advice) };
     }
     let of_kind = noted.filter(|warning| warning.fault == met.fault && met.fault != Some(Fault::LeftOver));
     Said { advice: of_kind.map(|warning| said_of(warning, code).1), ..Said::default() }

@@ -67,7 +67,9 @@ impl<'a, W: Write> Explainer<'a, W> {
         }
         unread.map_or(Ok(()), |unread| writeln!(self.page.out, "{unread}"))?;
         self.put_all(misspelt)?;
-        document.as_ref().as_ref().map_or(Ok(()), |document| self.unsaid_of_document(document))
+        let document = document.as_ref().as_ref();
+        document.map_or(Ok(()), |document| self.unsaid_of_document(document))?;
+        self.all_listed(document)
     }
 
     /// What no message is about in the style, though the list may be another one by it than is meant.
@@ -108,6 +110,7 @@ impl<'a, W: Write> Explainer<'a, W> {
             self.page.put_advice_once(&Seen::NatbibStyle.with(&[&fit, &style]))?;
         }
         self.named_with_ending(document)?;
+        self.cited_since(document)?;
         let (mut seen, files) = (HashSet::new(), self.files);
         let new = cited_keys(files).filter(|key| *key != b"*" && seen.insert(Folded(key)));
         let lacked: Vec<&[u8]> = new.filter(|key| document.lacks(key)).collect();

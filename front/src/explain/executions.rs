@@ -1,14 +1,16 @@
 //! Errors while a style is executed: where in the style, for which entry, and what was on the stack.
 
+use super::checked::Said;
 use super::names::{names_by_commas, one_name};
 use super::{Explainer, MOST_OF_SCENE, shown_path};
 use crate::advice::{self, Advice, Section, Seen};
 use crate::code_places::{Code, Declared};
 use crate::database::Folded;
 use crate::entries::Stored;
-use crate::hints::loop_without_end;
 use crate::lint_warnings::{Fault, Warnings};
 use crate::log::{Log, Message, Place, Severity};
+use crate::loops::{counts_away, loop_without_end, test_of_loop};
+use crate::mistakes::{line_of, what_runs_on};
 use crate::operands::{TEST_LEAVES, advice_at, asked_instead, is_of_test_in};
 use crate::origins::{MissingField, missing_field_of};
 use crate::repeats::{OfData, Repeats};
@@ -27,6 +29,17 @@ struct Visit<'a> {
     entry: Option<&'a [u8]>,
     /// The command's line.
     command: usize,
+}
+
+/// How it is said that a field isn't known to be the one that is missing.
+const MAY_BE: &str = "may be";
+
+/// From what an error of names follows.
+enum Follows {
+    /// From an error of the entry's text, which was explained.
+    FromAbove(String),
+    /// From a value that no error is about: what to do.
+    FromValue(String),
 }
 
 /// What is known of the errors of an execution.
@@ -106,9 +119,10 @@ impl<'a, W: Write> Explainer<'a, W> {
         if let Some(key) = entry {
             self.show_entry("for", key)?;
         }
-        if let Some(missing) = self.missing_field(message, function) {
-            self.page.put_place(&missing)?;
-        }
+        // (where numbers of literals differ, what lies where the field is taken shows little)
+        let is_unequal = said.as_ref().is_some_and(Said::has_cause);
+        let missing = self.missing_field(message, function).filter(|missing| !is_unequal || !missing.contains(MAY_BE));
+        missing.map_or(Ok(()), |missing| self.page.put_place(&missing))?;
         if follows {
             self.put_origin()?;
         }
@@ -197,14 +211,17 @@ impl<'a, W: Write> Explainer<'a, W> {
             self.page.put_place(&missing)?;
         }
         self.teach(message, function)?;
+        let runs_on = entry.and_then(|key| self.runs_on(message.text, key));
         match (self.advice_at(message, function), lacked) {
+            _ if runs_on.is_some() => match runs_on {
+                Some(Follows::FromAbove(text)) => self.page.put_place(&text)?,
+                Some(Follows::FromValue(advice)) => self.page.put_advice(&advice)?,
+                None => {}
+            },
             (Some(advice), _) => self.page.put_advice(&advice)?,
             (None, Some(lacked)) => {
-                let meant = message
-                    .scene
-                    .and_then(|scene| asked_instead(self.code_of(scene)?, scene.at.owner(), lacked.as_bytes()));
-                let usual = Seen::FieldIsMissing.with(&[&lacked]);
-                self.page.put_advice_once(&meant.map_or(usual.clone(), |meant| format!("{meant}; else {usual}")))?
+                let advice = self.advice_on_lacked(message, &lacked);
+                self.page.put_advice_once(&advice)?
             }
             (None, None) => match one_name(message.text).or_else(|| names_by_commas(message.text)) {
                 Some(advice) => self.page.put_advice(&advice)?,
@@ -217,6 +234,26 @@ impl<'a, W: Write> Explainer<'a, W> {
             Some(scene) => self.calls(scene),
             None => Ok(()),
         }
+    }
+
+    /// What to do about a field that an entry lacks: another one may be meant that the function asks for.
+    fn advice_on_lacked(&mut self, message: &Message<'a>, lacked: &str) -> String {
+        let asked = |scene| asked_instead(self.code_of(scene)?, scene.at.owner(), lacked.as_bytes());
+        let (meant, usual) = (message.scene.and_then(asked), Seen::FieldIsMissing.with(&[lacked]));
+        meant.map_or(usual.clone(), |meant| format!("{meant}; else {usual}"))
+    }
+
+    /// From which mistake of the entry a message about its names follows: their value isn't closed, so it has taken in the field that comes next.
+    fn runs_on(&mut self, message: &[u8], key: &[u8]) -> Option<Follows> {
+        advice::find(&[Section::Execution], message).filter(Advice::is_of_name)?;
+        let (_, names) = split_first(message, b"\"")?;
+        let Stored { database, item } = self.entries().entry(key)?;
+        let advice = what_runs_on(database.file, &database.text, item).filter(|_| names.contains(&b'='))?;
+        if item.fault.is_none() {
+            return Some(Follows::FromValue(advice));
+        }
+        let at = line_of(database.file, &database.text, item.end);
+        Some(Follows::FromAbove(format!("this follows from the error above, at {at}: mend that first")))
     }
 
     /// The field that an entry lacks, where a function takes one that is missing.
@@ -278,10 +315,10 @@ impl<'a, W: Write> Explainer<'a, W> {
             }
             MissingField::LeftBy(by, line, fields) => {
                 let (by, fields) = (plain(by), fields_in_words(&fields));
-                format!("the missing field may be what `{by}` at {path}:{line} leaves, which reads {fields}")
+                format!("the missing field {MAY_BE} what `{by}` at {path}:{line} leaves, which reads {fields}")
             }
             MissingField::ReadBy(by, fields) => {
-                format!("the missing field may be one that `{}` reads: {}", plain(by), fields_in_words(&fields))
+                format!("the missing field {MAY_BE} one that `{}` reads: {}", plain(by), fields_in_words(&fields))
             }
         })
     }
@@ -330,9 +367,18 @@ impl<'a, W: Write> Explainer<'a, W> {
         self.page.put_place(&format!("it stays in the loop of the `while$` in {}{others}", self.call(innermost)))?;
         let style = self.sources.file(&innermost.file).and_then(|file| file.bytes.as_deref());
         let Some(endless) = style.and_then(|style| loop_without_end(style, innermost.line)) else {
-            return Ok(false);
+            let Some(style) = style else { return Ok(false) };
+            if let Some(away) = counts_away(style, innermost.line) {
+                self.page.put_place(&format!("its {}", away.what))?;
+                return self.page.put_advice(&away.advice).map(|()| true);
+            }
+            let test = test_of_loop(style, innermost.line);
+            return test.map_or(Ok(false), |test| self.page.put_advice(&of_test(test)).map(|()| true));
         };
         let (never, body) = (&endless.never, &endless.body);
+        if !endless.assigned.is_empty() {
+            self.page.put_place(&endless.assigned)?;
+        }
         let advice = match &endless.sometimes[..] {
             "" => Seen::LoopWithoutEnd.with(&[never, body]),
             other => format!(
@@ -358,6 +404,11 @@ impl<'a, W: Write> Explainer<'a, W> {
             line => format!("{}, {name}:{line}", plain(&call.function)),
         }
     }
+}
+
+/// What to do about a loop in which a run stays, by its test, the line of that, and the variables that it reads.
+fn of_test((test, line, read): (String, usize, String)) -> String {
+    format!("look at the test of this loop, `{test}` (line {line}): no turn so far has made it 0, and it reads {read}")
 }
 
 /// Names of fields in a row; of many the first ones.

@@ -27,6 +27,8 @@ pub(super) struct Missing {
     pub(super) children: HashSet<Vec<u8>>,
     /// The parents that weren't found, of which it was said where they may be.
     parents: HashSet<Vec<u8>>,
+    /// The commands of the lines of `.aux` files that a message was about.
+    pub(super) faulty_commands: HashSet<Vec<u8>>,
 }
 
 impl<'a, W: Write> Explainer<'a, W> {
@@ -148,7 +150,7 @@ impl<'a, W: Write> Explainer<'a, W> {
     }
 
     /// Where the document names a key, a database or a style; whether that was found.
-    fn show_in_document(&mut self, named: Named, name: &[u8]) -> io::Result<bool> {
+    pub(super) fn show_in_document(&mut self, named: Named, name: &[u8]) -> io::Result<bool> {
         let document = self.document();
         let found = document.as_ref().as_ref().and_then(|document| Some((document, document.place_of(named, name)?)));
         let Some((document, (line, number, place))) = found else { return Ok(false) };

@@ -7,8 +7,7 @@ use crate::job::File;
 use crate::log::{Message, Place};
 use crate::sources::Spot;
 use crate::style_text::{
-    Command, Defined, Token, Tokens, costs_a_token, end_of_skipped, is_command, last_token, lines_of_name,
-    nearest_word, unclosed,
+    Command, Defined, costs_a_token, end_of_skipped, is_command, last_token, lines_of_name, nearest_word, unclosed,
 };
 use crate::terminal::{ERROR_COLOUR, plain};
 use crate::text::Text;
@@ -135,7 +134,7 @@ impl<'a, W: Write> Explainer<'a, W> {
             let lines = [above, below].map(|line| line.to_string());
             return Ok(Some(Seen::FunctionBelow.with(&[&plain(name), &lines[0], &lines[1]])));
         }
-        let entry = commands.iter().find(|command| command.is("entry")).filter(|_| is_field(text.bytes, name));
+        let entry = commands.iter().find(|command| command.is("entry")).filter(|_| is_field(name));
         self.unknown_name(name, spot, text, commands, entry.is_some())?;
         self.styles.lacked_fields.extend(entry.map(|_| Folded(name)));
         Ok(entry.map(|entry| {
@@ -336,15 +335,9 @@ const FIELDS: [&str; 36] = [
     "year",
 ];
 
-/// Whether a name of a style's code is meant as a field: databases have such a one, and `empty$` or `missing$` asks for it somewhere.
-fn is_field(style: &[u8], name: &[u8]) -> bool {
-    let of = |token: &Token| &style[token.start..token.end];
-    let is_named = FIELDS.iter().any(|field| name.eq_ignore_ascii_case(field.as_bytes()));
-    let tokens: Vec<Token> = if is_named { Tokens::new(style).collect() } else { Vec::new() };
-    let is_asked = |pair: &[Token]| {
-        of(&pair[0]).eq_ignore_ascii_case(name) && [&b"empty$"[..], b"missing$"].contains(&of(&pair[1]))
-    };
-    tokens.windows(2).any(is_asked)
+/// Whether a name of a style's code that nothing declares is meant as a field: databases have such a one.
+fn is_field(name: &[u8]) -> bool {
+    FIELDS.iter().any(|field| name.eq_ignore_ascii_case(field.as_bytes()))
 }
 
 /// The errors on the order of commands that follow where this one is skipped.

@@ -1,7 +1,7 @@
 //! Warnings of a style: the entry that each is about, and what of it is lost or misspelt.
 
-use super::Explainer;
-use crate::advice::{self, Section};
+use super::{Explainer, between};
+use crate::advice::{self, Section, Seen};
 use crate::database::Inside;
 use crate::entries::Stored;
 use crate::lacking;
@@ -9,7 +9,14 @@ use crate::log::{Message, Place, Severity};
 use crate::missing_entry::{Clue, lost_fields, meant_field};
 use crate::repeats::Warnings;
 use crate::terminal::plain;
+use crate::text::split_first;
 use std::io::{self, Write};
+
+/// What to do about two fields of which a style takes one: `can't use both volume and number fields in KEY`.
+fn one_of_both(warning: &[u8]) -> Option<String> {
+    let (first, second) = split_first(between(warning, b"can't use both ", b" fields in ")?, b" and ")?;
+    Some(Seen::OneOfBoth.with(&[&plain(first), &plain(second)]))
+}
 
 /// Of how many warnings of a style it is looked for whether their entry shows what was meant.
 const MOST_HINTS: u64 = 1_000;
@@ -62,6 +69,7 @@ impl<'a, W: Write> Explainer<'a, W> {
         }
         let (places, advice) = self.lost_of(key, text);
         places.iter().try_for_each(|text| self.page.put_place_once(text))?;
+        let advice = advice.or_else(|| one_of_both(text));
         advice.map_or(Ok(()), |advice| self.page.put_advice_once(&advice))
     }
 

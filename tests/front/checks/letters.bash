@@ -91,7 +91,17 @@ end
 
 begin letters_sort_as_the_language_does
 python3 "$here/letters.py" orders "$search" >said || complaints+=("letters.py: $(cat said)")
-wants_text said $'1997\n'
+wants_words said '1,997 pairs of rows made for the rules, all in order'
+grep -qx 'all | [0-9,]* | [67][0-9],[0-9]* | 0\.0' said || complaints+=("the table: $(cat said)")
+end
+
+# Wrong rules are seen: German names sorted by the rules of Swedish, and Swedish ones by those of German. Without perl the judge is the order of the file.
+begin orders_by_other_rules_are_seen
+mkdir of_tests && cp "$here"/letters.py "$here"/letter_orders.py of_tests
+sed 's/^sv:/those of Swedish:/; s/^de:/sv:/; s/^those of Swedish:/de:/' "$here/names_by_language.txt" >of_tests/names_by_language.txt
+! PATH=$folder/of_tests python3 of_tests/letters.py orders "$search" >said || complaints+=("letters.py: $(cat said)")
+wants_words said "1,452 names in 17 languages, in the order of the file: perl or its module isn't there"
+grep -q '^sv | 120 | 7,140 | [1-9][0-9]' said || complaints+=("the table: $(cat said)")
 end
 
 begin letters_have_their_case

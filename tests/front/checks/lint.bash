@@ -207,6 +207,10 @@ sed -i "s/^FUNCTION {output.title}/FUNCTION {and}\\n{ 'skip\$ { #0 } if\$ }\\n\\
 run_lint clean.bst
 wants_status 2
 wants_line_of_output 'clean.bst:4: in and: the branches of this `if$` leave different numbers of literals: the first leaves 0, the second leaves 1'
+wants_line_of_output '    the first: leaves the stack as it was'
+wants_line_of_output '    the second: leaves `#0` (line 4)'
+wants_line_of_output '    so: after the second the stack has 1 literal more than after the first'
+grep -q '^    what to do: let both leave the same number: let the second take 1 more off, .* or the first push 1 more' "$folder/stdout" || complaints+=("printed is $(cat "$folder/stdout")")
 write_clean
 sed -i 's/title write\$/"t" title change.case$ write$/' clean.bst
 run_lint clean.bst
@@ -454,14 +458,36 @@ wants_output 'clean.bst: clean, literals 3, bodies 4, messages 0, hints 0
 '
 end
 
+# write_type FILE BODY: a style whose entries of the type misc have this body.
+write_type() {
+    printf '%s\n' 'ENTRY {title author}{}{}' 'INTEGERS {i}' "FUNCTION {misc} {$2}" READ 'ITERATE {call.type$}' >"$1"
+}
+
 begin lint_of_an_endless_loop
 write_clean
 sed -i 's/^READ/INTEGERS { left }\n\nFUNCTION {turns} { #1 '"'left"' := { left #0 > } { newline$ } while$ }\n\nREAD/' clean.bst
 echo 'EXECUTE {turns}' >>clean.bst
 run_lint clean.bst
 wants_status 0
-wants_line_of_output 'clean.bst:13: hint: clean says nothing of loops: does this loop end? Its body (line 13) never changes left, which its test reads'
-[[ $(tail -n 1 "$folder/stdout") == *'clean says nothing of loops'* ]] || complaints+=("it isn't the last line of $(cat "$folder/stdout")")
+wants_line_of_output 'clean.bst:13: hint: clean says nothing of loops: does this loop end? Its body (line 13) never changes left, which its test reads: left is assigned in line 13, and the body assigns to no variable'
+[[ $(tail -n 2 "$folder/stdout") == *'clean says nothing of loops'*$'\nclean.bst: above: 1 hint (line 13)' ]] || complaints+=("it isn't the last line of $(cat "$folder/stdout")")
+end
+
+# What is to be mended isn't lost above the verdict: the last line counts it. Of a style of which nothing is said there is none.
+begin lint_counts_what_stands_above
+write_clean
+run_lint clean.bst
+! grep -q ': above: ' "$folder/stdout" || complaints+=("something is counted in $(cat "$folder/stdout")")
+write_type above.bst "title empty$ {} {title write\$ #1} if$ newline$"
+sed -i 's/^INTEGERS.*/INTEGERS {i j} STRINGS {s}/' above.bst
+run_lint above.bst
+wants_line_of_output 'above.bst: above: 1 unequal `if$` (line 3), 1 warning (line 5), 3 hints (line 2)'
+wants_line_of_output 'above.bst:2: hint: these variables are never used: i (line 2), j (line 2), s (line 2)'
+[[ $(tail -n 1 "$folder/stdout") == 'above.bst: above: '* ]] || complaints+=("it isn't the last line of $(cat "$folder/stdout")")
+write_type above.bst 'title nosuch'
+run_lint above.bst
+wants_line_of_output 'above.bst: above: 1 message, 1 warning (line 5), 1 hint (line 2)'
+grep -A1 -xF '    above.bst:3: FUNCTION {misc} {title nosuch}' "$folder/stdout" | grep -qx '                                        ^' || complaints+=('the mark is missing')
 end
 
 # The lines of the counter are missing, while the test's variable counts down.
@@ -505,11 +531,6 @@ wants_line_of_output 'clean.bst: mistakes in its text (1 message): mend these fi
 ! grep -q clean: "$folder/stdout" || complaints+=('it is called clean')
 end
 
-# write_type FILE BODY: a style whose entries of the type misc have this body.
-write_type() {
-    printf '%s\n' 'ENTRY {title author}{}{}' 'INTEGERS {i}' "FUNCTION {misc} {$2}" READ 'ITERATE {call.type$}' >"$1"
-}
-
 # A function that is met again with another value of a variable, which it reads in a quoted function alone, is followed again.
 begin lint_of_a_function_met_again
 long=$(printf 'skip$ %.0s' {1..12})
@@ -539,6 +560,28 @@ write_type uneven.bst 'title empty$
 run_lint uneven.bst
 wants_line_of_output 'uneven.bst:4: in misc: the branches of this `if$` leave different numbers of literals: the first leaves 1, the second leaves 2'
 wants_line_of_output '    and, which may follow from it, in line 6'
+end
+
+# What leaves literals, what is exchanged, and what is one function where two are taken.
+begin lint_names_the_token_that_is_meant
+write_type left.bst 'title empty$ {"A" write$} {"B" write$} if$ "."'
+run_lint left.bst
+wants_line_of_output '    left by: misc leaves `"."` (line 3)'
+write_type alone.bst 'title empty$ {newline$} if$'
+run_lint alone.bst
+wants_line_of_output '    what to do: only one function stands before this `if$` (line 3): write both, `'"'skip\$\` for one that does nothing"
+write_type exchanged.bst "#3 'i := {i #1 - 'i :=} {i #0 >} while$"
+run_lint exchanged.bst
+wants_line_of_output '    what to do: these two are exchanged: write the test first, and then the body, `{TEST} {BODY} while$`'
+write_type quotes.bst 'author num.names$ "1" > {newline$} {newline$} if$'
+run_lint quotes.bst
+wants_line_of_output '    what to do: write `#1` for `"1"`: an integer begins with `#`, and what stands in quotes is a string'
+write_type field.bst 'volume missing$ {newline$} {"x" write$} if$'
+run_lint field.bst
+wants_line_of_output '    what to do: put `volume` into the first list of ENTRY (field.bst:1): a style knows only the fields of that list'
+write_type field.bst '"x" volume * write$'
+run_lint field.bst
+wants_line_of_output '    what to do: put `volume` into the first list of ENTRY (field.bst:1): a style knows only the fields of that list'
 end
 
 # What is known of fields and of integers where a warning stands.

@@ -26,7 +26,7 @@ mistake_of_job() {
     begin "mistake_$1"
     write_author_style
     printf '\\citation{%s}\n\\bibdata{%s}\n\\bibstyle{%s}\n' "$2" "$3" "$4" | grep -v '{}$' >job.aux
-    printf '@misc{k, author = {A. B}, title = {T}, year = 2000}\n@misc{on-sets, author = {A. B}}\n' >d.bib
+    printf '@misc{k, author = {A. B}, title = {T}, year = 2000}\n@misc{on-sets, author = {A. B}}\n@misc{caf\xc3\xa9, author = {A. B}}\n' >d.bib
     run_search -explain -terse job
     local words
     for words in "${@:5}"; do
@@ -76,6 +76,7 @@ mistake near_string_below '@misc{k, author = {A. B}, title = acmm}\n\n@string{ac
 mistake bare_string '@string{s = A title}\n@misc{k, author = {A. B}}' 'put the value of `s` into braces'
 mistake bare_preamble '@preamble{\\\\newcommand{\\\\x}{y}}\n@misc{k, author = {A. B}}' 'put the text of the `@preamble` into braces or quotes'
 # braces and quotes
+mistake names_in_two_braces '@misc{k,\n author = {Doe, Jane} and {Roe, Max},\n year = 2000}\n' 'put all names into one pair of braces: `author = {Doe, Jane and Roe, Max}`'
 mistake brace_too_many '@misc{k,\n title = {A {T}} more},\n year = 2000}\n' 'count the braces in the value of `title`: a `}` too many ends it before this place'
 mistake value_runs_on '@misc{k,\n author = {A. B},\n title = {A {T},\n year = 2000\n}\n\n@misc{l}\n' \
     'close the value of `title`, which begins at d.bib:3: it has taken in what looks like the field `year` (d.bib:4)'
@@ -91,7 +92,7 @@ mistake value_runs_to_the_end '@misc{k,\n author = {A. B,\n title = {T}\n}\n' 'c
 mistake not_closed_at_end '@misc{k, author = {A. B},\n title = {T}\n' 'close @misc{k}, which begins at d.bib:1: its last `}` is missing'
 mistake other_brace '@misc(k, author = {A. B},\n title = {T}\n}\n' 'close this item by `)`, since it is opened by `(`: @misc{k}, which begins at d.bib:1'
 # comments
-mistake comment_in_entry '@misc{k,\n % old\n author = {A. B}}\n' 'take this line out, or its `%`: a database has no comments inside an entry'
+mistake comment_in_entry '@misc{k,\n % old\n author = {A. B}}\n' 'take this comment out: a database has no comments inside an entry'
 mistake comment_before_entry '% @misc{old, title = {T}\n@misc{k, author = {A. B}}\n' 'take out the `@` of @misc{old}, which begins at d.bib:1: neither `%` nor `@comment` hides an entry'
 mistake entry_in_comment '@comment{@misc{k, title = {T}}}\n@misc{k, author = {A. B}}\n' 'take out the `@` of @misc{k}, which begins at d.bib:1'
 # fields
@@ -121,6 +122,7 @@ mistake one_line '@misc{k,\r author {A. B}}\r' 'save d.bib with the line ends of
 mistake empty '' 'no entry stands in d.bib' '(1 more key has no entry: no entry stands in d.bib)'
 mistake_of_job other_database k,l,m refs s 'this folder has d.bib' 'write `\bibliography{d}` and run LaTeX, or put `refs.bib` beside' 'it may stand in refs.bib, which wasn'"'"'t found' '(2 more keys have no entry: they may stand in refs.bib, which wasn'"'"'t found)'
 mistake_of_job semicolon 'k;on-sets' d s 'write `k,on-sets` in the `\cite`, with a comma between two keys, and run LaTeX'
+mistake_of_job form_of_letters $'cafe\xcc\x81,k' d s $'`caf\xc3\xa9`, which begins at d.bib:3, is this key in another form: here a mark follows its letter, there both are one character' $'copy the key `caf\xc3\xa9` from the database into the `\\cite`'
 mistake_of_job dash 'on–sets,k' d s '`on–sets` has an en dash (U+2013): is it `on-sets`, which begins at d.bib:2?' 'write `on-sets` in the `\cite`, with the `-` of the keyboard'
 mistake_of_job space_between_databases k,l 'd, e' s 'not taken from this line: `e`' "it may stand in e.bib, which wasn't read (job.aux:2)" 'mend the error at job.aux:2 first'
 mistake_of_job folder k bib/d s 'is it `d`?'
@@ -175,6 +177,59 @@ printf '%s\n' 'ENTRY {title}{}{}' 'INTEGERS {n}' 'FUNCTION {f} {#1 '"'"'n := {n 
 run_search -explain -terse -budget 1000 job
 wants_words "$folder/stdout" 'change n in the body of this loop (line 4): its test reads nothing else, so the loop never ends'
 ! grep -q 'budget' "$folder/stdout" || complaints+=("a higher budget is advised: $(cat "$folder/stdout")")
+end
+
+begin mistake_loop_says_what_is_assigned
+printf '%s\n' 'ENTRY {title}{}{}' 'INTEGERS {i n}' 'FUNCTION {f} {#1 '"'"'i := #3 '"'"'n :=' '{n #0 >}' '{i #1 + '"'"'i :=} while$}' 'READ' 'EXECUTE {f}' >s.bst
+run_search -explain -terse -budget 1000 job
+wants_words "$folder/stdout" 'n is assigned in line 3, and the body assigns to i (line 5)'
+sed -i 's/{n #0 >}/{i #0 >} n pop$/; s/n pop[$]//' s.bst
+run_search -explain -terse -budget 1000 job
+wants_words "$folder/stdout" 'its test is `i #0 >` (line 4), and its body counts i away from that: `i #1 +` (line 5)'
+wants_words "$folder/stdout" 'what to do: write `-` for `+` in line 5, or another test'
+end
+
+# A loop that asks for names that aren't there is one mistake.
+begin mistake_names_that_are_not_there
+printf '%s\n' 'ENTRY {author}{}{}' 'INTEGERS {i}' 'FUNCTION {misc} {#1 '"'"'i := {i #9 <} {author i "{ll}" format.name$ pop$ i #1 + '"'"'i :=} while$}' 'READ' 'ITERATE {call.type$}' >s.bst
+cite k
+printf '@misc{k, author = {A. B and C. D}}\n' >d.bib
+run_search -explain -terse job
+wants_words "$folder/stdout" '(5 more errors ask for further names of that list: a loop of the style counts on past its last name)'
+[ "$(grep -c '^Error' "$folder/stdout")" -eq 1 ] || complaints+=("more than one is shown: $(cat "$folder/stdout")")
+end
+
+# A value without its end takes in the fields after it: an error of its names follows from that, whether or not an error is about the entry.
+begin mistake_names_take_in_a_field
+write_author_style
+sed -i 's/author num.names[$] pop[$]/author #1 "{ll}" format.name$ pop$/' s.bst
+cite k
+printf '@misc{k,\n author = {Lee, Ann, title = {A}, month = {jan},\n year = {2000}, note = {x}}}\n' >d.bib
+run_search -explain -terse job
+wants_words "$folder/stdout" 'what to do: close the value of `author`, which begins at d.bib:2: it has taken in what looks like the field'
+! grep -q 'a name has at most two commas' "$folder/stdout" || complaints+=("commas are blamed: $(cat "$folder/stdout")")
+printf '@misc{k,\n author = {Lee, Ann, title = {A}, month = {jan}, year = {2000}}\n\n@misc{l, author = {A. B}}\n' >d.bib
+run_search -explain -terse job
+wants_words "$folder/stdout" 'this follows from the error above, at d.bib:4: mend that first'
+! grep -q 'a name has at most two commas' "$folder/stdout" || complaints+=("commas are blamed: $(cat "$folder/stdout")")
+end
+
+begin mistake_two_fields_of_which_one_is_taken
+write_author_style
+sed -i 's/empty journal in " cite/can'"'"'t use both volume and number fields in " cite/' s.bst
+cite k
+printf '@article{k, author = {A. B}}\n' >d.bib
+run_search -explain -terse job
+wants_words "$folder/stdout" 'take `volume` or `number` out of the entry: this style prints only one of them'
+end
+
+begin mistake_citation_that_is_not_taken
+write_author_style
+cite 'k l'
+printf '@misc{k, author = {A. B}}\n' >d.bib
+run_search -explain -terse job
+wants_words "$folder/stdout" 'this may follow from the error above: that line wasn'"'"'t taken'
+! grep -q 'nocite' "$folder/stdout" || complaints+=("a citation is missed: $(cat "$folder/stdout")")
 end
 
 begin mistake_part_of_a_document
@@ -433,6 +488,7 @@ doubt html 'title = {War &lt; Peace},' 'd.bib:3:' 'write `$<$` in the place of `
 doubt number_of_html 'title = {War}, month = {1&#8211;2},' 'd.bib:3:' 'write `--` in the place of `&#8211;`, which is a letter of HTML'
 doubt letter_in_a_year 'year = {2O12},' 'write `2012`: the `O` is a letter in the place of a digit'
 doubt formula 'title = {Of H_2O},' 'put the formula into `$..$`, as in `{CO$_2$}`, or write `\_`: LaTeX stops at a `_` outside of a formula'
+doubt brace_after_backslash 'note = {The set \\},' 'd.bib:3:' 'write `$\rbrace$` for a brace that is to be printed: BibTeX counts the brace of `\}`, so it ends the value here'
 doubt table 'note = {Sturm & Drang},' 'write `\&`: LaTeX stops at a bare `&`'
 doubt comment 'note = {9% of all},' 'write `\%`: LaTeX takes the rest of the line after a bare `%` for a comment'
 doubt address 'note = {see http://a.org/b_c},' 'put the address into `\url{..}`: LaTeX stops at its `_`'

@@ -23,6 +23,15 @@ wants_status 1
 grep -qE 'would be: .*apt-get install .* librust-libc-dev .*librust-unicode-width-dev$' "$folder/stdout" || complaints+=("it says $(cat "$folder/stdout")")
 end
 
+# It says where cargo is too old.
+begin cargo_of_an_older_rust
+mkdir older
+printf '#!/bin/sh\necho "cargo 1.63.0 (fd9c4297c 2022-07-01)"\n' >older/cargo
+chmod +x older/cargo
+PATH=$PWD/older:$PATH "$sources/contrib/setup" --dry-run build >"$folder/stdout" 2>"$folder/stderr" || true
+grep -q 'this cargo is of Rust 1\.63\.0; the front end needs one of Rust 1\.88 or later' "$folder/stdout" || complaints+=("it says $(cat "$folder/stdout")")
+end
+
 begin links_of_the_sources
 mkdir sources
 (cd "$sources" && cp --parents README.md CHANGELOG.md docs/*.md contrib/*.md examples/*.md examples/*/*.md "$folder/work/sources" && cp -r examples "$folder/work/sources")
