@@ -48,8 +48,8 @@ end
 
 -- What the library answers.
 local DONE, REFUSED, FULL, ENDS = 0, 1, 4, 5
--- How a run ended that came to an end of its own.
-local FINISHED = 0
+-- How a run ended that came to an end of its own, and one whose list is longer than its room.
+local FINISHED, LIST_FULL = 0, 11
 -- What a line of the log is, and where it was met.
 local KINDS = { [0] = "plain", "warning", "error" }
 local MET = { [0] = "files", "style", "databases", "execution", "end" }
@@ -146,11 +146,12 @@ end
 
 -- Runs the job over files that are all known; where an output is longer than its room, it gets more.
 function btx.run_over(ffi, library, job, files, asked)
-    local report, room, events_len = ffi.new("btx_report"), FIRST_ROOM, ffi.new("size_t[1]")
+    local report, rooms, events_len = ffi.new("btx_report"), { list = FIRST_ROOM, log = FIRST_ROOM }, ffi.new("size_t[1]")
     local array, events_room = array_of(ffi, files), 1024
     while true do
-        local list, log, events = ffi.new("char[?]", room), ffi.new("char[?]", room), ffi.new("btx_event[?]", events_room)
-        local answer = library.btx_run_events(job, #job, array, #files, asked, list, room, log, room, report, events, events_room, events_len)
+        local list, log, events = ffi.new("char[?]", rooms.list), ffi.new("char[?]", rooms.log), ffi.new("btx_event[?]", events_room)
+        local answer = library.btx_run_events(job, #job, array, #files, asked, list, rooms.list, log, rooms.log, report, events, events_room, events_len)
+        local full = tonumber(report.end_) == LIST_FULL and "list" or "log"
         local count = answer == DONE and tonumber(events_len[0]) or 0
         if answer == DONE and count <= events_room then
             return ffi.string(list, report.list_len), ffi.string(log, report.log_len), {
@@ -160,11 +161,14 @@ function btx.run_over(ffi, library, job, files, asked)
             events_room = count
         elseif answer ~= FULL then
             error("btx: the library answered " .. tonumber(answer), 0)
-        elseif room >= MOST_ROOM then
-            error("btx: the list or the log is longer than " .. MOST_ROOM .. " bytes", 0)
+        elseif rooms[full] >= MOST_ROOM then
+            error("btx: the " .. full .. " is longer than " .. MOST_ROOM .. " bytes", 0)
         else
-            room = math.min(room * 8, MOST_ROOM)
+            rooms[full] = math.min(rooms[full] * 8, MOST_ROOM)
         end
+        -- (the rooms that were too small are given back first)
+        list, log, events = nil, nil, nil
+        collectgarbage()
     end
 end
 

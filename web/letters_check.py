@@ -19,7 +19,8 @@ import tempfile
 ROOT = pathlib.Path(__file__).resolve().parents[1]
 sys.path[:0] = [str(ROOT / "web"), str(ROOT / "tests/front")]
 import languages  # noqa: E402
-from letters import FIELDS, NAMES, STYLE, TITLES, aux  # noqa: E402
+from letter_orders import STYLE  # noqa: E402
+from letters import FIELDS, NAMES, TITLES, aux  # noqa: E402
 from messages import of_front, of_program  # noqa: E402
 
 LETTERS = [*range(0xC0, 0x250), *range(0x1E00, 0x1F00)]

@@ -10,28 +10,19 @@ import json
 import os
 import sys
 from dataclasses import asdict, dataclass
-from typing import Dict, FrozenSet, Iterable, List, NamedTuple, Set, Tuple
+from typing import FrozenSet, Iterable, List, Set, Tuple
 
 from .bsttext import read_style
 from .checkup import Refused, named_style
 from .commands import STATUS_REFUSED, Words, broken_pipe
-from .events import Met, Severity
-from .jobs import run
-from .options import Options
 from .reports import shown
 from .searching import search_from
 from .standard import TYPES
+from .trying import Prober, counts
 
 __all__ = ["AskedFields", "fields_of", "main"]
 
 STATUS_DEVICE = 6
-# A field's value in the entries that are tried; one that isn't here is its name and a word.
-VALUES = {
-    **{"author": "Aa, Bb and Cc, Dd", "editor": "Ee, Ff and Gg, Hh", "key": "Kk", "year": "1999", "month": "May"},
-    **{"volume": "17", "number": "5", "pages": "11--22", "chapter": "3", "edition": "Second"},
-}
-AUX = b"\\citation{k}\n\\bibdata{d}\n\\bibstyle{s}\n"
-OPTIONS = Options(budget=2_000_000, utf8=True)
 
 
 @dataclass(frozen=True)
@@ -50,47 +41,20 @@ class AskedFields:
     never_read: Tuple[str, ...]
 
 
-class Shown(NamedTuple):
-    """What a style makes of an entry: its list, and its warnings."""
-
-    bbl: bytes
-    warnings: FrozenSet[bytes]
-
-
-class Prober:
-    """Tries entries of one type."""
-
-    def __init__(self, style: bytes, kind: str, fields: Iterable[str]) -> None:
-        self.style = style
-        self.kind = kind
-        self.fields = tuple(fields)
-        self.known: Dict[FrozenSet[str], Shown] = {}
-
-    def show(self, fields: Iterable[str]) -> Shown:
-        """What the style makes of an entry with these fields."""
-        wanted = frozenset(fields)
-        if wanted not in self.known:
-            written = "".join(f", {name} = {{{VALUES.get(name, name.capitalize() + ' word')}}}" for name in self.fields if name in wanted)
-            database = f"@{self.kind}{{k{written}}}\n".encode("utf8", "surrogateescape")
-            result = run("j", {"j.aux": AUX, "s.bst": self.style, "d.bib": database}, OPTIONS)
-            warned = (result.log[event.offset : event.end] for event in result.events.of(Severity.WARNING) if event.met is Met.EXECUTION)
-            self.known[wanted] = Shown(result.bbl, frozenset(warned))
-        return self.known[wanted]
-
-    def whole(self) -> FrozenSet[str]:
-        """As many fields as the style takes together: those of which it warns least, and of these without the last ones."""
-        chosen = frozenset(self.fields)
-        while True:
-            warned = len(self.show(chosen).warnings)
-            better = next((chosen - {name} for name in reversed(self.fields) if name in chosen and len(self.show(chosen - {name}).warnings) < warned), None)
-            if better is None:
-                return chosen
-            chosen = better
+def whole_of(prober: Prober) -> FrozenSet[str]:
+    """As many fields as the style takes together: those of which it warns least, and of these without the last ones."""
+    chosen = frozenset(prober.fields)
+    while True:
+        warned = len(prober.show(chosen).warnings)
+        better = next((chosen - {name} for name in reversed(prober.fields) if name in chosen and len(prober.show(chosen - {name}).warnings) < warned), None)
+        if better is None:
+            return chosen
+        chosen = better
 
 
 def asked_by(prober: Prober) -> AskedFields:
     """What the style asks for in entries of one type."""
-    whole = prober.whole()
+    whole = whole_of(prober)
     least = len(prober.show(whole).warnings)
 
     def warns(fields: FrozenSet[str]) -> bool:
@@ -124,11 +88,6 @@ def read_by(prober: Prober, whole: FrozenSet[str], named: Set[str]) -> List[str]
     seen = [name for name in others if counts(prober, name, [whole, frozenset()])]
     hiding = [whole - {name} for name in (*named, *seen)]
     return [name for name in others if name in seen or counts(prober, name, hiding)]
-
-
-def counts(prober: Prober, name: str, beside: List[FrozenSet[str]]) -> bool:
-    """Whether a field changes the list or the warnings of an entry with one of these sets of fields."""
-    return any(prober.show(fields - {name}) != prober.show(fields | {name}) for fields in beside)
 
 
 def fields_of(style: bytes, types: Iterable[str] = ()) -> List[AskedFields]:

@@ -3,20 +3,24 @@
 from __future__ import annotations
 
 import argparse
+import difflib
 import json
 import os
 import re
 import sys
-from typing import Dict, FrozenSet, Iterator, List, Optional, Set, Tuple
+from typing import Dict, FrozenSet, Iterator, List, NamedTuple, Optional, Set, Tuple
 
 from .bibtext import Item, Lines, read
+from .bsttext import read_style
 from .commands import STATUS_REFUSED, Words, broken_pipe
 from .doctor import CHECKS, JOURNALS, MONTHS, Citation, Finding, Source, Style, examine, lines_of
 from .doctor_run import findings_of_run, in_order_of_job, stem_of
+from .document_checks import documents_of, findings_of_documents
+from .doubts import ENTRY_IN_TEXT
 from .remedies import SEEN, field_for_each_name, missed_field, not_hidden, of_items, of_missing, remedy_of, said
 from .reports import shown
 from .searching import MOST_BYTES, Search, content_of, found_search
-from .usual import near_type
+from .usual import FIELDS, near_type
 
 __all__ = ["citations_of", "main"]
 
@@ -24,12 +28,15 @@ STATUS_MISTAKES = 2
 STATUS_DEVICE = 6
 # A line of an .aux file whose argument counts.
 COMMAND = re.compile(rb"(?m)^\\(citation|@input)\{([^}\r\n \t]*)\}\r?$")
+BIBSTYLE = re.compile(rb"(?m)^\\bibstyle\{([^}\r\n \t]*)\}\r?$")
 BIBDATA = re.compile(rb"(?m)^\\bibdata\{([^}\r\n \t]*)\}\r?$")
 MOST_AUX = 1000
+# How much of two names of a field is the same where one may be meant by the other.
+LEAST_ALIKE = 0.75
 # How many entries that nothing cites are named in the line for all.
 MOST_NAMED = 5
-# What the style of a job says itself, as far as it counts there.
-SAID_BY_STYLE = frozenset(("missing-field", "missing-in-parent", "unusual-type"))
+# What the run of a job says itself, as far as it counts there.
+SAID_BY_RUN = frozenset(("missing-field", "missing-in-parent", "unusual-type", "parent-above"))
 # What to do about the findings of checks whose texts don't say it.
 OF_CHECKS = {
     "long-value": "shorten it, or divide it: a run stores at most 1,000,000 bytes of a value",
@@ -38,13 +45,28 @@ OF_CHECKS = {
     "repeated-title": "keep one of the two entries, if they are one work",
     "empty-field": "fill it in, or take it out",
     "unknown-type": "take a type that the style has, such as `misc`",
-    "unread-field": "leave it, or take a style that reads it",
+    "all-entries": "take `\\nocite{*}` out, where the list is to have only what is cited, and run LaTeX",
+    "older-aux": "run LaTeX, then BibTeX",
     "others-inside": SEEN["OthersInside"],
 }
 
 
 class Refused(Exception):
     """The command line can't be followed."""
+
+
+class StyleFile(NamedTuple):
+    """A style. is_own: whether it isn't one of TeX's folders. is_of_job: whether the job names it, and not the command line."""
+
+    path: str
+    text: bytes
+    is_own: bool
+    is_of_job: bool
+
+    @property
+    def name(self) -> str:
+        base = os.path.basename(self.path)
+        return base[: -len(".bst")] if base.endswith(".bst") else base
 
 
 def main(words: List[str]) -> int:
@@ -93,25 +115,32 @@ def check_up(given: argparse.Namespace) -> int:
         raise Refused(f"there is no check {unknown[0]}: --list prints them")
     search = found_search()
     sources = [Source(path, content_of(os.fsencode(path), MOST_BYTES)) for path in given.databases or databases_of(given.job, search)]
-    style = None if given.style is None else Style(named_style(given.style, search))
-    found, sources = findings_of(given.job, sources, style, search)
+    in_use = style_file(given.style, search) if given.style is not None else style_of_job(given.job, search)
+    found, sources = findings_of(given.job, sources, in_use, search)
     found = [finding for finding in found if finding.check not in off]
-    print_findings(found, Remedies(sources), given)
+    print_findings(found, Remedies(sources, in_use), given)
     sys.stdout.flush()
     return STATUS_MISTAKES if any(finding.severity == "error" for finding in found) else 0
 
 
-def findings_of(job: Optional[str], sources: List[Source], style: Optional[Style], search: Search) -> Tuple[List[Finding], List[Source]]:
-    """All findings, and the databases in the order in which they are read. Of a job the run says more; where its citations aren't all known, nothing is said to be uncited."""
+def findings_of(job: Optional[str], sources: List[Source], in_use: Optional[StyleFile], search: Search) -> Tuple[List[Finding], List[Source]]:
+    """All findings, and the databases in the order in which they are read. Of a job the run and the document say more; where its citations aren't all known, nothing is said to be uncited."""
+    style = None if in_use is None else Style(in_use.text, name=in_use.name)
     if job is None:
         return examine(sources, style), sources
     auxes = list(aux_files(job))
     citations = [citation for aux in auxes for citation in citations_of_file(aux)]
     sources = in_order_of_job(sources, auxes)
-    found = [finding for finding in examine(sources, style, citations) if finding.check not in SAID_BY_STYLE]
-    logged = findings_of_run(job, sources, auxes, citations, search)
-    found = without_consequences(found + logged.findings, logged.is_whole)
+    printing = None if style is None else style.printing
+    named = None if in_use is None or in_use.is_of_job else style
+    found = [finding for finding in examine(sources, named, citations, printing=printing) if finding.check not in SAID_BY_RUN]
+    entries = {item.key.lower(): item.key for source in sources for item in read(source.text).items if item.is_entry and item.key is not None}
+    of_document, newer = findings_of_documents(documents_of(job), citations, entries)
+    own_style = in_use.path if in_use is not None and in_use.is_of_job and in_use.is_own else None
+    logged = findings_of_run(job, sources, auxes, citations, search, own_style)
+    found = without_consequences(found + of_document + logged.findings, logged.is_whole)
     order = {id(source): number for number, source in enumerate(sources)}
+    found = [finding for finding in found if finding.check != "uncited" or finding.key not in newer]
     return sorted(found, key=lambda finding: (order.get(id(finding.source), -1), finding.start, finding.end)), sources
 
 
@@ -129,8 +158,9 @@ def without_consequences(found: List[Finding], is_whole: bool) -> List[Finding]:
 class Remedies:
     """What to do about findings. Databases are read once more where a finding asks for it."""
 
-    def __init__(self, sources: List[Source]) -> None:
+    def __init__(self, sources: List[Source], style: Optional[StyleFile] = None) -> None:
         self.sources = sources
+        self.style = style
         self.items: Dict[int, List[Item]] = {}
         self.of_places: Dict[int, Dict[int, str]] = {}
 
@@ -170,6 +200,11 @@ class Remedies:
             return f"write `@{near}`" if near else "write a type of BibTeX's, such as `@misc`"
         if finding.check.startswith("missing-"):
             return self.of_missing(finding)
+        if finding.check == "parent-above":
+            return f"move {finding.text.split()[2]} below all entries that name it, or cite it"
+        if finding.check in ("unread-field", "unprinted-field"):
+            name = finding.source.text[finding.start : finding.end].decode("utf8", "replace").lower()
+            return self.of_unread(name) if finding.check == "unread-field" else self.of_unprinted(finding, name)
         if finding.check == "undefined-string":
             return self.of_string(finding) or remedy_of(finding.text, strings=self.names(True))
         if finding.check == "logged-warning":
@@ -201,6 +236,28 @@ class Remedies:
             return of_missing(finding.source.text, item, found[1] if found else "", its)
         return None
 
+    def of_unread(self, name: str) -> str:
+        """What to do about a field that the style doesn't read: its own author may have meant the field by a name that no usual field has."""
+        if self.style is None or not self.style.is_own:
+            return "leave it, or take a style that reads it"
+        definitions = [word for word in read_style(self.style.text).definitions if word.kind == "field"]
+        lines = Lines(self.style.text)
+        alike = difflib.get_close_matches(name, [word.name for word in definitions if word.name.encode() not in FIELDS], 1, LEAST_ALIKE)
+        if alike:
+            place = next(f"{self.style.path}:{lines.line_of(word.start) + 1}" for word in definitions if word.name == alike[0])
+            return f"call it `{name}` in the style, where it is `{alike[0]}` ({place}): databases have it by that name"
+        entry = re.search(rb"(?im)^[ \t]*entry\b", self.style.text)
+        place = f"{self.style.path}:{lines.line_of(entry.end()) + 1 if entry else 1}"
+        return f"leave it; or put `{name}` into the first list of ENTRY ({place}), and have the style print it"
+
+    def of_unprinted(self, finding: Finding, name: str) -> str:
+        """What to do about a field that the style prints for another type alone."""
+        kind, other = re.findall("`@(.*?)`", finding.text)[-2:]
+        printing = None if self.style is None else Style(self.style.text).printing
+        free = [field for field in ("howpublished", "note") if printing is not None and field.encode() in printing.fields and printing.prints(kind.encode("utf8", "surrogateescape"), field.encode())]
+        put = f", or put it into `{free[0]}`, which is printed for `@{kind}`" if free else ""
+        return f"write `@{other}`, if the work is one{put}"
+
     def of_string(self, finding: Finding) -> Optional[str]:
         """What to do about a string that is defined after its use."""
         name = finding.source.text[finding.start : finding.end].lower()
@@ -224,6 +281,11 @@ class Remedies:
         general = remedy_of(finding.text, self.names(False))
         if general != remedy_of(finding.text):
             return general
+        for source in self.sources:
+            in_text = next((it for it in ENTRY_IN_TEXT.finditer(source.text) if it[2].decode("utf8", "replace").lower() == finding.key.lower()), None)
+            if in_text is not None:
+                line = Lines(source.text).line_of(in_text.start(1)) + 1
+                return f"write `@` before `{in_text[1].decode()}` ({source.name}:{line})"
         for source, item in self.all(False):
             is_it = item.slip is not None and not item.fields and source.text[item.slip.place : item.slip.place + 1] == b"="
             if is_it:
@@ -244,13 +306,32 @@ def of_aux(finding: Finding) -> Optional[str]:
     return said(SEEN["OfBiblatex"], re.sub(r"\.aux$", "", finding.source.name)) if is_of_biblatex else None
 
 
-def named_style(name: str, search: Search) -> bytes:
-    """The text of the style of this path or name."""
+def style_file(name: str, search: Search, is_of_job: bool = False) -> StyleFile:
+    """The style of this path or name."""
     path = os.fsencode(name)
     found = path if os.path.isfile(path) else search.path_of(path if path.endswith(b".bst") else path + b".bst")
     if found is None:
         raise Refused(f"there is no style {name}")
-    return content_of(found, MOST_BYTES)
+    found = found[2:] if found.startswith(b"./") else found
+    return StyleFile(os.fsdecode(found), content_of(found, MOST_BYTES), found == path or not os.path.isabs(found), is_of_job)
+
+
+def style_of_job(job: Optional[str], search: Search) -> Optional[StyleFile]:
+    """The style that a job names, if it is there; of a job in another folder that beside it."""
+    name = next((found[1] for source in aux_files(job) for found in BIBSTYLE.finditer(source.text)), None) if job is not None else None
+    if name is None:
+        return None
+    for path in (os.fsdecode(name), os.path.join(os.path.dirname(job or ""), os.fsdecode(name) + ".bst")):
+        try:
+            return style_file(path, search, is_of_job=True)
+        except (Refused, OSError, ValueError):
+            continue
+    return None
+
+
+def named_style(name: str, search: Search) -> bytes:
+    """The text of the style of this path or name."""
+    return style_file(name, search).text
 
 
 def databases_of(job: str, search: Search) -> List[str]:

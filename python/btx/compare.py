@@ -25,6 +25,7 @@ from typing import Dict, Generator, Iterator, List, Optional, Sequence, Tuple, U
 from .causes import cause_of, first_difference
 from .commands import STATUS_REFUSED, Words, broken_pipe
 from .corpus import Job, found_jobs
+from .depths import enter
 from .events import Met, Severity
 from .jobs import gathered
 from .library import run_over
@@ -294,7 +295,7 @@ def compared(job: Job, budget: int, program: Optional[str], seconds: float, room
             link = job.link_out()
             if link is not None:
                 return not_run(job, f"{link} is a link that leads out of the folder, so none of its lines is shown")
-            os.chdir(job.folder)
+            enter(job.folder)
             here = search_here()
             options = replace(here.options(Options()), budget=budget, most_list=MOST_BYTES, most_log=MOST_BYTES)
             return compared_here(job, here, options, program, seconds, room)

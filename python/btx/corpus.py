@@ -2,10 +2,14 @@
 
 from __future__ import annotations
 
+import contextlib
 import os
 import re
+import stat
 from dataclasses import dataclass
 from typing import Callable, Dict, FrozenSet, Iterable, List, Optional, Set, Tuple
+
+from .depths import contents_of, files_below, is_file, reached
 
 __all__ = ["Job", "found_jobs", "state_of"]
 
@@ -40,8 +44,11 @@ class Job:
         """The name of its first file that is a link which leads out of the folders that were searched, if one is."""
         folders = [os.path.realpath(folder) for folder in self.within or (self.folder,)]
         for path in (self.path + ending for ending in ENDINGS):
-            if os.path.islink(path) and not any(is_below(os.path.realpath(path), folder) for folder in folders):
-                return os.fsdecode(os.path.basename(path))
+            with contextlib.suppress(OSError), reached(path) as (name, folder):
+                is_link = stat.S_ISLNK(os.lstat(name, dir_fd=folder).st_mode)
+                # (where a link leads isn't known if its own path is too long for the system)
+                if is_link and (folder is not None or not any(is_below(os.path.realpath(path), it) for it in folders)):
+                    return os.fsdecode(os.path.basename(path))
         return None
 
 
@@ -69,7 +76,7 @@ def found_jobs(folders: Iterable[bytes], complain: Callable[[str], None]) -> Lis
     includers = includers_of(scanned)
     jobs = []
     for path in files:
-        if not os.path.isfile(path[:-4] + b".bbl"):
+        if not is_file(path[:-4] + b".bbl"):
             continue
         includer = includers.get(path)
         if includer is None:
@@ -84,34 +91,21 @@ def aux_files(folders: Iterable[bytes], complain: Callable[[str], None]) -> Set[
     """All `.aux` files below the folders, links to folders not followed."""
     found: Set[bytes] = set()
     for folder in folders:
-        if os.path.isfile(folder) and folder.endswith(b".aux"):
-            found.add(os.path.abspath(folder))
-            continue
-        below = [os.path.abspath(folder)]
-        while below:
-            try:
-                below += taken_from(below.pop(), found)
-            except OSError as error:
-                complain(str(error))
+        path = os.path.abspath(folder)
+        if folder.endswith(b".aux") and is_file(path):
+            found.add(path)
+        else:
+            found.update(files_below(path, b".aux", complain))
     return found
-
-
-def taken_from(folder: bytes, found: Set[bytes]) -> List[bytes]:
-    """Adds the `.aux` files of a folder, and answers the folders in it. (Python's own walk calls itself for each folder in another one, and ends for very many.)"""
-    with os.scandir(folder) as entries:
-        seen = list(entries)
-    found.update(entry.path for entry in seen if entry.name.endswith(b".aux") and not entry.is_dir())
-    return [entry.path for entry in seen if entry.is_dir(follow_symlinks=False)]
 
 
 def scanned_file(path: bytes) -> Scanned:
     """What an `.aux` file says: nothing, if it can't be read or is far too long."""
     try:
-        if not os.path.isfile(path) or os.path.getsize(path) > LONGEST:
-            return Scanned(frozenset(), False)
-        with open(path, "rb") as file:
-            text = file.read()
+        text = contents_of(path, LONGEST) if is_file(path) else None
     except OSError:
+        text = None
+    if text is None:
         return Scanned(frozenset(), False)
     return Scanned(frozenset(included_by(path, text)), NAMES_A_STYLE.search(text) is not None)
 
@@ -134,8 +128,12 @@ def included_by(path: bytes, text: bytes) -> Set[bytes]:
 
 def state_of(job: Job) -> Optional[str]:
     """What changes when a job's `.aux` or `.bbl` does."""
-    try:
-        parts = [os.stat(job.path + ending) for ending in (b".aux", b".bbl")]
-    except OSError:
-        return None
-    return " ".join(f"{part.st_size} {part.st_mtime_ns}" for part in parts)
+    found: List[str] = []
+    for path in (job.path + ending for ending in (b".aux", b".bbl")):
+        try:
+            with reached(path) as (name, folder):
+                known = os.stat(name, dir_fd=folder)
+        except OSError:
+            return None
+        found.append(f"{known.st_size} {known.st_mtime_ns}")
+    return " ".join(found)

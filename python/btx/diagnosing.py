@@ -6,6 +6,7 @@ import bisect
 import itertools
 import os
 import re
+import unicodedata
 from functools import lru_cache, partial
 from typing import Callable, Dict, Iterator, List, NamedTuple, Optional, Set, Tuple
 
@@ -288,9 +289,16 @@ def mending_of(document: Document, workspace: Workspace, finding: Finding, used:
         kind = word.lstrip("@ \t\r\n")
         return written((finding.end - len(kind.encode("utf8", "surrogateescape")), finding.end), nearest(kind, known_types(used[2])))
     if finding.check == "one-hyphen":
-        return written(place, re.sub(r"(?<=[0-9])\s*[-\u2013\u2014]\s*(?=[0-9])", "--", word))
-    if finding.check == "bare-organization":
+        return written(place, re.sub(r"(?<=[0-9])\s*[-\u2010-\u2014\u2212]\s*(?=[0-9])", "--", word))
+    if finding.check in ("bare-organization", "lowered-tex"):
         return written(place, f"{{{word}}}")
+    if finding.check == "suffix-last":
+        return written(place, re.findall("`(.*?)`", finding.text)[0])
+    if finding.check == "combining-accent":
+        whole = unicodedata.normalize("NFC", word)
+        return written(place, whole if len(whole) == 1 else re.findall("`(.*?)`", finding.text)[-1])
+    if finding.check == "no-at-sign":
+        return written(place, f"@{word}")
     if finding.check == "month-text":
         month = word.strip('{}" \t\r\n')[:3].lower()
         return written(place, month if month in strings_before(document, workspace, finding.start, used) else None)

@@ -7,107 +7,24 @@ A check that a run would log says what the run logs. The others are guesses, and
 
 from __future__ import annotations
 
+import itertools
 import re
 from operator import itemgetter
 from typing import Dict, FrozenSet, Iterable, Iterator, List, NamedTuple, Optional, Set, Tuple, Union
 
+from .accents import accents_in, has_accents
 from .bibtext import ENDS_TEXT, Database, Field, Item, Lines, field_of, read, undefined_strings
 from .bsttext import StyleText, read_style
-from .doubts import OTHER_SPACE, SIGN, TEXTS, TWO_WORDS, Persons, has_words, list_in_braces, lost_words, may_lose, names_by_commas, sign_by_names, sign_of_tex
+from .checks import CHECKS, SAID, Check
+from .doubts import ENTRY_IN_TEXT, OTHER_SPACE, SIGN, SUFFIX_LAST, TEXTS, TWO_WORDS, Persons, has_words, list_in_braces, lost_words, lowered_tokens, may_lose, names_by_commas
+from .doubts import sign_by_names, sign_of_tex, suffix_last, what_for_hyphens
 from .reading import ENTRY, PREAMBLE, STRING, without_collection
+from .trying import Printing
 from .usual import ALONE, EITHER, FIELDS, REQUIRED, missing_fields, near_field
 from .values import BRACE
 
 __all__ = ["CHECKS", "Check", "Citation", "Finding", "Source", "Style", "examine"]
 
-
-class Check(NamedTuple):
-    """A check. severity: error, warning or info. exact: how exact it is, in a sentence."""
-
-    name: str
-    severity: str
-    exact: str
-
-
-CHECKS = {
-    check.name: check
-    for check in (
-        Check("mistake", "error", "Exact: a run logs the same text for the same line."),
-        Check("repeated-key", "error", "Exact: a run that stores both entries logs it; what follows the key isn't read."),
-        Check("repeated-field", "warning", "Exact: a run logs it where the style reads the field."),
-        Check("long-value", "error", "Exact: the value has more than 1,000,000 bytes, so a run that stores it ends with `limit string`."),
-        Check("undefined-string", "warning", "Exact with --style; else the strings that TeX's standard styles define count as defined."),
-        Check("no-entry", "warning", "Exact for the databases that are named: a run of the job logs it."),
-        Check("unknown-type", "warning", "Exact, with --style: a run that stores the entry logs it."),
-        Check("fields-in-text", "warning", "A guess: text between items is ignored by a run, and this looks like fields of an entry."),
-        Check("repeated-doi", "warning", "Exact that the dois are equal, but for case and a resolver's address."),
-        Check("repeated-title", "info", "A guess: title and year, or the year of `date`, are equal, but for case, TeX's commands and punctuation."),
-        Check("et-al", "warning", "A guess: a name has the words et al.; BibTeX's word for this is `and others`."),
-        Check("others-inside", "warning", "Exact: `others` isn't the last name, so no style takes it for et al."),
-        Check("bare-organization", "warning", "A guess: a name has a word such as Institute and isn't in braces of its own, so it is read as a person's."),
-        Check("names-by-sign", "warning", "A guess: a list of names has a semicolon or an `&`, where BibTeX wants ` and `."),
-        Check("names-by-commas", "warning", "A guess for a name with two commas, each of whose parts has several words; exact for one with more: a run logs it where a style takes the names."),
-        Check("no-break-space", "warning", "Exact: BibTeX parts no words at such a space, so two names, or two words of a name, are one."),
-        Check("list-in-braces", "warning", "A guess: all of a list of names stands in braces of its own, so it is one name. Each has a comma, an initial or a first name that the databases know."),
-        Check("names-exchanged", "info", "A guess, by the other names of the databases and the entry's key: the last name stands first, and no comma after it."),
-        Check("von-letter", "info", "Exact, by RULES' von: such a word isn't abbreviated, and a style sorts the name by it."),
-        Check("empty-field", "info", "Exact: the value is whitespace alone."),
-        Check("odd-dollars", "warning", "Exact: the number of `$` without a backslash is odd, but for addresses; TeX stops where a style prints the field."),
-        Check("sign-of-tex", "warning", "Exact that LaTeX stops at the sign, or takes it for a comment, where a style prints the field."),
-        Check("not-utf8", "warning", "Exact: a byte of the file isn't UTF-8. Said once; a document in another encoding may be meant."),
-        Check("unusual-type", "info", "Exact, without --style: TeX's standard styles don't have the type, so they treat the entry as `misc`."),
-        Check("misspelt-field", "warning", "A guess: the name of a field differs in a letter or two from one that the styles read, and the entry doesn't have that one."),
-        Check("missing-field", "info", "Exact, without --style, by the table of BibTeX's manual (btxdoc) for its types: plain, abbrv, alpha and unsrt warn of most of these fields."),
-        Check("missing-in-parent", "info", "Exact, by the same table: neither the entry nor its parent has the field, where the parent is in the databases."),
-        Check("year-of-words", "warning", "Exact: the year doesn't end in two digits, of which styles such as alpha make a label."),
-        Check("lost-capitals", "info", "A guess: styles such as plain write a title in small letters, but for its first letter and what is in braces."),
-        Check("one-hyphen", "info", "A guess: a range of pages is written with two hyphens."),
-        Check("month-text", "info", "A guess: a month that is written out can't be shortened by a style; `jan` can."),
-        Check("unread-field", "info", "Exact, with --style: its ENTRY list doesn't have the field, so a run ignores it."),
-        Check("logged-error", "error", "Exact, with --job: a run of the job logs it."),
-        Check("logged-warning", "warning", "Exact, with --job: a run of the job logs it."),
-        Check("uncited", "info", "Exact, with --job: no citation of its .aux files, and no crossref of a cited entry, names the entry."),
-    )
-}
-
-# What is said of each, with the names that it is about.
-SAID = {
-    "mistake": "{}",
-    "repeated-key": "{}",
-    "repeated-field": "I'm ignoring {}'s extra \"{}\" field",
-    "long-value": "the value of {} has more than 1,000,000 bytes",
-    "undefined-string": 'string name "{}" is {}',
-    "no-entry": 'I didn\'t find a database entry for "{}"',
-    "unknown-type": 'entry type for "{}" isn\'t style-file defined',
-    "fields-in-text": "this looks like the field {}, and is in no entry: a run ignores it",
-    "repeated-doi": "it has the doi of {}",
-    "repeated-title": "it has the title and year of {}",
-    "et-al": "et al. is taken as a name: write `and others`",
-    "others-inside": "`others` is the word for et al. as the last name alone",
-    "bare-organization": "an organization is read as a person, of first and last names: put its whole name into braces of its own",
-    "names-by-sign": "{}",
-    "names-by-commas": "{}",
-    "no-break-space": "a no-break space ({}): BibTeX parts no words at it, so two names or two words of a name are one",
-    "list-in-braces": "the whole list of names stands in braces of its own, so it is one name: take the second pair away",
-    "names-exchanged": "{1} is taken as the last name: write `{0}, {1}`, with a comma, or `{1} {0}`",
-    "von-letter": "{} is taken as von by its letter {}: put the first letter into braces with its accent as TeX's command, or write Last, First",
-    "empty-field": "the field {} is empty",
-    "odd-dollars": "a `$` has no other one: write `\\$` where no formula is meant",
-    "sign-of-tex": "{}",
-    "not-utf8": "the byte {} isn't UTF-8: save the file as UTF-8",
-    "unusual-type": "TeX's standard styles don't have the type {}",
-    "misspelt-field": "the usual styles read no field {}: is it `{}`?",
-    "missing-field": "the field {} is missing, which BibTeX's manual requires of `{}`",
-    "missing-in-parent": "the field {} is missing in the entry and its parent; BibTeX's manual requires it of `{}`",
-    "year-of-words": "the year `{}` doesn't end in two digits: write the number alone, and the words in `note`",
-    "lost-capitals": "styles such as plain write {} in small letters: put what keeps its capital letters into braces, as `{{{}}}`",
-    "one-hyphen": "a range of pages with one hyphen: write `--`",
-    "month-text": "the month as text: write `{}`, without braces",
-    "unread-field": "the style doesn't read the field {}",
-    "logged-error": "{}",
-    "logged-warning": "{}",
-    "uncited": "nothing cites it",
-}
 
 MONTHS = b"jan feb mar apr may jun jul aug sep oct nov dec".split()
 # What plain, abbrv, alpha and unsrt define beside the months.
@@ -118,7 +35,7 @@ RESOLVER = re.compile(rb"^(?:https?://(?:dx\.)?doi\.org/|doi:)[ \t]*")
 TEX_COMMAND = re.compile(rb"\\[A-Za-z]+")
 # What doesn't tell titles: all but letters and digits.
 NOT_TITLE = bytes(byte for byte in range(128) if not chr(byte).isalnum())
-ONE_HYPHEN = re.compile(rb"[0-9] ?(?:-|\xe2\x80\x93|\xe2\x80\x94) ?[0-9]")
+ONE_HYPHEN = re.compile(rb"[0-9] ?(?:-|\xe2\x80[\x90-\x94]|\xe2\x88\x92) ?[0-9]")
 MONTH_NAME = re.compile(rb"(?:jan|feb|mar|apr|may|jun|jul|aug|sep|oct|nov|dec)[a-z]*\.?", re.IGNORECASE)
 ET_AL = re.compile(rb"(?<![A-Za-z])et\.?[ ~]*al(?![a-z])", re.IGNORECASE)
 # Words that no person's name has; front/src/unsaid.rs has the same.
@@ -182,12 +99,13 @@ class Citation(NamedTuple):
 
 
 class Style:
-    """What a style reads: its fields, types and strings."""
+    """What a style reads: its fields, types and strings. printing: what it prints."""
 
-    def __init__(self, text: bytes, found: Optional[StyleText] = None) -> None:
+    def __init__(self, text: bytes, found: Optional[StyleText] = None, name: str = "this style") -> None:
         style = read_style(text) if found is None else found
         self.fields = encoded([*style.named("field"), "crossref"])
         self.types = encoded(style.named("function"))
+        self.printing = Printing(text, name, self.fields, self.types)
         self.strings = {name.encode("utf8", "surrogateescape"): text[slice(*place)].strip(b'"') for name, place in style.values.items()}
 
 
@@ -213,9 +131,11 @@ def examine(
     citations: Optional[List[Citation]] = None,
     off: FrozenSet[str] = frozenset(),
     most: Optional[int] = None,
+    printing: Optional[Printing] = None,
 ) -> List[Finding]:
-    """All findings of these databases, as those of one job in this order; by file and place. off: the names of checks that are left out. most: how many are wanted at most."""
-    examiner = Examiner(style)
+    """All findings of these databases, as those of one job in this order; by file and place. off: the names of checks that are left out. most: how many are wanted at most. printing: what the
+    style of a job prints, where no style is named."""
+    examiner = Examiner(style, printing)
     with without_collection():
         for number, source in enumerate(sources):
             examiner.examine(number, source)
@@ -241,8 +161,9 @@ class Examiner:
     works: what tells the works of the entries that aren't compared with others yet. firsts: of each doi, and of each title with its year, the key of the first entry. plain_names:
     lists of names of which nothing is said. found: in any order."""
 
-    def __init__(self, style: Optional[Style]) -> None:
+    def __init__(self, style: Optional[Style], printing: Optional[Printing] = None) -> None:
         self.style = style
+        self.printing = printing if style is None else style.printing
         known = {name: name for name in (*MONTHS, *JOURNALS)}
         self.strings: Dict[bytes, bytes] = dict(known if style is None else style.strings)
         self.stored: Set[bytes] = set()
@@ -255,6 +176,7 @@ class Examiner:
         self.children: List[Tuple[int, Source, Item, Dict[bytes, int]]] = []
         self.found: List[Found] = []
         self.number, self.source = 0, Source("", b"")
+        self.may_have_accents = False
         self.database = Database(b"", [], {})
 
     def say(self, check: str, start: int, end: int, key: Optional[bytes], *what: Union[bytes, str]) -> None:
@@ -282,12 +204,25 @@ class Examiner:
                 what = "used in its own definition" if unknown.is_own else "undefined"
                 self.say("undefined-string", unknown.part.start, unknown.part.end, key_of(unknown.item), name, what)
         self.between_items(items, end)
+        self.may_have_accents = bool(items) and has_accents(text, items[0].start, end)
         for item in items:
             kind = item.records.kinds[item.at]
             if kind == ENTRY and (item.slip is None or not item.is_repeated):
                 self.entry(item)
-            elif kind in (STRING, PREAMBLE) and not item.records.is_whole[item.at]:
-                self.long_value(item)
+            elif kind in (STRING, PREAMBLE):
+                self.defined(item, kind)
+
+    def defined(self, item: Item, kind: int) -> None:
+        """Examines a string or a preamble."""
+        if not item.records.is_whole[item.at]:
+            self.long_value(item)
+        if kind == STRING and self.may_have_accents:
+            self.accents(item.key_end, item.end, None)
+
+    def accents(self, start: int, end: int, key: Optional[bytes]) -> None:
+        """Looks for accents that are characters of their own."""
+        for found in accents_in(self.source.text, start, end):
+            self.say("combining-accent", found.start, found.end, key, found.said)
 
     def long_value(self, item: Item) -> None:
         """Says that a string's or a preamble's value is too long."""
@@ -322,7 +257,11 @@ class Examiner:
         """Looks for fields in the text between items."""
         if self.source.text.find(b"=", start, end) < 0:
             return
-        found = LOOKS_LIKE_FIELD.search(self.source.text, start, end)
+        entries = list(ENTRY_IN_TEXT.finditer(self.source.text, start, end))
+        for entry in entries:
+            self.say("no-at-sign", *entry.span(1), entry[2], entry[1], entry[2])
+        # (what comes after such an entry is its own)
+        found = LOOKS_LIKE_FIELD.search(self.source.text, start, entries[0].start() if entries else end)
         if found is not None:
             self.say("fields-in-text", *found.span(1), None, found[1])
 
@@ -337,13 +276,17 @@ class Examiner:
             numbers = self.first_of_each(item, names)
         if self.style is not None:
             self.unread(item, self.style, numbers)
+        if self.printing is not None and item.slip is None:
+            self.unprinted(item, self.printing, numbers)
         kind = item.kind
         if self.style is None and kind not in REQUIRED:
             self.say("unusual-type", item.start, item.kind_end, item.key, kind)
         if not FIELDS.issuperset(numbers):
             self.misspelt(item, numbers)
         # (a style in use has a table of its own; and most entries have all that is required)
-        if self.style is None and item.slip is None and (kind in EITHER or b"crossref" in numbers or not ALONE.get(kind, NONE) <= numbers.keys()):
+        if b"crossref" in numbers:
+            self.children.append((self.number, self.source, item, numbers))
+        elif self.style is None and item.slip is None and (kind in EITHER or not ALONE.get(kind, NONE) <= numbers.keys()):
             self.required(item, numbers)
         if records.is_whole.find(0, first, last) >= 0:
             self.long_fields(item, numbers)
@@ -356,6 +299,8 @@ class Examiner:
             self.dollars(item, numbers)
         if self.source.text[item.start : item.end].translate(None, NO_SIGN):
             self.signs(item, numbers)
+        if self.may_have_accents and has_accents(self.source.text, item.key_end, item.end):
+            self.accents_of_fields(item, numbers)
         self.work(item, numbers)
 
     def first_of_each(self, item: Item, names: List[bytes]) -> Dict[bytes, int]:
@@ -381,6 +326,23 @@ class Examiner:
                 if name not in style.fields:
                     self.say("unread-field", *self.name_of(item, number), item.key, name)
 
+    def unprinted(self, item: Item, printing: Printing, numbers: Dict[bytes, int]) -> None:
+        """Says which fields the style prints for another type alone; of a job's own style also which it doesn't read of those that the manual requires."""
+        kind = item.kind
+        lost = printing.not_printed(kind, numbers, b"crossref" in numbers)
+        if lost is not None:
+            self.say("unprinted-field", *self.name_of(item, numbers[lost]), item.key, printing.name, lost, kind, printing.usual_type(kind, lost) or b"")
+        for name in itertools.chain(*REQUIRED.get(kind, ())) if self.style is None else ():
+            if name in numbers and name not in printing.fields:
+                self.say("unread-field", *self.name_of(item, numbers[name]), item.key, name)
+
+    def accents_of_fields(self, item: Item, numbers: Dict[bytes, int]) -> None:
+        """Looks for accents that are characters of their own, in the fields that a style may print."""
+        for name, number in numbers.items():
+            if name not in NO_TEXTS and (self.style is None or name in self.style.fields):
+                field = field_of(item.records, number)
+                self.accents(self.database.start(field), field.end, item.key)
+
     def encoding(self) -> None:
         """Says which byte of the file isn't UTF-8, if one isn't."""
         text = self.source.text
@@ -400,10 +362,7 @@ class Examiner:
                 self.say("misspelt-field", *self.name_of(item, numbers[name]), item.key, name, near)
 
     def required(self, item: Item, numbers: Dict[bytes, int]) -> None:
-        """Says which fields an entry lacks. One with a parent may have them from that."""
-        if b"crossref" in numbers:
-            self.children.append((self.number, self.source, item, numbers))
-            return
+        """Says which fields an entry lacks that has no parent."""
         for fields in missing_fields(item.kind, numbers):
             self.missing(item, fields)
 
@@ -463,7 +422,8 @@ class Examiner:
         # (first what takes less time)
         has_organization = not WORDS_OF_ORGANIZATIONS.isdisjoint(lowered.translate(TO_SPACES).split()) and OF_ORGANIZATIONS.search(value) is not None
         is_list = value.count(b",") > lowered.count(b" and ") + 1 or b";" in value or b"&" in value or value.startswith(b"{")
-        if not has_organization and not is_list and value.isascii() and not has_others_inside(value, lowered) and not has_et_al(value, lowered):
+        is_plain = not has_organization and not is_list and value.isascii() and not has_others_inside(value, lowered) and not has_et_al(value, lowered)
+        if is_plain and (b"," not in value or SUFFIX_LAST.search(value) is None):
             self.plain_names.add(value)
             return
         field = self.text_of(item, number)
@@ -489,6 +449,8 @@ class Examiner:
         for check, seen in (("names-by-sign", sign_by_names(hidden)), ("names-by-commas", names_by_commas(hidden, spans_of_names(hidden)))):
             if seen is not None and (check == "names-by-sign" or b";" not in hidden):
                 self.say(check, offset + seen.start, offset + seen.end, item.key, seen.what)
+        for seen, _ in suffix_last(text, hidden, spans_of_names(hidden)) if b"," in hidden and SUFFIX_LAST.search(hidden) is not None else ():
+            self.say("suffix-last", offset + seen.start, offset + seen.end, item.key, seen.what)
         space = OTHER_SPACE.search(hidden)
         if space is not None:
             self.say("no-break-space", offset + space.start(), offset + space.end(), item.key, f"U+{ord(space[0].decode()):04X}")
@@ -538,16 +500,25 @@ class Examiner:
             self.say("year-of-words", self.database.start(field), field.end, item.key, value)
 
     def title(self, item: Item, number: int) -> None:
-        """Looks for words of a title that lose their capital letters."""
+        """Looks for words, commands and formulas of a title that lose their capital letters."""
+        if item.slip is not None or (item.kind not in LOWERED if self.printing is None else not self.printing.lowers(item.kind)):
+            return
         value = item.records.value(number)
-        if item.kind not in LOWERED or item.slip is not None or not may_lose(value):
+        may_change, has_tex = may_lose(value), b"\\" in value or b"$" in value
+        if not may_change and not has_tex:
             return
         field = self.text_of(item, number)
-        lost = [] if field is None else lost_words(hide_braces(self.database.raw(field).replace(b".", b";")))
-        if field is not None and lost:
-            start = self.database.start(field) + 1
+        if field is None:
+            return
+        start, raw = self.database.start(field) + 1, self.database.raw(field)
+        lost = lost_words(hide_braces(raw.replace(b".", b";"))) if may_change else []
+        if lost:
             (place, word), words = lost[0], b", ".join(b"`" + word + b"`" for _, word in lost[:MOST_LOST])
-            self.say("lost-capitals", start + place, start + place + len(word), item.key, words, word)
+            what = "styles such as plain write" if self.printing is None else f"{self.printing.name} writes"
+            self.say("lost-capitals", start + place, start + place + len(word), item.key, words, word, what)
+        for place, token, made in lowered_tokens(raw, hide_braces(raw)) if has_tex else ():
+            what = "styles such as plain make" if self.printing is None else f"{self.printing.name} makes"
+            self.say("lowered-tex", start + place, start + place + len(token), item.key, token, made, what)
 
     def von(self, item: Item, offset: int, hidden: bytes, start: int, end: int) -> None:
         """Looks for a word of a name that begins with a capital letter outside ASCII and is taken as von by its next letter."""
@@ -563,10 +534,11 @@ class Examiner:
 
     def pages(self, item: Item, number: int) -> None:
         value = item.records.value(number)
-        if b"--" not in value and ONE_HYPHEN.search(value) is not None:
+        found = None if b"--" in value else ONE_HYPHEN.search(value)
+        if found is not None:
             field = self.text_of(item, number)
             if field is not None:
-                self.say("one-hyphen", self.database.start(field), field.end, item.key)
+                self.say("one-hyphen", self.database.start(field), field.end, item.key, what_for_hyphens(found[0]))
 
     def month(self, item: Item, number: int) -> None:
         records = item.records
@@ -600,19 +572,28 @@ class Examiner:
             self.say("list-in-braces", start, start + len(self.database.raw(field)), item.key)
 
     def compare_parents(self) -> None:
-        """Says which fields an entry lacks that its parent lacks as well, where that is there."""
+        """Says of entries with a parent, where that is there, whether it stands above them, and which fields they lack that it lacks as well."""
         if not self.children:
             return
-        entries: Dict[bytes, Item] = {}
-        for _, _, database in self.databases:
+        entries: Dict[bytes, Tuple[int, Item]] = {}
+        for at, _, database in self.databases:
             for item in database.items:
                 if item.is_entry and not item.is_repeated:
-                    entries.setdefault((item.key or b"").lower(), item)
+                    entries.setdefault((item.key or b"").lower(), (at, item))
+        followed: Set[bytes] = set()
         for number, source, item, numbers in self.children:
-            parent = entries.get(item.records.value(numbers[b"crossref"]).strip().lower())
-            its = [] if parent is None else parent.records.names_between(parent.at + 1, parent.last)
+            name = item.records.value(numbers[b"crossref"]).strip().lower()
+            at, parent = entries.get(name, (0, None))
+            if parent is None:
+                continue
             self.number, self.source = number, source
-            for fields in missing_fields(item.kind, {*numbers, *its}) if parent is not None else []:
+            # (the first entry that names it has it stored, if it is stored itself)
+            if (at, parent.start) < (number, item.start) and name not in followed:
+                self.say("parent-above", *self.name_of(item, numbers[b"crossref"]), item.key, parent.key or b"")
+            elif (at, parent.start) > (number, item.start):
+                followed.add(name)
+            its = parent.records.names_between(parent.at + 1, parent.last)
+            for fields in missing_fields(item.kind, {*numbers, *its}) if self.style is None and item.slip is None else []:
                 self.missing(item, fields, "missing-in-parent")
 
     # ---- citations ----

@@ -44,6 +44,12 @@ def stem_of(name: str) -> str:
     return base[: -len(".bib")] if base.endswith(".bib") else base
 
 
+def stem_of_style(path: str) -> str:
+    """A style's name without its folders and its ending."""
+    base = os.path.basename(path)
+    return base[: -len(".bst")] if base.endswith(".bst") else base
+
+
 def has_whole_list(auxes: List[Source], errors: List[Message]) -> bool:
     """Whether all citations are known: an `.aux` file has some, and no error was met in one."""
     lines = {aux.name: aux.text.split(b"\n") for aux in auxes}
@@ -54,8 +60,9 @@ def has_whole_list(auxes: List[Source], errors: List[Message]) -> bool:
     return any(line.startswith(b"\\citation{") for text in lines.values() for line in text)
 
 
-def findings_of_run(job: str, sources: List[Source], auxes: List[Source], citations: List[Citation], search: Search) -> Logged:
-    """What a run of the job logs that no check of databases says."""
+def findings_of_run(job: str, sources: List[Source], auxes: List[Source], citations: List[Citation], search: Search, own_style: Optional[str] = None) -> Logged:
+    """What a run of the job logs that no check of databases says. own_style: the path of the job's style, if that is its author's and none of TeX's folders: its faults are said of it,
+    and not of entries."""
     top = job if job.endswith(".aux") else job + ".aux"
     inputs = Inputs(search, top)
     given = {os.path.normpath(source.name): source.text for source in sources}
@@ -67,6 +74,8 @@ def findings_of_run(job: str, sources: List[Source], auxes: List[Source], citati
 
     messages = [it for it in run(top, content, search.options(Options())).messages if it.kind in (Kind.ERROR, Kind.WARNING)]
     placer = Placer(sources, auxes, {citation.key.lower() for citation in citations})
+    faults = [] if own_style is None else [it for it in messages if is_of_style(it)]
+    messages = [it for it in messages if it not in faults]
     seen: Set[Tuple[str, Optional[str]]] = set()
     findings: List[Finding] = []
     for message in messages:
@@ -75,7 +84,14 @@ def findings_of_run(job: str, sources: List[Source], auxes: List[Source], citati
         finding = None if (message.text, message.entry) in seen else placer.finding(message)
         seen.add((message.text, message.entry))
         findings += [] if finding is None else [finding]
+    findings += placer.of_faults(faults, own_style or "")
     return Logged(findings, has_whole_list(auxes, [it for it in messages if it.kind is Kind.ERROR]))
+
+
+def is_of_style(message: Message) -> bool:
+    """Whether an error is about the style itself: its text, or what it does, but for names that it can't divide."""
+    is_met_in_it = (message.file or "").endswith(".bst") or message.function is not None and not message.text.startswith(OF_NAMES)
+    return message.kind is Kind.ERROR and is_met_in_it
 
 
 def is_cause(findings: List[Finding], auxes: List[Source]) -> bool:
@@ -118,6 +134,17 @@ class Placer:
             return self.of_style(message.text, check)
         missing = NO_FILE.fullmatch(message.text)
         return self.of_file(message.text, missing[1] if missing else "", check)
+
+    def of_faults(self, faults: List[Message], style: str) -> List[Finding]:
+        """What is wrong in a style, where the `.aux` file names it: how many errors, and where the first is met."""
+        if not faults:
+            return []
+        place = faults[0].place
+        line = faults[0].line if faults[0].line is not None else None if place is None else place.line
+        first = style if line is None else f"{style}:{line}"
+        errors = "an error" if len(faults) == 1 else f"{len(faults)} errors"
+        found = self.of_file(f"a run logs {errors} of the style itself, first at {first}: `bibtex-lint {style}` shows what is wrong", stem_of_style(style), "faulty-style")
+        return [] if found is None else [found]
 
     def in_aux(self, message: Message, check: str) -> Optional[Finding]:
         """A message of a line of an `.aux` file."""

@@ -18,7 +18,7 @@ NOT_FIRST, NOT_OF_FOUR = bytes(range(0x80, 0xC0)), bytes(range(0xF0))
 OF_TWO_UNITS = re.compile("[\U00010000-\U0010ffff]")
 LINE_END, FEED = re.compile(rb"\r\n|\r|\n"), re.compile(rb"\n")
 # How many bytes of a text are looked through at most to count the line ends before a place, or to find one by its number.
-BLOCK = 1024
+BLOCK = 2048
 
 
 def split_lines(text: str) -> List[str]:
@@ -95,8 +95,8 @@ class LineEnds:
         starts, counts = self.blocks(self.starts[first], after[0] + more if after else len(text))
         sums = list(itertools.accumulate(counts, initial=self.sums[first]))
         more_ends = sums[-1] - self.sums[last + 1]
-        self.starts[first:] = [*starts, *(it + more for it in after)]
-        self.sums[first:] = [*sums, *(it + more_ends for it in self.sums[last + 2 :])]
+        self.starts[first:] = [*starts, *(after if more == 0 else [it + more for it in after])]
+        self.sums[first:] = [*sums, *(self.sums[last + 2 :] if more_ends == 0 else [it + more_ends for it in self.sums[last + 2 :]])]
 
     def block_of(self, place: int) -> int:
         return bisect.bisect_right(self.starts, place) - 1
@@ -149,7 +149,8 @@ class Document:
     def edit(self, where: Range, text: str) -> None:
         """Puts a text in the place of a range."""
         start, end = sorted((self.place(where["start"]), self.place(where["end"])))
-        self.text = b"".join((self.text[:start], text.encode("utf8", "surrogatepass"), self.text[end:]))
+        view = memoryview(self.text)
+        self.text = b"".join((view[:start], text.encode("utf8", "surrogatepass"), view[end:]))
         self.ends.edit(self.text, start, end)
         self.known_feeds = None
         self.passed = 0, 0, 0

@@ -1,4 +1,5 @@
-"""What may be meant otherwise in the text of one field: signs at which LaTeX stops, lists of names that a run reads otherwise, words of a title that lose their capital letters, years of words.
+"""What may be meant otherwise in the text of one field: signs at which LaTeX stops, lists of names that a run reads otherwise, words, commands and formulas of a title that lose their capital letters, years of
+words. And entries without an `@` in the text between items.
 
 `front/src/doubts.rs` and `persons.rs` see the same of the entries that a job cites."""
 
@@ -7,7 +8,10 @@ from __future__ import annotations
 import re
 from typing import Container, Dict, Iterable, Iterator, List, NamedTuple, Optional, Set, Tuple
 
-__all__ = ["OTHER_SPACE", "Persons", "SIGN", "TEXTS", "TWO_WORDS", "has_words", "list_in_braces", "lost_words", "may_lose", "names_by_commas", "sign_by_names", "sign_of_tex"]
+__all__ = [
+    "ENTRY_IN_TEXT", "OTHER_SPACE", "Persons", "SIGN", "SUFFIX_LAST", "TEXTS", "TWO_WORDS", "has_words", "list_in_braces", "lost_words", "lowered_tokens", "may_lose", "names_by_commas",
+    "sign_by_names", "sign_of_tex", "suffix_last", "what_for_hyphens",
+]
 
 # Fields whose text LaTeX sets as text.
 TEXTS = frozenset(b"title booktitle journal publisher series note organization institution school address edition howpublished type".split())
@@ -37,6 +41,16 @@ HIDDEN = b"."
 NO_TITLE_WORD = re.compile(rb"\\[A-Za-z]+|\$[^$]*\$")
 OF_GRAMMAR = frozenset(b"about after against among before behind between beyond during from into over than that their through towards under using versus with without".split())
 SUFFIXES = frozenset((b"jr", b"jr.", b"sr", b"sr.", b"ii", b"iii", b"iv"))
+AFTER_COLON = re.compile(rb":[ \t\r\n]+")
+# A suffix after a comma, as the end of a name; a word of a name, or a comma. front/src/doubts.rs has the same suffixes.
+SUFFIX_LAST = re.compile(rb",[ \t\r\n~]*(?:(?i:jr|sr)\.?|II|III|IV)[ \t\r\n~]*(?:\Z|(?<=[ \t\r\n])(?i:and)[ \t\r\n])")
+NAME_TOKEN = re.compile(rb"[^ \t\r\n~,]+|,")
+# A command or a formula of TeX; the commands that are letters, which lose their capitals in braces as well.
+OF_TEX = re.compile(rb"\\[A-Za-z]+|\\\((?:[^\\]|\\[^)])*\\\)|\\.|\$(?:[^$\\]|\\.)*\$", re.DOTALL)
+LETTERS = frozenset((b"\\L", b"\\O", b"\\AA", b"\\AE", b"\\OE"))
+# What looks like an entry, but for its `@`: a word, a brace, a key, and a field.
+ENTRY_IN_TEXT = re.compile(rb"(?m)^[ \t]*([A-Za-z]+)[ \t]*[{(][ \t]*([^\x00-\x20\"#%'(),={}]+)[ \t]*,\s*[A-Za-z][A-Za-z_-]*[ \t]*=")
+DASHES = {"-": "one hyphen", "\u2010": "a hyphen of its own", "\u2011": "a non-breaking hyphen", "\u2012": "a figure dash", "\u2013": "an en dash", "\u2014": "an em dash", "\u2212": "a minus sign"}
 MOST_WORDS = 5
 LEAST_LETTERS = 3
 
@@ -139,6 +153,61 @@ def lost_words(hidden: bytes) -> List[Tuple[int, bytes]]:
         return LATER_CAPITAL.search(word) is not None or is_name and word[:1].isupper()
 
     return [(place, word) for place, word in words if is_lost(place, word)]
+
+
+def lowered_tokens(text: bytes, hidden: bytes) -> Iterator[Tuple[int, bytes, bytes]]:
+    """The commands and formulas of a title that a style changes which writes it in small letters: where each begins, what it is, and what the style makes of it. hidden: the title, in which what is in braces isn't
+    shown."""
+    lowered: Optional[bytes] = None
+    for found in OF_TEX.finditer(hidden):
+        token = found[0]
+        if token.islower() or not token[1:].strip(b"\\") or token in LETTERS:
+            continue
+        lowered = in_small_letters(hidden) if lowered is None else lowered
+        start, end = found.span()
+        if lowered[start:end] != token:
+            made = bytes(new if seen == old else old for new, seen, old in zip(lowered[start:end], token, text[start:end]))
+            yield start, text[start:end], made
+
+
+def in_small_letters(hidden: bytes) -> bytes:
+    """A title as `change.case$` makes it for `t`: small letters but for the first character, and that after a colon and whitespace."""
+    begin = len(hidden) - len(hidden.lstrip())
+    kept = {begin, *(found.end() for found in AFTER_COLON.finditer(hidden))}
+    lowered = hidden.lower()
+    return b"".join(hidden[at : at + 1] if at in kept else lowered[at : at + 1] for at in range(len(hidden)))
+
+
+def suffix_last(text: bytes, hidden: bytes, spans: Iterable[Tuple[int, int]]) -> Iterator[Tuple[Seen, bytes]]:
+    """The names that end with a comma and a suffix, and what is to be written: `Martin King, Jr.`, whose suffix is taken as the first name, and `King, Martin, Jr.`, whose first name is taken as the suffix."""
+    for start, end in spans:
+        parts: List[List[bytes]] = [[]]
+        tokens = list(NAME_TOKEN.finditer(hidden, start, end))
+        for token in tokens:
+            if token[0] == b",":
+                parts.append([])
+            else:
+                parts[-1].append(text[slice(*token.span())])
+        if not 1 < len(parts) < 4 or len(parts[-1]) != 1 or not SUFFIX_LAST.match(b"," + parts[-1][0]):
+            continue
+        family, given = (parts[0], parts[1]) if len(parts) == 3 else divided(parts[0])
+        if family and given:
+            better = b" ".join(family) + b", " + parts[-1][0] + b", " + b" ".join(given)
+            shown = better.decode("utf8", "surrogateescape"), parts[-1][0].decode("utf8", "surrogateescape")
+            what = f"write `{shown[0]}`, as in `von Last, Jr, First`: `{shown[1]}` stands in the place of the first name"
+            yield Seen(tokens[0].start(), tokens[-1].end(), what), better
+
+
+def divided(words: List[bytes]) -> Tuple[List[bytes], List[bytes]]:
+    """The last name of these words, with its von, and the words before it."""
+    of_von = next((number for number, word in enumerate(words) if word[:1].islower()), len(words) - 1)
+    return words[of_von:], words[:of_von]
+
+
+def what_for_hyphens(pages: bytes) -> str:
+    """What stands between two numbers in the place of two hyphens."""
+    sign = pages.decode("utf8", "replace").strip("0123456789 ")
+    return DASHES.get(sign, "one hyphen") + ("" if sign.isascii() else f" (U+{ord(sign[0]):04X})")
 
 
 def has_words(year: bytes) -> bool:

@@ -18,7 +18,7 @@ from .workspace import Workspace
 __all__ = ["Named", "Place", "RenameRefused", "completions", "definition", "hover", "name_at", "references", "rename", "symbols"]
 
 WORD = re.compile(rb"[^\s{}%\"']+")
-IN_CITE = re.compile(rb"\\[A-Za-z]*[cC]ite[A-Za-z]*\*?(?:\[[^\]\r\n]*\]){0,2}\{[^{}]*$")
+IN_CITE = re.compile(rb"\\[A-Za-z]{0,40}[cC]ite[A-Za-z]{0,40}\*?(?:\[[^\]\r\n]{0,1000}\]){0,2}\{[^{}]*$")
 AFTER_AT = re.compile(rb"@[A-Za-z]*$")
 AFTER_CROSSREF = re.compile(rb"(?i)crossref\s*=\s*[{\"][^{}\"]*$")
 AFTER_EQUALS = re.compile(rb"[=#]\s*[^\s{}\"#,=]*$")

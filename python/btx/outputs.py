@@ -69,13 +69,13 @@ def write_outputs(job: str, result: Result, inputs: Inputs, folder: Optional[str
 @contextlib.contextmanager
 def opened_without_change(name: bytes) -> Iterator[int]:
     """A file that is open for writing; it is made where it isn't there, and removed again where nothing came to stand in it because of an error."""
-    is_made = not os.path.lexists(name)
+    is_made = not os.path.exists(name)
     file = os.open(name, os.O_WRONLY | os.O_CREAT | os.O_CLOEXEC, 0o666)
     try:
         yield file
     except BaseException:
         if is_made and os.fstat(file).st_size == 0:
-            os.unlink(name)
+            os.unlink(os.path.realpath(name))
         raise
     finally:
         os.close(file)

@@ -19,7 +19,7 @@ from typing import Any, Dict, FrozenSet, Iterator, List, Mapping, NamedTuple, Op
 from .library import RECORD, Buffer, read_records
 from .messages import decoded
 from .refusals import DatabaseTooLong
-from .searching import MOST_BYTES
+from .searching import MOST_BYTES, bytes_of
 
 __all__ = ["MONTHS", "Bibliography", "Entries", "Entry", "Mistake", "Place", "Source", "read"]
 
@@ -344,10 +344,10 @@ def read(source: Source, strings: Mapping[str, str] = MONTHS) -> Bibliography:
 def content_of(path: pathlib.Path) -> bytes:
     """The bytes of a file. One that is too long isn't read."""
     with path.open("rb") as file:
-        length = os.fstat(file.fileno()).st_size
-        if length > MOST_BYTES:
-            raise DatabaseTooLong(length)
-        return file.read()
+        content = bytes_of(file, MOST_BYTES)
+        if content is None:
+            raise DatabaseTooLong(max(os.fstat(file.fileno()).st_size, MOST_BYTES + 1))
+    return content
 
 
 def read_text(text: bytes, file: str, strings: Mapping[str, str]) -> Bibliography:

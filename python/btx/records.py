@@ -16,8 +16,9 @@ __all__ = ["LowerNames", "Records", "places_of"]
 
 # For each kind of a record whether it is the last one of its item.
 IS_LAST = bytes(kind in (COMMENT, END, WRONG) for kind in range(256))
-# How many words a record has, and which of them a number is.
+# How many words a record has, of how many records the words are copied at once, and which of them a number is.
 WORDS = RECORD.size // 8
+AT_ONCE = 1 << 18
 COLUMNS = START, END_PLACE, NAME_AT, NAME_LEN, TEXT_AT, TEXT_LEN = 1, 2, 4, 5, 6, 7
 
 
@@ -35,14 +36,13 @@ class Records:
     kinds: of each record its kind, as a byte. starts, ends: the bytes of the database between which it is. names: its name, in lower case; they are made when somebody asks for them."""
 
     def __init__(self, text: bytes, base: int, limit: int, data: Buffer, texts: Buffer, lowered: LowerNames) -> None:
-        words = memoryview(data).cast("Q")
         self.text = text
         self.base = base
         self.limit = limit
         self.texts = texts
         self.kinds = data[0 if sys.byteorder == "little" else 3 :: RECORD.size]
         self.is_whole = data[4 :: RECORD.size]
-        self.starts, self.ends, self.name_at, self.name_len, self.text_at, self.text_len = (array("Q", words[it::WORDS].tobytes()) for it in COLUMNS)
+        self.starts, self.ends, self.name_at, self.name_len, self.text_at, self.text_len = columns_of(data)
         self.lowered = lowered
         self.known_names: Optional[List[bytes]] = None
         if base:
@@ -104,6 +104,17 @@ class Records:
                 # (it is between records)
                 place = find(b"#", starts[number + 1], limit) if number + 1 < len(starts) else -1
         return bytes(marks)
+
+
+def columns_of(data: Buffer) -> "List[array[int]]":
+    """The numbers of all records, column by column. (Each of them is taken from an array, which takes half the time that it takes from a view.)"""
+    columns: List[array[int]] = [array("Q") for _ in COLUMNS]
+    for start in range(0, len(data), AT_ONCE * RECORD.size):
+        words = array("Q")
+        words.frombytes(memoryview(data)[start : start + AT_ONCE * RECORD.size])
+        parts = [words[it::WORDS] for it in COLUMNS]
+        columns = parts if start == 0 else [column + part for column, part in zip(columns, parts)]
+    return columns
 
 
 def places_of(byte: int, column: bytes, first: int, last: int) -> Iterator[int]:

@@ -4,6 +4,7 @@ from __future__ import annotations
 
 import difflib
 import re
+import unicodedata
 from typing import Dict, Iterable, List, Optional, Tuple
 
 from .bibtext import REPEATED, Item, Lines
@@ -17,6 +18,10 @@ SEEN = {
     "NoCommaAfterKey": "put a comma after the key `$1`",
     "NoComma": "put a comma after the value of `$1`, which ends at $2",
     "NoEquals": "put an `=` after `$1`",
+    "NameOfWords": "write the field's name without whitespace: `$1 = ..`",
+    "NoQuote": "put the value into braces: `$1` isn't the quote `\"`",
+    "SemicolonForComma": "write a comma after the $1, in the place of the `;`",
+    "NamesInOneValue": "put all names into one pair of braces: `$1 = {$2}`",
     "QuoteTooEarly": "close the value of `$1`, which begins at $2: the quote before this place ends it",
     "QuoteInText": 'put the quote in the value of `$1` into braces, as in `{\\"o}`: it ends the value',
     "QuotesInText": "put the whole value of `$1` into braces, and write ``..'' within it: the quote before this place ends the value",
@@ -34,12 +39,14 @@ SEEN = {
     "BreaksOff": "export or copy the file once more: it breaks off in $1. Or write what is missing there, and close it by `$2`",
     "OtherBrace": "close this item by `$2`, since it is opened by `$3`: $1",
     "CommentSign": "take this line out, or its `%`: a database has no comments inside an entry",
+    "CommentLine": "take this comment out: a database has no comments inside an entry",
     "CommaTwice": "take out one of the two commas",
     "BareValue": "put the value of `$1` into braces: outside braces and quotes only a number or the name of a `@string` may stand",
     "FileIsUtf16": "save $1 as UTF-8: it is in UTF-16",
     "EtAl": "write `and others`, of which the style makes et al.",
     "OthersInside": "put `and others` after the last name",
     "NearKey": "write `$2` in the place of `$1` in the `\\cite`, and run LaTeX",
+    "OtherForm": "copy the key `$1` from the database into the `\\cite`, and run LaTeX: it looks the same as the one there, and has other bytes",
     "NearParent": "write `crossref = {$1}`",
     "NamesByCommas": "write ` and ` between two names: `$1`",
     "AuxBreaksOff": "run LaTeX again to its end, then BibTeX: $1 ends in the middle of a line",
@@ -97,6 +104,8 @@ GENERAL = {
 }
 
 NAME = re.compile(rb"[^\x00-\x20\"#%'(),={}]*")
+# A line with a field after its `%`.
+COMMENTED_FIELD = re.compile(rb"[% \t]*[^\s%={}\"#',()]+[ \t]*=")
 # How many lines an entry may have in which a file breaks off; how long a key is that another one follows directly.
 MOST_LINES = 60
 LEAST_OF_TWO = 4
@@ -113,6 +122,10 @@ DEGREES = ("PhD", "Ph.D.", "Ph.D", "MD", "M.D.", "MSc", "Dr.", "Prof.")
 # Letters that look like digits.
 DIGITS = str.maketrans("OolI", "0011")
 MONTH = re.compile(rb"(?i:jan|feb|mar|apr|may|jun|jul|aug|sep|oct|nov|dec)")
+# The months, of which styles define the first three letters.
+MONTHS = ("january", "february", "march", "april", "may", "june", "july", "august", "september", "october", "november", "december")
+# Quotes that aren't the one of databases.
+QUOTES = "\u201c\u201d\u201e\u2018\u2019\xab\xbb"
 # What looks like a field: where a line begins, or after a comma.
 BEGINS_FIELD = re.compile(rb'\n[ \t]*([A-Za-z][^\x00-\x20"#%\'(),={}]*)\s*=\s*[{"0-9]')
 FIELD_AFTER_COMMA = re.compile(rb',[ \t]*([A-Za-z][^\x00-\x20"#%\'(),={}]*)\s*=\s*[{"]')
@@ -144,9 +157,20 @@ def nearest(key: str, known: Iterable[str]) -> Optional[str]:
     return by_fold[close[0]] if close else alike
 
 
+def other_form(key: str, known: Iterable[str]) -> Optional[str]:
+    """The key that is this one with its letters in another form: a letter and its mark as one character, or one after the other."""
+    if key.isascii():
+        return None
+    form, lower = unicodedata.normalize("NFC", key).lower(), key.lower()
+    return next((name for name in known if not name.isascii() and name.lower() != lower and unicodedata.normalize("NFC", name).lower() == form), None)
+
+
 def remedy_of(text: str, keys: Iterable[str] = (), strings: Iterable[str] = ()) -> Optional[str]:
     """What to do about a message; the keys and the strings are those that it may have meant."""
     found = re.fullmatch(r'I didn\'t find a database entry for "(.*)"', text, re.DOTALL)
+    form = other_form(found[1], keys) if found else None
+    if form:
+        return said(SEEN["OtherForm"], form)
     near = nearest(found[1], keys) if found else None
     pair = two_keys(found[1], keys) if found else None
     if pair:
@@ -156,13 +180,15 @@ def remedy_of(text: str, keys: Iterable[str] = (), strings: Iterable[str] = ()) 
     if found and near:
         return said(SEEN["NearKey"], found[1], near)
     found = re.fullmatch(r'A bad cross reference--entry ".*" refers to entry "(.*)", which doesn\'t exist', text, re.DOTALL)
-    near = nearest(found[1], keys) if found else None
+    near = other_form(found[1], keys) or nearest(found[1], keys) if found else None
     if found and near:
         is_there = near.lower() == found[1].lower()
         return f"move `{near}` below all entries that name it, or cite it" if is_there else said(SEEN["NearParent"], near)
     found = re.fullmatch(r'string name "(.*)" is undefined', text, re.DOTALL)
-    near = nearest(found[1], strings) if found else None
+    near = string_meant(found[1], strings) if found else None
     number = number_meant(found[1]) if found else None
+    if found and found[1][:1] in QUOTES and found[1]:
+        return said(SEEN["NoQuote"], found[1][0])
     if number:
         return said(SEEN["LetterForDigit"], *number)
     found = re.fullmatch(r'Too many commas in name [0-9]+ of "(.*)"', text, re.DOTALL)
@@ -170,6 +196,13 @@ def remedy_of(text: str, keys: Iterable[str] = (), strings: Iterable[str] = ()) 
     if one or names:
         return said(SEEN["CommasOfOneName"], one) if one else said(SEEN["NamesByCommas"], names or "")
     return f"is it `{near}`?" if near else general(text)
+
+
+def string_meant(name: str, strings: Iterable[str]) -> Optional[str]:
+    """The string that is spelled most like this one, or that stands for this month."""
+    known = list(strings)
+    short = name.lower()[:3]
+    return short if name.lower() in MONTHS and short in (string.lower() for string in known) else nearest(name, known)
 
 
 def has_key(parts: List[str], keys: Iterable[str]) -> bool:
@@ -293,6 +326,13 @@ class Slipped:
 
     def after_value(self, owner: str, value: bytes, name: bytes) -> Optional[str]:
         """After a value something stands in its line that can't belong to it."""
+        if self.text[self.place : self.place + 1] == b";":
+            return said(SEEN["SemicolonForComma"], f"value of `{owner}`")
+        if value[:1] not in b'{"' and word(value[:3])[:1] in QUOTES:
+            return said(SEEN["NoQuote"], word(value[:3])[0])
+        names = self.names_in_one(value) if owner.lower() in ("author", "editor") and name.lower() == b"and" else None
+        if names is not None:
+            return said(SEEN["NamesInOneValue"], owner, names)
         number = number_meant(word(value + name)) if value.isdigit() and self.text[self.place - 1 : self.place].isdigit() else None
         if number is not None:
             return said(SEEN["LetterForDigit"], *number)
@@ -304,6 +344,19 @@ class Slipped:
         if value[:1] == b'"' or begins_text and value[:1] != b"\\":
             return said(SEEN["NoHash"], owner, "; a quote within quotes stands in braces" if value[:1] == b'"' else "")
         return said(SEEN["BraceTooMany" if is_text else "BareValue"], owner)
+
+    def names_in_one(self, value: bytes) -> Optional[str]:
+        """The names of a list of which each has braces or quotes of its own: that of the value, and those after it in its line."""
+        end = self.text.find(b"\n", self.place)
+        texts = TEXTS.findall(value + b" " + self.text[self.place : None if end < 0 else end])
+        return " and ".join(word(text[1:-1]) for text in texts) if len(texts) > 1 else None
+
+    def before_equals(self) -> Optional[str]:
+        """A field's name has ended, and no `=` comes after it: it is of two words."""
+        name = NAME.match(self.text, self.place)
+        before = re.search(rb"([^\x00-\x20\"#%'(),={}]+)[ \t]*$", self.before())
+        is_it = name is not None and before is not None and bool(name[0]) and self.text[name.end() : name.end() + 20].lstrip().startswith(b"=")
+        return said(SEEN["NameOfWords"], word(before[1] + name[0])) if is_it and before is not None and name is not None else None
 
     def after_key(self, key: str) -> str:
         """After a key something stands in its line that isn't a comma: a part of the key, if a comma comes after it."""
@@ -338,6 +391,9 @@ class Slipped:
         closing = "}" if self.text.find(b"{", self.item.start) == self.text.find(b"{", self.item.start, self.item.key_end) >= 0 else ")"
         if not self.item.is_entry:
             return None
+        runs_on = self.runs_on()
+        if runs_on is not None:
+            return runs_on
         last = self.item.fields[-1].end if self.item.fields else self.item.key_end
         if not self.text[last:].strip(b" \t\r\n,"):
             return said(SEEN["NotClosedAtEnd"], self.begins(), closing)
@@ -401,8 +457,10 @@ def of_mistake(name: str, text: bytes, lines: Lines, item: Item) -> Optional[str
         found = slipped.at_end()
     elif slipped.is_other_item() and item.is_entry:
         found = said(SEEN["NotClosed"], slipped.begins())
+    elif error == "I was expecting an =" and item.is_entry:
+        found = slipped.before_equals()
     elif error == "I was expecting a name" and item.is_entry:
-        found = SEEN["CommentSign"] if here == b"%" else SEEN["CommaTwice"] if here == b"," else None
+        found = SEEN["CommentSign" if COMMENTED_FIELD.match(text, slipped.place) else "CommentLine"] if here == b"%" else SEEN["CommaTwice"] if here == b"," else None
     return found or general(error)
 
 

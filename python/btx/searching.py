@@ -14,14 +14,16 @@ import stat
 import subprocess
 import threading
 from dataclasses import dataclass, replace
-from typing import FrozenSet, List, Optional, Tuple, Union
+from typing import BinaryIO, FrozenSet, List, Optional, Tuple, Union
 
 from .options import TEX_LIVE, Options
 
-__all__ = ["Search", "SearchFrom", "content_of", "existing_folder", "found_search", "search_from"]
+__all__ = ["Search", "SearchFrom", "bytes_of", "content_of", "existing_folder", "found_search", "search_from"]
 
 # A file that is longer is the limit of a run.
 MOST_BYTES = 2**31 - 1
+# How many bytes are read at once of a file that doesn't say how long it is.
+PIECE = 1 << 20
 
 # What kpathsea/types.h calls kpse_bib_format and kpse_bst_format; the variables that hold the same paths.
 FORMATS = {b".bib": (6, "BIBINPUTS"), b".bst": (7, "BSTINPUTS")}
@@ -77,9 +79,24 @@ class Search:
 def content_of(path: bytes, most: int) -> bytes:
     """The bytes of a file, which is to have `most` at most."""
     with open(path, "rb") as file:
-        if os.fstat(file.fileno()).st_size > most:
-            raise OSError(errno.EFBIG, f"it has more than {most:,} bytes", os.fsdecode(path))
-        return file.read()
+        content = bytes_of(file, most)
+    if content is None:
+        raise OSError(errno.EFBIG, f"it has more than {most:,} bytes", os.fsdecode(path))
+    return content
+
+
+def bytes_of(file: BinaryIO, most: int) -> Optional[bytes]:
+    """The bytes of a file; None of one that has more than `most`. A device has more than its length says, and so may a file that grows meanwhile."""
+    length = os.fstat(file.fileno()).st_size
+    if length > most:
+        return None
+    pieces, size = [file.read(length + 1)], 0
+    while pieces[-1]:
+        size += len(pieces[-1])
+        if size > most:
+            return None
+        pieces.append(file.read(PIECE))
+    return pieces[0] if len(pieces) < 3 else b"".join(pieces)
 
 
 def folders_of(value: Optional[str]) -> List[bytes]:

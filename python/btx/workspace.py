@@ -4,6 +4,7 @@ from __future__ import annotations
 
 import os
 import re
+import stat
 import urllib.parse
 from typing import Any, Callable, Dict, Iterator, List, Optional, Tuple
 
@@ -25,8 +26,9 @@ StyleInUse = Tuple[Document, Style, StyleText]
 MOST_BYTES = 8_000_000
 # How many files of a folder are read beside an open one.
 MOST_FILES = 200
-BIBSTYLE = re.compile(rb"(?m)\\bib(?:liography)?style\{([^}\r\n]*)\}")
-BIBDATA = re.compile(rb"(?m)\\bib(?:data|liography)\{([^}\r\n]*)\}")
+# (a name with a command in it, as in \bibliography{\jobname}, is known to the .aux file alone)
+BIBSTYLE = re.compile(rb"(?m)\\bib(?:liography)?style\{([^}\\\r\n]*)\}")
+BIBDATA = re.compile(rb"(?m)\\bib(?:data|liography)\{([^}\\\r\n]*)\}")
 
 
 def path_of(uri: str) -> str:
@@ -68,6 +70,8 @@ class Workspace:
             return self.open[uri]
         try:
             state = os.stat(path)
+            if not stat.S_ISREG(state.st_mode):
+                return None
             stamp = (state.st_mtime_ns, state.st_size)
             if uri not in self.files or self.files[uri][0] != stamp:
                 self.files[uri] = stamp, Document(uri, in_utf8(content_of(os.fsencode(path), MOST_BYTES)))

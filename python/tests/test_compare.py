@@ -179,18 +179,64 @@ class Jobs(InFolder):
         self.assertEqual(found_jobs([b"/nonexistent"], said.append), [])
         self.assertEqual(len(said), 1)
 
-    def test_folders_very_deep_in_one_another(self):
-        self.job("one", b"k: T\n")
-        deep = 1500
+    def folders_in_one_another(self, names, files):
+        """Makes folders in one another, and files in the last one; the descriptor of that."""
+        self.addCleanup(subprocess.run, ["rm", "-rf", self.folder], check=True)
         here = os.open(self.folder, os.O_RDONLY)
-        for _ in range(deep):
-            os.mkdir("d", dir_fd=here)
-            inner = os.open("d", os.O_RDONLY, dir_fd=here)
+        for name in names:
+            os.mkdir(name, dir_fd=here)
+            inner = os.open(name, os.O_RDONLY, dir_fd=here)
             os.close(here)
             here = inner
-        os.close(here)
-        self.addCleanup(subprocess.run, ["rm", "-rf", self.folder], check=True)
-        self.assertEqual(self.compare()[0], 0)
+        self.addCleanup(os.close, here)
+        for name, content in files.items():
+            with open(os.open(name, os.O_WRONLY | os.O_CREAT, dir_fd=here), "wb") as file:
+                file.write(content)
+        return here
+
+    def test_folders_very_deep_in_one_another(self):
+        self.job("one", b"k: T\n")
+        names = [f"d{number}" for number in range(3000)]
+        here = self.folders_in_one_another(names, {**FILES, "job.bbl": b"k: T\n"})
+        os.mkdir("last", dir_fd=here)
+        limits = resource.getrlimit(resource.RLIMIT_NOFILE)
+        resource.setrlimit(resource.RLIMIT_NOFILE, (64, limits[1]))
+        try:
+            began = time.process_time()
+            self.assertEqual([job.name for job in found_jobs([os.fsencode(self.folder)], self.fail)], [b"job", b"job"])
+            self.assertLess(time.process_time() - began, 5)
+        finally:
+            resource.setrlimit(resource.RLIMIT_NOFILE, limits)
+        for program in ((), ("--with", self.program('cat s.bst d.bib >/dev/null && echo "k: T" >"$1.bbl"'))):
+            for _ in range(2):
+                self.assertEqual(self.outcomes("--resume", self.folder / "kept", *program), {"one": ("equal", ""), names[-1]: ("equal", "")})
+        os.unlink("job.bbl", dir_fd=here)
+        os.symlink(self.folder / "one" / "job.bbl", "job.bbl", dir_fd=here)
+        self.assertEqual(self.outcomes()[names[-1]], ("not run", "job.bbl is a link that leads out of the folder, so none of its lines is shown"))
+
+    def test_folders_with_long_names_in_one_another(self):
+        """The time grows with the folders, and not with their paths."""
+        here = self.folders_in_one_another([f"{number:0200}" for number in range(3000)], {**FILES, "job.bbl": b"k: T\n"})
+        os.close(os.open("other.aux", os.O_WRONLY | os.O_CREAT, dir_fd=here))
+        began = time.process_time()
+        (job,) = found_jobs([os.fsencode(self.folder)], self.fail)
+        self.assertLess(time.process_time() - began, 5)
+        self.addCleanup(os.chdir, os.getcwd())
+        self.assertEqual(compare.compared(job, 1000, None, 60).outcome, "equal")
+
+    def test_folders_that_cannot_be_read(self):
+        """Those beside and above them are walked through, also where no folder can be left by its `..`."""
+        if os.getuid() == 0:
+            self.skipTest("root may read all")
+        for count, mode in enumerate((0, 0o400, 0o100), 1):
+            with self.subTest(mode=mode), mock.patch("btx.depths.MOST_OPEN", 2):
+                self.job(f"a{mode}/in", b"k: T\n")
+                self.job(f"b{mode}", b"k: T\n")
+                (self.folder / f"a{mode}").chmod(mode)
+                self.addCleanup((self.folder / f"a{mode}").chmod, 0o700)
+                said = []
+                self.assertEqual(len(found_jobs([os.fsencode(self.folder)], said.append)), count)
+                self.assertEqual(len(said), count)
 
     def test_many_includes_without_an_end(self):
         self.job("one", b"k: T\n", **{"job.aux": AUX + b"\\@input{\n" * 300_000})
@@ -632,6 +678,15 @@ class Command(InFolder):
                 before = {path.name: path.read_bytes() for path in folder.iterdir()}
                 self.assertEqual(self.command("job").returncode, 6)
                 self.assertEqual({path.name: path.read_bytes() for path in folder.iterdir()}, before)
+
+    def test_a_link_to_an_output_that_is_not_there_leaves_no_file(self):
+        folder = self.job("one", None)
+        for link, target in (("job.blg", "job.bbl"), ("job.bbl", "job.blg")):
+            with self.subTest(link=link):
+                (folder / link).symlink_to(target)
+                self.assertEqual(self.command("job").returncode, 6)
+                self.assertEqual([(folder / target).exists(), (folder / link).is_symlink()], [False, True])
+                (folder / link).unlink()
 
     def test_a_log_that_cannot_be_written_leaves_the_list(self):
         folder = self.job("one", None)

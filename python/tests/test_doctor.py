@@ -37,6 +37,8 @@ ROWS = [
     ("undefined-string", b"@string{s = <s> # {a}}", b"@string{s = {a}} @string{t = s}"),
     ("fields-in-text", b"@misc{k}\n  <note> = {A}\n", b"@misc{k}\n see note, or a = b\n"),
     ("fields-in-text", b"@misc{k, title = {Q}}}, <year> = 2001}\n", b"@misc{k, title = {Q}} a = b\n"),
+    ("no-at-sign", b"@misc{k}\n<article>{lee, author = {A. Lee}}\n", b"@misc{k}\n see article{lee}, or article{lee, who = me\n and x article{lee, author = {A. Lee}}"),
+    ("no-at-sign", b"<Book> (lee ,\n author = {A. Lee})", b"@book(lee ,\n author = {A. Lee})\n% article{lee, author = 1}\n"),
     ("repeated-doi", b"@misc{a, doi = {10.1/X}} @misc{<b>, doi = {https://doi.org/10.1/x}}", b"@misc{a, doi = {10.1/x}} @misc{b, doi = {10.1/y}}"),
     ("repeated-title", b"@misc{a, " + TITLE + b"} @misc{<b>, title = \"{A} title -- that is \\bf Long\", year = {2000}}", b"@misc{a, " + TITLE + b"} @misc{b, " + TITLE + b"1}"),
     ("et-al", b"@misc{k, author = {A. Bee <et al>.}}", b"@misc{k, author = {A. Bee and Pet Albers and others}}"),
@@ -48,32 +50,58 @@ ROWS = [
     ("names-by-sign", b"@misc{k, author = {A. Bee <\\&> C. Dee}}", b"@misc{k, author = {A. Bee and C. Dee}}"),
     ("names-by-commas", b"@misc{k, author = {<Ann Bee, Cid Dee, Eve Eff>}}", b"@misc{k, author = {King, Jr., Martin and Bee, A. and de la Cruz, Jr., A. B.}}"),
     ("names-by-commas", b"@misc{k, author = {<Bee, A., Dee, C.>}}", b"@misc{k, author = {Bee, A. and Dee, C.}}"),
+    ("suffix-last", b"@misc{k, author = {A. Bee and <Guy L. Steele, Jr.>}}", b"@misc{k, author = {Steele, Jr., Guy L. and Steele Jr., Guy and King III and Jr., Guy and {Steele, Jr.}}}"),
+    ("suffix-last", b"@misc{k, editor = {<King, Martin,~III> and C. Dee}}", b"@misc{k, editor = {King, III, Martin and Strunk, Jr and Senior, Sra}}"),
     ("no-break-space", b"@misc{k, author = {A. Bee<\xc2\xa0>and C. Dee}}", "@misc{k, author = {Émile Zola and {A.\xa0Bee}}}".encode()),
     ("list-in-braces", b"@misc{k, author = {<{Bee, A. and Dee, C.}>}}", b"@misc{k, author = {{Centre for Disease Prevention and Control}}} @misc{j, author = {{Food and Drug Administration}}}"),
     ("names-exchanged", b"@misc{mccarthy1960, author = <{McCarthy John}>} @misc{k, author = {John D. Hobby}}", b"@misc{k, author = {McCarthy John}} @misc{j, author = {John D. Hobby}}"),
     ("sign-of-tex", b"@misc{k, note = {doi:10.1007/978-3<_>2}}", b"@misc{k, note = {A \\& B, $a_b$ and \\url{a_b}}, url = {a_b}}"),
     ("sign-of-tex", b"@article{k, journal = {Law <&> Order}}", b"@article{k, journal = {Law \\& Order}, author = {A & B}}"),
+    ("combining-accent", "@misc{k, author = {Paul Erd<o\u030b>s}}".encode(), "@misc{k, author = {Paul Erd\u0151s}, file = {o\u030b}, note = {\u0430\u0301}}".encode()),
+    ("combining-accent", "@string{s = {<x\u0301>}}".encode(), "@string{s = {\u017c}}".encode()),
     ("not-utf8", b"@misc{k, note = {M<\xfc>ller}}", "@misc{k, note = {Müller}}".encode()),
     ("unusual-type", b"<@online>{k}", b"@misc{k}"),
     ("misspelt-field", b"@misc{k, <page> = 1}", b"@misc{k, pages = 1, page = 2, date = 3, url2 = 4, idnumber = 5}"),
     ("missing-field", b"@manual{<k>}", b"@manual{k, title = {T}} @misc{j} @online{l}"),
     ("missing-in-parent", b"@manual{<k>, crossref = {p}} @misc{p}", b"@manual{k, crossref = {p}} @misc{p, title = {T}} @manual{l, crossref = {m}}"),
+    ("parent-above", b"@book{p, title = {T}} @misc{k, <crossref> = {P}}", b"@misc{k, crossref = {p}} @book{p, title = {T}} @misc{l, crossref = {p}} @misc{m, crossref = {q}}"),
     ("year-of-words", b"@misc{k, year = <{to appear}>}", b"@misc{k, year = {1998}} @misc{j, year = {in press 2001}} @misc{l, year = {(1998)}}"),
     ("lost-capitals", b"@misc{k, title = {A structure for <DNA> of it}}", b"@misc{k, title = {A Structure for {DNA}}} @book{j, title = {A structure for DNA}} @misc{l, title = {On Low-Cost Printers}}"),
     ("lost-capitals", b"@misc{k, title = {The small words of a <Franklin>}}", b"@misc{k, title = {Digital Halftoning with texture control}}"),
+    ("lowered-tex", b"@misc{k, title = {The <\\LaTeX>3 Project}}", b"@misc{k, title = {The {\\LaTeX}3 \\emph{Project} of \\O, {\\TeX}: Me}} @book{j, title = {The \\LaTeX}}"),
+    ("lowered-tex", b"@misc{k, title = {An <$O(n \\log n)$> Network}}", b"@misc{k, title = {{$O(n)$} and $\\mathcal{O}(n)$ cost \\$5 or A \\$6: $n$}}"),
     ("odd-dollars", b"@misc{k, title = <{On $n}>}", b"@misc{k, title = {On $n$, \\$5, \\\\$m$ and \\url{http://a.b/$c}}, url = {http://a.b/$c}, doi = {$}}"),
     ("odd-dollars", b"@misc{k, title = <{On \\\\$n} # { or m}>}", b"@misc{k, title = {On $n} # { or m$}}"),
     ("empty-field", b"@misc{k, note = <{ \n}>}", b"@misc{k, note = {a}, x = 0}"),
     ("one-hyphen", b"@misc{k, pages = <{1-2}>}", b"@misc{k, pages = {1--2, a-b}}"),
+    ("one-hyphen", "@misc{k, pages = <{1\u201320}>}".encode(), "@misc{k, pages = {1--20}} @misc{j, pages = {A\u2013B}}".encode()),
     ("month-text", b"@misc{k, month = <\"January\">}", b"@misc{k, month = jan} @misc{j, month = {Spring}}"),
 ]
 # What is found when all databases are read, and not in pieces of a text.
-OF_WHOLE = frozenset(("not-utf8", "names-exchanged", "missing-in-parent"))
+OF_WHOLE = frozenset(("not-utf8", "names-exchanged", "missing-in-parent", "parent-above"))
 OF_STYLE = [
     ("unread-field", b"@misc{k, <note> = {A}}", b"@misc{k, title = {A}, crossref = {x}}"),
     ("unknown-type", b"<@article>{k}", b"@book{k}"),
     ("odd-dollars", b"@misc{k, title = <{$}>}", b"@misc{k, note = {$}}"),
     ("undefined-string", b"@misc{k, title = <jan>}", b"@misc{k, title = acm, note = zz}"),
+]
+
+
+# A style that prints where an article was published, and of a misc how; both titles in small letters but a book's.
+PRINTING = b"""ENTRY {author title journal howpublished volume number institute} {} {}
+FUNCTION {show} {duplicate$ empty$ {pop$} {write$ newline$} if$}
+FUNCTION {article} {title "t" change.case$ write$ newline$ journal show volume empty$ {number show} {volume show} if$}
+FUNCTION {misc} {title "t" change.case$ write$ newline$ howpublished show}
+FUNCTION {book} {title show}
+FUNCTION {techreport} {title show institute show}
+READ
+ITERATE {call.type$}
+"""
+OF_PRINTING = [
+    ("unprinted-field", b"@misc{k, title = {T}, <journal> = {J}}", b"@misc{k, title = {T}, journal = {J}, howpublished = {H}} @article{l, title = {T}, journal = {J}, volume = 1, number = 2}"),
+    ("unprinted-field", b"@book{k, title = {T}, <volume> = 1}", b"@book{k, title = {T}, abstract = {A}, keywords = {K}, file = {F}} @online{k, journal = {J}} @misc{l, journal = {J}, crossref = {k}}"),
+    ("lowered-tex", b"@misc{k, title = {The <\\TeX>}}", b"@book{k, title = {The \\TeX}}"),
+    ("lost-capitals", b"@misc{k, title = {A structure for <DNA> of it}}", b"@techreport{k, title = {A structure for DNA of it}}"),
 ]
 
 
@@ -111,6 +139,52 @@ class Checks(unittest.TestCase):
 
     def test_each_of_a_style(self):
         self.check_rows(OF_STYLE, Style(STYLE))
+
+    def test_what_a_style_prints(self):
+        self.check_rows(OF_PRINTING, Style(PRINTING, name="own"))
+        found = found_in(b"@misc{k, title = {A \\TeX}, journal = {J}}", Style(PRINTING, name="own"))
+        self.assertEqual([it.text for it in found], ["put `\\TeX` into braces, as `{\\TeX}`: own makes `\\tex` of it", "own doesn't print `journal` for `@misc`: it does for `@article`"])
+        found = found_in(b"@misc{k, journal = {J}} @techreport{r, institution = {I}, note = {N}}", printing=Style(PRINTING).printing)
+        self.assertEqual([(it.check, it.key) for it in found if it.check.startswith("un")], [("unprinted-field", "k"), ("unread-field", "r")])
+
+    def test_a_style_is_tried_so_much_and_no_more(self):
+        """Of a style that doesn't end, or that is long, nothing is said of what it prints."""
+        for style in (PRINTING.replace(b"{title show}", b"{{#1} {} while$}"), PRINTING + b"% " + b"x" * 30_000_000):
+            printing = Style(style).printing
+            self.assertEqual((printing.prints(b"book", b"volume"), printing.lowers(b"book")), (True, False))
+            for kind in (b"article", b"misc", b"book"):
+                self.assertTrue(printing.prints(kind, b"journal"))
+            self.assertLess(sum(len(prober.known) for prober in printing.probers.values()), 12)
+
+    def test_what_is_to_be_written(self):
+        rows = [
+            ("@misc{k, author = {Guy L. Steele, Jr.}}", "write `Steele, Jr., Guy L.`, as in `von Last, Jr, First`: `Jr.` stands in the place of the first name"),
+            ("@misc{k, author = {Ludwig van Beethoven, III}}", "write `van Beethoven, III, Ludwig`, as in `von Last, Jr, First`: `III` stands in the place of the first name"),
+            ("@misc{k, author = {King, Martin L., Jr}}", "write `King, Jr, Martin L.`, as in `von Last, Jr, First`: `Jr` stands in the place of the first name"),
+            ("@misc{k, pages = {1\u20132}}", "a range of pages with an en dash (U+2013): write `--`"),
+            ("@misc{k, pages = {1 \u2212 2}}", "a range of pages with a minus sign (U+2212): write `--`"),
+            ("@misc{k, title = {A $\\Omega(n)$ Bound}}", "put `$\\Omega(n)$` into braces, as `{$\\Omega(n)$}`: styles such as plain make `$\\omega(n)$` of it"),
+            ("@misc{k, note = {Erdo\u030bs}}", "`o` and after it U+030B, a combining accent: write `\u0151` (U+0151), one letter, or `{\\H{o}}`"),
+            ("@misc{k, note = {i\u0301}}", "`i` and after it U+0301, a combining accent: write `\u00ed` (U+00ED), one letter, or `{\\'\\i}`"),
+            ("@misc{k, note = {e\u0302\u0301}}", "`e` and after it U+0302 and U+0301, combining accents: write `\u1ebf` (U+1EBF), one letter, or `{\\'{\\^{e}}}`"),
+            ("@misc{k, note = {x\u0301}}", "`x` and after it U+0301, a combining accent: write `{\\'{x}}`"),
+        ]
+        for text, words in rows:
+            with self.subTest(text=text):
+                self.assertEqual([it.text for it in found_in(text.encode())], [words])
+
+    def test_an_editor_writes_it(self):
+        text = "article{n, year = 1}\n@book{k, pages = {1\u20132}, author = {Guy Steele, Jr.}, note = {Erdo\u030bs, x\u0301}}\n@misc{l, title = {The \\TeX}}\n"
+        written = {}
+        for it in diagnose(Document("file:///nowhere/d.bib", text), Workspace()):
+            mending = it.mend()
+            if mending is not None:
+                written[text.encode()[mending.start : mending.end].decode()] = mending.text
+        self.assertEqual(written, {"article": "@article", "{1\u20132}": "{1--2}", "Guy Steele, Jr.": "Steele, Jr., Guy", "o\u030b": "\u0151", "x\u0301": "{\\'{x}}", "\\TeX": "{\\TeX}"})
+
+    def test_the_first_child_has_its_parent_stored(self):
+        self.assertEqual([it.key for it in examine([Source("1.bib", b"@book{p}"), Source("2.bib", b"@misc{k, crossref = {p}}")]) if it.check == "parent-above"], ["k"])
+        self.assertEqual([it.key for it in examine([Source("2.bib", b"@misc{k, crossref = {p}}"), Source("1.bib", b"@book{p} @misc{l, crossref = {p}}")]) if it.check == "parent-above"], [])
 
     def test_each_can_be_switched_off(self):
         for name, marked, _ in ROWS:
@@ -162,7 +236,7 @@ class Checks(unittest.TestCase):
         self.assertEqual(said(b"@misc{k, author = {Zhang Wei}} @misc{j, author = {Zhang, Wei}}"), ["names-exchanged"])
 
     def test_all_checks_have_a_row(self):
-        rows = {name for name, *_ in (*ROWS, *OF_STYLE)} | {"no-entry", "logged-error", "logged-warning", "uncited"}
+        rows = {name for name, *_ in (*ROWS, *OF_STYLE, *OF_PRINTING)} | {"no-entry", "faulty-style", "logged-error", "logged-warning", "uncited", "all-entries", "older-aux"}
         self.assertEqual(rows, set(CHECKS))
         self.assertEqual(set(SAID), set(CHECKS))
         self.assertEqual({check.severity for check in CHECKS.values()}, {"error", "warning", "info"})
@@ -328,14 +402,18 @@ READ
 ITERATE {call.type$}
 """
 
-    def said(self, databases, aux=b"\\citation{k}\n\\bibdata{d}\n\\bibstyle{s}\n", words=()):
+    def said(self, files, aux=b"\\citation{k}\n\\bibdata{d}\n\\bibstyle{s}\n", words=(), older=None):
+        """What is said of a job with these files, the databases in the order of their names. All are newer than the `.aux` file, but for the one that is older."""
         with tempfile.TemporaryDirectory() as room:
             folder = pathlib.Path(room)
             (folder / "j.aux").write_bytes(aux)
             (folder / "s.bst").write_bytes(self.STYLE)
-            for name, text in databases.items():
+            for name, text in files.items():
                 (folder / name).write_bytes(text)
-            done = run_module("doctor", "--job", "j", *words, *sorted(databases), cwd=folder)
+            os.utime(folder / "j.aux", (1_000_000_000, 1_000_000_000))
+            if older is not None:
+                os.utime(folder / older, (999_999_999, 999_999_999))
+            done = run_module("doctor", "--job", "j", *words, *sorted(name for name in files if name.endswith(".bib")), cwd=folder)
             self.assertEqual(done.stderr, b"")
             return done.returncode, done.stdout.decode().splitlines()
 
@@ -376,6 +454,14 @@ ITERATE {call.type$}
         _, lines = self.said(database, b"\\citation{k}\n\\@setckpt{j}{\n}\n")
         self.assertIn("    what to do: " + SEEN["OfSomeInclude"].replace("$1", "j.aux"), lines)
 
+    def test_keys_in_another_form(self):
+        whole, apart = "m\u00fcller", "mu\u0308ller"
+        for key, there in ((whole, apart), (apart, whole), ("M\u00fcller", apart)):
+            self.assertEqual(remedy_of(f'I didn\'t find a database entry for "{key}"', ["k", there]), said(SEEN["OtherForm"], there))
+            of_parent = f'A bad cross reference--entry "k" refers to entry "{key}", which doesn\'t exist'
+            self.assertEqual(remedy_of(of_parent, ["k", there]), said(SEEN["NearParent"], there))
+        self.assertNotEqual(remedy_of('I didn\'t find a database entry for "\u00e9lie"', ["e\u0300lie"]), said(SEEN["OtherForm"], "e\u0300lie"))
+
     def test_keys_and_names_with_other_signs(self):
         _, lines = self.said({"d.bib": b"@misc{k} @misc{l}"}, b"\\citation{k;l}\n\\bibdata{d}\n\\bibstyle{plain}\n")
         self.assertIn("    what to do: " + SEEN["SemicolonInCite"].replace("$1", "k,l"), lines)
@@ -386,6 +472,51 @@ ITERATE {call.type$}
         for names, meant in (("Underwood, Paul, Jr., PhD", "Underwood, Jr., Paul"), ("Lee, Ann, MD, PhD", "Lee, Ann")):
             self.assertEqual(remedy_of(f'Too many commas in name 1 of "{names}"'), SEEN["CommasOfOneName"].replace("$1", meant))
         self.assertEqual(remedy_of('Too many commas in name 1 of "A, B, C, D"'), SEEN["NamesByCommas"].replace("$1", "A, B and C, D"))
+
+    def test_all_entries(self):
+        database, aux = {"d.bib": b"@misc{k, author = {A. B}} @misc{l, author = {A. B}}\n"}, b"\\citation{k}\n\\citation{*}\n\\bibdata{d}\n\\bibstyle{s}\n"
+        words = "puts all 2 entries of the databases into the list; 1 of them are cited by their keys [all-entries]"
+        remedy = "    what to do: take `\\nocite{*}` out, where the list is to have only what is cited, and run LaTeX"
+        self.assertEqual(self.said(database, aux), (0, [f"j.aux:2:11: info: `\\citation{{*}}` in j.aux:2 {words}", remedy]))
+        document = {**database, "j.tex": b"\\cite{k} % \\nocite{*}\n\\input{part}\n", "part.tex": b"\n \\nocite{ * }\n"}
+        self.assertEqual(self.said(document, aux), (0, [f"part.tex:2:2: info: `\\nocite{{*}}` (`\\citation{{*}}` in j.aux:2) {words}", remedy]))
+        self.assertEqual(self.said(document, aux, words=["--off", "all-entries"]), (0, []))
+
+    def test_an_aux_file_that_is_older_than_the_document(self):
+        """What LaTeX doesn't read cites nothing, and a citation has an entry."""
+        database = {"d.bib": b"@misc{k, author = {A. B}} @misc{Late, author = {A. B}} @misc{other, author = {A. B}} @misc{no, author = {A. B}}\n"}
+        text = b"\\cite{k} % \\cite{no}\n\\iffalse\n\\cite{no}\n\\fi\\citestyle{no}\n\\citep[see][p. 1]{k, late,nosuch}\\Citet{other}\n\\end{document}\\cite{no}\n"
+        said_of = ["j.tex:5:22: warning: `late` and another key are cited here and not in j.aux, which is older [older-aux]", "    what to do: run LaTeX, then BibTeX"]
+        self.assertEqual(self.said({**database, "j.tex": text}), (0, [*said_of, "1 entry is cited by nothing: no (--each prints a line for each) [uncited]"]))
+        self.assertEqual(self.said({**database, "j.tex": text}, older="j.tex")[1], ["3 entries are cited by nothing: Late, other, no (--each prints a line for each) [uncited]"])
+
+    def test_faults_of_a_style_of_ones_own(self):
+        """They are said of the style, once, and of no entry; names that a style can't divide stay with their entry."""
+        style = b"ENTRY {author} {} {}\nFUNCTION {misc} {\npop$ author #1 \"{ll}\" format.name$ write$ newline$}\nREAD\nITERATE {call.type$}\n"
+        database, aux = b"@misc{k, author = {A, B, C, D}}\n@misc{l, author = {E}}\n", b"\\citation{k}\n\\citation{l}\n\\bibdata{d}\n\\bibstyle{own}\n"
+        _, lines = self.said({"d.bib": database, "own.bst": style}, aux)
+        self.assertEqual(len([line for line in lines if "Too many commas" in line and line.startswith("d.bib:1:")]), 1, lines)
+        said_of = "j.aux:4:11: error: a run logs 2 errors of the style itself, first at own.bst:3: `bibtex-lint own.bst` shows what is wrong [faulty-style]"
+        self.assertEqual([line for line in lines if "itself" in line or "pop" in line], [said_of])
+        _, lines = self.said({"d.bib": database, "own.bst": b"ENTRY {} {} {\n"}, aux)
+        self.assertTrue(any("first at own.bst:1: `bibtex-lint own.bst`" in line for line in lines), lines)
+
+    def test_a_style_of_ones_own(self):
+        _, lines = self.said({"d.bib": b"@techreport{k, institution = {I}}\n", "own.bst": PRINTING}, b"\\citation{k}\n\\bibdata{d}\n\\bibstyle{own}\n")
+        said_of = "    what to do: call it `institution` in the style, where it is `institute` (own.bst:1): databases have it by that name"
+        self.assertEqual(lines, ["d.bib:1:16: info: the style doesn't read the field institution (k) [unread-field]", said_of])
+        _, lines = self.said({"d.bib": b"@book{k, doi = {10/1}}\n", "own.bst": PRINTING}, words=["--style", "own"])
+        self.assertIn("    what to do: leave it; or put `doi` into the first list of ENTRY (own.bst:1), and have the style print it", lines)
+        _, lines = self.said({"d.bib": b"@book{k, doi = {10/1}}\n"}, words=["--style", "plain"])
+        self.assertIn("    what to do: leave it, or take a style that reads it", lines)
+        _, lines = self.said({"d.bib": b"@misc{k, title = {T}, journal = {J}}\n", "own.bst": PRINTING}, b"\\citation{k}\n\\bibdata{d}\n\\bibstyle{own}\n")
+        self.assertEqual(lines[1], "    what to do: write `@article`, if the work is one, or put it into `howpublished`, which is printed for `@misc`")
+
+    def test_an_entry_without_its_sign(self):
+        _, lines = self.said({"d.bib": b"@misc{j, author = {A. B}}\n\nmisc{k,\n author = {A. B}}\n"})
+        self.assertEqual(lines[:2], ['j.aux:1:11: warning: I didn\'t find a database entry for "k" (k) [no-entry]', "    what to do: write `@` before `misc` (d.bib:3)"])
+        self.assertIn("d.bib:3:1: warning: `k` is in no entry, and a run ignores it: write `@` before `misc` (k) [no-at-sign]", lines)
+        self.assertEqual([line for line in lines if "fields-in-text" in line], [])
 
     def test_parents_and_fields(self):
         rows = [
@@ -418,7 +549,8 @@ class WhatToDo(unittest.TestCase):
         (b'@misc{k, note = "A "b" c"}', SEEN["QuotesInText"].replace("$1", "note")),
         (b'@misc{k, note = "G\\"odel"}', SEEN["QuoteInText"].replace("$1", "note")),
         (b"@misc(k, note = 1}", "close this item by `)`, since it is opened by `(`: @misc{k}, which begins at d.bib:1"),
-        (b"@misc{k,\n % old\n note = 1}", SEEN["CommentSign"]),
+        (b"@misc{k,\n % old\n note = 1}", SEEN["CommentLine"]),
+        (b"@misc{k,\n % note = 2\n note = 1}", SEEN["CommentSign"]),
         (b"@misc{k,, note = 1}", SEEN["CommaTwice"]),
         (b"@misc{k l, note = 1}", SEEN["KeyOfWords"].replace("$1", "kl")),
         (b'@misc{k, month = jul "/" oct}', SEEN["NoHash"].replace("$1", "month").replace("$2", "")),
@@ -438,6 +570,12 @@ class WhatToDo(unittest.TestCase):
         (b"@misc{k, month = sept}", "is it `sep`?"),
         (b"@misc{k, note = s}\n\n@string{s = {A}}", "move the `@string` of `s` (d.bib:3) above its first use"),
         (b"@misc{k} @misc{k}", "remove one of the two"),
+        (b"@misc{k, note = {A}; year = 1}", said(SEEN["SemicolonForComma"], "value of `note`")),
+        (b"@misc{k, author = {Doe, Jane} and {Roe, Max},\n note = {A}}", said(SEEN["NamesInOneValue"], "author", "Doe, Jane and Roe, Max")),
+        (b"@misc{k, book title = {A}}", said(SEEN["NameOfWords"], "booktitle")),
+        ("@misc{k, note = \u201cA\u201d}".encode(), said(SEEN["NoQuote"], "\u201c")),
+        (b"@misc{k,\n title = {T {\\em x},\n note = {J}\n}\n", said(SEEN["RunsOn"], "title", "d.bib:2", "note", "d.bib:3")),
+        (b"@misc{k, month = March}", "is it `mar`?"),
         (b'@misc{k, month = 12 # " " jun}', SEEN["NoHashBefore"].replace("$1", "month").replace("$2", "`jun`")),
         (b'@misc{k, note = {A} # {B} "C"}', SEEN["NoHashBefore"].replace("$1", "note").replace("$2", "the quote")),
         (b"@misc{k, year = 2O12}", SEEN["LetterForDigit"].replace("$1", "2012").replace("$2", "O")),

@@ -21,7 +21,7 @@ from tests.spoilt import SIGNS, seeds
 
 STYLE = b"ENTRY {title author year note doi}{}{}\nMACRO {zz} {\"Z\"}\nFUNCTION {misc} {}\nFUNCTION {book} {title write$}\nREAD\nITERATE {call.type$}\n"
 PUT = [*SIGNS, b"@misc{a}", b"\n@string{s = 1}\n", b"@book{Kay, title = {T} # s}", b"@string{S = {x@y}}", "é😀".encode(), b"@misc{b, crossref = {Kay}}"]
-CITED = [b"\\cite{a}", b"\\cite{a, b}", b"\\nocite{", b"}", b"{", b"x\n", b"\\citation{k}", b"\\citation{k}\n", b"\n", b"[", b"]", b"\\cite[see {x}", b"]{c}", b"\\citep[p.][q]{z,\ny}", b" ", "é😀".encode()]
+CITED = [b"\\cite{a}", b"\\cite{a, b}", b"\\nocite{", b"}", b"{", b"x\n", b"\\citation{k}", b"\\citation{k}\n", b"\n", b"[", b"]", b"\\cite[see {x}", b"]{c}", b"\\citep[p.][q]{z,\ny}", b" ", b"\\Cite", b"ite", b"\\write{w}", b"\\footcites*", b"cite{c}", b"\\" + b"cite" * 30 + b"{q}", "é😀".encode()]
 MISTAKES = {"mistake", "repeated-key"}
 
 

@@ -266,6 +266,19 @@ class Documents(WithEditor):
         (found,) = self.editor.result("textDocument/codeAction", textDocument=place["textDocument"], range={"start": place["position"], "end": place["position"]}, context={"diagnostics": []})
         self.assertEqual(found["title"], "Change to `Book1`")
 
+    def test_a_name_that_only_latex_knows_is_taken_from_the_aux_file(self):
+        paper = PAPER.replace("{d}", "{\\jobname}").replace("{s}", "{\\mystyle}")
+        self.assertEqual(self.said("paper.tex", paper), [("bok1", "no-entry", 2)])
+
+    def test_long_commands(self):
+        """What looks like a citation all the way: the time grows with the text alone."""
+        tail, begin = "\n\\cite{bok1}\n\\bibliography{d}\n", time.monotonic()
+        for text in ("\\" + "cite" * 50_000, "\\cite[" * 40_000, "\\cite[x]" * 40_000, "\\cite{" * 40_000, "cite" * 50_000, "\\bibliography{" * 20_000, "\\bibstyle{" * 20_000, "\\cite[x][" * 30_000):
+            with self.subTest(text=text[:12]):
+                self.assertEqual(self.said("paper.tex", text + tail), [("bok1", "no-entry", 2)])
+                self.assertEqual(self.labels("paper.tex", text.count("\n") + 1, 6), ["Book1", "j", "k2", "kay"])
+        self.assertLess(time.monotonic() - begin, 60)
+
     def test_auxiliary_files(self):
         self.assertEqual(self.said("paper.aux", AUX), [("\\citation{a b}", "mistake", 1), ("zz", "no-entry", 2)])
 
@@ -316,7 +329,8 @@ class Hostile(WithEditor):
 
     def test_a_text_of_50_megabytes(self):
         line = "@misc{k%d, title = {Some title that is long enough}, year = 2000}\n"
-        text = "".join(line % number for number in range(50_000_000 // 70))
+        text = "".join(line % number for number in range(50_000_000 // 67))
+        self.assertGreater(len(text), 50_000_000)
         begin = time.monotonic()
         (found,) = self.editor.open("big.bib", text)
         self.assertEqual(found["code"], "too-long")
@@ -347,6 +361,13 @@ class Hostile(WithEditor):
         self.editor.tell("textDocument/didChange", textDocument={"uri": self.editor.uri("d.bib")}, contentChanges=[{"range": 3, "text": "x"}])
         self.editor.tell("$/cancelRequest", id=5)
         self.assertIsNotNone(self.editor.result("textDocument/documentSymbol", textDocument={"uri": self.editor.uri("d.bib")}))
+
+    def test_files_beside_a_text_that_are_none(self):
+        for name, make in (("fifo.bib", os.mkfifo), ("zero.bib", lambda path: os.symlink("/dev/zero", path)), ("folder.bib", os.mkdir), ("fifo.tex", os.mkfifo), ("lost.aux", lambda path: os.symlink("nothing", path))):
+            make(self.editor.folder / name)
+        paper = PAPER.replace("{d}", "{d,fifo,zero,folder}")
+        self.assertEqual(self.said("paper.tex", paper), [("bok1", "no-entry", 2)])
+        self.assertEqual(len(self.editor.result("textDocument/references", **self.editor.at("paper.tex", 0, 12), context={"includeDeclaration": True})), 3)
 
     def test_texts_of_other_kinds(self):
         self.assertEqual(self.editor.open("x.txt", "@misc{k, note 1}"), [])

@@ -6,10 +6,13 @@ import pickle
 import random
 import re
 import tempfile
+import threading
 import time
 import unittest
+import unittest.mock
 
 import btx
+from btx.searching import content_of
 from tests.made import entries_by_run, names_for_style
 from tests.spoilt import logged, of_tex_live, spoilt
 
@@ -176,6 +179,38 @@ class Shapes(unittest.TestCase):
                 btx.read(path)
             self.assertEqual(raised.exception.length, 3 << 30)
             self.assertLess(time.process_time() - begin, 1)
+
+
+    def test_files_without_an_end(self):
+        for most in (0, 5, 1 << 20, 3_000_000):
+            with unittest.mock.patch("btx.reading.MOST_BYTES", most), self.assertRaises(btx.DatabaseTooLong):
+                btx.read("/dev/zero")
+            with self.assertRaises(OSError):
+                content_of(b"/dev/zero", most)
+        self.assertEqual(len(btx.read("/dev/null")), 0)
+
+    def test_a_file_that_is_written_meanwhile(self):
+        """What is read is what some writes have left, and nothing fails."""
+        texts = [b"@misc{k, title = {%s}}\n" % (b"x" * size) for size in (10, 3_000, 200_000)]
+        with tempfile.TemporaryDirectory() as folder:
+            path, is_done = pathlib.Path(folder, "d.bib"), threading.Event()
+            path.write_bytes(b"")
+
+            def write():
+                while not is_done.is_set():
+                    for text in texts:
+                        path.write_bytes(text)
+
+            writer = threading.Thread(target=write)
+            writer.start()
+            try:
+                for _ in range(300):
+                    base = btx.read(path)
+                    self.assertTrue(len(base) <= 2 and set(base.entries[0].get("title", "x") if len(base) else "x") == {"x"})
+                    content_of(os.fsencode(path), 1 << 20)
+            finally:
+                is_done.set()
+                writer.join()
 
     def test_it_is_pickled(self):
         again = pickle.loads(pickle.dumps(self.base))
