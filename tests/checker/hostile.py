@@ -1,4 +1,4 @@
-"""Hostile styles: bibtex-lint answers within ten seconds of a processor and 1 GB, and is incomplete where it can't come to an end.
+"""Hostile styles: bibtex-lint answers within ten seconds of a processor, or more on a slower machine, and 1 GB, and is incomplete where it can't come to an end.
 
     python3 hostile.py [--only TEXT] LINT
 
@@ -11,11 +11,26 @@ import random
 import resource
 import subprocess
 import tempfile
+import time
 
-# (a million functions, each a type, took 6.5 seconds of a processor beside six other processes; a check is given up after five)
+# (a million functions, each a type, took 6.5 seconds of a processor beside six other processes; a check is given up after five). On a machine that takes longer for
+# five million additions than LOOP_SECONDS, it is as much more.
 MOST_SECONDS = 10
+LOOP_SECONDS = 0.3
 MOST_MEMORY = 1_000_000
 LONGEST = 300
+
+
+def slowness():
+    """How many times longer this machine takes than one for which MOST_SECONDS is meant; 1 at least."""
+    def looped():
+        begin, total = time.process_time(), 0
+        for number in range(5_000_000):
+            total += number
+        return time.process_time() - begin
+    return max(1.0, min(looped() for _ in range(3)) / LOOP_SECONDS)
+
+
 HEAD = b"ENTRY {title author}{n}{t} INTEGERS {i j} STRINGS {s}\nFUNCTION {and} {'skip$ {pop$ #0} if$}\n"
 
 
@@ -130,10 +145,10 @@ def lint(program, style, folder):
     return said or "status %d" % process.returncode, usage.ru_utime + usage.ru_stime, usage.ru_maxrss
 
 
-def lint_in_time(program, style, folder):
+def lint_in_time(program, style, folder, most_seconds):
     """The same; where it took too long, the quickest of three tries, since other processes make each of them slower."""
     tried = [lint(program, style, folder)]
-    while tried[-1][1] > MOST_SECONDS and len(tried) < 3:
+    while tried[-1][1] > most_seconds and len(tried) < 3:
         tried.append(lint(program, style, folder))
     return min(tried, key=lambda said: said[1])
 
@@ -143,6 +158,7 @@ def main():
     parser.add_argument("--only", default="")
     parser.add_argument("lint")
     given = parser.parse_args()
+    most_seconds = MOST_SECONDS * slowness()
     passed = failed = 0
     with tempfile.TemporaryDirectory() as folder:
         folder = pathlib.Path(folder)
@@ -151,8 +167,8 @@ def main():
         for name, make, verdicts in STYLES:
             if given.only not in name:
                 continue
-            said, seconds, memory = lint_in_time(program, make(), folder)
-            is_right = said in verdicts.split() and seconds <= MOST_SECONDS and memory <= MOST_MEMORY
+            said, seconds, memory = lint_in_time(program, make(), folder, most_seconds)
+            is_right = said in verdicts.split() and seconds <= most_seconds and memory <= MOST_MEMORY
             passed, failed = passed + is_right, failed + (not is_right)
             print("%s %s: %s (%.1f s, %d MB)" % ("ok     " if is_right else "FAILED ", name, said, seconds, memory // 1000), flush=True)
     print(f"{passed} passed, {failed} failed")

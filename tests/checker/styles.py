@@ -87,7 +87,7 @@ def ends_of(lint, folder, names):
     """What bibtex-lint says of the ends of styles, as rows have it."""
     found = json.loads(subprocess.run([lint, "--json", *names], cwd=folder, capture_output=True, text=True).stdout)
     printed = subprocess.run([lint, *names], cwd=folder, capture_output=True, text=True).stdout
-    reasons = dict(re.findall(r"(?m)^(s\d+\.bst): not known to end: (.*)$", printed))
+    reasons = dict(re.findall(r"(?m)^(s\d+\.bst): (?:not known to end|no bound is known): (.*)$", printed))
     for name, its in zip(names, found):
         if its["ends"]:
             types = its["ends"].get("types")

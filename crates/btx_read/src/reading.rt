@@ -63,7 +63,7 @@ impl<'a> RecordReader<'a> {
         }
     }
 
-    /// The next record, if one is left. Where memory is refused, the record is lost. Most records are fields in their plainest form, which are read in one pass.
+    /// The next record, if one is left. Where memory is refused, the record may be lost. Most records are fields in their plainest form, which are read in one pass.
     pub fn read(&mut self, alloc: Global) -> Result<Option<Record<'a>>, AllocError>
         ensures { IfOk result (λ read. IsNext self.old read self.new) }
     {

@@ -9,7 +9,7 @@ use std::simd::prelude::*;
 // Line feeds are counted in blocks of this number of bytes.
 const BLOCK: usize = 32;
 
-/// A text and how far its lines have been counted: each byte is passed once where the places that are asked for ascend.
+/// A text and how far its lines have been counted. Where the places that are asked for ascend, no call goes back by more than a block.
 #[derive(Drop)]
 pub struct LineCounter<'a> {
     text: &'a [u8],
