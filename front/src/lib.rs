@@ -42,7 +42,7 @@
 //! | [`usual_types`] | the types that styles usually know |
 //! | [`constants`] | constants that the function after them can't take |
 //! | [`lint_types`] | for entries of which types that is said |
-//! | [`lint_warnings`], [`lint_entry`] | where a style may go wrong, and an entry that shows it |
+//! | [`lint_warnings`], [`lint_entry`], [`lint_endless`] | where a style may go wrong, and an entry that shows it; an entry with which a run stays in a loop |
 //! | [`literals`] | which call on the way to such a place finds too few literals |
 //! | [`lint_ties`] | from which unequal `if$` such a place may follow |
 //! | [`lint_text`], [`lint_forms`], [`lint_json`] | what is printed of a style, for people and for other programs |
@@ -86,6 +86,7 @@ pub mod letter_run;
 pub mod letter_values;
 pub mod letters;
 pub mod lint_databases;
+pub mod lint_endless;
 pub mod lint_ends;
 pub mod lint_entry;
 pub mod lint_forms;

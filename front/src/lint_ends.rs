@@ -47,6 +47,16 @@ pub enum Reason {
     NotSaid,
 }
 
+impl Ends {
+    /// Why no bound is known, for entries of any type or of some.
+    pub fn reason(&self) -> Option<&Reason> {
+        match self {
+            Ends::Proved(proved) => proved.others.as_ref(),
+            Ends::Unproved(reason) => Some(reason),
+        }
+    }
+}
+
 /// The coefficients, from the constant on.
 type Polynomial = [u64; 4];
 
@@ -137,7 +147,7 @@ fn reason_of(notes: &[u8], style: &[u8]) -> Reason {
 // ---- in words ----
 
 /// A number with a comma before each three digits.
-fn grouped(number: u64) -> String {
+pub fn grouped(number: u64) -> String {
     let digits = number.to_string();
     let mut text = String::new();
     for (at, digit) in digits.chars().enumerate() {

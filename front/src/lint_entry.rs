@@ -45,7 +45,7 @@ const MOST_EVENTS: u32 = 6;
 /// How many types are tried.
 const MOST_TYPES: usize = 40;
 
-const ROOMS: Rooms = Rooms { list: 1 << 22, log: 1 << 22 };
+pub(crate) const ROOMS: Rooms = Rooms { list: 1 << 24, log: 1 << 26 };
 
 /// A type that no style knows.
 const UNKNOWN_TYPE: &[u8] = b"unknowntype";
@@ -54,21 +54,21 @@ const UNKNOWN_TYPE: &[u8] = b"unknowntype";
 
 /// An entry: its type, and its fields with their values.
 #[derive(Debug, Clone, PartialEq, Eq)]
-struct Entry {
-    kind: Vec<u8>,
-    fields: Vec<(Vec<u8>, Vec<u8>)>,
+pub(crate) struct Entry {
+    pub(crate) kind: Vec<u8>,
+    pub(crate) fields: Vec<(Vec<u8>, Vec<u8>)>,
 }
 
 /// The entries of a small database. With `is_crossed`, the last is the parent of the first.
 #[derive(Debug, Clone, Default, PartialEq, Eq)]
-struct Case {
-    entries: Vec<Entry>,
-    is_crossed: bool,
+pub(crate) struct Case {
+    pub(crate) entries: Vec<Entry>,
+    pub(crate) is_crossed: bool,
 }
 
 impl Case {
     /// The text of the database; `prefix` begins the keys, and isn't followed by a number where there is one entry.
-    fn text(&self, prefix: &str) -> Vec<u8> {
+    pub(crate) fn text(&self, prefix: &str) -> Vec<u8> {
         let key = |number: usize| {
             if self.entries.len() == 1 { prefix.to_string() } else { format!("{prefix}.{number}") }
         };
@@ -87,7 +87,7 @@ impl Case {
     }
 
     /// The cases with something less: an entry, or a field.
-    fn lesser(&self) -> Vec<Case> {
+    pub(crate) fn lesser(&self) -> Vec<Case> {
         let mut all = Vec::new();
         for number in 0..self.entries.len() {
             if self.entries.len() > 1 {
@@ -265,8 +265,8 @@ type FunctionAndText<'log> = (&'log [u8], &'log [u8]);
 type Found = Option<(Case, Proof)>;
 
 /// A search for entries of a style.
-struct Search<'a> {
-    style: &'a File,
+pub(crate) struct Search<'a> {
+    pub(crate) style: &'a File,
     /// The work that was done, and how much may be done.
     done: Cell<u64>,
     most: u64,
@@ -275,8 +275,18 @@ struct Search<'a> {
 }
 
 impl Search<'_> {
+    /// A search that may do at most this much work.
+    pub(crate) fn new(style: &File, most: u64) -> Search<'_> {
+        Search { style, done: Cell::new(0), most, is_refused: Cell::new(false) }
+    }
+
+    /// Whether memory was refused to a run.
+    pub(crate) fn is_refused(&self) -> bool {
+        self.is_refused.get()
+    }
+
     /// Whether there is work left for the search; a quarter is kept for what makes its entries smaller.
-    fn may_search(&self) -> bool {
+    pub(crate) fn may_search(&self) -> bool {
         self.done.get() < self.most / 4 * 3 && !self.is_refused.get()
     }
 
@@ -286,8 +296,13 @@ impl Search<'_> {
         self.done.set(self.done.get() + runs * (steps + WORK_OF_BYTE * bytes as u64));
     }
 
+    /// Adds the work of `runs` runs of a job, each step of which is noted.
+    pub(crate) fn add_noted(&self, files: &Files, runs: u64, steps: u64) {
+        self.add_work(files, runs, WORK_OF_NOTED_STEP * steps);
+    }
+
     /// A run with these options, and the steps that it took.
-    fn run(&self, files: &Files, options: &Options) -> (Ran, u64) {
+    pub(crate) fn run(&self, files: &Files, options: &Options) -> (Ran, u64) {
         let ran = btx::run(&files.top, &files.all, options, &ROOMS);
         let steps = if let Answer::Done(report) = ran.answer { report.steps } else { options.budget };
         self.is_refused.set(self.is_refused.get() || ran.answer == Answer::Memory);
@@ -296,7 +311,7 @@ impl Search<'_> {
     }
 
     /// A job of this style over a database.
-    fn job(&self, database: Vec<u8>) -> Files {
+    pub(crate) fn job(&self, database: Vec<u8>) -> Files {
         let stem = self.style.name.strip_suffix(b".bst").unwrap_or(&self.style.name);
         let top = [b"\\citation{*}\n\\bibdata{refs}\n\\bibstyle{", stem, b"}\n"].concat();
         let file = |name: &[u8], bytes: Vec<u8>| File { name: name.to_vec(), bytes: Some(bytes), path: Vec::new() };
@@ -317,8 +332,7 @@ impl Search<'_> {
         }
         let noted = btx::notes(&files.top, &files.all, &options, MOST_EVENTS);
         self.is_refused.set(self.is_refused.get() || noted.is_none());
-        let events = errors.len().min(MOST_EVENTS as usize) as u64;
-        self.add_work(&files, events + 2, WORK_OF_NOTED_STEP * steps);
+        self.add_noted(&files, errors.len().min(MOST_EVENTS as usize) as u64 + 2, steps);
         let mut found = Vec::new();
         for note in notes::read(&noted.unwrap_or_default(), &self.style.name) {
             let of_note: Vec<&Logged<'_>> =
@@ -374,7 +388,7 @@ impl Search<'_> {
 }
 
 /// The number of the case of a key: `e7` or `e7.0`.
-fn number_of(key: &[u8]) -> Option<usize> {
+pub(crate) fn number_of(key: &[u8]) -> Option<usize> {
     let digits: Vec<u8> = key.strip_prefix(b"e")?.iter().copied().take_while(u8::is_ascii_digit).collect();
     std::str::from_utf8(&digits).ok()?.parse().ok()
 }
@@ -403,6 +417,14 @@ fn is_at(warning: &Warning, note: &Note) -> bool {
     }
 }
 
+/// The types of the entries that are tried: those of the style, and one that no style knows.
+pub(crate) fn tried_types(style: &StyleRead<'_>) -> Vec<Vec<u8>> {
+    let mut types = types_meant(style);
+    types.truncate(MOST_TYPES);
+    types.push(UNKNOWN_TYPE.to_vec());
+    types
+}
+
 /// Tries to show each of these warnings of a style by an entry. Where memory is refused to a run, nothing is said of any.
 pub fn entries(style: &File, warnings: &[&Warning]) -> Result<Vec<Shown>, MemoryRefused> {
     entries_by(style, warnings, WORK)
@@ -410,7 +432,7 @@ pub fn entries(style: &File, warnings: &[&Warning]) -> Result<Vec<Shown>, Memory
 
 /// Tries to show each of these warnings by at most this much work.
 fn entries_by(style: &File, warnings: &[&Warning], most: u64) -> Result<Vec<Shown>, MemoryRefused> {
-    let search = Search { style, done: Cell::new(0), most, is_refused: Cell::new(false) };
+    let search = Search::new(style, most);
     let found = search.find(warnings);
     let shown = |(number, found): (usize, Found)| {
         let Some((case, proof)) = found else { return Shown::Nowhere };
@@ -425,9 +447,7 @@ impl Search<'_> {
     /// For each warning a case that shows it.
     fn find(&self, warnings: &[&Warning]) -> Vec<Found> {
         let style = StyleRead::new(self.style.bytes.as_deref().unwrap_or_default());
-        let mut types = types_meant(&style);
-        types.truncate(MOST_TYPES);
-        types.push(UNKNOWN_TYPE.to_vec());
+        let types = tried_types(&style);
         let fields = style.names.fields().map(<[u8]>::to_vec).collect();
         let mut maker = Maker { types, fields, numbers: Numbers(88_172_645_463_325_252) };
         let mut found: Vec<Found> = vec![None; warnings.len()];

@@ -4,8 +4,9 @@ use crate::btx::Verdict;
 use crate::code_places::Code;
 use crate::explain;
 use crate::hints::{Hint, Of};
-use crate::lint_ends::{Ends, Proved, Reason};
-use crate::lint_text::{Style, groups, verdict, write};
+use crate::lint_endless::Endless;
+use crate::lint_ends::{Ends, Proved, Reason, grouped};
+use crate::lint_text::{Style, groups, plain_lines, verdict, write};
 use crate::lint_types::Types;
 use crate::lint_warnings::Warning;
 use crate::log::Log;
@@ -176,9 +177,11 @@ fn write_ends(path: &str, check: &StyleCheck, out: &mut impl Write) -> io::Resul
         None => Ok(()),
         Some(Ends::Unproved(reason)) => {
             if let Some(said) = counting(check, reason) {
-                return writeln!(out, "{path}: no bound is known: {said}");
+                writeln!(out, "{path}: no bound is known: {said}")?;
+                return write_endless(check, out);
             }
             writeln!(out, "{path}: not known to end: {}", reason.in_words())?;
+            write_endless(check, out)?;
             if check.is_clean() { writeln!(out, "    {CLEAN_WITHOUT_END}") } else { Ok(()) }
         }
         Some(Ends::Proved(proved)) => {
@@ -206,7 +209,17 @@ fn write_others(check: &StyleCheck, proved: &Proved, reason: &Reason, out: &mut 
     match counting(check, reason) {
         Some(said) => writeln!(out, "    no bound is known for entries of {types}: {said}"),
         None => writeln!(out, "    not known to end for entries of {types}: {}", reason.in_words()),
-    }
+    }?;
+    write_endless(check, out)
+}
+
+/// Writes an entry with which a run isn't at its end, if one was found.
+fn write_endless(check: &StyleCheck, out: &mut impl Write) -> io::Result<()> {
+    let Some(Endless { database, steps, inside }) = &check.endless else { return Ok(()) };
+    let inside = inside.as_ref().map(|call| format!(", and stays in the loop in line {}", call.line));
+    let (steps, inside) = (grouped(*steps), inside.unwrap_or_default());
+    writeln!(out, "    with this database, which was tried, a run isn't at its end after {steps} steps{inside}:")?;
+    plain_lines(database).iter().try_for_each(|line| writeln!(out, "        {line}"))
 }
 
 /// What is said of a loop without a known bound that counts towards its end at each turn, so that nothing suggests that it doesn't come to it.

@@ -30,6 +30,9 @@ struct StyleJson<'a> {
     uncovered: Option<Vec<String>>,
     /// Null where the style isn't known to end.
     ends: Option<BoundJson>,
+    /// A database with which a run isn't at its end after many steps.
+    #[serde(skip_serializing_if = "Option::is_none")]
+    endless: Option<String>,
     messages: Vec<String>,
     warnings: Vec<WarningJson<'a>>,
     #[serde(skip_serializing_if = "Option::is_none")]
@@ -251,6 +254,7 @@ pub fn json_of(check: &StyleCheck) -> String {
         types: types.map(|types| plain_names(&types.taken)),
         uncovered: types.map(|types| plain_names(&types.uncovered)),
         ends: check.ends().and_then(BoundJson::of),
+        endless: check.endless.as_ref().map(|endless| String::from_utf8_lossy(&endless.database).into_owned()),
         messages: lines.map(plain).collect(),
         warnings: shown.map(|(number, warning)| WarningJson::of(warning, &code, entry(number))).collect(),
         behind: Some(check.found.hidden()).filter(|hidden| *hidden > 0),

@@ -629,7 +629,7 @@ fn write_entry(entry: &Shown, out: &mut impl Write) -> io::Result<()> {
 }
 
 /// The lines of a text, each safe to print.
-fn plain_lines(text: &[u8]) -> Vec<String> {
+pub fn plain_lines(text: &[u8]) -> Vec<String> {
     text.split(|byte| *byte == b'\n').filter(|line| !line.is_empty()).map(plain).collect()
 }
 

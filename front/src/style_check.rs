@@ -7,6 +7,7 @@ use crate::event_places::{LogPlaces, Placed};
 use crate::exit::{Failure, words_of};
 use crate::hints::{Hint, hints};
 use crate::job::{File, Files};
+use crate::lint_endless::{Endless, endless};
 use crate::lint_ends::{Ends, ends_of};
 use crate::lint_entry::{Shown, entries};
 use crate::lint_types::{Types, types_of};
@@ -81,6 +82,8 @@ pub struct StyleCheck {
     pub found: Warnings,
     /// Whether an entry shows each of the warnings that are shown, where that was asked.
     pub entries: Option<Vec<Shown>>,
+    /// An entry with which a run isn't at its end after many steps, where that was asked, no bound is known, and one was found.
+    pub endless: Option<Endless>,
     /// Constants that the functions after them can't take.
     pub constants: Vec<Constant>,
     pub hints: Vec<Hint>,
@@ -101,10 +104,11 @@ impl StyleCheck {
         let (verdict, ends) = check_apart(&style, steps)?;
         let found = found_of(&style, verdict.as_ref());
         let entries = if has_entries { Some(entries(&style, &found.shown())?) } else { None };
+        let endless = if has_entries { endless_of(&style, ends.as_ref())? } else { None };
         let types = types_of(&style.name, &names, &verdict)?;
         let files = job_of(style);
         let messages = messages_of(&files)?;
-        Ok(StyleCheck { files, messages, verdict, ends, types, steps, found, entries, constants, hints })
+        Ok(StyleCheck { files, messages, verdict, ends, types, steps, found, entries, endless, constants, hints })
     }
 
     /// For which types of entries the verdict is; None where it says nothing of the whole style.
@@ -132,6 +136,11 @@ impl StyleCheck {
     pub fn is_clean(&self) -> bool {
         self.word() == "clean"
     }
+}
+
+/// An entry with which a run isn't at its end after many steps, if one is found: of a style of which no bound is known.
+fn endless_of(style: &File, ends: Option<&Ends>) -> Result<Option<Endless>, MemoryRefused> {
+    if ends.and_then(Ends::reason).is_some() { endless(style) } else { Ok(None) }
 }
 
 /// Where a style may go wrong by this verdict, with the unequal `if$` that its text shows, too.

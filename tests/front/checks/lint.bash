@@ -432,6 +432,19 @@ wants_line_of_output 'clean.bst:13: ITERATE {call.type$} may leave literals on t
 grep -q '^    left since: .*FUNCTION {article}, line 7$' "$folder/stdout" || complaints+=("printed is $(cat "$folder/stdout")")
 end
 
+# The names of the entry that is found begin with a digit, so its loop never ends.
+begin lint_shows_an_entry_that_never_ends
+write_clean
+sed -i 's/^{ output.title }/{ output.title author empty$ '"'skip\$"' { { author #1 #1 substring$ "1" = } { skip$ } while$ } if$ }/' clean.bst
+run_lint --entry clean.bst
+wants_status 0
+wants_line_of_output "    with this database, which was tried, a run isn't at its end after 10,000,000 steps, and stays in the loop in line 7:"
+sed -n "/isn't at its end/,/^    it is clean/p" "$folder/stdout" | grep '^        ' >d.bib
+[ "$(tr -s ' \n' ' ' <d.bib)" = ' @article{key, author = {1 2}} ' ] || complaints+=("the entry is $(cat d.bib)")
+run_lint --json --entry clean.bst
+grep -q '"ends": null, "endless": "@article{key,' "$folder/stdout" || complaints+=("the JSON is $(cat "$folder/stdout")")
+end
+
 # What the checker can't rule out and no entry shows: numbers that never come to what the test asks.
 begin lint_says_what_is_possible_only
 write_clean
