@@ -15,9 +15,15 @@ use Rattle.btx_read.specs.Records.{records_of}
 use Rattle.btx_read.specs.Errors.{errors_from_records, errors_within}
 use Rattle.btx_read.specs.Libraries.{library_from_records, taken_within}
 use Rattle.btx_read.specs.WorkedLibraries.{AreMade, worked_parts}
+use Rattle.btx_read.specs.WorkedRecords.{HasWorkedRecords}
 
 pub parts-worked : AreMade worked_parts
 unfolding library_from_records taken_within errors_from_records errors_within records_of events_from events_within expected_step behind_at head_at head_of command_of more_in after_comma
     field_at value_at value_within part_in name_here open_in sign_in key_here longest_run_len enclosed_len squeezed slot_of body_of inherited checked entries_of
     lines_begun line_pieces
 parts-worked = (refl, refl, (refl, refl, (refl, refl, (refl, refl, (refl, refl, tt)))))
+
+pub places-worked : HasWorkedRecords
+unfolding records_of events_from events_within expected_step behind_at head_at head_of command_of more_in after_comma
+    field_at value_at value_within part_in name_here open_in sign_in key_here longest_run_len enclosed_len squeezed lines_begun line_pieces
+places-worked = refl

@@ -7,3 +7,4 @@ pub mod Libraries
 pub mod Errors
 pub mod LibraryLaws
 pub mod WorkedLibraries
+pub mod WorkedRecords

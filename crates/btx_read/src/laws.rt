@@ -2,6 +2,7 @@
 ghost use Rattle.btx_read.specs.LibraryLaws.{RecordsMakeErrors, RecordsMakeLibraries, RecordsMakeReferenceMessages};
 ghost use Rattle.btx_read.specs.RowLaws.{RowsShowRecords};
 ghost use Rattle.btx_read.specs.WorkedLibraries.{AreMade, worked_parts};
+ghost use Rattle.btx_read.specs.WorkedRecords.{HasWorkedRecords};
 
 /// The rows of records and the room of their texts show each record: what it is, its name and its text, its bytes and its line. So records are read back
 /// from rows in one way.
@@ -22,4 +23,9 @@ pub fn records_make_libraries()
 /// The records of short databases make the libraries and the errors that are worked by hand.
 pub fn worked_records_make_libraries()
     ensures { AreMade worked_parts }
+{}
+
+/// The records of a short database have the bytes and the lines that are counted by hand.
+pub fn worked_records_have_their_places()
+    ensures { HasWorkedRecords }
 {}
