@@ -1,5 +1,5 @@
 //! What is kept of the lines that a run notes.
-ghost use Rattle.std.specs.Prelude.{◌≡◌, ◌∷◌, ◌++◌, [], Some, IfSome};
+ghost use Rattle.std.specs.Prelude.{◌≡◌, ◌∷◌, ◌++◌, [], None, Some, IfSome};
 ghost use Rattle.btx_c.specs.Noted.{AreAllNoted, AreOf, KeepsUp};
 
 use crate::event::{BtxEvent, event_of};
@@ -170,6 +170,8 @@ fn lines_with(lines: &Lines, line: &LogLine) -> Lines
 
 impl<'f> Notebook for Notes<'f> {
     ghost noted = { λ notes. Some notes };
+
+    ghost handed = { λ _. None };
 
     fn note(&mut self, line: &LogLine, about: About<'_>) {
         self.places.add(&about);

@@ -45,4 +45,6 @@ pub mod MeaningRows
 pub mod ReportRows
 pub mod MadeLemmas
 pub mod NotebookLemmas
+pub mod HandLemmas
+pub mod MeetLemmas
 pub mod CountingLemmas

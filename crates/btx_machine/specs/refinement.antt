@@ -1,4 +1,5 @@
 pub mod Wholeness
+pub mod Met
 pub mod Joined
 pub mod Counting
 pub mod States
@@ -19,3 +20,4 @@ pub mod Items
 pub mod KeepingStep
 pub mod Product
 pub mod Commands
+pub mod Places

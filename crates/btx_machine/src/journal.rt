@@ -1,13 +1,15 @@
 //! The log of a run.
-ghost use Rattle.std.specs.Prelude.{◌≡◌, IfErr, IfOk, OnErr, OnOk};
+ghost use Rattle.std.specs.Prelude.{◌≡◌, ◌∷◌, [], IfErr, IfOk, OnErr, OnOk};
 ghost use Rattle.std.specs.Io.KnownBytes.{Appends};
 ghost use Rattle.btx_out.specs.language.Pieces.{AppendsPrefix};
 ghost use Rattle.btx_text.specs.language.LogLines.{is_error, is_warning};
 ghost use Rattle.btx_aux.specs.refinement.Faults.{CountsOfOne};
 ghost use Rattle.btx_machine.specs.language.Reports.{last_line};
 ghost use Rattle.btx_machine.specs.language.Saying.{counted_if, ended_line};
+ghost use Rattle.btx_machine.specs.laws.Noting.{AddsLines};
 ghost use Rattle.btx_machine.specs.laws.Reports.{log_counts};
 ghost use Rattle.btx_machine.specs.refinement.Counting.{CountsNoted};
+ghost use Rattle.btx_machine.specs.refinement.Met.{AddsMet, met};
 ghost use Rattle.btx_machine.specs.refinement.Wholeness.{WholeUnlessCutOff};
 
 use crate::counted_since::CountedSince;
@@ -41,6 +43,7 @@ impl<'s, L: LogSink> Model for Journal<'s, L> {
       errors = journal.errors;
       joined = record { log = L.joined journal.sink.now; since = journal.since.at };
       noted = L.noted journal.sink.now;
+      handed = L.handed journal.sink.now;
       wholeness = L.wholeness journal.sink.now;
     } };
 
@@ -59,6 +62,7 @@ impl<'s, L: LogSink> Journal<'s, L> {
         ensures since_noted { result.joined.since.noted ≡ L.noted sink.old }
         ensures since_counts { result.joined.since.counts ≡ counts }
         ensures noted { result.noted ≡ L.noted sink.old }
+        ensures handed { result.handed ≡ L.handed sink.old }
         ensures whole { result.wholeness ≡ L.wholeness sink.old }
     {
         let since = counted_since(&*sink, counts);
@@ -90,6 +94,8 @@ impl<'s, L: LogSink> Journal<'s, L> {
         ensures errors { self.new.errors ≡ counted_if (is_error line.now.kind) self.old.errors }
         ensures sink { self.new.sink.name ≡ self.old.sink.name }
         ensures joined { self.new.joined ≡ self.old.joined }
+        ensures noted { AddsLines self.old.noted self.new.noted (line.now ∷ []) }
+        ensures handed { AddsMet self.old.handed self.new.handed (met line.now about.entry ∷ []) }
         ensures whole { WholeUnlessCutOff result self.old.wholeness self.new.wholeness }
         ensures counts { CountsOfOne result (self.old.sink.failures, self.new.sink.failures) }
     {
@@ -119,6 +125,7 @@ impl<'s, L: LogSink> Journal<'s, L> {
         ensures failures { L.failures result.now ≡ self.entry.sink.failures }
         ensures joined { L.joined result.now ≡ self.entry.joined.log }
         ensures noted { L.noted result.now ≡ self.entry.noted }
+        ensures handed { L.handed result.now ≡ self.entry.handed }
         ensures counted { CountsNoted (self.entry.joined.since.noted, self.entry.noted) self.entry.joined.since.counts (log_counts self.entry.warnings self.entry.errors) }
         ensures whole { L.wholeness result.now ≡ self.entry.wholeness }
     {

@@ -8,6 +8,7 @@ ghost use Rattle.btx_aux.specs.refinement.Faults.{CountsOfOne};
 ghost use Rattle.btx_machine.specs.language.Saying.{ended_line};
 ghost use Rattle.btx_machine.specs.laws.Noting.{AddsLines};
 ghost use Rattle.btx_machine.specs.refinement.Joined.{Joined};
+ghost use Rattle.btx_machine.specs.refinement.Met.{AddsMet, Met, met};
 ghost use Rattle.btx_machine.specs.refinement.Wholeness.{WholeUnlessCutOff};
 ghost use Rattle.btx_machine.specs.declared.wholeness.Wholeness.{Wholeness};
 
@@ -28,6 +29,9 @@ pub trait LogSink {
     /// The lines that the notebook was handed, as long as it shows them.
     ghost noted: { Self → Option (List Line) };
 
+    /// The same, each with where it was met.
+    ghost handed: { Self → Option (List Met) };
+
     /// Whether the log has all that was noted since then.
     ghost wholeness: { Self → Wholeness };
 
@@ -39,5 +43,6 @@ pub trait LogSink {
         ensures counts { CountsOfOne result (failures self.old, failures self.new) }
         ensures joined { joined self.new ≡ joined self.old }
         ensures noted { AddsLines (noted self.old) (noted self.new) (line.now ∷ []) }
+        ensures handed { AddsMet (handed self.old) (handed self.new) (met line.now about.entry ∷ []) }
         ensures whole { WholeUnlessCutOff result (wholeness self.old) (wholeness self.new) };
 }

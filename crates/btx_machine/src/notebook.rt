@@ -2,6 +2,7 @@
 ghost use Rattle.std.specs.Prelude.{◌∷◌, [], List, Option, None};
 ghost use Rattle.btx_text.specs.language.LogLines.{Line};
 ghost use Rattle.btx_machine.specs.laws.Noting.{AddsLines};
+ghost use Rattle.btx_machine.specs.refinement.Met.{AddsMet, Met, met};
 
 use crate::marks::Marks;
 use btx_bib::SourcePosition;
@@ -57,9 +58,13 @@ pub trait Notebook {
     /// The lines that it was handed, in order, as long as it shows them. One that lost a line shows none any more.
     ghost noted: { Self → Option (List Line) };
 
+    /// The same, each with where it was met.
+    ghost handed: { Self → Option (List Met) };
+
     /// Takes a line of the log, which is written next, and where it was met.
     fn note(&mut self, line: &LogLine, about: About<'_>)
-        ensures { AddsLines (noted self.old) (noted self.new) (line.now ∷ []) };
+        ensures noted { AddsLines (noted self.old) (noted self.new) (line.now ∷ []) }
+        ensures handed { AddsMet (handed self.old) (handed self.new) (met line.now about.entry ∷ []) };
 }
 
 /// A notebook that keeps nothing.
@@ -68,6 +73,8 @@ pub struct Unnoted {}
 
 impl Notebook for Unnoted {
     ghost noted = { λ _. None };
+
+    ghost handed = { λ _. None };
 
     #[inline(always)]
     fn note(&mut self, _line: &LogLine, _about: About<'_>) {}

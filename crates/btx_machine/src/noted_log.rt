@@ -29,6 +29,7 @@ impl<'l, L: Sink, N: Notebook> Model for NotedLog<'l, L, N> {
       received = L.received log.sink.now;
       failures = L.failures log.sink.now;
       noted = N.noted log.notebook.now;
+      handed = N.handed log.notebook.now;
       joined = record { sink = log.sink.ghost_name; notebook = log.notebook.ghost_name; since = log.since.at };
       wholeness = log.wholeness;
     } };
@@ -45,6 +46,7 @@ impl<'l, L: Sink, N: Notebook> NotedLog<'l, L, N> {
         ensures since_noted { result.joined.since.noted ≡ N.noted notebook.old }
         ensures received { result.received ≡ L.received sink.old }
         ensures noted { result.noted ≡ N.noted notebook.old }
+        ensures handed { result.handed ≡ N.handed notebook.old }
         ensures failures { result.failures ≡ L.failures sink.old }
         ensures whole { result.wholeness ≡ Whole }
     {
@@ -64,6 +66,7 @@ impl<'l, L: Sink, N: Notebook> NotedLog<'l, L, N> {
         ensures received { L.received result.0.now ≡ self.entry.received }
         ensures failures { L.failures result.0.now ≡ self.entry.failures }
         ensures noted { N.noted result.1.now ≡ self.entry.noted }
+        ensures handed { N.handed result.1.now ≡ self.entry.handed }
         ensures lines { HasNoted self.entry.joined.since self.entry.noted self.entry.received self.entry.wholeness }
     {
         (self.sink, self.notebook)
@@ -86,6 +89,8 @@ impl<'l, L: Sink, N: Notebook> LogSink for NotedLog<'l, L, N> {
     ghost joined = { λ log. log.joined };
 
     ghost noted = { λ log. log.noted };
+
+    ghost handed = { λ log. log.handed };
 
     ghost wholeness = { λ log. log.wholeness };
 

@@ -1,11 +1,14 @@
 //! What is written and logged while a run goes on.
-ghost use Rattle.std.specs.Prelude.{◌≡◌, [], IfOk, IsSome, OnErr, OnOk, map};
+ghost use Rattle.std.specs.Prelude.{◌≡◌, ◌∷◌, [], IfOk, IsSome, OnErr, OnOk, map};
 ghost use Rattle.std.specs.Io.KnownBytes.{Appends};
 ghost use Rattle.btx_out.specs.language.Pieces.{AppendsPrefix};
 ghost use Rattle.btx_bib.specs.language.MessageTexts.{message_line};
 ghost use Rattle.btx_machine.specs.declared.ending.Ending.TheVariants.{Finished};
 ghost use Rattle.btx_machine.specs.language.Reports.{last_line};
 ghost use Rattle.btx_machine.specs.language.Saying.{ended_line, lines_logged, said_on};
+ghost use Rattle.btx_machine.specs.laws.Noting.{AddsLines};
+ghost use Rattle.btx_machine.specs.refinement.Met.{AddsMet, met};
+ghost use Rattle.btx_machine.specs.refinement.Places.{Hands, MetWhile, lines_said};
 ghost use Rattle.btx_machine.specs.refinement.Saying.{current_key, wrote, pending_ended, line_logged, note_lines};
 
 use crate::journal::Journal;
@@ -116,6 +119,7 @@ impl<'s, W: Sink, L: LogSink> Outputs<'s, W, L> {
         ensures ok { OnOk result (Becomes self.old self.new (λ out. said_on job.now executed.now current said.entry out)) }
         ensures err { OnErr result (Stops self.old self.new (λ out. said_on job.now executed.now current said.entry out)) }
         ensures writes { OnOk result (Writes self.new) }
+        ensures handed { Hands self.old.log self.new.log (MetWhile executed.now current standing.entry (lines_said job.now executed.now current said.entry)) }
         ensures counts { CountsOfBoth result self.old self.new }
     {
         match said {
@@ -139,6 +143,7 @@ impl<'s, W: Sink, L: LogSink> Outputs<'s, W, L> {
         ensures ok { OnOk result (Becomes self.old self.new (λ out. wrote bytes.now out)) }
         ensures err { OnErr result (Stops self.old self.new (λ out. wrote bytes.now out)) }
         ensures writes { OnOk result (Writes self.new) }
+        ensures log { self.new.log ≡ self.old.log }
         ensures counts { CountsOfBoth result self.old self.new }
     {
         self.breaker.put(bytes, self.bbl)
@@ -150,6 +155,7 @@ impl<'s, W: Sink, L: LogSink> Outputs<'s, W, L> {
         ensures ok { OnOk result (Becomes self.old self.new (λ out. pending_ended out)) }
         ensures err { OnErr result (Stops self.old self.new (λ out. pending_ended out)) }
         ensures writes { OnOk result (Writes self.new) }
+        ensures log { self.new.log ≡ self.old.log }
         ensures counts { CountsOfBoth result self.old self.new }
     {
         self.breaker.newline(self.bbl)
@@ -167,6 +173,7 @@ impl<'s, W: Sink, L: LogSink> Outputs<'s, W, L> {
     ) -> Result<(), Fault>
         ensures ok { OnOk result (Becomes self.old self.new (λ out. lines_logged (note_lines job.now executed.now current notes.now) out)) }
         ensures err { OnErr result (Stops self.old self.new (λ out. lines_logged (note_lines job.now executed.now current notes.now) out)) }
+        ensures handed { Hands self.old.log self.new.log (MetWhile executed.now current standing.entry (note_lines job.now executed.now current notes.now)) }
         ensures breaker { self.new.breaker ≡ self.old.breaker }
         ensures counts { CountsOfBoth result self.old self.new }
     {
@@ -205,6 +212,8 @@ impl<'s, W: Sink, L: LogSink> Outputs<'s, W, L> {
     pub fn log_one(&mut self, line: &LogLine, about: About<'_>) -> Result<(), Fault>
         ensures ok { OnOk result (Becomes self.old self.new (λ out. line_logged line.now out)) }
         ensures err { OnErr result (Stops self.old self.new (λ out. line_logged line.now out)) }
+        ensures noted { AddsLines self.old.log.noted self.new.log.noted (line.now ∷ []) }
+        ensures handed { AddsMet self.old.log.handed self.new.log.handed (met line.now about.entry ∷ []) }
         ensures breaker { self.new.breaker ≡ self.old.breaker }
         ensures counts { CountsOfBoth result self.old self.new }
     {

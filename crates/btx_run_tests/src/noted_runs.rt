@@ -75,6 +75,8 @@ fn kind_letter(kind: LineKind) -> u8 {
 impl Notebook for Kept {
     ghost noted = { λ _. None };
 
+    ghost handed = { λ _. None };
+
     fn note(&mut self, line: &LogLine, about: About<'_>) {
         if self.keep(line, about).is_err() {
             self.is_full = true;

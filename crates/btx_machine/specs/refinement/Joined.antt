@@ -5,6 +5,7 @@ use Rattle.btx_text.specs.language.LogLines.{Line}
 use Rattle.btx_machine.specs.declared.wholeness.Wholeness.{Wholeness}
 use Rattle.btx_machine.specs.declared.wholeness.Wholeness.TheVariants.{Whole, CutOff, Lost}
 use Rattle.btx_machine.specs.laws.Noting.{Printed, BrokenOff}
+use Rattle.btx_machine.specs.refinement.Met.{Met}
 
 -- what a log had received and a notebook had noted when they were joined
 pub record Beginning : Type 0 where
@@ -26,6 +27,7 @@ pub record NotedLog : Type 0 where
   pub received : Option (List ℕ)
   pub failures : Failures
   pub noted : Option (List Line)
+  pub handed : Option (List Met)
   pub joined : Joined
   pub wholeness : Wholeness
 

@@ -2,6 +2,7 @@ use Rattle.std.proofs.Common.{arith, rules, ◌+◌, drop, refl, ap}
 use Rattle.std.proofs.lemmas.List.{drop_all}
 use Rattle.btx_machine.proofs.Common.{note_lines}
 use Rattle.btx_machine.proofs.ComesLemmas.{on_err}
+use Rattle.btx_machine.proofs.HandLemmas.{hands_none, hands_one, hands_then, noted_among}
 use Rattle.btx_machine.proofs.SayLemmas as by
 use Rattle.btx_machine.proofs.SayLemmas.{noting_at}
 use Rattle.btx_machine.proofs.outputs.Outputs.note_all.Goals as goal
@@ -13,6 +14,7 @@ loop-note-init g c = record {
   same =
       by.logs_first c.args.self.now (note_lines c.args.job.now c.args.executed.now c.args.current (drop 0 c.args.notes.now))
       (note_lines c.args.job.now c.args.executed.now c.args.current c.args.notes.now) refl;
+  handed = hands_none c.args.self.now.log;
 }
 
 pub returns-in_err-line-clause-err : goal.returns-in_err-line-clause-err
@@ -32,6 +34,15 @@ loop-note-preserved g c = record {
       (noting_at c.args.job.now c.args.executed.now c.args.current c.args.notes.now c.loop-note.note-index c.note-item.result c.note-item.is (omega arith)
       c.in_ok-line.line c.style-style.result.now c.style-style.ensures _ c.key_at-key.ensures c.in_ok-line.ensures) c.loop-note.invariant.same
       c.in_ok-log_one.ensures.ok;
+  handed = hands_then c.loop-note.invariant.handed (hands_one c.loop-note.self.log c.log_one.new.self.log _ _ c.log_one.ensures.noted c.log_one.ensures.handed (record {
+    executed = _;
+    about_it = refl;
+    is_named = refl;
+    is_current = refl;
+    stands = refl;
+    is_said = noted_among c.args.job.now c.args.executed.now c.args.current c.args.notes.now c.loop-note.note-index c.note-item.result c.note-item.is
+        (omega arith) c.in_ok-line.line c.style-style.result.now c.style-style.ensures _ c.key_at-key.ensures c.in_ok-line.ensures;
+  }));
 }
 
 pub returns-in_err-log_one-clause-err : goal.returns-in_err-log_one-clause-err
@@ -51,3 +62,15 @@ returns-clause-ok g c = by.logs_all c.args.self.now c.loop-note.self
     (note_lines c.args.job.now c.args.executed.now c.args.current c.args.notes.now)
     (ap (note_lines c.args.job.now c.args.executed.now c.args.current) (drop_all c.loop-note.note-index c.args.notes.now (omega arith)))
     c.loop-note.invariant.same
+
+pub returns-in_err-log_one-clause-handed : goal.returns-in_err-log_one-clause-handed
+returns-in_err-log_one-clause-handed g c =
+    hands_then c.loop-note.invariant.handed (hands_one c.loop-note.self.log c.log_one.new.self.log _ _ c.log_one.ensures.noted c.log_one.ensures.handed (record {
+      executed = _;
+      about_it = refl;
+      is_named = refl;
+      is_current = refl;
+      stands = refl;
+      is_said = noted_among c.args.job.now c.args.executed.now c.args.current c.args.notes.now c.loop-note.note-index c.note-item.result c.note-item.is
+          (omega arith) c.in_ok-line.line c.style-style.result.now c.style-style.ensures _ c.key_at-key.ensures c.in_ok-line.ensures;
+    }))

@@ -1,6 +1,7 @@
 use Rattle.btx_machine.proofs.SayLemmas as by
 use Rattle.btx_machine.proofs.SayLemmas.{on_ok_map}
 use Rattle.btx_machine.proofs.ComesLemmas.{err_map}
+use Rattle.btx_machine.proofs.HandLemmas.{hands_none, hands_same}
 use Rattle.btx_machine.proofs.outputs.Outputs.say.Goals as goal
 
 pub returns-in-Nothing-clause-ok : goal.returns-in-Nothing-clause-ok
@@ -29,3 +30,15 @@ returns-in-Noted-clause-ok g c = on_ok_map (λ h. by.noted c.args.job.now c.args
 pub returns-in-Noted-clause-err : goal.returns-in-Noted-clause-err
 returns-in-Noted-clause-err g c = err_map (λ h. by.note_stops c.args.job.now c.args.executed.now c.args.current c.args.said c.in-Noted.notes c.in-Noted.is
     c.args.self.now c.note_all.new.self (rw c.as_slice.ensures at h)) c.note_all.result c.note_all.ensures.err
+
+pub returns-in-Nothing-clause-handed : goal.returns-in-Nothing-clause-handed
+returns-in-Nothing-clause-handed g c = hands_none c.args.self.now.log
+
+pub returns-in-Wrote-clause-handed : goal.returns-in-Wrote-clause-handed
+returns-in-Wrote-clause-handed g c = hands_same c.args.self.now.log c.write.new.self.log c.write.ensures.log
+
+pub returns-in-EndedLine-clause-handed : goal.returns-in-EndedLine-clause-handed
+returns-in-EndedLine-clause-handed g c = hands_same c.args.self.now.log c.end_line.new.self.log c.end_line.ensures.log
+
+pub returns-in-Noted-clause-handed : goal.returns-in-Noted-clause-handed
+returns-in-Noted-clause-handed g c = rw c.in-Noted.is (rw c.as_slice.ensures at c.note_all.ensures.handed)
