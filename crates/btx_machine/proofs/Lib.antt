@@ -47,4 +47,5 @@ pub mod MadeLemmas
 pub mod NotebookLemmas
 pub mod HandLemmas
 pub mod MeetLemmas
+pub mod VisitMeets
 pub mod CountingLemmas
