@@ -2,7 +2,7 @@
 
     python3 force_ends.py [--styles N] [--real N] [--jobs N] [--seed N] [--processes N] [--folder FOLDER] LIBRARY.so
 
-LIBRARY.so is the library for C (library/out/libbtx.so.1). Half of the styles are made from a seed, with loops that count a variable down, make a text shorter or walk along it, and half of these have a token
+LIBRARY.so is the library for C (library/out/libbtx.so.1). Half of the styles are made from a seed, with loops that count a variable down or up, make a text shorter or walk along it, and half of these have a token
 changed. With --real N, N are of a folder (TeX Live's, if it is there), of which most have a token changed. Of each the bound is asked for with the number of bytes that the job's variables keep: 0
 to 20,000, where small numbers make it tight. A bound above MOST_STEPS is no budget: such a run gets MOST_STEPS, and may be stopped. The last line is 'N passed, M failed', of the styles that are
 said to end and of which a run had its bound as budget."""
@@ -36,6 +36,7 @@ class LoopMaker(Maker):
         size = b"j" if v == b"i" else b"i"
         part = t + b" " + v + b" " + size + b" substring$ "
         stride, other = (v + b" " + self.pick(STRIDES) + b" + '" + v + b" :=" for _ in range(2))
+        below = self.pick([v + b" " + size + b" <", size + b" " + v + b" >", v + b" #7 <", t + b" text.length$ " + v + b" >", v + b" " + t + b" text.length$ < " + size + b" " + v + b" > and"])
         rest = b"#2 global.max$ substring$ '" + t + b" :="
         inside = self.body(depth + 1)
         return self.pick([
@@ -45,6 +46,7 @@ class LoopMaker(Maker):
             b"#0 '" + v + b" := {" + v + b" not " + t + b" empty$ not and} {" + t + b" #1 #1 substring$ \"b\" = {#1 '" + v + b" :=} {" + t + b" " + rest + b"} if$} while$",
             self.pick([b"#1", b"#-9", b"#2147483647"]) + b" '" + size + b" := #1 '" + v + b" := {" + part + b"\"\" = not} {" + inside + b" " + stride + b"} while$",
             b"{" + part + b"\"\" = not} {" + part + b"\"A\" = {u write$ " + stride + b"} {" + other + b"} if$} while$",
+            self.pick([b"#0", b"#-9", b"j"]) + b" '" + v + b" := {" + below + b"} {" + self.pick([b"", inside]) + b" " + v + b" #1 + '" + v + b" := " + self.pick([b"", inside]) + b"} while$",
             b"title empty$ {\"\"} 'title if$ '" + t + b" :=",
         ])
 

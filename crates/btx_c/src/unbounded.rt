@@ -21,6 +21,8 @@ fn claims_in<'c>(found: &'c Certificate) -> Claims<'c> {
         shortens: found.shortens.as_slice(),
         parts: found.parts.as_slice(),
         moves: found.moves.as_slice(),
+        limits: found.limits.as_slice(),
+        raises: found.raises.as_slice(),
         integers: found.integers,
         kept: found.kept,
     }

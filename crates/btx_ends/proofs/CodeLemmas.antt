@@ -26,6 +26,8 @@ use Rattle.btx_ends.specs.declared.measures.Walk.{Walk}
 use Rattle.btx_ends.specs.Shortening.{body_of, nothing_seen, tops_after, StepThrough, TokensThrough, EffectHolds, EffectsHold, KindHolds, KindsHold, kinds_by, effects_by, Tells, TellsBoth}
 use Rattle.btx_ends.specs.Certificates.{EndHolds, EndsHold, LessensBy, ShortenHolds, ShortensHold, FlagsHold, measures_by}
 use Rattle.btx_ends.specs.Certificates.{PartHolds, PartsHold, MovesBy, MoveHolds, AllMove}
+use Rattle.btx_ends.specs.Certificates.{LimitHolds, LimitsHold, RaisesBy, RaiseHolds, AllRaise}
+use Rattle.btx_ends.specs.declared.measures.Climb.{Climb}
 use Rattle.btx_ends.specs.Walking.{Moves, MovesHold}
 use Rattle.btx_ends.specs.Certificates.{TestHolds, TestsHold, CountHolds, CountsHold, top_after, below_after}
 use Rattle.btx_ends.specs.Keeping.{TokensKeep, StepKeeps, BodiesKeep, BodyCounts, said_by, pushed_after, pushed_below}
@@ -465,6 +467,51 @@ pub movers_all : (style : Style) (walk : Walk) (kinds : ℕ → Kind) (places si
 movers_all style walk kinds places sizes moves n l h =
     all_hold (MoverAt style walk kinds places sizes moves) n h
     (λ k m e. absurd (let q : slice_index_or moves k false ≡ false = get_or_past moves k false (omega (arith, l, m)) in true≢false (sym e ∙ q)))
+
+-- ---- loops that count up
+
+abbrev pub LimitAt : Claims → Style → (ℕ → Climb) → List ℕ → ℕ → Type 0
+LimitAt claims style climbs limits k = LimitHolds claims style climbs (slice_index_or limits k 0) k
+
+pub limits_more : (claims : Claims) (style : Style) (climbs : ℕ → Climb) (limits : List ℕ) (n claim : ℕ) → FirstHold (LimitAt claims style climbs limits) n
+    → claim ≡ slice_index_or limits n 0 → LimitHolds claims style climbs claim n → FirstHold (LimitAt claims style climbs limits) (n + 1)
+limits_more claims style climbs limits n claim h e w =
+    first_more (LimitAt claims style climbs limits) n h (subst (λ c. LimitHolds claims style climbs c n) e w)
+
+pub limits_all : (claims : Claims) (style : Style) (climbs : ℕ → Climb) (limits : List ℕ) (n : ℕ) → length limits ≤ n
+    → FirstHold (LimitAt claims style climbs limits) n → LimitsHold claims style climbs limits
+limits_all claims style climbs limits n l h =
+    all_hold (LimitAt claims style climbs limits) n h
+    (λ k j. subst (λ c. LimitHolds claims style climbs c k) (sym (get_or_past limits k 0 (omega (arith, l, j)))) tt)
+
+abbrev pub RaiseAt : Style → (ℕ → Climb) → List ℕ → ℕ → Type 0
+RaiseAt style climbs raises k = RaiseHolds style climbs (slice_index_or raises k 0) k
+
+pub raises_more : (style : Style) (climbs : ℕ → Climb) (raises : List ℕ) (n claim : ℕ) → FirstHold (RaiseAt style climbs raises) n
+    → claim ≡ slice_index_or raises n 0 → RaiseHolds style climbs claim n → FirstHold (RaiseAt style climbs raises) (n + 1)
+raises_more style climbs raises n claim h e w = first_more (RaiseAt style climbs raises) n h (subst (λ c. RaiseHolds style climbs c n) e w)
+
+pub raises_all : (style : Style) (climbs : ℕ → Climb) (raises : List ℕ) (n : ℕ) → length raises ≤ n → FirstHold (RaiseAt style climbs raises) n
+    → AllRaise style climbs raises
+raises_all style climbs raises n l h =
+    all_hold (RaiseAt style climbs raises) n h
+    (λ k j. subst (λ c. RaiseHolds style climbs c k) (sym (get_or_past raises k 0 (omega (arith, l, j)))) tt)
+
+-- the test of a climb
+pub limit_by : (claims : Claims) (style : Style) (climbs : ℕ → Climb) (claim number : ℕ) (climb : Climb) → (claim ≡ 0 → ⊥) → climb ≡ climbs (claim - 1)
+    → LimitHolds claims style (λ k. climb) 1 number → LimitHolds claims style climbs claim number
+limit_by claims style climbs zero number climb h e w = absurd (h refl)
+limit_by claims style climbs (suc k) number climb h e w =
+    let of_k : suc k - 1 ≡ k = omega arith in
+    subst (λ (a : Climb). LimitHolds claims style (λ j. a) 1 number) (e ∙ ap climbs of_k) w
+
+-- what bears a claim on a body out
+pub raise_by : (style : Style) (climbs : ℕ → Climb) (kinds : ℕ → Kind) (places sizes : ℕ → Effect) (claim number : ℕ) (climb : Climb)
+    → (claim ≡ 0 → ⊥) → climb ≡ climbs (claim - 1) → RaisesBy style climb kinds places sizes number → RaiseHolds style climbs claim number
+raise_by style climbs kinds places sizes zero number climb h e w = absurd (h refl)
+raise_by style climbs kinds places sizes (suc k) number climb h e w =
+    let of_k : suc k - 1 ≡ k = omega arith in
+    (kinds, (places, (sizes, subst (λ (a : Climb). RaisesBy style a kinds places sizes number) (e ∙ ap climbs of_k) w)))
 
 -- a test that looks at a flag too
 pub tells_flag : (style : Style) (t flag : ℕ) (body : List Token) → (flag ≡ 0 → ⊥) → TellsBoth style (flag - 1) t body → Tells style t flag body

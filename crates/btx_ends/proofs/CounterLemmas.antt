@@ -81,7 +81,7 @@ zero_step : (job : Job) (s : Store) → step_of job (token.Integer (pos 0)) s �
 unfolding step_of
 zero_step job s = refl
 
-greater_step : (job : Job) (b a : ℤ) (ys : List Literal) (s : Store) → s.literals ≡ literal.Integer b ∷ literal.Integer a ∷ ys
+pub greater_step : (job : Job) (b a : ℤ) (ys : List Literal) (s : Store) → s.literals ≡ literal.Integer b ∷ literal.Integer a ∷ ys
     → step_of job (token.Run (callee.BuiltIn built_in.Greater)) s ≡ pushed (truth (int_lt b a)) (with_literals ys s)
 unfolding step_of function_run built_in_run
 greater_step job b a ys s e =

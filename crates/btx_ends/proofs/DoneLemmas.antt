@@ -311,11 +311,11 @@ and_to job d number nought is b a ys bodies loops left s top =
 -- ---- tests
 
 -- 1 or 0
-abbrev number_of : Bool → ℤ
+abbrev pub number_of : Bool → ℤ
 number_of true = pos 1
 number_of false = pos 0
 
-truth_number : (b : Bool) → truth b ≡ literal.Integer (number_of b)
+pub truth_number : (b : Bool) → truth b ≡ literal.Integer (number_of b)
 truth_number true = refl
 truth_number false = refl
 
@@ -406,7 +406,7 @@ pub record Both (v t : ℕ) (s u : State) : Type 0 where
   pub flag : is_positive integer ≡ true → not (is_positive (value_in v s)) ≡ true
   pub text : is_positive integer ≡ true → not (list_all is_white (text_in t s)) ≡ true
 
-lower_positive : (b a : Bool) → is_positive (lower_if (is_positive (number_of b)) (number_of a)) ≡ true → (a ≡ true) × (b ≡ true)
+pub lower_positive : (b a : Bool) → is_positive (lower_if (is_positive (number_of b)) (number_of a)) ≡ true → (a ≡ true) × (b ≡ true)
 lower_positive true true e = (refl, refl)
 lower_positive true false e = absurd (cc)
 lower_positive false a e = absurd (cc)

@@ -11,6 +11,7 @@ pub mod StackLemmas
 pub mod ShorterLemmas
 pub mod TellLemmas
 pub mod WalkLemmas
+pub mod ClimbLemmas
 pub mod RunLemmas
 pub mod StyleLemmas
 pub mod CodeLemmas

@@ -1,5 +1,5 @@
 -- What a certificate claims is so: tokens, bodies, functions and loops end within their bounds, and keep what is claimed of variables.
-use Rattle.std.proofs.Common.{◌≡◌, ℕ, zero, suc, ◌+◌, ◌-◌, ◌*◌, ◌≤◌, ◌<◌, ℤ, pos, negsuc, Bool, true, false, nat_lt, List, [], ◌∷◌, length, Some}
+use Rattle.std.proofs.Common.{◌≡◌, ℕ, zero, suc, ◌+◌, ◌-◌, ◌*◌, ◌^◌, ◌≤◌, ◌<◌, ℤ, pos, negsuc, Bool, true, false, nat_lt, List, [], ◌∷◌, length, Some}
 use Rattle.std.proofs.Common.{refl, arith, sym, ap, subst, ◌∙◌, inl, inr}
 use Rattle.std.specs.Prelude.{slice_get, slice_index_or, unwrap_or, int_lt, ◌-ℤ◌}
 use Rattle.std.proofs.lemmas.Int.{ints}
@@ -31,7 +31,7 @@ use Rattle.btx_ends.specs.declared.known.Known.{Known}
 use Rattle.btx_ends.specs.declared.known.Known.TheVariants as known
 use Rattle.btx_ends.specs.Costs.{Ended, EndsIn}
 use Rattle.btx_ends.specs.Counters.{value_in, above_zero}
-use Rattle.btx_ends.specs.Certificates.{Claims, CalleeWithin, ChoiceWithin, LoopWithin, CountedWithin, ShortenedWithin, WalkedWithin, TurnsWithin, AssignsWithin, StepWithin, TokensWithin, BodyWithin}
+use Rattle.btx_ends.specs.Certificates.{Claims, CalleeWithin, ChoiceWithin, LoopWithin, CountedWithin, ShortenedWithin, WalkedWithin, ClimbedWithin, TurnsWithin, AssignsWithin, StepWithin, TokensWithin, BodyWithin}
 use Rattle.btx_ends.specs.declared.measures.Measure.{Measure}
 use Rattle.btx_ends.specs.declared.measures.Effect.{Effect}
 use Rattle.btx_ends.specs.declared.measures.Effect.TheVariants as effect
@@ -40,6 +40,9 @@ use Rattle.btx_ends.specs.Shortening.{text_in, flag_in, left_in, Tells, KindsHol
 use Rattle.btx_ends.specs.declared.measures.Walk.{Walk}
 use Rattle.btx_ends.specs.Walking.{turns_from, turns_in, TellsPart, MovesHold, place_measure, size_measure}
 use Rattle.btx_ends.specs.Certificates.{PartHolds, MoveHolds, MovesBy, WalksHold}
+use Rattle.btx_ends.specs.declared.measures.Climb.{Climb}
+use Rattle.btx_ends.specs.Climbing.{TellsBelow, climbs_from, limit_in, climbs_in}
+use Rattle.btx_ends.specs.Certificates.{LimitWithin, LimitHolds, RaiseHolds, RaisesBy, ClimbsHold}
 use Rattle.btx_ends.specs.Certificates.{EndHolds, ShortenHolds, TextsHold, TestsHold, CountsHold, TestHolds, CountHolds, top_after, below_after, known_value, known_names, known_sum, known_difference}
 use Rattle.btx_ends.proofs.EndLemmas.{then_ends, at_most, step_ends, loops_end_in}
 use Rattle.btx_ends.proofs.QuietLemmas.{IsQuiet, IsSingleToken, OneOf, OfType, step_quiet, choice_next, type_next}
@@ -52,6 +55,7 @@ use Rattle.btx_ends.proofs.SumLemmas.{Summed, small_at, plus_so, minus_so}
 use Rattle.btx_ends.proofs.ShorterLemmas.{flag_same, text_same, left_same, shortens_done}
 use Rattle.btx_ends.proofs.TellLemmas.{Told, tells_to, left_few}
 use Rattle.btx_ends.proofs.WalkLemmas.{PartTold, part_to, part_turns, part_long, walk_few, same_part, moves_done}
+use Rattle.btx_ends.proofs.ClimbLemmas.{BelowTold, tells_below_to, is_below, below_same, same_limit, same_place, climbs_few, climbs_some, limit_low, limit_apart, raises_done}
 use Rattle.btx_strings.specs.language.Positions.{substring_of}
 use Rattle.btx_ends.proofs.FineLemmas.{Fine, FineIn, IsKnown, Stands, fine_same, fine_assigned, names_few, pushed_on, text_of}
 
@@ -150,10 +154,17 @@ record WalkBefore (job : Job) (claims : Claims) (walk : Walk) (k : ℕ) (t : Sta
   told : (turn_of job t).again ≡ true
       → 0 < length (substring_of (text_in walk.text (turn_of job t).state) (value_in walk.place (turn_of job t).state) (value_in walk.size (turn_of job t).state))
 
+-- after the test of a loop that counts up, where so many turns were left before it
+record ClimbBefore (job : Job) (claims : Claims) (climb : Climb) (k : ℕ) (t : State) : Type 0 where
+  turned : Fine claims (turn_of job t).state
+  is : climbs_in job.mode climb (turn_of job t).state ≡ k
+  told : (turn_of job t).again ≡ true → is_below job.mode climb (turn_of job t).state ≡ true
+
 module _ (job : Job) (claims : Claims)
     (bodies_hold : (number : ℕ) → BodyWithin claims (slice_index_or job.style.bodies number []) (slice_index_or claims.costs number 0))
     (types_hold : (entry number : ℕ) → runner_of job (entry_type (entry_of job entry)) ≡ Some number → CalleeWithin claims claims.types (callee.User number))
-    (tests_hold : TestsHold claims.tests job.style) (counts_hold : CountsHold claims.counts job.style) (texts_hold : TextsHold claims job.style) (walks_hold : WalksHold claims job.style) (kept_holds : job.global_max ≤ claims.kept) where
+    (tests_hold : TestsHold claims.tests job.style) (counts_hold : CountsHold claims.counts job.style) (texts_hold : TextsHold claims job.style) (walks_hold : WalksHold claims job.style)
+    (climbs_hold : ClimbsHold claims job.style) (kept_holds : job.global_max ≤ claims.kept) where
   -- what is claimed of variables, and what is known of the literals on top of the stack
   abbrev Here : Known → Known → State → Type 0
   Here top below s = Fine claims s × Stands claims top below s.store.literals
@@ -401,12 +412,89 @@ module _ (job : Job) (claims : Claims)
       (slice_index_or claims.costs test 0) (slice_index_or claims.costs body 0) cost (w.1.1.0, omega arith) (w.1.1.1.0, omega arith) w.1.1.0 le lt
       more bodies loops left s h l
 
+  -- ---- loops that count up
+
+  climbed_by : (n : ℕ) → Level n → (test body : ℕ) (climb : Climb) (kinds : ℕ → Kind) (places sizes : ℕ → Effect)
+      → RaisesBy job.style climb kinds places sizes body → TellsBelow job.style climb (slice_index_or job.style.bodies test [])
+      → climb.walk.place < claims.integers → climb.walk.size < claims.integers → LimitWithin claims climb.walk climb.limit → (of_test of_body cost : ℕ)
+      → CalleeWithin claims of_test (callee.User test) → CalleeWithin claims of_body (callee.User body) → 0 < of_test
+      → suc (2 ^ 32) * (of_test + of_body) ≤ cost → cost < n → (yes : Bool) (bodies loops left : ℕ) (s : State) → Fine claims s → cost ≤ left
+      → Ended cost (Fine claims) left (turns_if job yes n (act job n (Run (callee.User test))) (act job n (Run (callee.User body))) bodies loops left s)
+  climbed_by n p test body climb kinds places sizes by tell place_there size_there within ct cb cost wt wb some le lt false bodies loops left s h l = omega arith
+  climbed_by n p test body climb kinds places sizes by tell place_there size_there within ct cb cost wt wb some le lt true bodies loops left s h l =
+      at_most (suc (2 ^ 32) * (ct + cb)) cost left (Fine claims) _ le
+      (loops_end_in job (act job n (Run (callee.User test))) (act job n (Run (callee.User body))) (Fine claims) (Fine claims) After (climbs_in job.mode climb) ct cb tests
+      again (λ k t b no. b.turned) (2 ^ 32) n bodies (loops + 1) left s h few_left few (omega (arith, le, l)))
+    where
+      After : ℕ → State → Type 0
+      After k t = ClimbBefore job claims climb k t
+
+      few : 2 ^ 32 < n
+      few = let q = turns_some (2 ^ 32) (ct + cb) (omega (arith, some)) in omega (arith, q, le, lt)
+
+      few_left : climbs_in job.mode climb s ≤ 2 ^ 32
+      few_left = climbs_few (value_in climb.walk.place s) (limit_in job.mode climb s) (limit_low claims job.mode climb.walk climb.limit s within h)
+
+      cheap : (ct ≤ cost) × (cb ≤ cost)
+      cheap = let q = turn_few (2 ^ 32) (ct + cb) in (omega (arith, q, le), omega (arith, q, le))
+
+      climbs_same : (t u : State) → SameVariables t.store u → climbs_in job.mode climb u ≡ climbs_in job.mode climb t
+      climbs_same t u same =
+          ap (λ (i : ℤ). climbs_from i (limit_in job.mode climb u)) (same_place climb.walk.place t u same.0)
+          ∙ ap (λ (i : ℤ). climbs_from (value_in climb.walk.place t) i) (same_limit job.mode climb t u same.0 same.1)
+
+      tests : (k : ℕ) → EndsIn ct (λ t. Fine claims t × (climbs_in job.mode climb t ≡ k)) (act job n (Run (callee.User test))) (After k)
+      tests k bodies loops left t g e =
+          weaker ct left (λ u. Fine claims u × BelowTold job climb t u) (After k) _
+          (λ u q.
+          let same : SameVariables t.store (turn_of job u).state = ((turn_same job u).0 ∙ q.1.0.0, (turn_same job u).1 ∙ q.1.0.1) in
+          record {
+            turned = fine_same claims u.store (turn_of job u).state (turn_same job u) q.0;
+            is = climbs_same t (turn_of job u).state same ∙ g.1;
+            told = λ yes. below_same job.mode climb t (turn_of job u).state same.0 same.1 ∙ q.1.1 yes;
+          })
+          (both_ended ct left (Fine claims) (BelowTold job climb t) (act job n (Run (callee.User test)) bodies loops left t)
+          (call_within n p (callee.User test) ct wt (omega (arith, cheap.0, lt)) bodies loops left t g.0 e)
+          (tells_below_to job n test climb tell bodies loops left t))
+
+      again : (k : ℕ) (t : State) → After k t → (turn_of job t).again ≡ true
+          → EndsIn cb (λ u. u ≡ (turn_of job t).state) (act job n (Run (callee.User body))) (λ u. Fine claims u × (climbs_in job.mode climb u < k))
+      again k t b goes bodies loops left u eu e =
+          let fine : Fine claims u = subst (Fine claims) (sym eu) b.turned in
+          let size : climbs_in job.mode climb u ≡ k = ap (climbs_in job.mode climb) eu ∙ b.is in
+          let below : is_below job.mode climb u ≡ true = ap (is_below job.mode climb) eu ∙ b.told goes in
+          let some_turns = climbs_some (value_in climb.walk.place u) (limit_in job.mode climb u) below in
+          weaker cb left (λ q. Fine claims q × (climbs_in job.mode climb q ≤ climbs_in job.mode climb u - 1)) (λ q. Fine claims q × (climbs_in job.mode climb q < k)) _
+          (λ q g. (g.0, (let a = g.1 in omega (arith, size, a, some_turns))))
+          (both_ended cb left (Fine claims) (λ q. climbs_in job.mode climb q ≤ climbs_in job.mode climb u - 1) (act job n (Run (callee.User body)) bodies loops left u)
+          (call_within n p (callee.User body) cb wb (omega (arith, cheap.1, lt)) bodies loops left u fine e)
+          (raises_done job climb kinds places sizes by.0 by.1.0.0 by.1.0.1 (limit_apart claims climb.walk climb.limit within) (text_in climb.walk.text u)
+          (value_in climb.walk.place u) (value_in climb.walk.size u) (limit_low claims job.mode climb.walk climb.limit u within fine) below n body by.1.1 bodies loops left u
+          (refl, (refl, (refl, ((let a = fine.1.1 in omega (arith, a, place_there)), (let a = fine.1.1 in omega (arith, a, size_there))))))))
+
+  climbed_within : (n : ℕ) → Level n → (test body cost : ℕ) → ClimbedWithin claims (suc cost) body test → cost < n → (yes : Bool) (bodies loops left : ℕ) (s : State)
+      → Fine claims s → cost ≤ left
+      → Ended cost (Fine claims) left (turns_if job yes n (act job n (Run (callee.User test))) (act job n (Run (callee.User body))) bodies loops left s)
+  climbed_within n p test body cost w lt more bodies loops left s h l =
+      let climbs = climbs_hold.0 in
+      let k = some_more (slice_index_or claims.limits test 0) w.0 in
+      let part : LimitHolds claims job.style climbs (suc k.0) test =
+      subst (λ c. LimitHolds claims job.style climbs c test) k.1 (climbs_hold.1.0 test) in
+      let raise : RaiseHolds job.style climbs (suc k.0) body = subst (λ c. RaiseHolds job.style climbs c body) (w.1.0 ∙ k.1) (climbs_hold.1.1 body) in
+      let le : suc (2 ^ 32) * (slice_index_or claims.costs test 0 + slice_index_or claims.costs body 0) ≤ cost =
+      (let q = w.1.1.1.1 in let r : 2 ^ 32 + 1 ≡ suc (2 ^ 32) = omega arith in
+      subst (λ j. j * (slice_index_or claims.costs test 0 + slice_index_or claims.costs body 0) ≤ cost) r (omega (arith, q))) in
+      climbed_by n p test body (climbs k.0) raise.0 raise.1.0 raise.1.1.0 raise.1.1.1 part.0 part.1.0 part.1.1.0 part.1.1.1
+      (slice_index_or claims.costs test 0) (slice_index_or claims.costs body 0) cost (w.1.1.0, omega arith) (w.1.1.1.0, omega arith) w.1.1.0 le lt
+      more bodies loops left s h l
+
   either_within : (n : ℕ) → Level n → (test body cost : ℕ) → TurnsWithin claims (suc cost) body test → cost < n → (yes : Bool) (bodies loops left : ℕ) (s : State)
       → Fine claims s → cost ≤ left
       → Ended cost (Fine claims) left (turns_if job yes n (act job n (Run (callee.User test))) (act job n (Run (callee.User body))) bodies loops left s)
   either_within n p test body cost (inl w) lt more bodies loops left s h l = loop_within n p test body cost w lt more bodies loops left s h l
   either_within n p test body cost (inr (inl w)) lt more bodies loops left s h l = shortened_within n p test body cost w lt more bodies loops left s h l
-  either_within n p test body cost (inr (inr w)) lt more bodies loops left s h l = walked_within n p test body cost w lt more bodies loops left s h l
+  either_within n p test body cost (inr (inr (inl w))) lt more bodies loops left s h l = walked_within n p test body cost w lt more bodies loops left s h l
+  either_within n p test body cost (inr (inr (inr w))) lt more bodies loops left s h l = climbed_within n p test body cost w lt more bodies loops left s h l
 
   -- ---- what follows
 
@@ -563,7 +651,8 @@ module _ (job : Job) (claims : Claims)
   turns_some_cost : (body test : ℕ) → TurnsWithin claims 0 body test → ⊥
   turns_some_cost body test (inl w) = absurd (let e = w.1.1.1.1 in omega (arith, e))
   turns_some_cost body test (inr (inl w)) = absurd (let e = w.1.1.1.1 in omega (arith, e))
-  turns_some_cost body test (inr (inr w)) = absurd (let e = w.1.1.1.1 in omega (arith, e))
+  turns_some_cost body test (inr (inr (inl w))) = absurd (let e = w.1.1.1.1 in omega (arith, e))
+  turns_some_cost body test (inr (inr (inr w))) = absurd (let e = w.1.1.1.1 in omega (arith, e))
 
   counted_ends : (n : ℕ) → Level n → (body test cost : ℕ) → TurnsWithin claims cost body test → cost < suc n → (bodies loops left : ℕ) (s : State)
       → Here (known.Function (callee.User body)) (known.Function (callee.User test)) s → cost ≤ left

@@ -80,7 +80,7 @@ text_same i s t e = ap (λ (ts : List (List ℕ)). unwrap_or (slice_get ts i) []
 pub left_same : (m : Measure) (s t : State) → flag_in m.flag t ≡ flag_in m.flag s → text_in m.text t ≡ text_in m.text s → left_in m t ≡ left_in m s
 left_same m s t e q = ap (λ (g : ℤ). left_of g (text_in m.text t)) e ∙ ap (λ (x : List ℕ). left_of (flag_in m.flag s) x) q
 
-set_elsewhere : (xs : List ℤ) (w v : ℕ) (n : ℤ) → w ≢ v → slice_get (slice_set xs w n) v ≡ slice_get xs v
+pub set_elsewhere : (xs : List ℤ) (w v : ℕ) (n : ℤ) → w ≢ v → slice_get (slice_set xs w n) v ≡ slice_get xs v
 set_elsewhere [] w v n h = refl
 set_elsewhere (x ∷ xs) zero zero n h = absurd (h refl)
 set_elsewhere (x ∷ xs) zero (suc v) n h = refl

@@ -31,7 +31,7 @@ some_begun (b ∷ x) w l e = omega arith
 some_begun [] [] l e = absurd (omega (arith, l))
 some_begun [] (c ∷ w) l e = absurd (cc)
 
-again_of : (job : Job) (n : ℤ) (ys : List Literal) (u : State) → u.store.literals ≡ literal.Integer n ∷ ys → (turn_of job u).again ≡ is_positive n
+pub again_of : (job : Job) (n : ℤ) (ys : List Literal) (u : State) → u.store.literals ≡ literal.Integer n ∷ ys → (turn_of job u).again ≡ is_positive n
 unfolding turn_of
 again_of job n ys u e = ap (λ (zs : List Literal). (tested zs u.store).again) e
 

@@ -184,7 +184,7 @@ part_to job d test walk w bodies loops left s =
 
 -- ---- single tokens
 
-plus_step : (job : Job) (b a : ℤ) (ys : List Literal) (s : Store) → s.literals ≡ literal.Integer b ∷ literal.Integer a ∷ ys
+pub plus_step : (job : Job) (b a : ℤ) (ys : List Literal) (s : Store) → s.literals ≡ literal.Integer b ∷ literal.Integer a ∷ ys
     → step_of job (Run (callee.BuiltIn built_in.Plus)) s ≡ result_of (a +ℤ b) (with_literals ys s)
 unfolding step_of function_run built_in_run
 plus_step job b a ys s e =

@@ -1,7 +1,7 @@
 -- What the checker sees to. A certificate claims for each function of a style how many steps a call of it takes at most; 0 claims nothing. Each claim is checked
 -- by the function's own body and the claims of what it calls. A call takes a step itself, so a function that calls itself, or one that calls it, bears no claim out.
 -- For loops it claims how great a global integer variable can be, which functions are the test of a loop that counts it down, and which are its body.
-use Rattle.std.specs.Prelude.{◌≡◌, ℕ, zero, suc, ◌+◌, ◌-◌, ◌*◌, ◌^◌, ◌≤◌, ◌<◌, pos, negsuc, List, [], ◌∷◌, length, Bool, Some, true, codes, slice_index_or, ◌⊎◌}
+use Rattle.std.specs.Prelude.{◌≡◌, ℕ, zero, suc, ◌+◌, ◌-◌, ◌*◌, ◌^◌, ◌≤◌, ◌<◌, ◌≢◌, pos, negsuc, ◌≤ℤ◌, List, [], ◌∷◌, length, Bool, Some, true, codes, slice_index_or, ◌⊎◌}
 use Rattle.btx_bst.specs.declared.built_in.BuiltIn.{BuiltIn}
 use Rattle.btx_bst.specs.declared.built_in.BuiltIn.TheVariants as built_in
 use Rattle.btx_bst.specs.declared.callee.Callee.{Callee}
@@ -24,6 +24,10 @@ use Rattle.btx_ends.specs.Keeping.{BodiesKeep, BodyCounts}
 use Rattle.btx_ends.specs.declared.measures.Walk.{Walk}
 use Rattle.btx_ends.specs.Shortening.{Tells, body_of, KindsHold, EffectsHold}
 use Rattle.btx_ends.specs.Walking.{TellsPart, place_measure, size_measure, MovesHold}
+use Rattle.btx_ends.specs.declared.measures.Limit.{Limit}
+use Rattle.btx_ends.specs.declared.measures.Limit.TheVariants as limit
+use Rattle.btx_ends.specs.declared.measures.Climb.{Climb}
+use Rattle.btx_ends.specs.Climbing.{TellsBelow, Raises}
 
 -- what a certificate claims of a style
 pub record Claims : Type 0 where
@@ -45,6 +49,10 @@ pub record Claims : Type 0 where
   pub parts : List ℕ
   -- of each function, by its number, one more than the number of the walk whose place it moves on; 0 claims nothing
   pub moves : List ℕ
+  -- of each function, by its number, one more than the number of the climb of which it is the test; 0 claims nothing
+  pub limits : List ℕ
+  -- of each function, by its number, one more than the number of the climb whose place it raises; 0 claims nothing
+  pub raises : List ℕ
   -- how many global integer variables there are at least
   pub integers : ℕ
   -- how many bytes a global string variable keeps at most
@@ -144,10 +152,20 @@ WalkedWithin claims most body test =
     let of_body = slice_index_or claims.costs body 0 in
     (0 < told) × ((slice_index_or claims.moves body 0 ≡ told) × ((0 < of_test) × ((0 < of_body) × ((2 * claims.kept + 1) * (of_test + of_body) < most))))
 
+-- a loop that counts a variable up to a limit takes at most `most` steps: its own step, and for each turn, of which there is one more than 2^32, those of the test
+-- and of the body
+abbrev pub ClimbedWithin : Claims → ℕ → ℕ → ℕ → Type 0
+ClimbedWithin claims most body test =
+    let told = slice_index_or claims.limits test 0 in
+    let of_test = slice_index_or claims.costs test 0 in
+    let of_body = slice_index_or claims.costs body 0 in
+    (0 < told) × ((slice_index_or claims.raises body 0 ≡ told) × ((0 < of_test) × ((0 < of_body) × ((2 ^ 32 + 1) * (of_test + of_body) < most))))
+
 -- a loop of one of these kinds
 abbrev pub TurnsWithin : Claims → ℕ → ℕ → ℕ → Type 0
 TurnsWithin claims most body test =
-    CountedWithin claims most body test ⊎ (ShortenedWithin claims most body test ⊎ WalkedWithin claims most body test)
+    CountedWithin claims most body test
+    ⊎ (ShortenedWithin claims most body test ⊎ (WalkedWithin claims most body test ⊎ ClimbedWithin claims most body test))
 
 -- .. where its body and its test are known to stand on top of the stack
 abbrev pub LoopWithin : Claims → ℕ → Known → Known → Type 0
@@ -308,6 +326,46 @@ walks_by walks k = slice_index_or walks k (record { text = 0; place = 0; size = 
 abbrev pub WalksHold : Claims → Style → Type 0
 WalksHold claims style = (walks : ℕ → Walk) × (PartsHold style walks claims.integers claims.parts × AllMove style walks claims.moves)
 
+-- a limit is below 2^31, and a limit that is a variable isn't the place
+abbrev pub LimitWithin : Claims → Walk → Limit → Type 0
+LimitWithin claims walk limit.Size =
+    (0 < slice_index_or claims.bounds walk.size 0) × ((slice_index_or claims.bounds walk.size 0 ≤ 2 ^ 31) × (walk.size ≢ walk.place))
+LimitWithin claims walk limit.Length = claims.kept < 2 ^ 31
+LimitWithin claims walk (limit.Number n) = n ≤ℤ pos (2 ^ 30)
+
+-- a function is the test of the climb that is claimed, and the climb's place and size are variables that are there
+abbrev pub LimitHolds : Claims → Style → (ℕ → Climb) → ℕ → ℕ → Type 0
+LimitHolds claims style climbs zero number = Unit {0}
+LimitHolds claims style climbs (suc k) number =
+    TellsBelow style (climbs k) (body_of style number) × (((climbs k).walk.place < claims.integers) × (((climbs k).walk.size < claims.integers)
+    × LimitWithin claims (climbs k).walk (climbs k).limit))
+
+-- a function raises the place of a climb, by what is said of all functions
+abbrev pub RaisesBy : Style → Climb → (ℕ → Kind) → (ℕ → Effect) → (ℕ → Effect) → ℕ → Type 0
+RaisesBy style climb kinds places sizes number =
+    KindsHold style kinds × (WalkEffectsHold style climb.walk kinds places sizes × Raises style climb kinds places sizes (body_of style number))
+
+-- a function raises the place of the climb that is claimed
+abbrev pub RaiseHolds : Style → (ℕ → Climb) → ℕ → ℕ → Type 0
+RaiseHolds style climbs zero number = Unit {0}
+RaiseHolds style climbs (suc k) number =
+    (kinds : ℕ → Kind) × ((places : ℕ → Effect) × ((sizes : ℕ → Effect) × RaisesBy style (climbs k) kinds places sizes number))
+
+-- .. and so do all
+abbrev pub LimitsHold : Claims → Style → (ℕ → Climb) → List ℕ → Type 0
+LimitsHold claims style climbs limits = (number : ℕ) → LimitHolds claims style climbs (slice_index_or limits number 0) number
+
+abbrev pub AllRaise : Style → (ℕ → Climb) → List ℕ → Type 0
+AllRaise style climbs raises = (number : ℕ) → RaiseHolds style climbs (slice_index_or raises number 0) number
+
+-- the climbs of a list, by their numbers
+abbrev pub climbs_by : List Climb → ℕ → Climb
+climbs_by climbs k = slice_index_or climbs k (record { walk = record { text = 0; place = 0; size = 0 }; limit = limit.Size })
+
+-- all claims on loops that count up hold
+abbrev pub ClimbsHold : Claims → Style → Type 0
+ClimbsHold claims style = (climbs : ℕ → Climb) × (LimitsHold claims style climbs claims.limits × AllRaise style climbs claims.raises)
+
 -- nothing is claimed of `entry.max$` and `global.max$`, which don't begin with 0
 abbrev pub FirstUnclaimed : List ℕ → Type 0
 FirstUnclaimed bounds = (slice_index_or bounds 0 0 ≡ 0) × (slice_index_or bounds 1 0 ≡ 0)
@@ -319,7 +377,8 @@ FunctionsWithin claims allowed style = BodiesWithin claims style × (OwnWithin c
 -- all claims on loops and variables hold
 abbrev pub LoopsHold : Claims → Style → Type 0
 LoopsHold claims style =
-    TestsHold claims.tests style × (CountsHold claims.counts style × (FirstUnclaimed claims.bounds × (TextsHold claims style × WalksHold claims style)))
+    TestsHold claims.tests style × (CountsHold claims.counts style × (FirstUnclaimed claims.bounds × (TextsHold claims style
+    × (WalksHold claims style × ClimbsHold claims style))))
 
 -- THE LAW: a style of which a certificate's claims hold ends
 abbrev pub ClaimsEnd : Type 0

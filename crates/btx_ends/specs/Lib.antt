@@ -4,5 +4,6 @@ pub mod Counters
 pub mod Keeping
 pub mod Shortening
 pub mod Walking
+pub mod Climbing
 pub mod Certificates
 pub mod Views

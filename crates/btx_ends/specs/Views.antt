@@ -13,6 +13,8 @@ claims_of given = record {
   shortens = given.shortens.now;
   parts = given.parts.now;
   moves = given.moves.now;
+  limits = given.limits.now;
+  raises = given.raises.now;
   integers = given.integers;
   kept = given.kept;
 }

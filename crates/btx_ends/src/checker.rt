@@ -8,10 +8,11 @@ ghost use Rattle.btx_ends.specs.Shortening.{effects_by, kinds_by};
 ghost use Rattle.btx_ends.specs.Views.{claims_of};
 
 use crate::claims::{Claims, claim_of};
+use crate::climbs::climbs_hold;
 use crate::costs::{Bound, body_cost, items_cost};
 use crate::keeping::{functions_keep, is_counting, is_test};
 use crate::kinds::kinds_hold;
-use crate::measures::{Effect, Kind, Measure, Walk};
+use crate::measures::{Climb, Effect, Kind, Measure, Walk};
 use crate::search::proposed;
 use crate::shortening::{effects_hold, said_of};
 use crate::telling::tells;
@@ -56,6 +57,16 @@ pub struct Certificate {
     pub sizes: Vec<Vec<Effect>>,
     /// Of each walk, which functions move its place on.
     pub movers: Vec<Vec<bool>>,
+    /// What loops count up to.
+    pub climbs: Vec<Climb>,
+    /// Of each function, by its number, one more than the number of the climb of which it is the test; 0 claims nothing.
+    pub limits: Vec<u32>,
+    /// Of each function, by its number, one more than the number of the climb whose place it raises; 0 claims nothing.
+    pub raises: Vec<u32>,
+    /// Of each climb, what each function does to its text and its place.
+    pub climb_places: Vec<Vec<Effect>>,
+    /// Of each climb, what each function does to its text and its size.
+    pub climb_sizes: Vec<Vec<Effect>>,
     /// How many global integer variables there are at least.
     pub integers: u32,
     /// How many bytes a global string variable keeps at most.
@@ -77,6 +88,8 @@ impl Certificate {
             shortens: self.shortens.as_slice(),
             parts: self.parts.as_slice(),
             moves: self.moves.as_slice(),
+            limits: self.limits.as_slice(),
+            raises: self.raises.as_slice(),
             integers: self.integers,
             kept: self.kept,
         }
@@ -355,6 +368,7 @@ fn loops_hold(style: &Style, claims: Claims<'_>, certificate: &Certificate) -> b
         && first_unclaimed(claims.bounds)
         && texts_hold(style, claims, certificate)
         && walks_hold(style, claims, certificate)
+        && climbs_hold(style, claims, certificate)
 }
 
 /// Judges a certificate: answers the bound of a style's runs, for entries of the types that are allowed or that the style doesn't know, where global string

@@ -22,6 +22,10 @@ pub struct Claims<'c> {
     pub parts: &'c [u32],
     /// Of each function, by its number, one more than the number of the walk whose place it moves on; 0 claims nothing.
     pub moves: &'c [u32],
+    /// Of each function, by its number, one more than the number of the climb of which it is the test; 0 claims nothing.
+    pub limits: &'c [u32],
+    /// Of each function, by its number, one more than the number of the climb whose place it raises; 0 claims nothing.
+    pub raises: &'c [u32],
     /// How many global integer variables there are at least.
     pub integers: u32,
     /// How many bytes a global string variable keeps at most.

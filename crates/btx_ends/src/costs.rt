@@ -132,13 +132,42 @@ fn walked_cost(claims: Claims<'_>, body: u32, test: u32) -> Option<u64>
     all.checked_add(1)
 }
 
-// .. that make a text shorter or walk along it
+// .. whose turns raise a place below a limit: its own step, and those of each turn.
+fn climbed_cost(claims: Claims<'_>, body: u32, test: u32) -> Option<u64>
+    ensures { IfSome result (λ most. within.ClimbedWithin (claims_of claims.entry) most body test) }
+{
+    let told = number_for(claims.limits, test as usize);
+    if told == 0 || number_for(claims.raises, body as usize) != told {
+        return None;
+    }
+    let of_test = claim_of(claims.costs, test as usize);
+    let of_body = claim_of(claims.costs, body as usize);
+    if of_test == 0 || of_body == 0 {
+        return None;
+    }
+    let turn = of_test.checked_add(of_body)?;
+    let turns: u64 = (1 << 32) + 1;
+    let all = turns.checked_mul(turn)?;
+    all.checked_add(1)
+}
+
+// .. that move a place on along a text, or up to a limit
+fn place_cost(claims: Claims<'_>, body: u32, test: u32) -> Option<u64>
+    ensures { IfSome result (λ most. within.WalkedWithin (claims_of claims.entry) most body test ⊎ within.ClimbedWithin (claims_of claims.entry) most body test) }
+{
+    match walked_cost(claims, body, test) {
+        Some(cost) => Some(cost),
+        None => climbed_cost(claims, body, test),
+    }
+}
+
+// .. that make a text shorter or move a place on
 fn text_cost(claims: Claims<'_>, body: u32, test: u32) -> Option<u64>
-    ensures { IfSome result (λ most. within.ShortenedWithin (claims_of claims.entry) most body test ⊎ within.WalkedWithin (claims_of claims.entry) most body test) }
+    ensures { IfSome result (λ most. within.ShortenedWithin (claims_of claims.entry) most body test ⊎ (within.WalkedWithin (claims_of claims.entry) most body test ⊎ within.ClimbedWithin (claims_of claims.entry) most body test)) }
 {
     match shortened_cost(claims, body, test) {
         Some(cost) => Some(cost),
-        None => walked_cost(claims, body, test),
+        None => place_cost(claims, body, test),
     }
 }
 

@@ -3,6 +3,9 @@
 
 pub mod checker;
 pub mod claims;
+pub mod climb_search;
+pub mod climbing;
+pub mod climbs;
 pub mod costs;
 pub mod keeping;
 pub mod kinds;

@@ -23,6 +23,26 @@ pub struct Walk {
     pub size: u32,
 }
 
+/// What a place is below.
+#[derive(Clone, Copy, PartialEq, Eq)]
+pub enum Limit {
+    /// The value of the walk's size.
+    Size,
+    /// The length of the walk's text, as `text.length$` counts it.
+    Length,
+    /// This number.
+    Number(i32),
+}
+
+/// A loop goes on as long as a place is below a limit.
+#[derive(Clone, Copy, PartialEq, Eq)]
+pub struct Climb {
+    /// The variables: the place, which each turn raises, and the limit's. A text that isn't the limit's is none that the style has, and such a size is the place.
+    pub walk: Walk,
+    /// What the place is below.
+    pub limit: Limit,
+}
+
 /// What a call of a function does to the text and the flag.
 #[derive(Clone, Copy, PartialEq, Eq)]
 pub enum Effect {

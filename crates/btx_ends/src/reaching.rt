@@ -72,9 +72,11 @@ fn is_bounded_loop(found: &Certificate, body: usize, test: usize) -> bool {
     let counted = number_for(&found.tests, test);
     let ended = number_for(&found.ends, test);
     let told = number_for(&found.parts, test);
+    let limited = number_for(&found.limits, test);
     (counted != 0 && number_for(&found.counts, body) == counted)
         || (ended != 0 && number_for(&found.shortens, body) == ended)
         || (told != 0 && number_for(&found.moves, body) == told)
+        || (limited != 0 && number_for(&found.raises, body) == limited)
 }
 
 // Answers whether a body uses one of the functions that are marked.

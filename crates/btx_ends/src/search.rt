@@ -1,6 +1,7 @@
 //! The search that proposes a certificate. Nothing is promised of what it finds: the checker judges it.
 use crate::checker::{Certificate, is_shortening};
 use crate::claims::{Claims, claim_of, number_for};
+use crate::climb_search::{climbs_of, limits_of, raises_of, variables_of};
 use crate::costs::body_cost;
 use crate::keeping::{is_counting, is_test, tokens_keep};
 use crate::kinds::{is_not, is_or};
@@ -55,6 +56,19 @@ pub(crate) fn proposed_with(
     let sizes = rows_by(alloc, style, &kinds, &walks, true)?;
     let movers = movers_of(alloc, style, &kinds, &walks, &places, &sizes)?;
     let moves = moves_of(alloc, style, &loops, &parts, &movers)?;
+    let climbs = climbs_of(alloc, style)?;
+    let limits = limits_of(alloc, style, &bounds, kept, &climbs)?;
+    let variables = variables_of(alloc, &climbs)?;
+    let climb_places = rows_by(alloc, style, &kinds, &variables, false)?;
+    let climb_sizes = rows_by(alloc, style, &kinds, &variables, true)?;
+    let raises = raises_of(
+        alloc,
+        style,
+        &loops,
+        &limits,
+        &climbs,
+        (&kinds, &climb_places, &climb_sizes),
+    )?;
     let mut found = Certificate {
         costs: Vec::new(alloc),
         types: 0,
@@ -73,6 +87,11 @@ pub(crate) fn proposed_with(
         places,
         sizes,
         movers,
+        climbs,
+        limits,
+        raises,
+        climb_places,
+        climb_sizes,
         integers: count_of(style.global_integers()),
         kept,
     };
@@ -139,6 +158,8 @@ fn raise_in(body: &[Token], bounds: &mut [u64], kept: u32, may_raise: bool) {
             shortens: &[],
             parts: &[],
             moves: &[],
+            limits: &[],
+            raises: &[],
             integers: 0,
             kept,
         };

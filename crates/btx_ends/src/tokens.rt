@@ -24,6 +24,14 @@ pub(crate) fn called_by(token: Token) -> u32 {
     }
 }
 
+/// Answers the number of the global integer variable whose value a token pushes, if it does; else 0.
+pub(crate) fn pushed_variable(token: Token) -> u32 {
+    match token {
+        Token::Run(Callee::GlobalInteger(v)) => v,
+        _ => 0,
+    }
+}
+
 /// Answers whether a token executes this global string variable.
 pub(crate) fn is_string(t: u32, token: Token) -> bool
     ensures { IsTrue result → token ≡ tokens.Run (callee.GlobalString t) }
@@ -121,6 +129,26 @@ pub(crate) fn is_greater(token: Token) -> bool
 {
     match token {
         Token::Run(Callee::BuiltIn(BuiltIn::Greater)) => true,
+        _ => false,
+    }
+}
+
+/// Answers whether a token is `<`.
+pub(crate) fn is_less_than(token: Token) -> bool
+    ensures { IsTrue result → token ≡ tokens.Run (callee.BuiltIn built_in.Less) }
+{
+    match token {
+        Token::Run(Callee::BuiltIn(BuiltIn::Less)) => true,
+        _ => false,
+    }
+}
+
+/// Answers whether a token is `text.length$`.
+pub(crate) fn is_text_length(token: Token) -> bool
+    ensures { IsTrue result → token ≡ tokens.Run (callee.BuiltIn built_in.TextLength) }
+{
+    match token {
+        Token::Run(Callee::BuiltIn(BuiltIn::TextLength)) => true,
         _ => false,
     }
 }

@@ -116,8 +116,8 @@ fn stays_by(style: &Style, m: Measure, kinds: &[Kind], effects: &[Effect], xs: &
     }
 }
 
-// Answers whether tokens keep the text, the place and the size.
-fn tokens_stay(style: &Style, walk: Walk, said: Said<'_>, xs: &[Token]) -> bool
+/// Answers whether tokens keep the text, the place and the size.
+pub(crate) fn tokens_stay(style: &Style, walk: Walk, said: Said<'_>, xs: &[Token]) -> bool
     ensures { IsTrue result → walking.TokensStay style.now walk (shortening.kinds_by said.entry.kinds.now) (shortening.effects_by said.entry.places.now) (shortening.effects_by said.entry.sizes.now) xs.now }
 {
     match (place_measure(walk), size_measure(walk)) {
@@ -140,9 +140,9 @@ fn is_stride(walk: Walk, token: Token) -> bool
     }
 }
 
-// Answers x of the tokens `p x + 'p :=`, if these are that.
+/// Answers x of the tokens `p x + 'p :=`, if these are that.
 #[tactic(auto, using(crate::proofs::CodeLemmas::five))]
-fn moved_by(place: u32, last: &[Token]) -> Option<Token>
+pub(crate) fn moved_by(place: u32, last: &[Token]) -> Option<Token>
     ensures { IfSome result (λ x. last.now ≡ walking.move_by place x) }
 {
     if last.len() == 5

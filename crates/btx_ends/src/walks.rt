@@ -55,8 +55,8 @@ fn parts_hold(style: &Style, walks: &[Walk], integers: u32, parts: &[u32]) -> bo
     true
 }
 
-// Answers whether what is said of all functions holds of the text, the place and the size of a walk.
-fn effects_stay(style: &Style, walk: Walk, said: Said<'_>) -> bool
+/// Answers whether what is said of all functions holds of the text, the place and the size of a walk.
+pub(crate) fn effects_stay(style: &Style, walk: Walk, said: Said<'_>) -> bool
     ensures { IsTrue result → within.WalkEffectsHold style.now walk (kinds_by said.entry.kinds.now) (effects_by said.entry.places.now) (effects_by said.entry.sizes.now) }
 {
     match (place_measure(walk), size_measure(walk)) {
