@@ -14,7 +14,7 @@ from dataclasses import asdict, dataclass
 from typing import FrozenSet, Iterable, List, Set, Tuple
 
 from .checkup import Refused, named_style
-from .commands import STATUS_REFUSED, Words, broken_pipe
+from .commands import STATUS_REFUSED, Words, broken_pipe, print_text
 from .events import Met
 from .jobs import run
 from .messages import Kind, Message
@@ -141,8 +141,8 @@ def main(words: List[str]) -> int:
     given = parser().parse_args(words)
     try:
         found = fields_of(named_style(given.style, search_from(None)), given.types)
-        print(as_json(found) if given.json else as_page(given.style, found) if given.html else as_text(found))
-        sys.stdout.flush()
+        text = as_json(found) if given.json else as_page(given.style, found) if given.html else as_text(found)
+        print_text(f"{text}\n")
         return 0
     except StyleFaulty as error:
         for mistake in error.mistakes:
