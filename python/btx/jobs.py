@@ -14,7 +14,8 @@ from .options import Options
 from .outputs import Inputs, write_outputs
 from .refusals import FinderRefused, NameRefused
 from .results import End, Result
-from .searching import existing_folder, search_from
+from .searching import MOST_BYTES, existing_folder, search_from
+from .searching import content_of as bytes_at
 
 __all__ = ["Content", "Files", "Finder", "Name", "in_folder", "needs", "run", "run_in", "run_paper"]
 
@@ -61,8 +62,8 @@ def gathered(job: bytes, files: Files) -> Dict[bytes, Content]:
 
 
 def run_in(folder: Union[str, "os.PathLike[str]"], job: Name, options: Optional[Options] = None) -> Result:
-    """Runs a job over the files of a folder, and writes nothing. A file that isn't there counts as missing; one that can't be read raises OSError, and so does a folder
-    that isn't there.
+    """Runs a job over the files of a folder, and writes nothing. A file that isn't there counts as missing. OSError is raised for one that can't be read, that is no regular file (a pipe, a device) or that has
+    more than 2,147,483,647 bytes, and where there is no such folder.
 
     As with BibTeX, a job's files may name files outside of the folder, with `..` or from the root: of a job that nobody trusts hand the files in."""
     return run(job, in_folder(folder), options)
@@ -96,12 +97,12 @@ def needs(job: Name, files: Union[Mapping[str, Content], Mapping[bytes, Content]
 
 
 def in_folder(folder: Union[str, "os.PathLike[str]"]) -> Finder:
-    """A finder over the files of a folder. Raises OSError where there is no such folder."""
-    root = pathlib.Path(existing_folder(folder))
+    """A finder over the files of a folder. It raises OSError for what `run_in` does. Raises OSError where there is no such folder."""
+    root = pathlib.Path(os.fsdecode(existing_folder(folder)))
 
     def found(name: str) -> Content:
         try:
-            return (root / name).read_bytes()
+            return bytes_at(os.fsencode(root / name), MOST_BYTES)
         except (FileNotFoundError, IsADirectoryError, NotADirectoryError, ValueError):
             return None
 

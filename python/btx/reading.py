@@ -19,7 +19,7 @@ from typing import Any, Dict, FrozenSet, Iterator, List, Mapping, NamedTuple, Op
 from .library import RECORD, Buffer, read_records
 from .messages import decoded
 from .refusals import DatabaseTooLong
-from .searching import MOST_BYTES, bytes_of
+from .searching import MOST_BYTES, bytes_of, opened_file
 
 __all__ = ["MONTHS", "Bibliography", "Entries", "Entry", "Mistake", "Place", "Source", "read"]
 
@@ -331,8 +331,8 @@ def read(source: Source, strings: Mapping[str, str] = MONTHS) -> Bibliography:
 
     source: a path (text is a path), or the bytes of a database. strings: what is known before it, as a style's macros are: the names of months in English, if nothing else is said.
 
-    A mistake ends the reading of its item alone, as in a run; `messages` has it. Raises OSError for a file that can't be read, and DatabaseTooLong for more than
-    2,147,483,647 bytes."""
+    A mistake ends the reading of its item alone, as in a run; `messages` has it. Raises OSError for a file that can't be read and for what is no regular file, such as a pipe or a device, and DatabaseTooLong
+    for more than 2,147,483,647 bytes."""
     if isinstance(source, (bytes, bytearray, memoryview)):
         file, text = NAMELESS, bytes(source)
     else:
@@ -342,8 +342,8 @@ def read(source: Source, strings: Mapping[str, str] = MONTHS) -> Bibliography:
 
 
 def content_of(path: pathlib.Path) -> bytes:
-    """The bytes of a file. One that is too long isn't read."""
-    with path.open("rb") as file:
+    """The bytes of a file. One that is too long isn't read, and neither is anything else than a file."""
+    with opened_file(path) as file:
         content = bytes_of(file, MOST_BYTES)
         if content is None:
             raise DatabaseTooLong(max(os.fstat(file.fileno()).st_size, MOST_BYTES + 1))

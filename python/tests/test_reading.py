@@ -1,5 +1,6 @@
 """Entries as data."""
 
+import errno
 import os
 import pathlib
 import pickle
@@ -9,7 +10,6 @@ import tempfile
 import threading
 import time
 import unittest
-import unittest.mock
 
 import btx
 from btx.searching import content_of
@@ -180,14 +180,40 @@ class Shapes(unittest.TestCase):
             self.assertEqual(raised.exception.length, 3 << 30)
             self.assertLess(time.process_time() - begin, 1)
 
+    def test_what_is_no_file(self):
+        """It isn't read, and a pipe into which nobody writes isn't waited for."""
+        with tempfile.TemporaryDirectory() as folder:
+            pipe, link = pathlib.Path(folder, "pipe.bib"), pathlib.Path(folder, "link.bib")
+            os.mkfifo(pipe)
+            link.symlink_to(pipe)
+            for path in (pipe, link, pathlib.Path("/dev/zero"), pathlib.Path("/dev/null")):
+                for reads in (btx.read, lambda it: content_of(os.fsencode(it), 5), lambda it: btx.in_folder(it.parent)(it.name)):
+                    with self.subTest(path=path), self.assertRaises(OSError) as raised:
+                        reads(path)
+                    self.assertEqual((raised.exception.filename, raised.exception.strerror), (str(path), "it is no regular file"))
+            with self.assertRaises(IsADirectoryError):
+                btx.read(folder)
 
-    def test_files_without_an_end(self):
-        for most in (0, 5, 1 << 20, 3_000_000):
-            with unittest.mock.patch("btx.reading.MOST_BYTES", most), self.assertRaises(btx.DatabaseTooLong):
-                btx.read("/dev/zero")
-            with self.assertRaises(OSError):
-                content_of(b"/dev/zero", most)
-        self.assertEqual(len(btx.read("/dev/null")), 0)
+    def test_a_file_with_more_than_its_length_says(self):
+        self.assertGreater(len(content_of(b"/proc/self/status", 1 << 20)), 5)
+        with self.assertRaises(OSError) as raised:
+            content_of(b"/proc/self/status", 5)
+        self.assertEqual(raised.exception.errno, errno.EFBIG)
+
+    def test_a_folder_with_a_file_that_is_too_long(self):
+        with tempfile.TemporaryDirectory() as folder:
+            path = pathlib.Path(folder, "d.bib")
+            path.touch()
+            os.truncate(path, 3 << 30)
+            pathlib.Path(folder, "j.aux").write_bytes(b"\\citation{*}\n\\bibdata{d}\n\\bibstyle{s}\n")
+            pathlib.Path(folder, "s.bst").write_bytes(b"ENTRY{t}{}{}READ")
+            begin = time.process_time()
+            with self.assertRaises(OSError) as raised:
+                btx.run_in(folder, "j")
+            self.assertEqual((raised.exception.errno, raised.exception.filename), (errno.EFBIG, str(path)))
+            self.assertLess(time.process_time() - begin, 1)
+            os.truncate(path, 0)
+            self.assertEqual(btx.run_in(os.fsencode(folder), "j").report.status, 0)
 
     def test_a_file_that_is_written_meanwhile(self):
         """What is read is what some writes have left, and nothing fails."""
