@@ -43,8 +43,8 @@ class Place(NamedTuple):
 
 
 class Mistake(NamedTuple):
-    """What is wrong in a database. text: what a run says of it. is_error: whether that is an error, or else a warning. place: the byte with which reading can't go on, or what
-    is meant. key: that of its entry, if it is in one."""
+    """What is wrong in a database. text: what a run says of it. file: the name of the database's file. is_error: whether that is an error, or else a warning. place: the byte with which reading can't go on, or
+    what is meant; of a field that is ignored its last character. Its line is the one that a run logs. key: that of its entry, if it is in one."""
 
     text: str
     file: str
@@ -225,7 +225,8 @@ class Bibliography:
 
     @property
     def messages(self) -> List[Mistake]:
-        """What is wrong in it, by place: mistakes, repeated entries and repeated fields, names of strings that aren't defined, and values that are too long for a run."""
+        """What is wrong in it, by place, which is the order of a log: mistakes, repeated entries and repeated fields, names of strings that aren't defined, and values that are too long for a run. (A run
+        passes over what comes after the key of a repeated entry, and says nothing of it.)"""
         from .mistakes import mistakes_of
 
         return mistakes_of(self)
