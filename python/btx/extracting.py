@@ -7,7 +7,7 @@ from __future__ import annotations
 import argparse
 import sys
 from dataclasses import replace
-from typing import Dict, Iterator, List, NamedTuple, Optional, Set
+from typing import Dict, Iterator, List, Mapping, NamedTuple, Optional, Set
 
 from . import library
 from .causes import first_difference
@@ -31,6 +31,7 @@ STATUS_NO_LIST = 3
 STATUS_DEVICE = 6
 # A style that shows the keys of the list.
 KEYS = b"ENTRY {}{}{} FUNCTION {show} {cite$ top$} READ ITERATE {show}"
+NO_STRINGS: Mapping[str, str] = {}
 NO_ENTRY = "I didn't find a database entry for "
 
 
@@ -109,7 +110,7 @@ def items_of(known: Dict[bytes, Content], databases: List[bytes], keys: Set[byte
     """The entries with these keys, the preambles, and the strings that both use, in the order of the databases. Of entries with one key the first is taken."""
     found: List[Item] = []
     for file in databases:
-        base = read_text(known[file] or b"", decoded(file), {})
+        base = read_text(known[file] or b"", decoded(file), NO_STRINGS)
         found += [Item(base, at) for at, kind in enumerate(base._kinds) if kind in (ENTRY, STRING, PREAMBLE)]
     entries = first_entries(found, keys)
     taken: List[Item] = []

@@ -61,7 +61,7 @@ def gathered(job: bytes, files: Files) -> Dict[bytes, Content]:
             known[asked] = content_of(finder, asked)
 
 
-def run_in(folder: Union[str, "os.PathLike[str]"], job: Name, options: Optional[Options] = None) -> Result:
+def run_in(folder: Name, job: Name, options: Optional[Options] = None) -> Result:
     """Runs a job over the files of a folder, and writes nothing. A file that isn't there counts as missing. OSError is raised for one that can't be read, that is no regular file (a pipe, a device) or that has
     more than 2,147,483,647 bytes, and where there is no such folder.
 
@@ -69,7 +69,7 @@ def run_in(folder: Union[str, "os.PathLike[str]"], job: Name, options: Optional[
     return run(job, in_folder(folder), options)
 
 
-def run_paper(path: Name, options: Optional[Options] = None, *, folder: Union[None, str, "os.PathLike[str]"] = None, write: bool = False) -> Result:
+def run_paper(path: Name, options: Optional[Options] = None, *, folder: Optional[Name] = None, write: bool = False) -> Result:
     """Does what `bibtex PATH` does on this machine: styles and databases are found where TeX finds them, and variables keep as many bytes as TeX's set-up says.
 
     path: the `.aux` file of a document, with or without `.aux`. folder: where BibTeX would be called; the present folder, if nothing else is said. write: whether the list and the log are
@@ -82,10 +82,15 @@ def run_paper(path: Name, options: Optional[Options] = None, *, folder: Union[No
     chosen = inputs.search.options(Options()) if options is None else options
     result = run(name, inputs.content, chosen)
     if result.report.end is End.NO_TOP_FILE:
-        raise FileNotFoundError(errno.ENOENT, os.strerror(errno.ENOENT), name if name.endswith(".aux") else name + ".aux")
+        raise not_there(name)
     if write:
         write_outputs(name, result, inputs, called_in)
     return result
+
+
+def not_there(job: str) -> FileNotFoundError:
+    """What is raised where a job has no `.aux` file."""
+    return FileNotFoundError(errno.ENOENT, os.strerror(errno.ENOENT), job if job.endswith(".aux") else job + ".aux")
 
 
 def needs(job: Name, files: Union[Mapping[str, Content], Mapping[bytes, Content], Mapping[Name, Content]]) -> List[str]:
@@ -96,9 +101,9 @@ def needs(job: Name, files: Union[Mapping[str, Content], Mapping[bytes, Content]
     return [name_text(name) for name in library.needed_names(job_name(job), known)]
 
 
-def in_folder(folder: Union[str, "os.PathLike[str]"]) -> Finder:
+def in_folder(folder: Name) -> Finder:
     """A finder over the files of a folder. It raises OSError for what `run_in` does. Raises OSError where there is no such folder."""
-    root = pathlib.Path(os.fsdecode(existing_folder(folder)))
+    root = pathlib.Path(existing_folder(folder))
 
     def found(name: str) -> Content:
         try:
@@ -145,10 +150,10 @@ def job_name(job: Name) -> bytes:
 
 def name_bytes(name: Name) -> bytes:
     """The bytes of a name."""
-    if isinstance(name, bytes):
-        return name
     if isinstance(name, os.PathLike):
         name = os.fspath(name)
+    if isinstance(name, bytes):
+        return name
     if not isinstance(name, str):
         raise NameRefused(repr(name), f"is neither text nor bytes, but {type(name).__name__}")
     try:

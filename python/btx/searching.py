@@ -184,9 +184,9 @@ class SearchFrom(Search):
         return self.here.may_write(name)
 
 
-def existing_folder(folder: Union[str, "os.PathLike[str]"]) -> str:
+def existing_folder(folder: Union[str, bytes, "os.PathLike[str]"]) -> str:
     """The path of a folder; raises OSError where there is none."""
-    path = os.fspath(folder)
+    path = os.fsdecode(folder)
     if not stat.S_ISDIR(os.stat(path).st_mode):
         raise NotADirectoryError(errno.ENOTDIR, os.strerror(errno.ENOTDIR), path)
     return path

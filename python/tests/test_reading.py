@@ -109,6 +109,7 @@ class Shapes(unittest.TestCase):
         self.assertEqual(self.base.preamble, "\\\\xJournal of Counting Systems")
         self.assertEqual(btx.read(TEXT, {"FEB": "II", "zz": "!"})["x"]["title"], "Journal of Counting Systems~!")
         self.assertEqual(btx.read(TEXT, {"FEB": "II"})["kay"]["month"], "II")
+        self.assertEqual(btx.read(TEXT, {b"FEB": b"\xff"})["kay"]["month"], "\udcff")
         self.assertEqual(btx.read(b"@misc{k, month = jan}", {})["k"]["month"], "")
 
     def test_messages(self):
