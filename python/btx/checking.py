@@ -77,6 +77,7 @@ class Operand:
 class StyleWarning:
     """A place where a run of the style may log a fault.
 
+    fault: what may be logged; None of one that this package doesn't know. operand: the operand that is its reason, if there is one.
     is_first: whether it can be the first fault of a visit of an entry. next: what is executed there. depth: how many literals are on the stack.
     missing: the field that may be missing. command, command_line: what executes it. places: the token, then those that called, the innermost first.
     types: the types of entries for which it was met; the empty name is one that the style doesn't know. given, blank: what is known of fields there."""
@@ -101,7 +102,7 @@ class StyleWarning:
 
 
 class Branches(NamedTuple):
-    """A cause: an `if$` whose functions leave different numbers of literals. first, second: by how many the stack grows, at least and at most."""
+    """A cause: an `if$` whose functions leave different numbers of literals. place: its token. first, second: by how many the stack grows, at least and at most."""
 
     place: Spot
     first: Tuple[int, int]
@@ -127,6 +128,8 @@ class Bound(NamedTuple):
 class Verdict:
     """What is said of a style.
 
+    answer: whether it is clean, has warnings, or wasn't checked to its end. warnings: the places where a run may log a fault. causes: each `if$` whose functions leave different numbers of literals.
+
     literals, bodies: of a clean style, the greatest number of literals that was met, and the most bodies that are ever open at once. types: the types of
     entries for which it is clean, beside those that it doesn't know. is_partial: whether there may be more places than those of `warnings`. ends: of a style that is known to
     end, whether it is clean or not, its bound."""
@@ -142,6 +145,7 @@ class Verdict:
 
     @property
     def is_clean(self) -> bool:
+        """Whether no run of the style logs a fault of the stack or of kinds, for entries of `types` and of types that it doesn't know."""
         return self.answer is Answer.CLEAN
 
 
@@ -152,7 +156,7 @@ def check(style: Source, name: Optional[Name] = None, steps: int = STEPS, kept: 
 
     Of a clean style no run logs a fault of the stack or of kinds, for entries of `types` and of types that it doesn't know. Mistakes in its text aren't looked at. Of a style
     that ends no run whose budget is at least the bound is stopped, where a global string variable keeps at most `kept` bytes.
-    Raises OSError for a file that can't be read or is no regular file, and a Refusal: StyleTooLong, MemoryRefused, NameRefused."""
+    Raises OSError for a file that can't be read or is no regular file, ValueError for numbers out of their range, TypeError for what is no style, and a Refusal: StyleTooLong, MemoryRefused, NameRefused."""
     if isinstance(steps, bool) or not isinstance(steps, int) or not 0 <= steps < 2**64:
         raise ValueError(f"a check takes 0 to 2^64 - 1 steps, and not {steps!r}")
     if isinstance(kept, bool) or not isinstance(kept, int) or not 0 <= kept < 2**32:

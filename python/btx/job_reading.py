@@ -33,6 +33,7 @@ class Library(Bibliography):
 
     @property
     def messages(self) -> List[Mistake]:
+        """Raises LookupError: a library keeps no messages."""
         raise LookupError("a library has no messages: those of the run are in btx.run(..).messages, those of a database in btx.read(..).messages")
 
     def _place(self, at: int, end: int) -> NoReturn:
@@ -48,7 +49,7 @@ def read_job(job: Name, files: Optional[Files] = None, options: Optional[Options
     job, files: as in `run`. Without files, the job is the path of a document's `.aux` file, and styles and databases are found where TeX finds them, as `run_paper` does. options: of
     these min_crossrefs counts; letters of a language are left as they are.
 
-    Raises NoLibrary where the run ends before it has a library, and what `run` raises; without files what `run_paper` raises: FileNotFoundError where there is no such `.aux` file, and OSError where
+    Raises NoLibrary where the run ends before it has a library, TypeError where `options` are none, and what `run` raises; without files what `run_paper` raises: FileNotFoundError where there is no such `.aux` file, and OSError where
     a file can't be read."""
     name = job_name(job)
     is_paper = files is None

@@ -37,7 +37,7 @@ def run(job: Name, files: Files, options: Optional[Options] = None) -> Result:
     is asked for once: `paper.aux`, `plain.bst`, `refs.bib`. What isn't in a mapping isn't there.
     options: Options() where nothing is said.
 
-    A run that is stopped or that meets a limit has a result. Raises a Refusal: OptionRefused, NameRefused, FinderRefused, MemoryRefused,
+    A run that is stopped or that meets a limit has a result. Raises TypeError where `options` are none, and a Refusal: OptionRefused, NameRefused, FinderRefused, MemoryRefused,
     OutputTooLong. What `files` raises is passed on. Calls in several threads run side by side; nothing is kept between calls."""
     chosen = Options() if options is None else options
     if not isinstance(chosen, Options):
@@ -62,7 +62,7 @@ def gathered(job: bytes, files: Files) -> Dict[bytes, Content]:
 
 
 def run_in(folder: Name, job: Name, options: Optional[Options] = None) -> Result:
-    """Runs a job over the files of a folder, and writes nothing. A file that isn't there counts as missing. OSError is raised for one that can't be read, that is no regular file (a pipe, a device) or that has
+    """Runs a job over the files of a folder, and writes nothing. job, options: as in `run`. A file that isn't there counts as missing. OSError is raised for one that can't be read, that is no regular file (a pipe, a device) or that has
     more than 2,147,483,647 bytes, and where there is no such folder.
 
     As with BibTeX, a job's files may name files outside of the folder, with `..` or from the root: of a job that nobody trusts hand the files in."""

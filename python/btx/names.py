@@ -29,7 +29,7 @@ MOST_FIELDS = 1000
 
 
 class NameParts(NamedTuple):
-    """A name: its first names, its von part, its last name and its Jr part, each of which may be empty. `others` as the last name of all is a style's word for et al."""
+    """A name: its first names, its von part, its last name and its Jr part (`jr`), each of which is text and may be empty. `others` as the last name of all is a style's word for et al."""
 
     first: str
     von: str
