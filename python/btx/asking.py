@@ -1,5 +1,6 @@
 """`python3 -m btx fields STYLE`: which fields a style asks for, for each type of entry. Entries with and without a field are run: what the style warns of, and whether its list changes,
-says how it takes the field. So it is found by trying, and isn't proved: a field that counts in no entry that was tried is said to be never read."""
+says how it takes the field. So it is found by trying, and isn't proved. A field that counts in no entry that was tried is said to be never read only where no function that such entries reach
+names it; else it may be read."""
 
 from __future__ import annotations
 
@@ -12,17 +13,31 @@ import sys
 from dataclasses import asdict, dataclass
 from typing import FrozenSet, Iterable, List, Set, Tuple
 
-from .bsttext import read_style
 from .checkup import Refused, named_style
-from .commands import STATUS_REFUSED, Words, broken_pipe
+from .commands import STATUS_REFUSED, Words, broken_pipe, print_text
+from .events import Met
+from .jobs import run
+from .messages import Kind, Message
+from .reaching import Reach
+from .reading import lowered
 from .reports import shown
+from .results import End
 from .searching import search_from
 from .standard import TYPES
-from .trying import Prober, counts
+from .trying import AUX, CROSSREF, OPTIONS, Prober, counts
 
-__all__ = ["AskedFields", "fields_of", "main"]
+__all__ = ["AskedFields", "StyleFaulty", "fields_of", "main"]
 
+STATUS_FAULTY = 2
 STATUS_DEVICE = 6
+
+
+class StyleFaulty(Exception):
+    """The text of a style has mistakes. mistakes: what a run logs of them."""
+
+    def __init__(self, mistakes: List[Message]) -> None:
+        super().__init__(mistakes)
+        self.mistakes = mistakes
 
 
 @dataclass(frozen=True)
@@ -30,7 +45,8 @@ class AskedFields:
     """The fields that a style asks for in entries of a type.
 
     required: without one of these it warns. one_of: pairs, and without both fields of one it warns. beside: pairs, and it warns where the second field is given without the first.
-    not_both: pairs that it warns of. optional: what else counts in an entry. never_read: what counts in none of the entries that were tried."""
+    not_both: pairs that it warns of. optional: what else counts in an entry that was tried. may_be_read: what counts in none of these, and is named by a function that such entries reach.
+    never_read: what none of these functions names, so that no run reads it in an entry of this type. (A child of another type may inherit it, and read it there.)"""
 
     type: str
     required: Tuple[str, ...]
@@ -38,6 +54,7 @@ class AskedFields:
     beside: Tuple[Tuple[str, str], ...]
     not_both: Tuple[Tuple[str, str], ...]
     optional: Tuple[str, ...]
+    may_be_read: Tuple[str, ...]
     never_read: Tuple[str, ...]
 
 
@@ -52,8 +69,8 @@ def whole_of(prober: Prober) -> FrozenSet[str]:
         chosen = better
 
 
-def asked_by(prober: Prober) -> AskedFields:
-    """What the style asks for in entries of one type."""
+def asked_by(prober: Prober, never_read: Tuple[str, ...]) -> AskedFields:
+    """What the style asks for in entries of one type, of which it never reads these fields."""
     whole = whole_of(prober)
     least = len(prober.show(whole).warnings)
 
@@ -79,24 +96,41 @@ def asked_by(prober: Prober) -> AskedFields:
         tuple(pair for pair in not_both if pair not in one_of),
         tuple(read),
         tuple(name for name in prober.fields if name not in read and name not in named),
+        never_read,
     )
 
 
 def read_by(prober: Prober, whole: FrozenSet[str], named: Set[str]) -> List[str]:
-    """The other fields that count: in the whole entry, alone, or in the whole one without another field that counts, which may hide it."""
+    """The other fields that count: in the whole entry, alone, in both beside a crossref, or in the whole one without another field that counts, which may hide it."""
     others = [name for name in prober.fields if name not in named]
-    seen = [name for name in others if counts(prober, name, [whole, frozenset()])]
+    parent = frozenset({CROSSREF})
+    seen = [name for name in others if counts(prober, name, [whole, frozenset(), whole | parent, parent])]
     hiding = [whole - {name} for name in (*named, *seen)]
     return [name for name in others if name in seen or counts(prober, name, hiding)]
 
 
 def fields_of(style: bytes, types: Iterable[str] = ()) -> List[AskedFields]:
-    """What a style asks for in entries of these types, or of all that it has."""
-    read = read_style(style)
-    used = {word.name for word in read.uses}
-    own = [name for name in read.named("function") if name in TYPES or name not in used]
-    fields = [name for name in read.named("field") if name != "crossref"]
-    return [asked_by(Prober(style, kind, fields)) for kind in types or own]
+    """What a style asks for in entries of these types, or of all that it has. Raises StyleFaulty where its text has mistakes."""
+    is_read = is_read_to_its_end(style)
+    reach = Reach(style)
+    used = {word.name for word in reach.text.uses}
+    own = [name for name in reach.text.named("function") if name in TYPES or name not in used]
+    fields = [name for name in reach.text.named("field") if name != CROSSREF]
+    found = []
+    for kind in types or own:
+        reached = reach.of_type(lowered(kind)) if is_read else set(fields)
+        prober = Prober(style, kind, [name for name in fields if name in reached])
+        found.append(asked_by(prober, tuple(name for name in fields if name not in reached)))
+    return found
+
+
+def is_read_to_its_end(style: bytes) -> bool:
+    """Whether a run reads the style to its end, so that all its mistakes are known. Raises StyleFaulty where it has some."""
+    result = run("j", {"j.aux": AUX, "s.bst": style, "d.bib": b""}, OPTIONS)
+    mistakes = [message for message in result.messages if message.met is Met.STYLE and message.kind is Kind.ERROR]
+    if mistakes:
+        raise StyleFaulty(mistakes)
+    return result.report.end is End.FINISHED
 
 
 # ---- the command ----
@@ -107,9 +141,13 @@ def main(words: List[str]) -> int:
     given = parser().parse_args(words)
     try:
         found = fields_of(named_style(given.style, search_from(None)), given.types)
-        print(as_json(found) if given.json else as_page(given.style, found) if given.html else as_text(found))
-        sys.stdout.flush()
+        text = as_json(found) if given.json else as_page(given.style, found) if given.html else as_text(found)
+        print_text(f"{text}\n")
         return 0
+    except StyleFaulty as error:
+        for mistake in error.mistakes:
+            print(f"btx fields: {shown(f'{given.style}: line {mistake.line}: {mistake.text}')}", file=sys.stderr)
+        return STATUS_FAULTY
     except Refused as error:
         print(f"btx fields: {shown(str(error))}", file=sys.stderr)
         return STATUS_REFUSED
@@ -138,13 +176,14 @@ def rows_of(asked: AskedFields) -> List[Tuple[str, str]]:
         ("beside", ", ".join(" where there is ".join(pair) for pair in asked.beside)),
         ("not both", ", ".join(" and ".join(pair) for pair in asked.not_both)),
         ("optional", ", ".join(asked.optional)),
+        ("may be read", ", ".join(asked.may_be_read)),
         ("never read", ", ".join(asked.never_read)),
     ]
     return [(what, text) for what, text in rows if text]
 
 
 def as_text(found: List[AskedFields]) -> str:
-    lines = [f"{shown(asked.type)}\n" + "".join(f"  {what:10}  {shown(text)}\n" for what, text in rows_of(asked)) for asked in found]
+    lines = [f"{shown(asked.type)}\n" + "".join(f"  {what:11}  {shown(text)}\n" for what, text in rows_of(asked)) for asked in found]
     return "\n".join(lines).rstrip("\n")
 
 

@@ -1,6 +1,6 @@
 """What is known of a style before any run: `check` asks the library, and reads its notes.
 
-    verdict = btx.check(open("plain.bst", "rb").read())
+    verdict = btx.check(pathlib.Path("plain.bst"))
     verdict.is_clean, verdict.types
     for warning in verdict.warnings:
         print(warning.line, warning.fault.value, warning.next, warning.missing)
@@ -16,10 +16,14 @@ from dataclasses import dataclass, field
 from typing import List, NamedTuple, Optional, Tuple
 
 from . import library
+from .jobs import Name, name_bytes
+from .reading import Source, content_of
 from .refusals import StyleTooLong
 
 __all__ = ["Answer", "Bound", "Branches", "Fault", "Operand", "Spot", "StyleWarning", "Verdict", "check"]
 
+# The name of a style whose text was handed in.
+NAMELESS = "style.bst"
 # Enough for every style of TeX Live.
 STEPS = 2_000_000
 # How many bytes a global string variable keeps, where the options of a run say nothing else.
@@ -73,6 +77,7 @@ class Operand:
 class StyleWarning:
     """A place where a run of the style may log a fault.
 
+    fault: what may be logged; None of one that this package doesn't know. operand: the operand that is its reason, if there is one.
     is_first: whether it can be the first fault of a visit of an entry. next: what is executed there. depth: how many literals are on the stack.
     missing: the field that may be missing. command, command_line: what executes it. places: the token, then those that called, the innermost first.
     types: the types of entries for which it was met; the empty name is one that the style doesn't know. given, blank: what is known of fields there."""
@@ -97,7 +102,7 @@ class StyleWarning:
 
 
 class Branches(NamedTuple):
-    """A cause: an `if$` whose functions leave different numbers of literals. first, second: by how many the stack grows, at least and at most."""
+    """A cause: an `if$` whose functions leave different numbers of literals. place: its token. first, second: by how many the stack grows, at least and at most."""
 
     place: Spot
     first: Tuple[int, int]
@@ -123,6 +128,8 @@ class Bound(NamedTuple):
 class Verdict:
     """What is said of a style.
 
+    answer: whether it is clean, has warnings, or wasn't checked to its end. warnings: the places where a run may log a fault. causes: each `if$` whose functions leave different numbers of literals.
+
     literals, bodies: of a clean style, the greatest number of literals that was met, and the most bodies that are ever open at once. types: the types of
     entries for which it is clean, beside those that it doesn't know. is_partial: whether there may be more places than those of `warnings`. ends: of a style that is known to
     end, whether it is clean or not, its bound."""
@@ -138,25 +145,27 @@ class Verdict:
 
     @property
     def is_clean(self) -> bool:
+        """Whether no run of the style logs a fault of the stack or of kinds, for entries of `types` and of types that it doesn't know."""
         return self.answer is Answer.CLEAN
 
 
-def check(style: bytes, name: str = "style.bst", steps: int = STEPS, kept: int = KEPT) -> Verdict:
-    """Checks the text of a style whose file has this name, in at most `steps` steps of the check (0 to 2^64 - 1), before any run.
+def check(style: Source, name: Optional[Name] = None, steps: int = STEPS, kept: int = KEPT) -> Verdict:
+    """Checks the text of a style in at most `steps` steps of the check (0 to 2^64 - 1), before any run.
+
+    style: a path (text is a path), or the bytes of a style. name: the name of its file, that of the path if nothing is said, and `style.bst` of bytes.
 
     Of a clean style no run logs a fault of the stack or of kinds, for entries of `types` and of types that it doesn't know. Mistakes in its text aren't looked at. Of a style
     that ends no run whose budget is at least the bound is stopped, where a global string variable keeps at most `kept` bytes.
-    Raises a Refusal: StyleTooLong, MemoryRefused."""
-    if not isinstance(style, bytes):
-        raise TypeError(f"a style is bytes, and not {type(style).__name__}")
+    Raises OSError for a file that can't be read or is no regular file, ValueError for numbers out of their range, TypeError for what is no style, and a Refusal: StyleTooLong, MemoryRefused, NameRefused."""
     if isinstance(steps, bool) or not isinstance(steps, int) or not 0 <= steps < 2**64:
         raise ValueError(f"a check takes 0 to 2^64 - 1 steps, and not {steps!r}")
     if isinstance(kept, bool) or not isinstance(kept, int) or not 0 <= kept < 2**32:
         raise ValueError(f"a variable keeps 0 to 2^32 - 1 bytes, and not {kept!r}")
-    file = name.encode("utf8", "surrogateescape")
-    answered, types, notes = checked_style(file, style, steps)
+    found, text = content_of(style, NAMELESS, StyleTooLong)
+    file = name_bytes(found if name is None else name)
+    answered, types, notes = checked_style(file, text, steps)
     warnings, causes, is_partial = read_notes(notes)
-    ends = bound_of(file, style, kept)
+    ends = bound_of(file, text, kept)
     return Verdict(Answer(answered.verdict), answered.literals, answered.bodies, lines_of(types), warnings, causes, is_partial, ends)
 
 

@@ -8,7 +8,7 @@ import os
 import sys
 from typing import NoReturn
 
-__all__ = ["STATUS_REFUSED", "Words", "broken_pipe", "print_nowhere", "prints_any_text"]
+__all__ = ["STATUS_REFUSED", "Words", "broken_pipe", "print_all", "print_nowhere", "print_text", "prints_any_text"]
 
 STATUS_REFUSED = 1
 # What a shell says of a program that SIGPIPE ended.
@@ -24,10 +24,32 @@ class Words(argparse.ArgumentParser):
 
 
 def prints_any_text() -> None:
-    """Has characters that the terminal's encoding lacks printed as escapes."""
+    """Has characters that the terminal's encoding lacks printed as escapes. Where standard error is closed, what is said there goes nowhere: Python would print it to standard output."""
+    if sys.stderr is None:
+        sys.stderr = open(os.devnull, "w")
     for stream in (sys.stdout, sys.stderr):
         if isinstance(stream, io.TextIOWrapper):
             stream.reconfigure(errors="backslashreplace")
+
+
+def print_all(content: bytes) -> None:
+    """Prints these bytes. Raises OSError where standard output is closed or doesn't take all of them; what is still to be printed goes nowhere then."""
+    if sys.stdout is None:
+        raise OSError("standard output is closed")
+    try:
+        sys.stdout.flush()
+        sys.stdout.buffer.write(content)
+        sys.stdout.flush()
+    except BrokenPipeError:
+        raise
+    except OSError:
+        print_nowhere()
+        raise
+
+
+def print_text(text: str) -> None:
+    """Prints a text, as `print_all` does. Characters that the terminal's encoding lacks are escapes."""
+    print_all(text.encode("utf8" if sys.stdout is None else sys.stdout.encoding, "backslashreplace"))
 
 
 def print_nowhere() -> None:

@@ -61,7 +61,7 @@ class LogPlace(NamedTuple):
 
 class Event(NamedTuple):
     """A line of the log: the bytes from `offset` to `end`, without its line feed. number: that of the current entry, counted from 0; None where there is none. place: what the
-    line is about; None where no place is known: of lines on files, of a reference without an entry, of literals that a command leaves, and of the last line."""
+    line is about; None where no place is known: of lines on files, of a reference without an entry, of literals that a command leaves, and of the last line. severity: whether the report counts it as a warning or an error. met: where it was met."""
 
     offset: int
     end: int

@@ -5,21 +5,18 @@ Which entries these are, runs of the library say. What comes out is checked: the
 from __future__ import annotations
 
 import argparse
-import contextlib
-import os
 import sys
-import tempfile
 from dataclasses import replace
-from typing import Dict, Iterator, List, NamedTuple, Optional, Set
+from typing import Dict, Iterator, List, Mapping, NamedTuple, Optional, Set
 
 from . import library
 from .causes import first_difference
-from .commands import STATUS_REFUSED, Words, broken_pipe
+from .commands import STATUS_REFUSED, Words, broken_pipe, print_all, print_text
 from .jobs import Content, gathered, job_name
 from .messages import Kind, Message, decoded
 from .mistakes import values_of
 from .options import Options
-from .outputs import Inputs, number_of
+from .outputs import Inputs, write_file
 from .reading import ENTRY, PREAMBLE, STRING, WRONG, Bibliography, read_text
 from .refusals import OutputTooLong, Refusal
 from .reports import shown
@@ -34,6 +31,7 @@ STATUS_NO_LIST = 3
 STATUS_DEVICE = 6
 # A style that shows the keys of the list.
 KEYS = b"ENTRY {}{}{} FUNCTION {show} {cite$ top$} READ ITERATE {show}"
+NO_STRINGS: Mapping[str, str] = {}
 NO_ENTRY = "I didn't find a database entry for "
 
 
@@ -112,7 +110,7 @@ def items_of(known: Dict[bytes, Content], databases: List[bytes], keys: Set[byte
     """The entries with these keys, the preambles, and the strings that both use, in the order of the databases. Of entries with one key the first is taken."""
     found: List[Item] = []
     for file in databases:
-        base = read_text(known[file] or b"", decoded(file), {})
+        base = read_text(known[file] or b"", decoded(file), NO_STRINGS)
         found += [Item(base, at) for at, kind in enumerate(base._kinds) if kind in (ENTRY, STRING, PREAMBLE)]
     entries = first_entries(found, keys)
     taken: List[Item] = []
@@ -158,7 +156,7 @@ def main(words: List[str]) -> int:
 def parser() -> argparse.ArgumentParser:
     result = Words(prog="python3 -m btx extract", description="Writes the entries of a document, verbatim, with their parents, strings and preambles.")
     result.add_argument("job", metavar="JOB", help="the .aux file of the document, with or without .aux")
-    result.add_argument("-o", dest="output", metavar="FILE", help="write to FILE, and not to standard output")
+    result.add_argument("-o", dest="output", metavar="FILE", help="write to FILE, a file or a new one that TeX's openout_any allows, and not to standard output")
     result.add_argument("--min-crossrefs", type=int, default=2, metavar="N", help="how many entries name a parent that is listed without being cited (2)")
     result.add_argument("--utf8", action="store_true", help="read text as UTF-8")
     return result
@@ -173,35 +171,11 @@ def written(found: Extract, output: Optional[str], inputs: Inputs) -> int:
         line, here, there = first_difference(found.again.bbl, found.result.bbl)
         return complain(f"nothing is written: the list from these {found.entries} entries has {here!r} in line {line}, and the list of the job has {there!r}", STATUS_DIFFERENT)
     if output is None:
-        sys.stdout.buffer.write(found.text)
-        sys.stdout.flush()
+        print_all(found.text)
         return 0
-    if os.path.exists(output) and number_of(os.stat(output)) in inputs.numbers:
-        raise OSError(f"{output} is a file that the job reads")
-    replace_file(output, found.text)
-    print(f"{found.entries} entries, {len(found.text):,} bytes, in {shown(output)}: the list from them is the same")
+    write_file(output, found.text, inputs)
+    print_text(f"{found.entries} entries, {len(found.text):,} bytes, in {shown(output)}: the list from them is the same\n")
     return 0
-
-
-def replace_file(path: str, content: bytes) -> None:
-    """Puts a file in the place of what is there; that stays until all is written."""
-    with tempfile.NamedTemporaryFile(dir=os.path.dirname(path) or ".", delete=False) as file:
-        try:
-            file.write(content)
-            file.flush()
-            os.chmod(file.name, 0o666 & ~current_mask())
-            os.replace(file.name, path)
-        except BaseException:
-            with contextlib.suppress(OSError):
-                os.unlink(file.name)
-            raise
-
-
-def current_mask() -> int:
-    """Which rights new files don't have."""
-    mask = os.umask(0)
-    os.umask(mask)
-    return mask
 
 
 def complain(text: str, status: int) -> int:

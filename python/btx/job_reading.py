@@ -9,7 +9,7 @@ from __future__ import annotations
 
 from typing import List, NoReturn, Optional
 
-from .jobs import Files, Name, gathered, job_name, name_text
+from .jobs import Files, Name, gathered, job_name, name_text, not_there
 from .library import Buffer, read_job_records
 from .options import Options
 from .outputs import Inputs
@@ -33,6 +33,7 @@ class Library(Bibliography):
 
     @property
     def messages(self) -> List[Mistake]:
+        """Raises LookupError: a library keeps no messages."""
         raise LookupError("a library has no messages: those of the run are in btx.run(..).messages, those of a database in btx.read(..).messages")
 
     def _place(self, at: int, end: int) -> NoReturn:
@@ -48,15 +49,20 @@ def read_job(job: Name, files: Optional[Files] = None, options: Optional[Options
     job, files: as in `run`. Without files, the job is the path of a document's `.aux` file, and styles and databases are found where TeX finds them, as `run_paper` does. options: of
     these min_crossrefs counts; letters of a language are left as they are.
 
-    Raises NoLibrary where the run ends before it has a library, and what `run` raises."""
+    Raises NoLibrary where the run ends before it has a library, TypeError where `options` are none, and what `run` raises; without files what `run_paper` raises: FileNotFoundError where there is no such `.aux` file, and OSError where
+    a file can't be read."""
     name = job_name(job)
+    is_paper = files is None
     if files is None:
         inputs = Inputs(search_from(None), name_text(name))
         files, options = inputs.content, inputs.search.options(Options()) if options is None else options
     chosen = Options() if options is None else options
     if not isinstance(chosen, Options):
         raise TypeError(f"options are Options, and not {chosen!r}")
-    found = read_job_records(name, gathered(name, files), chosen)
+    known = gathered(name, files)
+    if is_paper and not any(content is not None for content in known.values()):
+        raise not_there(name_text(name))
+    found = read_job_records(name, known, chosen)
     if found is None:
         raise NoLibrary(name_text(name))
     with without_collection():

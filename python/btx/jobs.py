@@ -14,7 +14,8 @@ from .options import Options
 from .outputs import Inputs, write_outputs
 from .refusals import FinderRefused, NameRefused
 from .results import End, Result
-from .searching import existing_folder, search_from
+from .searching import MOST_BYTES, existing_folder, search_from
+from .searching import content_of as bytes_at
 
 __all__ = ["Content", "Files", "Finder", "Name", "in_folder", "needs", "run", "run_in", "run_paper"]
 
@@ -36,7 +37,7 @@ def run(job: Name, files: Files, options: Optional[Options] = None) -> Result:
     is asked for once: `paper.aux`, `plain.bst`, `refs.bib`. What isn't in a mapping isn't there.
     options: Options() where nothing is said.
 
-    A run that is stopped or that meets a limit has a result. Raises a Refusal: OptionRefused, NameRefused, FinderRefused, MemoryRefused,
+    A run that is stopped or that meets a limit has a result. Raises TypeError where `options` are none, and a Refusal: OptionRefused, NameRefused, FinderRefused, MemoryRefused,
     OutputTooLong. What `files` raises is passed on. Calls in several threads run side by side; nothing is kept between calls."""
     chosen = Options() if options is None else options
     if not isinstance(chosen, Options):
@@ -60,15 +61,15 @@ def gathered(job: bytes, files: Files) -> Dict[bytes, Content]:
             known[asked] = content_of(finder, asked)
 
 
-def run_in(folder: Union[str, "os.PathLike[str]"], job: Name, options: Optional[Options] = None) -> Result:
-    """Runs a job over the files of a folder, and writes nothing. A file that isn't there counts as missing; one that can't be read raises OSError, and so does a folder
-    that isn't there.
+def run_in(folder: Name, job: Name, options: Optional[Options] = None) -> Result:
+    """Runs a job over the files of a folder, and writes nothing. job, options: as in `run`. A file that isn't there counts as missing. OSError is raised for one that can't be read, that is no regular file (a pipe, a device) or that has
+    more than 2,147,483,647 bytes, and where there is no such folder.
 
     As with BibTeX, a job's files may name files outside of the folder, with `..` or from the root: of a job that nobody trusts hand the files in."""
     return run(job, in_folder(folder), options)
 
 
-def run_paper(path: Name, options: Optional[Options] = None, *, folder: Union[None, str, "os.PathLike[str]"] = None, write: bool = False) -> Result:
+def run_paper(path: Name, options: Optional[Options] = None, *, folder: Optional[Name] = None, write: bool = False) -> Result:
     """Does what `bibtex PATH` does on this machine: styles and databases are found where TeX finds them, and variables keep as many bytes as TeX's set-up says.
 
     path: the `.aux` file of a document, with or without `.aux`. folder: where BibTeX would be called; the present folder, if nothing else is said. write: whether the list and the log are
@@ -81,10 +82,15 @@ def run_paper(path: Name, options: Optional[Options] = None, *, folder: Union[No
     chosen = inputs.search.options(Options()) if options is None else options
     result = run(name, inputs.content, chosen)
     if result.report.end is End.NO_TOP_FILE:
-        raise FileNotFoundError(errno.ENOENT, os.strerror(errno.ENOENT), name if name.endswith(".aux") else name + ".aux")
+        raise not_there(name)
     if write:
         write_outputs(name, result, inputs, called_in)
     return result
+
+
+def not_there(job: str) -> FileNotFoundError:
+    """What is raised where a job has no `.aux` file."""
+    return FileNotFoundError(errno.ENOENT, os.strerror(errno.ENOENT), job if job.endswith(".aux") else job + ".aux")
 
 
 def needs(job: Name, files: Union[Mapping[str, Content], Mapping[bytes, Content], Mapping[Name, Content]]) -> List[str]:
@@ -95,13 +101,13 @@ def needs(job: Name, files: Union[Mapping[str, Content], Mapping[bytes, Content]
     return [name_text(name) for name in library.needed_names(job_name(job), known)]
 
 
-def in_folder(folder: Union[str, "os.PathLike[str]"]) -> Finder:
-    """A finder over the files of a folder. Raises OSError where there is no such folder."""
+def in_folder(folder: Name) -> Finder:
+    """A finder over the files of a folder. It raises OSError for what `run_in` does. Raises OSError where there is no such folder."""
     root = pathlib.Path(existing_folder(folder))
 
     def found(name: str) -> Content:
         try:
-            return (root / name).read_bytes()
+            return bytes_at(os.fsencode(root / name), MOST_BYTES)
         except (FileNotFoundError, IsADirectoryError, NotADirectoryError, ValueError):
             return None
 
@@ -144,10 +150,10 @@ def job_name(job: Name) -> bytes:
 
 def name_bytes(name: Name) -> bytes:
     """The bytes of a name."""
-    if isinstance(name, bytes):
-        return name
     if isinstance(name, os.PathLike):
         name = os.fspath(name)
+    if isinstance(name, bytes):
+        return name
     if not isinstance(name, str):
         raise NameRefused(repr(name), f"is neither text nor bytes, but {type(name).__name__}")
     try:

@@ -66,6 +66,7 @@ class Message:
 
     @property
     def severity(self) -> Severity:
+        """Whether it is an error, a warning or neither: ERROR, WARNING or PLAIN."""
         return SEVERITIES.get(self.kind, Severity.PLAIN)
 
     def __str__(self) -> str:

@@ -12,6 +12,8 @@ from .values import Part, has_names, parts_of, value_of
 
 __all__ = ["Undefined", "mistakes_of", "undefined_strings", "values_of"]
 
+# How many bytes a character of UTF-8 has at most.
+LONGEST = 4
 # What opens a string or a preamble, and the whitespace after it.
 OPENS = re.compile(rb"[({][ \t\r\n]*")
 
@@ -83,7 +85,7 @@ def repeated_entries(base: Bibliography) -> Iterator[Found]:
 
 
 def unread_fields(base: Bibliography, columns: Records) -> Iterator[Found]:
-    """The fields that an entry has had before, and those whose value is too long for a run."""
+    """The fields that an entry has had before, each by its last character, as a run logs the line on which it ends; and those whose value is too long for a run."""
     for entry, last in columns.items():
         names = columns.names_between(entry + 1, last)
         if columns.kinds[entry] != ENTRY or (len(set(names)) == len(names) and columns.is_whole.find(0, entry + 1, last) < 0):
@@ -93,10 +95,16 @@ def unread_fields(base: Bibliography, columns: Records) -> Iterator[Found]:
         for at, lowered in enumerate(names, entry + 1):
             name, start = base._name(at), columns.starts[at]
             if lowered in known:
-                yield Found(start, start + len(name), f'I\'m ignoring {decoded(base._text(entry))}\'s extra "{decoded(name)}" field', entry)
+                end = columns.ends[at]
+                yield Found(end - length_of_last(base.text[max(start, end - LONGEST) : end]), end, f'I\'m ignoring {decoded(base._text(entry))}\'s extra "{decoded(name)}" field', entry)
             elif not columns.is_whole[at]:
                 yield Found(start, start + len(name), too_long(name), entry, True)
             known.add(lowered)
+
+
+def length_of_last(text: bytes) -> int:
+    """How many bytes the last character of a text has."""
+    return len(encoded(decoded(text)[-1]))
 
 
 def long_values(base: Bibliography, columns: Records) -> Iterator[Found]:

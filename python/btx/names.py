@@ -3,10 +3,10 @@
 from __future__ import annotations
 
 import re
-from typing import Dict, Iterable, Iterator, List, NamedTuple, Sequence
+from typing import Dict, Iterable, Iterator, List, NamedTuple, Sequence, Union
 
 from .jobs import run
-from .messages import Kind, Message
+from .messages import Kind, Message, decoded
 from .options import Options
 from .refusals import NamesRefused
 
@@ -29,7 +29,7 @@ MOST_FIELDS = 1000
 
 
 class NameParts(NamedTuple):
-    """A name: its first names, its von part, its last name and its Jr part, each of which may be empty. `others` as the last name of all is a style's word for et al."""
+    """A name: its first names, its von part, its last name and its Jr part (`jr`), each of which is text and may be empty. `others` as the last name of all is a style's word for et al."""
 
     first: str
     von: str
@@ -50,11 +50,11 @@ class Divided(List[NameParts]):
         self.messages: List[Message] = []
 
 
-def names(text: str) -> Divided:
-    """Divides the names of a field: `names("Ludwig van Beethoven and Knuth, Donald E.")`. Between the words of a part stands a space, or the hyphen that the field has.
+def names(text: Union[str, bytes]) -> Divided:
+    """Divides the names of a field, whose text is text or bytes: `names("Ludwig van Beethoven and Knuth, Donald E.")`. Between the words of a part stands a space, or the hyphen that the field has.
 
     Raises NamesRefused for a text that no field has, since its braces don't match, or since it is too long."""
-    return divided([text])[0]
+    return divided([decoded(text) if isinstance(text, bytes) else text])[0]
 
 
 def divided(texts: Sequence[str]) -> List[Divided]:

@@ -1,7 +1,7 @@
-"""The list and the log of a job, which are written after its run with the care of `bibtex-search`.
+"""The list and the log of a job, which are written after its run with the care of `bibtex-search`, and what is taken from its databases.
 
-What stood there stays until both can be written: TeX's openout_any is asked, both are opened without being emptied, neither is an input or the other one, and there
-is room on the disk for both. The log is written first, so that no new list stands beside an old log."""
+What stood there stays until all can be written: TeX's openout_any is asked, the files are opened without being emptied, none is an input or another output, and there
+is room on the disk for them. The log is written first, so that no new list stands beside an old log."""
 
 from __future__ import annotations
 
@@ -16,7 +16,7 @@ from .refusals import NameRefused
 from .results import Result
 from .searching import MOST_BYTES, Search, content_of
 
-__all__ = ["Inputs", "write_outputs"]
+__all__ = ["Inputs", "write_file", "write_outputs"]
 
 LOG = logging.getLogger("btx")
 # By which a file is known, whatever its names are: its device and its number there.
@@ -53,8 +53,7 @@ def write_outputs(job: str, result: Result, inputs: Inputs, folder: Optional[str
     both stay as they were, unless the disk fails while it writes."""
     base = os.fsencode(job[: -len(".aux")] if job.endswith(".aux") else job)
     for name in (base + b".blg", base + b".bbl"):
-        if not inputs.search.may_write(name):
-            raise NameRefused(name, "isn't to be written to (openout_any)")
+        check_allowed(name, inputs)
     base = base if folder is None else os.path.join(os.fsencode(folder), base)
     contents = {base + b".blg": result.noted_log, base + b".bbl": result.bbl}
     with contextlib.ExitStack() as opened:
@@ -66,11 +65,44 @@ def write_outputs(job: str, result: Result, inputs: Inputs, folder: Optional[str
             write(file, content)
 
 
+def write_file(name: str, content: bytes, inputs: Inputs) -> None:
+    """Writes an output under a name of the command line. A link to a file of its own folder stays, and that file is written. Raises NameRefused where TeX's set-up forbids the name, and OSError where it
+    is no file, a link that leads out of its folder or a file that the job reads, or can't be written: then what is there stays as it was, unless the disk fails while it writes."""
+    given = os.fsencode(name)
+    check_allowed(given, inputs)
+    # (what a name leads to is opened without a further link, and without waiting for a reader of a pipe)
+    with opened_without_change(file_of(given), os.O_NOFOLLOW | os.O_NONBLOCK) as file:
+        check_is_file(given, os.fstat(file))
+        check_apart([given], [file], inputs)
+        reserve(file, len(content))
+        write(file, content)
+
+
+def check_allowed(name: bytes, inputs: Inputs) -> None:
+    if not inputs.search.may_write(name):
+        raise NameRefused(name, "isn't to be written to (openout_any)")
+
+
+def file_of(name: bytes) -> bytes:
+    """The path without links of a file that may be there. Raises OSError where it is no file, or outside of the folder in which its name is."""
+    folder, path = (os.path.realpath(it) for it in (os.path.dirname(name) or b".", name))
+    if os.path.islink(name) and os.path.commonpath([folder, path]) != folder:
+        raise OSError(f"{os.fsdecode(name)} is a link that leads out of its folder")
+    if os.path.exists(path):
+        check_is_file(name, os.stat(path))
+    return path
+
+
+def check_is_file(name: bytes, known: os.stat_result) -> None:
+    if not stat.S_ISREG(known.st_mode):
+        raise OSError(f"{os.fsdecode(name)} is no regular file")
+
+
 @contextlib.contextmanager
-def opened_without_change(name: bytes) -> Iterator[int]:
+def opened_without_change(name: bytes, flags: int = 0) -> Iterator[int]:
     """A file that is open for writing; it is made where it isn't there, and removed again where nothing came to stand in it because of an error."""
     is_made = not os.path.exists(name)
-    file = os.open(name, os.O_WRONLY | os.O_CREAT | os.O_CLOEXEC, 0o666)
+    file = os.open(name, os.O_WRONLY | os.O_CREAT | os.O_CLOEXEC | flags, 0o666)
     try:
         yield file
     except BaseException:
@@ -87,7 +119,8 @@ def check_apart(names: List[bytes], files: List[int], inputs: Inputs) -> None:
     for name, number in zip(names, numbers):
         if number in inputs.numbers:
             raise OSError(f"{os.fsdecode(name)} is a file that the job reads")
-    if numbers[0] == numbers[1] and stat.S_ISREG(os.fstat(files[0]).st_mode):
+    regular = [number for number, file in zip(numbers, files) if stat.S_ISREG(os.fstat(file).st_mode)]
+    if len(set(regular)) < len(regular):
         raise OSError("the list and the log are one file")
 
 

@@ -14,17 +14,19 @@ import os
 import pathlib
 import re
 from types import MappingProxyType
-from typing import Any, Dict, FrozenSet, Iterator, List, Mapping, NamedTuple, Optional, Sequence, Set, Tuple, Union, overload
+from typing import Any, Callable, Dict, FrozenSet, Iterator, List, Mapping, NamedTuple, Optional, Sequence, Set, Tuple, Union, overload
 
 from .library import RECORD, Buffer, read_records
 from .messages import decoded
-from .refusals import DatabaseTooLong
-from .searching import MOST_BYTES, bytes_of
+from .refusals import DatabaseTooLong, Refusal
+from .searching import MOST_BYTES, bytes_of, opened_file
 
 __all__ = ["MONTHS", "Bibliography", "Entries", "Entry", "Mistake", "Place", "Source", "read"]
 
 # A path, or the text of a database.
 Source = Union[str, "os.PathLike[str]", bytes, bytearray, memoryview]
+# Names of strings with their texts.
+Strings = Union[Mapping[str, str], Mapping[bytes, bytes], Mapping[Union[str, bytes], Union[str, bytes]]]
 COMMENT, PREAMBLE, STRING, ENTRY, FIELD, END, WRONG = range(7)
 SIZE = RECORD.size
 AN_ENTRY = re.compile(bytes([ENTRY]))
@@ -43,8 +45,8 @@ class Place(NamedTuple):
 
 
 class Mistake(NamedTuple):
-    """What is wrong in a database. text: what a run says of it. is_error: whether that is an error, or else a warning. place: the byte with which reading can't go on, or what
-    is meant. key: that of its entry, if it is in one."""
+    """What is wrong in a database. text: what a run says of it. file: the name of the database's file. is_error: whether that is an error, or else a warning. place: the byte with which reading can't go on, or
+    what is meant; of a field that is ignored its last character. Its line is the one that a run logs. key: that of its entry, if it is in one."""
 
     text: str
     file: str
@@ -225,7 +227,8 @@ class Bibliography:
 
     @property
     def messages(self) -> List[Mistake]:
-        """What is wrong in it, by place: mistakes, repeated entries and repeated fields, names of strings that aren't defined, and values that are too long for a run."""
+        """What is wrong in it, by place, which is the order of a log: mistakes, repeated entries and repeated fields, names of strings that aren't defined, and values that are too long for a run. (A run
+        passes over what comes after the key of a repeated entry, and says nothing of it.)"""
         from .mistakes import mistakes_of
 
         return mistakes_of(self)
@@ -326,31 +329,31 @@ def lowered(name: str) -> str:
     return name.lower() if name.isascii() else decoded(name.encode("utf8", "surrogateescape").lower())
 
 
-def read(source: Source, strings: Mapping[str, str] = MONTHS) -> Bibliography:
+def read(source: Source, strings: Strings = MONTHS) -> Bibliography:
     """Reads a database, whatever a document cites.
 
-    source: a path (text is a path), or the bytes of a database. strings: what is known before it, as a style's macros are: the names of months in English, if nothing else is said.
+    source: a path (text is a path), or the bytes of a database. strings: what is known before it, as a style's macros are, by their names, both as text or bytes: the names of months in English, if nothing
+    else is said.
 
-    A mistake ends the reading of its item alone, as in a run; `messages` has it. Raises OSError for a file that can't be read, and DatabaseTooLong for more than
-    2,147,483,647 bytes."""
-    if isinstance(source, (bytes, bytearray, memoryview)):
-        file, text = NAMELESS, bytes(source)
-    else:
-        path = pathlib.Path(source)
-        file, text = path.name, content_of(path)
+    A mistake ends the reading of its item alone, as in a run; `messages` has it. Raises OSError for a file that can't be read and for what is no regular file, such as a pipe or a device, and DatabaseTooLong
+    for more than 2,147,483,647 bytes."""
+    file, text = content_of(source, NAMELESS, DatabaseTooLong)
     return read_text(text, file, strings)
 
 
-def content_of(path: pathlib.Path) -> bytes:
-    """The bytes of a file. One that is too long isn't read."""
-    with path.open("rb") as file:
+def content_of(source: Source, nameless: str, too_long: Callable[[int], Refusal]) -> Tuple[str, bytes]:
+    """The name and the bytes of what is handed in: a path, or bytes that have no name. A file that is too long isn't read, and neither is anything else than a file."""
+    if isinstance(source, (bytes, bytearray, memoryview)):
+        return nameless, bytes(source)
+    path = pathlib.Path(source)
+    with opened_file(path) as file:
         content = bytes_of(file, MOST_BYTES)
         if content is None:
-            raise DatabaseTooLong(max(os.fstat(file.fileno()).st_size, MOST_BYTES + 1))
-    return content
+            raise too_long(max(os.fstat(file.fileno()).st_size, MOST_BYTES + 1))
+    return path.name, content
 
 
-def read_text(text: bytes, file: str, strings: Mapping[str, str]) -> Bibliography:
+def read_text(text: bytes, file: str, strings: Strings) -> Bibliography:
     """Reads the text of the database whose file has this name."""
     known = {encoded(name): encoded(value) for name, value in strings.items()}
     found = read_records(encoded(file), text, known)
@@ -371,5 +374,5 @@ def without_collection() -> Iterator[None]:
             gc.enable()
 
 
-def encoded(text: str) -> bytes:
-    return text.encode("utf8", "surrogateescape")
+def encoded(text: Union[str, bytes]) -> bytes:
+    return text if isinstance(text, bytes) else text.encode("utf8", "surrogateescape")

@@ -18,7 +18,7 @@ from typing import BinaryIO, FrozenSet, List, Optional, Tuple, Union
 
 from .options import TEX_LIVE, Options
 
-__all__ = ["Search", "SearchFrom", "bytes_of", "content_of", "existing_folder", "found_search", "search_from"]
+__all__ = ["Search", "SearchFrom", "bytes_of", "content_of", "existing_folder", "found_search", "opened_file", "search_from"]
 
 # A file that is longer is the limit of a run.
 MOST_BYTES = 2**31 - 1
@@ -77,16 +77,27 @@ class Search:
 
 
 def content_of(path: bytes, most: int) -> bytes:
-    """The bytes of a file, which is to have `most` at most."""
-    with open(path, "rb") as file:
+    """The bytes of a regular file, which is to have `most` at most. Raises OSError for anything else."""
+    with opened_file(path) as file:
         content = bytes_of(file, most)
     if content is None:
         raise OSError(errno.EFBIG, f"it has more than {most:,} bytes", os.fsdecode(path))
     return content
 
 
+def opened_file(path: Union[str, bytes, "os.PathLike[str]"]) -> BinaryIO:
+    """A regular file that is open for reading. Raises OSError for anything else, without waiting for what is written to a pipe and before a byte is read."""
+    number = os.open(path, os.O_RDONLY | os.O_CLOEXEC | os.O_NONBLOCK)
+    kind = os.fstat(number).st_mode
+    if stat.S_ISREG(kind):
+        return open(number, "rb")
+    os.close(number)
+    name = os.fsdecode(path)
+    raise IsADirectoryError(errno.EISDIR, os.strerror(errno.EISDIR), name) if stat.S_ISDIR(kind) else OSError(errno.EINVAL, "it is no regular file", name)
+
+
 def bytes_of(file: BinaryIO, most: int) -> Optional[bytes]:
-    """The bytes of a file; None of one that has more than `most`. A device has more than its length says, and so may a file that grows meanwhile."""
+    """The bytes of a file; None of one that has more than `most`, as its length says before it is read. A file that grows meanwhile has more than that, and so has one of the kernel's, such as those in /proc."""
     length = os.fstat(file.fileno()).st_size
     if length > most:
         return None
@@ -173,9 +184,9 @@ class SearchFrom(Search):
         return self.here.may_write(name)
 
 
-def existing_folder(folder: Union[str, "os.PathLike[str]"]) -> str:
+def existing_folder(folder: Union[str, bytes, "os.PathLike[str]"]) -> str:
     """The path of a folder; raises OSError where there is none."""
-    path = os.fspath(folder)
+    path = os.fsdecode(folder)
     if not stat.S_ISDIR(os.stat(path).st_mode):
         raise NotADirectoryError(errno.ENOTDIR, os.strerror(errno.ENOTDIR), path)
     return path

@@ -10,7 +10,7 @@ from .jobs import run
 from .options import Options
 from .results import End
 
-__all__ = ["Printing", "Prober", "Shown", "counts"]
+__all__ = ["AUX", "CROSSREF", "OPTIONS", "Printing", "Prober", "Shown", "counts"]
 
 # A field's value in the entries that are tried; one that isn't here is its name and a word.
 VALUES = {
@@ -18,6 +18,9 @@ VALUES = {
     **{"volume": "17", "number": "5", "pages": "11--22", "chapter": "3", "edition": "Second"},
 }
 AUX = b"\\citation{k}\n\\bibdata{d}\n\\bibstyle{s}\n"
+# The field that names a parent, and what cites that.
+CROSSREF = "crossref"
+OF_PARENT = b"\\citation{p}\n"
 OPTIONS = Options(budget=2_000_000, utf8=True)
 # How much is tried of a style while a database is examined: the steps of a run; the steps of all runs, and the bytes of the style that they read.
 OF_DOCTOR = Options(budget=100_000, utf8=True)
@@ -62,14 +65,19 @@ class Prober:
         """What the style makes of an entry with these fields."""
         wanted = frozenset(fields)
         if wanted not in self.known:
-            written = "".join(f", {name} = {{{VALUES.get(name, name.capitalize() + ' word')}}}" for name in self.fields if name in wanted)
-            database = f"@{self.kind}{{k{written}}}\n".encode("utf8", "surrogateescape")
-            result = run("j", {"j.aux": AUX, "s.bst": self.style, "d.bib": database}, self.options)
+            result = run("j", self.job(wanted), self.options)
             warned = (result.log[event.offset : event.end] for event in result.events.of(Severity.WARNING) if event.met is Met.EXECUTION)
             self.known[wanted] = Shown(result.bbl, frozenset(warned))
             self.steps += result.report.steps
             self.has_ended = self.has_ended and result.report.end is End.FINISHED
         return self.known[wanted]
+
+    def job(self, wanted: FrozenSet[str]) -> Dict[str, bytes]:
+        """The files of a job that cites an entry with these fields. With crossref it cites a parent too, which has no field."""
+        written = "".join(f", {name} = {{{VALUES.get(name, name.capitalize() + ' word')}}}" for name in self.fields if name in wanted)
+        has_parent = CROSSREF in wanted
+        database = f"@{self.kind}{{k{written}, crossref = {{p}}}}\n@{self.kind}{{p}}\n" if has_parent else f"@{self.kind}{{k{written}}}\n"
+        return {"j.aux": AUX + OF_PARENT * has_parent, "s.bst": self.style, "d.bib": database.encode("utf8", "surrogateescape")}
 
 
 def counts(prober: Prober, name: str, beside: Iterable[FrozenSet[str]]) -> bool:

@@ -4,6 +4,7 @@ import os
 import pathlib
 import random
 import subprocess
+import sys
 
 import btx
 from tests.jobs import EXAMPLES
@@ -63,7 +64,15 @@ def of_tex_live():
 
 def run_module(*words, **named):
     """Calls `python3 -m btx` with these words."""
-    import sys
+    return called([sys.executable, "-m", "btx", *words], **named)
+
+
+def run_shell(line, **named):
+    """Has a shell do this line."""
+    return called(["sh", "-c", line], **named)
+
+
+def called(words, **named):
     here = str(pathlib.Path(__file__).resolve().parent.parent)
-    env = {**os.environ, "PYTHONPATH": here}
-    return subprocess.run([sys.executable, "-m", "btx", *words], env=env, stdin=subprocess.DEVNULL, capture_output=True, timeout=120, **named)
+    env = {**os.environ, "PYTHONPATH": here, "PYTHONDONTWRITEBYTECODE": "1"}
+    return subprocess.run(words, env=env, stdin=subprocess.DEVNULL, capture_output=True, timeout=120, **named)

@@ -1,6 +1,8 @@
 """What is known of a style before any run."""
 
+import os
 import pickle
+import tempfile
 import threading
 import unittest
 
@@ -63,6 +65,21 @@ class Styles(unittest.TestCase):
                 verdict = btx.check(path.read_bytes(), path.name)
                 self.assertEqual(bool(verdict.warnings), verdict.answer is btx.Answer.WARNINGS)
 
+    def test_paths_and_bytes(self):
+        path = EXAMPLES / "article/article.bst"
+        wanted = btx.check(path.read_bytes(), path.name)
+        for given in (path, str(path), bytearray(path.read_bytes())):
+            with self.subTest(given=type(given)):
+                self.assertEqual(btx.check(given), wanted)
+        for name in (path, b"\xff.bst", "x.bst"):
+            with self.subTest(name=name):
+                self.assertEqual(btx.check(FAULTY, name), btx.check(FAULTY))
+        with tempfile.NamedTemporaryFile() as file:
+            os.truncate(file.name, 3 << 30)
+            with self.assertRaises(btx.StyleTooLong) as raised:
+                btx.check(file.name)
+            self.assertEqual(raised.exception.length, 3 << 30)
+
     def test_deep_ones(self):
         style = b"ENTRY{}{}{} FUNCTION{f}" + b"{" * 3000 + b"}" * 3000 + b" READ EXECUTE{f}"
         self.assertIn(btx.check(style).answer, list(btx.Answer))
@@ -91,8 +108,11 @@ class Styles(unittest.TestCase):
 
 class Refused(unittest.TestCase):
     def test_what_nobody_should_hand_in(self):
-        for given in ("text", None, 3, bytearray(b"READ")):
+        for given in (None, 3, ["READ"]):
             with self.subTest(given=given), self.assertRaises(TypeError):
+                btx.check(given)
+        for given in ("no-such.bst", EXAMPLES):
+            with self.subTest(given=given), self.assertRaises(OSError):
                 btx.check(given)
         for steps in (-1, 2**64, 1.5, True):
             with self.subTest(steps=steps), self.assertRaises(ValueError):

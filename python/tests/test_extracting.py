@@ -2,7 +2,9 @@
 
 import os
 import pathlib
+import resource
 import shutil
+import sys
 import unittest
 from unittest import mock
 
@@ -10,8 +12,8 @@ import btx
 from btx import extracting
 from btx.outputs import Inputs
 from btx.searching import Search
-from tests.jobs import EXAMPLES
-from tests.spoilt import run_module
+from tests.jobs import EXAMPLES, SOURCES
+from tests.spoilt import run_module, run_shell
 from tests.test_papers import Folder
 
 STYLE = b"ENTRY {title note} {} {} FUNCTION {show} {cite$ write$ title missing$ {} {title write$} if$ note missing$ {} {note write$} if$ crossref missing$ {} {crossref write$} if$ newline$} READ preamble$ write$ newline$ ITERATE {show}".replace(
@@ -51,7 +53,9 @@ class Extracts(Folder):
         whole = btx.run_paper("job").bbl
         self.write({"job.aux": AUX.replace(b"one,none,two", b"small")})
         self.assertEqual(btx.run_paper("job").bbl, whole)
-        self.assertEqual(pathlib.Path("small.bib").stat().st_mode & 0o777, 0o666 & ~extracting.current_mask())
+        mask = os.umask(0)
+        os.umask(mask)
+        self.assertEqual(pathlib.Path("small.bib").stat().st_mode & 0o777, 0o666 & ~mask)
 
     def test_broken_entries(self):
         one = b'@misc{quote, note = "a } b"}\n@misc{at @misc{in, title={I}}\n@misc{open, title = {A}, note = {'
@@ -67,6 +71,50 @@ class Extracts(Folder):
             with self.subTest(words=words):
                 self.assertEqual(run_module("extract", *words, cwd=self.folder).returncode, status)
         self.assertEqual((pathlib.Path("one.bib").read_bytes(), sorted(os.listdir())), (ONE, ["bare.aux", "job.aux", "one.bib", "s.bst", "two.bib"]))
+
+    def test_what_an_output_may_be(self):
+        """A link stays, and what it leads to is written in its own folder alone. Nothing waits for a reader of a pipe."""
+        self.write({"job.aux": AUX, "s.bst": STYLE, "one.bib": ONE, "two.bib": TWO, "in/old.bib": b"old", "in/place.txt": b"", "beside.txt": b"old"})
+        os.mkfifo("pipe.bib")
+        for name, target in (("out.bib", "in/../../" + os.path.basename(os.getcwd()) + "/in/old.bib"), ("in/up.bib", "../beside.txt"), ("to-pipe.bib", "pipe.bib"), ("round.bib", "round.bib"), ("same.bib", "one.bib"),
+                             ("link.bib", "beside.txt"), ("new.bib", "made.bib")):
+            os.symlink(target, name)
+        before = {name: os.lstat(name).st_mode for name in os.listdir()}
+        rows = [("in/up.bib", b"leads out of its folder"), ("pipe.bib", b"no regular file"), ("to-pipe.bib", b"no regular file"), ("in", b"no regular file"), ("round.bib", b""), ("same.bib", b"reads")]
+        for name, said in rows:
+            with self.subTest(name=name):
+                done = run_module("extract", "job", "-o", name, cwd=self.folder)
+                self.assertEqual((done.returncode, done.stdout, said in done.stderr.splitlines()[-1], b"Traceback" in done.stderr), (6, b"", True, False), done)
+        self.assertEqual((pathlib.Path("beside.txt").read_bytes(), pathlib.Path("one.bib").read_bytes()), (b"old", ONE))
+        for name in ("link.bib", "new.bib", "out.bib"):
+            self.assertEqual(run_module("extract", "job", "-o", name, cwd=self.folder).returncode, 0)
+        self.assertEqual({pathlib.Path(name).read_bytes()[:16] for name in ("beside.txt", "made.bib", "in/old.bib")}, {b'@string{a = "A"}'})
+        self.assertEqual({name: os.lstat(name).st_mode for name in before}, before)
+
+    @unittest.skipIf(shutil.which("kpsewhich") is None, "there is no TeX")
+    def test_what_tex_forbids_is_not_written(self):
+        self.write({"job.aux": AUX, "s.bst": STYLE, "one.bib": ONE, "two.bib": TWO, "in/x": b""})
+        for name in ("../small.bib", ".hidden"):
+            with mock.patch.dict(os.environ, {"openout_any": "p", "BSTINPUTS": "..:", "BIBINPUTS": "..:"}):
+                done = run_module("extract", "../job", "-o", name, cwd=os.path.join(self.folder, "in"))
+            self.assertEqual((done.returncode, b"openout_any" in done.stderr), (1, True), done)
+        self.assertEqual((pathlib.Path("small.bib").exists(), os.listdir("in")), (False, ["x"]))
+
+    def test_outputs_that_take_nothing(self):
+        self.write({"job.aux": AUX, "s.bst": STYLE, "one.bib": ONE, "two.bib": TWO, "small.bib": b"old"})
+        limit = lambda: resource.setrlimit(resource.RLIMIT_FSIZE, (5, resource.RLIM_INFINITY))
+        done = run_module("extract", "job", "-o", "small.bib", cwd=self.folder, preexec_fn=limit)
+        self.assertEqual((done.returncode, pathlib.Path("small.bib").read_bytes(), done.stderr.count(b"\n")), (6, b"old", 2), done)
+        module, plain = f"exec {sys.executable} -m btx", str(SOURCES / "examples/article/article.bst")
+        rows = [f"extract job {it}" for it in (">&-", "-o small.bib >&-", "1<one.bib", "-o other.bib 1<one.bib")] + [f"fields {plain} {it}" for it in (">&-", "1<one.bib")] + ["doctor one.bib >&-", "lsp >&-"]
+        for words in rows:
+            with self.subTest(words=words):
+                done = run_shell(f"{module} {words}", cwd=self.folder, preexec_fn=limit)
+                said = [line for line in done.stderr.splitlines() if b"I didn't find" not in line]
+                self.assertEqual((done.returncode, len(said), b"Traceback" in done.stderr), (6, 1, False), done)
+        self.assertEqual(pathlib.Path("small.bib").read_bytes(), b"old")
+        done = run_shell(f"{module} extract job 2>&-", cwd=self.folder)
+        self.assertEqual((done.returncode, done.stdout[:16], b"btx extract" in done.stdout), (0, b'@string{a = "A"}', False))
 
     def test_another_list_is_not_written(self):
         self.write({"job.aux": AUX, "s.bst": STYLE, "one.bib": ONE, "two.bib": TWO})

@@ -71,6 +71,13 @@ class Shapes(unittest.TestCase):
         self.assertEqual([dict(entry) for entry in library], [dict(entry) for entry in btx.read_job("job", btx.in_folder(folder))])
         self.assertTrue(len(library))
 
+    def test_a_paper_that_is_not_there(self):
+        for call in (btx.read_job, btx.run_paper):
+            for path in ("no/such/paper", b"no/such/paper.aux", pathlib.Path("no/such/paper")):
+                with self.subTest(call=call, path=path), self.assertRaises(FileNotFoundError) as raised:
+                    call(path)
+                self.assertEqual(raised.exception.filename, "no/such/paper.aux")
+
     def test_inherited_texts_that_need_more_room(self):
         parent = b"@book{p, publisher = {" + b"x" * 100_000 + b"}}"
         library = btx.read_job("j", job_of(b"".join(b"@misc{k%d, crossref = {p}}" % number for number in range(300)) + parent, b"*"))

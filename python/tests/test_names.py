@@ -25,6 +25,7 @@ class Names(unittest.TestCase):
         for text, wanted in ROWS[:-1]:
             with self.subTest(text=text):
                 self.assertEqual(btx.names(text), [NameParts(*parts) for parts in wanted])
+                self.assertEqual(btx.names(text.encode("utf8", "surrogateescape")), btx.names(text))
 
     def test_many_at_once(self):
         texts = [text for text, _ in ROWS] * (MOST_FIELDS // 3)

@@ -1,5 +1,6 @@
 """Entries as data."""
 
+import errno
 import os
 import pathlib
 import pickle
@@ -9,7 +10,6 @@ import tempfile
 import threading
 import time
 import unittest
-import unittest.mock
 
 import btx
 from btx.searching import content_of
@@ -109,12 +109,13 @@ class Shapes(unittest.TestCase):
         self.assertEqual(self.base.preamble, "\\\\xJournal of Counting Systems")
         self.assertEqual(btx.read(TEXT, {"FEB": "II", "zz": "!"})["x"]["title"], "Journal of Counting Systems~!")
         self.assertEqual(btx.read(TEXT, {"FEB": "II"})["kay"]["month"], "II")
+        self.assertEqual(btx.read(TEXT, {b"FEB": b"\xff"})["kay"]["month"], "\udcff")
         self.assertEqual(btx.read(b"@misc{k, month = jan}", {})["k"]["month"], "")
 
     def test_messages(self):
         found = [(message.place.line, message.place.column, message.text, message.is_error, message.key) for message in self.base.messages]
         self.assertEqual(found, [
-            (3, 78, 'I\'m ignoring Kay\'s extra "title" field', False, "Kay"),
+            (3, 89, 'I\'m ignoring Kay\'s extra "title" field', False, "Kay"),
             (4, 15, "I was expecting an =", True, "j"),
             (6, 34, 'string name "zz" is undefined', False, "x"),
             (7, 7, "Repeated entry", True, "KAY"),
@@ -180,14 +181,40 @@ class Shapes(unittest.TestCase):
             self.assertEqual(raised.exception.length, 3 << 30)
             self.assertLess(time.process_time() - begin, 1)
 
+    def test_what_is_no_file(self):
+        """It isn't read, and a pipe into which nobody writes isn't waited for."""
+        with tempfile.TemporaryDirectory() as folder:
+            pipe, link = pathlib.Path(folder, "pipe.bib"), pathlib.Path(folder, "link.bib")
+            os.mkfifo(pipe)
+            link.symlink_to(pipe)
+            for path in (pipe, link, pathlib.Path("/dev/zero"), pathlib.Path("/dev/null")):
+                for reads in (btx.read, lambda it: content_of(os.fsencode(it), 5), lambda it: btx.in_folder(it.parent)(it.name)):
+                    with self.subTest(path=path), self.assertRaises(OSError) as raised:
+                        reads(path)
+                    self.assertEqual((raised.exception.filename, raised.exception.strerror), (str(path), "it is no regular file"))
+            with self.assertRaises(IsADirectoryError):
+                btx.read(folder)
 
-    def test_files_without_an_end(self):
-        for most in (0, 5, 1 << 20, 3_000_000):
-            with unittest.mock.patch("btx.reading.MOST_BYTES", most), self.assertRaises(btx.DatabaseTooLong):
-                btx.read("/dev/zero")
-            with self.assertRaises(OSError):
-                content_of(b"/dev/zero", most)
-        self.assertEqual(len(btx.read("/dev/null")), 0)
+    def test_a_file_with_more_than_its_length_says(self):
+        self.assertGreater(len(content_of(b"/proc/self/status", 1 << 20)), 5)
+        with self.assertRaises(OSError) as raised:
+            content_of(b"/proc/self/status", 5)
+        self.assertEqual(raised.exception.errno, errno.EFBIG)
+
+    def test_a_folder_with_a_file_that_is_too_long(self):
+        with tempfile.TemporaryDirectory() as folder:
+            path = pathlib.Path(folder, "d.bib")
+            path.touch()
+            os.truncate(path, 3 << 30)
+            pathlib.Path(folder, "j.aux").write_bytes(b"\\citation{*}\n\\bibdata{d}\n\\bibstyle{s}\n")
+            pathlib.Path(folder, "s.bst").write_bytes(b"ENTRY{t}{}{}READ")
+            begin = time.process_time()
+            with self.assertRaises(OSError) as raised:
+                btx.run_in(folder, "j")
+            self.assertEqual((raised.exception.errno, raised.exception.filename), (errno.EFBIG, str(path)))
+            self.assertLess(time.process_time() - begin, 1)
+            os.truncate(path, 0)
+            self.assertEqual(btx.run_in(os.fsencode(folder), "j").report.status, 0)
 
     def test_a_file_that_is_written_meanwhile(self):
         """What is read is what some writes have left, and nothing fails."""
@@ -247,15 +274,14 @@ class BesideRuns(unittest.TestCase):
         self.assertGreater(sum(self.same(text) for text in spoilt(SPOILT)), SPOILT)
 
     def same_messages(self, text):
-        """Compares the messages with what a run logs: their texts, and their lines. A field that is ignored counts without its line: a message has that of its name, and the log the one on
-        which its value ends."""
+        """Compares the messages with what a run logs: their texts, their lines and their order. Those after the key of a repeated entry don't count, as a run passes over it."""
         base = btx.read(text, {})
         names = {name.encode("utf8", "surrogateescape") for entry in base for name in entry}
-        messages = [(message.place.line, message.text) for message in base.messages]
+        passed = passed_over(base)
+        messages = [(message.place.line, message.text) for message in base.messages if not any(start <= message.place.span[0] <= end for start, end in passed)]
         found = logged(text, names)
-        self.assertEqual(sorted(text for _, text in found), sorted(text for _, text in messages), text)
-        self.assertEqual(*(sorted(it for it in those if not it[1].startswith("I'm ignoring")) for those in (found, messages)), text)
-        return len(found)
+        self.assertEqual(found, messages, text)
+        return len(found), len(passed)
 
     def test_messages_of_tex_live(self):
         paths = of_tex_live()
@@ -264,16 +290,36 @@ class BesideRuns(unittest.TestCase):
         total = 0
         for path in paths:
             with self.subTest(path=path.name):
-                total += self.same_messages(re.sub(rb"(?i)crossref", b"crossreg", path.read_bytes()))
+                total += self.same_messages(re.sub(rb"(?i)crossref", b"crossreg", path.read_bytes()))[0]
         self.assertGreater(total, 1000)
 
     def test_messages_of_spoilt_databases(self):
-        total = 0
+        total = repeated = several = 0
         for text in spoilt(SPOILT):
-            base = btx.read(text)
-            if len({lower(entry.key) for entry in base}) == len(base):
-                total += self.same_messages(text)
+            text = text.replace(b",", b",\n") if len(text) % 2 else text
+            if not hides_items(btx.read(text)):
+                found = self.same_messages(text)
+                total, repeated, several = total + found[0], repeated + found[1], several + (found[0] > 1)
         self.assertGreater(total, SPOILT // 2)
+        self.assertGreater(min(repeated, several), SPOILT // 10)
+
+    def test_messages_of_fields_on_several_lines(self):
+        for value in (b"{y\n z}", b"12\n\n", b"zz\n #\n {z\n}", b"{y}\n #\n zz\xc3\xa9\n", b'"\n" # zz\xff', b"{y} # zz\xe2\x82"):
+            for name in (b"t", b"x\xc3\xa9"):
+                with self.subTest(value=value, name=name):
+                    self.assertEqual(self.same_messages(b"@misc{a, %s={x},\n %s\n =\n %s,\n u = zz}@misc{A, t = {}, t = {}}" % (name, name, value)), (3, 1))
+
+
+def passed_over(base):
+    """From where to where a run passes over the rest of repeated entries."""
+    seen, found = set(), []
+    for entry in base:
+        if lower(entry.key) in seen:
+            start, end = entry.place.span
+            opening = re.compile(rb"[{(]").search(base.text, start).end()
+            found.append((base.text.index(entry.key.encode("utf8", "surrogateescape"), opening) + 1, end))
+        seen.add(lower(entry.key))
+    return found
 
 
 class Cost(unittest.TestCase):
