@@ -5,12 +5,12 @@
 from __future__ import annotations
 
 import argparse
+import importlib
 import signal
 import sys
 from dataclasses import replace
 from typing import List, Optional
 
-from . import asking, checkup, compare, extracting, server
 from .commands import STATUS_REFUSED, Words, broken_pipe, print_all, prints_any_text
 from .jobs import run
 from .options import LETTERS, Options
@@ -21,6 +21,8 @@ from .reports import shown
 from .searching import found_search
 from .version import VERSION
 
+# The commands that are modules of their own, each read where it is asked for alone.
+COMMANDS = {"compare": "compare", "doctor": "checkup", "extract": "extracting", "fields": "asking", "lsp": "server"}
 STATUS_LIMIT = 3
 STATUS_MEMORY = 5
 STATUS_DEVICE = 6
@@ -30,18 +32,10 @@ def main(words: Optional[List[str]] = None) -> int:
     """Does what the words say, and answers the exit status."""
     given = sys.argv[1:] if words is None else words
     prints_any_text()
-    if given[:1] == ["compare"]:
-        return compare.main(given[1:])
-    if sys.stdout is None and given[:1] in (["doctor"], ["extract"], ["fields"], ["lsp"]):
-        return complain("standard output is closed", STATUS_DEVICE)
-    if given[:1] == ["doctor"]:
-        return checkup.main(given[1:])
-    if given[:1] == ["extract"]:
-        return extracting.main(given[1:])
-    if given[:1] == ["fields"]:
-        return asking.main(given[1:])
-    if given[:1] == ["lsp"]:
-        return server.main(given[1:])
+    if given and given[0] in COMMANDS:
+        if sys.stdout is None and given[0] != "compare":
+            return complain("standard output is closed", STATUS_DEVICE)
+        return int(importlib.import_module(f"btx.{COMMANDS[given[0]]}").main(given[1:]))
     # (an interrupt ends it at once: Python's own handler would wait until the library has answered)
     signal.signal(signal.SIGINT, signal.SIG_DFL)
     try:

@@ -10,6 +10,7 @@ pieces, up to an item of the first reading."""
 from __future__ import annotations
 
 import bisect
+import itertools
 import re
 from typing import Dict, FrozenSet, Iterator, List, NamedTuple, Optional, Set, Tuple
 
@@ -35,7 +36,6 @@ BEGINS_ITEM = re.compile(rb"@[ \t\r\n]*(" + NAME + rb")?")
 OPENS_ITEM = re.compile(rb"[ \t\r\n]*[{(][ \t\r\n]*")
 # A text ends with one of these, if no name ends there.
 ENDS_TEXT = b'}"'
-LINE_END = re.compile(rb"\n")
 # The bytes that don't begin a character of UTF-8.
 CONTINUES = frozenset(bytes([byte]) for byte in range(0x80, 0xC0))
 
@@ -142,20 +142,21 @@ class Lines:
 
     def __init__(self, text: bytes) -> None:
         self.text = text
-        self.starts = [0, *(found.end() for found in LINE_END.finditer(text))]
+        # (a line has the bytes between line feeds, and one)
+        self.starts = [0, *itertools.accumulate(map((1).__add__, map(len, text.split(b"\n")[:-1])))]
         # A line, a place on it, and the characters before that.
         self.passed = 0, 0, 0
 
     def line_of(self, place: int) -> int:
         return bisect.bisect_right(self.starts, place) - 1
 
-    def at(self, place: int) -> Tuple[int, int]:
+    def at(self, place: int, is_end: bool = False) -> Tuple[int, int]:
         """The line of a place, and how many characters of UTF-8 are before it on its line. A byte that is none counts as one. They are counted once, where places are asked for in
-        their order."""
+        their order, beside those that are ends."""
         line = self.line_of(place)
         _, at, column = self.passed if self.passed[0] == line and self.passed[1] <= place else (line, self.starts[line], 0)
         column += len(self.text[at:place].decode("utf8", "surrogateescape"))
-        if self.text[place : place + 1] not in CONTINUES:
+        if not is_end and self.text[place : place + 1] not in CONTINUES:
             self.passed = line, place, column
         return line, column
 

@@ -8,18 +8,20 @@ import json
 import os
 import re
 import sys
-from typing import Dict, FrozenSet, Iterator, List, NamedTuple, Optional, Set, Tuple
+from functools import cached_property, partial
+from typing import Callable, Dict, FrozenSet, Iterator, List, NamedTuple, Optional, Set, Tuple
 
-from .bibtext import Item, Lines, read
-from .bsttext import read_style
+from .bibtext import Lines, read
+from .bsttext import Word, read_style
 from .commands import STATUS_REFUSED, Words, broken_pipe
-from .doctor import CHECKS, JOURNALS, MONTHS, Citation, Finding, Source, Style, examine, lines_of
+from .doctor import CHECKS, Citation, Finding, Source, Style, examine, lines_of
 from .doctor_run import findings_of_run, in_order_of_job, stem_of
 from .document_checks import documents_of, findings_of_documents
-from .doubts import ENTRY_IN_TEXT
+from .known import Known
 from .remedies import SEEN, field_for_each_name, missed_field, not_hidden, of_items, of_missing, remedy_of, said
 from .reports import shown
 from .searching import MOST_BYTES, Search, content_of, found_search
+from .trying import Printing
 from .usual import FIELDS, near_type
 
 __all__ = ["citations_of", "main"]
@@ -30,6 +32,9 @@ STATUS_DEVICE = 6
 COMMAND = re.compile(rb"(?m)^\\(citation|@input)\{([^}\r\n \t]*)\}\r?$")
 BIBSTYLE = re.compile(rb"(?m)^\\bibstyle\{([^}\r\n \t]*)\}\r?$")
 BIBDATA = re.compile(rb"(?m)^\\bibdata\{([^}\r\n \t]*)\}\r?$")
+# What a finding says that an entry lacks; where a style declares its fields.
+MISSING = re.compile("the field (.*) is missing")
+BEGINS_FIELDS = re.compile(rb"(?im)^[ \t]*entry\b")
 MOST_AUX = 1000
 # How much of two names of a field is the same where one may be meant by the other.
 LEAST_ALIKE = 0.75
@@ -156,141 +161,153 @@ def without_consequences(found: List[Finding], is_whole: bool) -> List[Finding]:
 
 
 class Remedies:
-    """What to do about findings. Databases are read once more where a finding asks for it."""
+    """What to do about findings. Databases are read once more where a finding asks for it. What findings share is found once."""
 
     def __init__(self, sources: List[Source], style: Optional[StyleFile] = None) -> None:
         self.sources = sources
         self.style = style
-        self.items: Dict[int, List[Item]] = {}
+        self.known = Known(sources)
         self.of_places: Dict[int, Dict[int, str]] = {}
+        self.kept: Dict[Tuple[object, ...], Optional[str]] = {}
 
-    def items_of(self, source: Source) -> List[Item]:
-        number = id(source)
-        if number not in self.items:
-            self.items[number] = read(source.text).items
-        return self.items[number]
-
-    def all(self, of_strings: bool) -> Iterator[Tuple[Source, Item]]:
-        """All entries, or all definitions of strings."""
-        for source in self.sources:
-            wanted = (item for item in self.items_of(source) if item.key and (item.kind == b"string") == of_strings)
-            yield from ((source, item) for item in wanted)
-
-    def names(self, of_strings: bool) -> List[str]:
-        """The keys of all entries, or the names of all strings."""
-        own = [*MONTHS, *JOURNALS] if of_strings else []
-        return [name.decode("utf8", "replace") for name in (*(item.key for _, item in self.all(of_strings) if item.key), *own)]
+    def once(self, make: Callable[[], Optional[str]], *what: object) -> Optional[str]:
+        """What is made for all findings about the same."""
+        if what not in self.kept:
+            self.kept[what] = make()
+        return self.kept[what]
 
     def of(self, finding: Finding, lines: Lines) -> Optional[str]:
         """What to do about a finding; None where its text says so."""
         if finding.check in OF_CHECKS:
             return OF_CHECKS[finding.check]
-        if finding.check == "mistake":
-            number = id(finding.source)
-            if number not in self.of_places:
-                self.of_places[number] = of_items(finding.source.name, finding.source.text, lines, self.items_of(finding.source))
-            return self.of_places[number].get(finding.start)
-        if finding.check == "repeated-key":
-            return self.of_repeated(finding, lines) or remedy_of(finding.text)
-        if finding.check == "repeated-field":
-            name = shown(finding.source.text[finding.start : finding.end].decode("utf8", "replace"))
-            return self.first(field_for_each_name(finding.source.text, item, name) for item in self.around(finding)) or remedy_of(finding.text)
-        if finding.check == "unusual-type":
-            near = near_type(finding.source.text[finding.start + 1 : finding.end].decode("utf8", "replace").lower())
-            return f"write `@{near}`" if near else "write a type of BibTeX's, such as `@misc`"
-        if finding.check.startswith("missing-"):
-            return self.of_missing(finding)
-        if finding.check == "parent-above":
-            return f"move {finding.text.split()[2]} below all entries that name it, or cite it"
-        if finding.check in ("unread-field", "unprinted-field"):
-            name = finding.source.text[finding.start : finding.end].decode("utf8", "replace").lower()
-            return self.of_unread(name) if finding.check == "unread-field" else self.of_unprinted(finding, name)
-        if finding.check == "undefined-string":
-            return self.of_string(finding) or remedy_of(finding.text, strings=self.names(True))
-        if finding.check == "logged-warning":
-            return self.of_warning(finding)
-        if finding.check == "no-entry":
-            return self.of_entry(finding)
-        return of_aux(finding) or remedy_of(finding.text, self.names(False) if finding.key else [])
+        make = self.by_check.get(finding.check)
+        if make is not None:
+            return make(self, finding, lines)
+        return of_aux(finding) or remedy_of(finding.text, self.known.keys if finding.key else ())
 
-    @staticmethod
-    def first(found: Iterator[Optional[str]]) -> Optional[str]:
-        return next((it for it in found if it is not None), None)
+    def of_mistake(self, finding: Finding, lines: Lines) -> Optional[str]:
+        number = id(finding.source)
+        if number not in self.of_places:
+            self.of_places[number] = of_items(finding.source.name, finding.source.text, lines, self.known.items_of(finding.source))
+        return self.of_places[number].get(finding.start)
 
-    def around(self, finding: Finding) -> Iterator[Item]:
-        """The entry in which a finding stands."""
-        return (item for item in self.items_of(finding.source) if item.start <= finding.start < item.end and item.is_entry)
+    def of_repeated_field(self, finding: Finding, lines: Lines) -> Optional[str]:
+        """What to do about a second field of a name."""
+        name = text_at(finding)
+        item = self.known.around(finding.source, finding.start)
+        joined = None if item is None else self.once(partial(field_for_each_name, item, shown(name)), id(finding.source), item.start, name.lower())
+        return joined or remedy_of(finding.text)
+
+    def of_type(self, finding: Finding, lines: Lines) -> str:
+        """What to do about a type that the usual styles don't have."""
+        near = near_type(text_at(finding)[1:].lower())
+        return f"write `@{near}`" if near else "write a type of BibTeX's, such as `@misc`"
+
+    def of_parent(self, finding: Finding, lines: Lines) -> str:
+        return f"move {finding.text.split()[2]} below all entries that name it, or cite it"
 
     def of_repeated(self, finding: Finding, lines: Lines) -> Optional[str]:
-        """What to do about a second entry of a key, where the first one was meant to be hidden."""
-        key = finding.key.lower()
-        firsts = (item for item in self.items_of(finding.source) if item.is_entry and (item.key or b"").decode("utf8", "surrogateescape").lower() == key)
-        return self.first(not_hidden(finding.source.name, finding.source.text, lines, item) for item in firsts)
+        """What to do about a second entry of a key, where another one was meant to be hidden."""
+        source, key = finding.source, finding.key.encode("utf8", "surrogateescape").lower()
+        hidden = self.once(lambda: next(filter(None, (not_hidden(source.name, source.text, lines, item) for item in self.known.of_key(source, key))), None), id(source), key)
+        return hidden or remedy_of(finding.text)
 
-    def of_missing(self, finding: Finding) -> Optional[str]:
+    def of_missing(self, finding: Finding, lines: Lines) -> Optional[str]:
         """What to do about a field that an entry lacks, and its parent as well."""
-        found = re.match("the field (.*) is missing", finding.text)
-        for item in self.around(finding):
-            parent = (item.value_of(b"crossref") or b"").strip().lower()
-            its = next((it for _, it in self.all(False) if parent and (it.key or b"").lower() == parent), None)
-            return of_missing(finding.source.text, item, found[1] if found else "", its)
-        return None
+        found = MISSING.match(finding.text)
+        item = self.known.around(finding.source, finding.start)
+        if item is None:
+            return None
+        parent = (item.value_of(b"crossref") or b"").strip().lower()
+        its = self.known.entries.get(parent) if parent else None
+        return of_missing(item, found[1] if found else "", None if its is None else its[1])
 
-    def of_unread(self, name: str) -> str:
+    def of_unread(self, finding: Finding, lines: Lines) -> Optional[str]:
+        name = text_at(finding).lower()
+        return self.once(lambda: self.unread(name), "unread", name)
+
+    def unread(self, name: str) -> str:
         """What to do about a field that the style doesn't read: its own author may have meant the field by a name that no usual field has."""
         if self.style is None or not self.style.is_own:
             return "leave it, or take a style that reads it"
-        definitions = [word for word in read_style(self.style.text).definitions if word.kind == "field"]
-        lines = Lines(self.style.text)
+        definitions, lines = self.style_fields
         alike = difflib.get_close_matches(name, [word.name for word in definitions if word.name.encode() not in FIELDS], 1, LEAST_ALIKE)
         if alike:
             place = next(f"{self.style.path}:{lines.line_of(word.start) + 1}" for word in definitions if word.name == alike[0])
             return f"call it `{name}` in the style, where it is `{alike[0]}` ({place}): databases have it by that name"
-        entry = re.search(rb"(?im)^[ \t]*entry\b", self.style.text)
+        entry = BEGINS_FIELDS.search(self.style.text)
         place = f"{self.style.path}:{lines.line_of(entry.end()) + 1 if entry else 1}"
         return f"leave it; or put `{name}` into the first list of ENTRY ({place}), and have the style print it"
 
-    def of_unprinted(self, finding: Finding, name: str) -> str:
-        """What to do about a field that the style prints for another type alone."""
+    @cached_property
+    def style_fields(self) -> Tuple[List[Word], Lines]:
+        """The fields that the style declares, and its lines."""
+        text = b"" if self.style is None else self.style.text
+        return [word for word in read_style(text).definitions if word.kind == "field"], Lines(text)
+
+    @cached_property
+    def printing(self) -> Optional[Printing]:
+        return None if self.style is None else Style(self.style.text).printing
+
+    def of_unprinted(self, finding: Finding, lines: Lines) -> Optional[str]:
         kind, other = re.findall("`@(.*?)`", finding.text)[-2:]
-        printing = None if self.style is None else Style(self.style.text).printing
+        return self.once(lambda: self.unprinted(kind, other), "unprinted", kind, other)
+
+    def unprinted(self, kind: str, other: str) -> str:
+        """What to do about a field that the style prints for another type alone."""
+        printing = self.printing
         free = [field for field in ("howpublished", "note") if printing is not None and field.encode() in printing.fields and printing.prints(kind.encode("utf8", "surrogateescape"), field.encode())]
         put = f", or put it into `{free[0]}`, which is printed for `@{kind}`" if free else ""
         return f"write `@{other}`, if the work is one{put}"
 
-    def of_string(self, finding: Finding) -> Optional[str]:
-        """What to do about a string that is defined after its use."""
+    def of_string(self, finding: Finding, lines: Lines) -> Optional[str]:
+        """What to do about a string that isn't defined, or is defined after its use."""
         name = finding.source.text[finding.start : finding.end].lower()
-        for source, item in self.all(True):
-            if (item.key or b"").lower() == name and source is not finding.source:
-                order = [it for it in self.sources if it is not source]
-                order.insert(next(at for at, it in enumerate(order) if it is finding.source), source)
-                return said(SEEN["DefinedInLater"], ",".join(stem_of(it.name) for it in order), source.name)
-            if (item.key or b"").lower() == name:
-                line = Lines(source.text).line_of(item.start) + 1
-                return said(SEEN["DefinedBelow"], name.decode("utf8", "replace"), f"{source.name}:{line}")
-        return None
+        source, item = self.known.strings.get(name, (None, None))
+        if source is None or item is None:
+            return remedy_of(finding.text, strings=self.known.names)
+        if source is finding.source:
+            return said(SEEN["DefinedBelow"], name.decode("utf8", "replace"), f"{source.name}:{self.known.line_of(source, item.start)}")
+        order = [it for it in self.sources if it is not source]
+        order.insert(next(at for at, it in enumerate(order) if it is finding.source), source)
+        return said(SEEN["DefinedInLater"], ",".join(stem_of(it.name) for it in order), source.name)
 
-    def of_warning(self, finding: Finding) -> Optional[str]:
+    def of_warning(self, finding: Finding, lines: Lines) -> Optional[str]:
         """What to do about a style's warning of an entry."""
-        found = (item for item in self.items_of(finding.source) if item.key_end == finding.end)
-        return next((missed_field(finding.source.text, item, finding.text) for item in found), None)
+        item = self.known.around(finding.source, finding.start)
+        return missed_field(item, finding.text) if item is not None and item.key_end == finding.end else None
 
-    def of_entry(self, finding: Finding) -> Optional[str]:
+    def of_entry(self, finding: Finding, lines: Lines) -> Optional[str]:
         """What to do about a citation without an entry: one without a key may be meant."""
-        general = remedy_of(finding.text, self.names(False))
+        general = remedy_of(finding.text, self.known.keys)
         if general != remedy_of(finding.text):
             return general
-        for source in self.sources:
-            in_text = next((it for it in ENTRY_IN_TEXT.finditer(source.text) if it[2].decode("utf8", "replace").lower() == finding.key.lower()), None)
-            if in_text is not None:
-                line = Lines(source.text).line_of(in_text.start(1)) + 1
-                return f"write `@` before `{in_text[1].decode()}` ({source.name}:{line})"
-        for source, item in self.all(False):
-            is_it = item.slip is not None and not item.fields and source.text[item.slip.place : item.slip.place + 1] == b"="
-            if is_it:
-                return said(SEEN["EntryOfNoKey"], item.kind.decode("utf8", "replace"), finding.key)
-        return general
+        in_text = self.known.in_text.get(finding.key.lower())
+        if in_text is not None:
+            source, place, kind = in_text
+            return f"write `@` before `{kind}` ({source.name}:{self.known.line_of(source, place)})"
+        item = self.known.without_key
+        return general if item is None else said(SEEN["EntryOfNoKey"], item.kind.decode("utf8", "replace"), finding.key)
+
+    by_check: Dict[str, Callable[..., Optional[str]]] = {
+        "mistake": of_mistake,
+        "repeated-key": of_repeated,
+        "repeated-field": of_repeated_field,
+        "unusual-type": of_type,
+        "missing-field": of_missing,
+        "missing-in-parent": of_missing,
+        "parent-above": of_parent,
+        "unread-field": of_unread,
+        "unprinted-field": of_unprinted,
+        "undefined-string": of_string,
+        "logged-warning": of_warning,
+        "no-entry": of_entry,
+    }
+
+
+def text_at(finding: Finding) -> str:
+    """What stands where a finding is."""
+    return finding.source.text[finding.start : finding.end].decode("utf8", "replace")
 
 
 def of_aux(finding: Finding) -> Optional[str]:
@@ -392,7 +409,7 @@ def existing(name: str, folder: str) -> Optional[str]:
 
 def print_findings(found: List[Finding], remedies: Remedies, given: argparse.Namespace) -> None:
     """Prints all findings. For people those of entries that nothing cites are one line, which comes last."""
-    lines: Dict[int, Lines] = {}
+    lines = remedies.known.lines
     summed = [] if given.json or given.each else [finding for finding in found if finding.check == "uncited"]
     for finding in found:
         if not summed or finding.check != "uncited":
@@ -406,7 +423,7 @@ def print_findings(found: List[Finding], remedies: Remedies, given: argparse.Nam
 def print_finding(finding: Finding, lines: Lines, remedies: Remedies, as_json: bool) -> None:
     """Prints a finding: its line and columns are counted from 1, in characters; `end` is where it ends, on the line `end_line`."""
     line, column = lines.at(finding.start)
-    end_line, end = lines.at(finding.end)
+    end_line, end = lines.at(finding.end, is_end=True)
     remedy = remedies.of(finding, lines)
     if not as_json:
         key = f" ({finding.key})" if finding.key else ""

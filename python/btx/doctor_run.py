@@ -6,8 +6,8 @@ import os
 import re
 from typing import Dict, List, NamedTuple, Optional, Set, Tuple
 
-from .bibtext import Item, read
-from .doctor import Citation, Finding, Source
+from .bibtext import Item, Lines, read
+from .doctor import Citation, Finding, Source, lines_of
 from .jobs import run
 from .messages import Kind, Message
 from .options import Options
@@ -75,7 +75,7 @@ def findings_of_run(job: str, sources: List[Source], auxes: List[Source], citati
     messages = [it for it in run(top, content, search.options(Options())).messages if it.kind in (Kind.ERROR, Kind.WARNING)]
     placer = Placer(sources, auxes, {citation.key.lower() for citation in citations})
     faults = [] if own_style is None else [it for it in messages if is_of_style(it)]
-    messages = [it for it in messages if it not in faults]
+    messages = messages if own_style is None else [it for it in messages if not is_of_style(it)]
     seen: Set[Tuple[str, Optional[str]]] = set()
     findings: List[Finding] = []
     for message in messages:
@@ -106,6 +106,7 @@ class Placer:
     def __init__(self, sources: List[Source], auxes: List[Source], cited: Set[bytes]) -> None:
         self.sources, self.auxes, self.cited = sources, auxes, cited
         self.known: Optional[Dict[str, Tuple[Source, Item]]] = None
+        self.lines: Dict[int, Lines] = {}
 
     def entries(self) -> Dict[str, Tuple[Source, Item]]:
         """The first entry of each key."""
@@ -150,10 +151,9 @@ class Placer:
         """A message of a line of an `.aux` file."""
         for aux in self.auxes:
             if aux.name == message.file or os.path.basename(aux.name) == os.path.basename(message.file or ""):
-                lines = aux.text.split(b"\n")
-                number = (message.line or 1) - 1
-                start = sum(len(line) + 1 for line in lines[:number])
-                end = start + len(lines[number]) if number < len(lines) else start
+                starts, number = lines_of(aux, self.lines).starts, (message.line or 1) - 1
+                start = starts[number] if number < len(starts) else len(aux.text)
+                end = starts[number + 1] - 1 if number + 1 < len(starts) else len(aux.text)
                 return Finding(aux, start, end, check, message.text)
         return None
 

@@ -39,7 +39,8 @@ NOT_WHOLE = "the style isn't UTF-8"
 CAPITALS = {"ƛ": "\ua7dc"}
 SMALL = {capital: small for small, capital in CAPITALS.items()}
 # Braces, and the letters that may have codes: in a language with rules for letters of ASCII these, too.
-OUTSIDE_ASCII, ANY_LETTER = re.compile("[{}\x80-\U0010ffff]"), re.compile("[{}A-Za-z\x80-\U0010ffff]")
+# (a class that names what isn't in it is made in less time)
+OUTSIDE_ASCII, ANY_LETTER = re.compile("[^\x00-z|~\x7f]"), re.compile(r"[^\x00-@\[-`|~\x7f]")
 
 
 def line_of_half_letter(text: bytes, is_stopped: bool) -> int:

@@ -2,12 +2,11 @@
 
 from __future__ import annotations
 
-import difflib
 import re
-import unicodedata
-from typing import Dict, Iterable, List, Optional, Tuple
+from typing import Dict, Iterable, List, Optional, Tuple, Union
 
 from .bibtext import REPEATED, Item, Lines
+from .known import ALIKE, Names, names_of
 
 __all__ = ["GENERAL", "SEEN", "field_for_each_name", "missed_field", "not_hidden", "of_items", "of_missing", "of_mistake", "remedy_of", "said"]
 
@@ -106,14 +105,14 @@ GENERAL = {
 NAME = re.compile(rb"[^\x00-\x20\"#%'(),={}]*")
 # A line with a field after its `%`.
 COMMENTED_FIELD = re.compile(rb"[% \t]*[^\s%={}\"#',()]+[ \t]*=")
-# How many lines an entry may have in which a file breaks off; how long a key is that another one follows directly.
+# How many lines an entry may have in which a file breaks off; how long a key is that another one follows directly, and how long both are at most.
 MOST_LINES = 60
-LEAST_OF_TWO = 4
+LEAST_OF_TWO, MOST_OF_TWO = 4, 400
+# How many bytes of a line are looked at, and how many fields of one name are joined.
+MOST_OF_LINE, MOST_JOINED = 2000, 50
 # Names that biblatex has for fields, and fields that entries of one type have in the place of others.
 OF_BIBLATEX = {"journal": "journaltitle", "year": "date", "address": "location", "booktitle": "maintitle", "number": "issue"}
 OF_OTHER_TYPES = {"booktitle": ["journal"], "journal": ["booktitle"], "school": ["institution"], "institution": ["school"], "publisher": ["organization", "institution"]}
-# Dashes and spaces that look like those of the keyboard.
-ALIKE = str.maketrans({**dict.fromkeys("\xad\u2010\u2011\u2012\u2013\u2014\u2212", "-"), "\xa0": " "})
 
 
 # What comes after a last name, and what stands after a name and is no part of it; front/src/doubts.rs and explain/names.rs have the same.
@@ -139,39 +138,32 @@ def said(words: str, *names: str) -> str:
     return words
 
 
+def pattern_of(row: str) -> Tuple[str, "re.Pattern[str]"]:
+    """The beginning of the texts that a row of `GENERAL` stands for, and their pattern."""
+    parts = re.split(r"([*~])", row)
+    return parts[0], re.compile("".join({"*": "(.*?)", "~": ".*?"}.get(part) or re.escape(part) for part in parts), re.DOTALL)
+
+
+PATTERNS = [(*pattern_of(row), words) for row, words in GENERAL.items()]
+
+
 def general(text: str) -> Optional[str]:
     """What to do about a message by its text alone."""
-    for pattern, words in GENERAL.items():
-        parts = re.split(r"([*~])", pattern)
-        found = re.fullmatch("".join({"*": "(.*?)", "~": ".*?"}.get(part) or re.escape(part) for part in parts), text, re.DOTALL)
+    for begin, pattern, words in PATTERNS:
+        found = pattern.fullmatch(text) if text.startswith(begin) else None
         if found is not None:
             return said(words, *found.groups())
     return None
 
 
-def nearest(key: str, known: Iterable[str]) -> Optional[str]:
-    """The key that is spelled most like this one: first one that only looks another way."""
-    by_fold = {name.lower(): name for name in known}
-    alike = by_fold.get(key.translate(ALIKE).strip().lower())
-    close = difflib.get_close_matches(key.lower(), by_fold, 1, 0.8) if alike is None else []
-    return by_fold[close[0]] if close else alike
-
-
-def other_form(key: str, known: Iterable[str]) -> Optional[str]:
-    """The key that is this one with its letters in another form: a letter and its mark as one character, or one after the other."""
-    if key.isascii():
-        return None
-    form, lower = unicodedata.normalize("NFC", key).lower(), key.lower()
-    return next((name for name in known if not name.isascii() and name.lower() != lower and unicodedata.normalize("NFC", name).lower() == form), None)
-
-
-def remedy_of(text: str, keys: Iterable[str] = (), strings: Iterable[str] = ()) -> Optional[str]:
+def remedy_of(text: str, keys: Union[Names, Iterable[str]] = (), strings: Union[Names, Iterable[str]] = ()) -> Optional[str]:
     """What to do about a message; the keys and the strings are those that it may have meant."""
+    keys, strings = names_of(keys), names_of(strings)
     found = re.fullmatch(r'I didn\'t find a database entry for "(.*)"', text, re.DOTALL)
-    form = other_form(found[1], keys) if found else None
+    form = keys.other_form(found[1]) if found else None
     if form:
         return said(SEEN["OtherForm"], form)
-    near = nearest(found[1], keys) if found else None
+    near = keys.nearest(found[1]) if found else None
     pair = two_keys(found[1], keys) if found else None
     if pair:
         return said(SEEN["SemicolonInCite"], ",".join(pair))
@@ -180,7 +172,7 @@ def remedy_of(text: str, keys: Iterable[str] = (), strings: Iterable[str] = ()) 
     if found and near:
         return said(SEEN["NearKey"], found[1], near)
     found = re.fullmatch(r'A bad cross reference--entry ".*" refers to entry "(.*)", which doesn\'t exist', text, re.DOTALL)
-    near = other_form(found[1], keys) or nearest(found[1], keys) if found else None
+    near = keys.other_form(found[1]) or keys.nearest(found[1]) if found else None
     if found and near:
         is_there = near.lower() == found[1].lower()
         return f"move `{near}` below all entries that name it, or cite it" if is_there else said(SEEN["NearParent"], near)
@@ -198,26 +190,23 @@ def remedy_of(text: str, keys: Iterable[str] = (), strings: Iterable[str] = ()) 
     return f"is it `{near}`?" if near else general(text)
 
 
-def string_meant(name: str, strings: Iterable[str]) -> Optional[str]:
+def string_meant(name: str, strings: Names) -> Optional[str]:
     """The string that is spelled most like this one, or that stands for this month."""
-    known = list(strings)
     short = name.lower()[:3]
-    return short if name.lower() in MONTHS and short in (string.lower() for string in known) else nearest(name, known)
+    return short if name.lower() in MONTHS and strings.has(short) else strings.nearest(name)
 
 
-def has_key(parts: List[str], keys: Iterable[str]) -> bool:
+def has_key(parts: List[str], keys: Names) -> bool:
     """Whether several keys stand here, of which an entry has one."""
-    known = {key.lower() for key in keys} if len(parts) > 1 else set()
-    return sum(bool(part.strip()) for part in parts) > 1 and any(part.strip().lower() in known for part in parts)
+    return sum(bool(part.strip()) for part in parts) > 1 and any(keys.has(part.strip()) for part in parts)
 
 
-def two_keys(key: str, keys: Iterable[str]) -> Optional[Tuple[str, str]]:
+def two_keys(key: str, keys: Names) -> Optional[Tuple[str, str]]:
     """The keys of two entries that stand here one after the other, with one sign or nothing between them."""
-    known = {name.lower() for name in keys}
-    if key.lower() in known:
+    if keys.has(key) or len(key) > MOST_OF_TWO:
         return None
     pairs = ((key[:at], key[at + sign :]) for at in range(1, len(key)) for sign in (0, 1) if not sign or not key[at].isalnum())
-    found = ((left, right) for left, right in pairs if left.lower() in known and right.lower() in known and left != right)
+    found = ((left, right) for left, right in pairs if keys.has(left) and keys.has(right) and left != right)
     # (short keys with nothing between them are rather one key)
     return next(((left, right) for left, right in found if len(left + right) < len(key) or min(len(left), len(right)) >= LEAST_OF_TWO), None)
 
@@ -256,19 +245,22 @@ def names_by_commas(quoted: str) -> Optional[str]:
     return " and ".join(map(", ".join, zip(parts[::2], parts[1::2]))) if len(parts) % 2 == 0 else None
 
 
-def missed_field(text: bytes, item: Item, warning: str) -> Optional[str]:
+def missed_field(item: Item, warning: str) -> Optional[str]:
     """What to do about a field that a style misses, where another one of the entry may be meant by it."""
-    fields = {word(text[field.name_start : field.name_end]).lower(): field for field in item.fields}
+    fields = item.records.names_between(item.at + 1, item.last)
+    unusual = [name for name in map(word, fields) if not name.isascii()]
     for missed in re.findall(r"[a-z]+", warning.lower().rsplit(" in ", 1)[0]):
-        for name, field in fields.items():
-            if name != missed and name.translate(ALIKE).strip() == missed:
+        for name in unusual:
+            if name.translate(ALIKE).strip() == missed:
                 sign = next(sign.translate(ALIKE) for sign in name if sign.translate(ALIKE) != sign)
                 return said(SEEN["SpaceInName"], missed) if sign == " " else said(SEEN["AlikeName"], sign, missed)
-        its = OF_BIBLATEX.get(missed)
-        if its in fields and missed not in fields:
-            year = re.search(rb"[0-9]{4}", fields[its].value) if its == "date" else None
-            return said(SEEN["OfBiblatexDate"], word(year[0])) if year else said(SEEN["OfBiblatexField"], its or "", missed)
-        other = next((name for name in OF_OTHER_TYPES.get(missed, []) if name in fields and missed not in fields), None)
+        if missed.encode() in fields:
+            continue
+        its = OF_BIBLATEX.get(missed, "")
+        if its.encode() in fields:
+            year = re.search(rb"[0-9]{4}", item.value_of(b"date") or b"") if its == "date" else None
+            return said(SEEN["OfBiblatexDate"], word(year[0])) if year else said(SEEN["OfBiblatexField"], its, missed)
+        other = next((name for name in OF_OTHER_TYPES.get(missed, []) if name.encode() in fields), None)
         if other is not None:
             return said(SEEN["OtherField"], other, missed)
     return None
@@ -291,11 +283,12 @@ class Slipped:
 
     def before(self) -> bytes:
         """What stands before the place in its line."""
-        return self.text[self.lines.starts[self.line] : self.place]
+        return self.text[max(self.lines.starts[self.line], self.place - MOST_OF_LINE) : self.place]
 
     def is_other_item(self) -> bool:
         """Whether another item begins in this line, below the first line of this one."""
-        rest = self.text[self.lines.starts[self.line] : self.place + 100]
+        begin = self.lines.starts[self.line]
+        rest = self.text[begin : min(begin + MOST_OF_LINE, self.place + 100)]
         return self.line > self.lines.line_of(self.item.start) and rest.lstrip().startswith(b"@")
 
     def after_part(self) -> Optional[str]:
@@ -347,8 +340,7 @@ class Slipped:
 
     def names_in_one(self, value: bytes) -> Optional[str]:
         """The names of a list of which each has braces or quotes of its own: that of the value, and those after it in its line."""
-        end = self.text.find(b"\n", self.place)
-        texts = TEXTS.findall(value + b" " + self.text[self.place : None if end < 0 else end])
+        texts = TEXTS.findall(value + b" " + self.text[self.place : self.place + MOST_OF_LINE].partition(b"\n")[0])
         return " and ".join(word(text[1:-1]) for text in texts) if len(texts) > 1 else None
 
     def before_equals(self) -> Optional[str]:
@@ -402,30 +394,33 @@ class Slipped:
         return said(SEEN["BreaksOff"], self.begins(), closing) if is_near and is_last else None
 
 
-def is_hidden(text: bytes, item: Item) -> bool:
+def is_hidden(text: bytes, lines: Lines, item: Item) -> bool:
     """Whether an entry was meant to be hidden: its line begins with a `%` or a `@comment`."""
-    start = text[text.rfind(b"\n", 0, item.start) + 1 : item.start].lstrip()[:8]
+    begin = lines.starts[lines.line_of(item.start)]
+    start = text[begin : min(item.start, begin + MOST_OF_LINE)].lstrip()[:8]
     return item.is_entry and (start.startswith(b"%") or start.lower() == b"@comment")
 
 
 def not_hidden(name: str, text: bytes, lines: Lines, item: Item) -> Optional[str]:
     """What to do about an entry that was meant to be hidden."""
-    if not is_hidden(text, item):
+    if not is_hidden(text, lines, item):
         return None
     kind = word(text[item.start + 1 : item.kind_end])
     return said(SEEN["NotHidden"], f"@{kind}{{{word(item.key or b'')}}}, which begins at {name}:{lines.line_of(item.start) + 1}")
 
 
-def field_for_each_name(text: bytes, item: Item, name: str) -> Optional[str]:
+def field_for_each_name(item: Item, name: str) -> Optional[str]:
     """What to do about several fields of names in one entry."""
+    if name.lower() not in ("author", "editor"):
+        return None
     values = [word(field.value) for field in item.fields if word(field.name).lower() == name.lower()]
-    is_it = name.lower() in ("author", "editor") and len(values) > 1 and len(set(values)) == len(values)
+    is_it = 1 < len(values) <= MOST_JOINED and len(set(values)) == len(values)
     return said(SEEN["FieldForEachName"], name, " and ".join(values)) if is_it else None
 
 
-def of_missing(text: bytes, item: Item, names: str, parent: Optional[Item]) -> str:
+def of_missing(item: Item, names: str, parent: Optional[Item]) -> str:
     """What to do about a field that BibTeX's manual requires."""
-    found = missed_field(text, item, f"empty {names} in it")
+    found = missed_field(item, f"empty {names} in it")
     if found is not None:
         return found
     title = None if parent is None or names != "booktitle" else parent.value_of(b"title")

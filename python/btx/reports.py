@@ -54,6 +54,8 @@ def side(line: Optional[str]) -> str:
 
 def shown(text: str) -> str:
     """A text as it may be printed on a terminal or written as UTF-8."""
+    if text.isprintable():
+        return text
     return "".join(character if character.isprintable() else "?" for character in text.encode("utf8", "replace").decode("utf8"))
 
 

@@ -4,7 +4,6 @@ from __future__ import annotations
 
 import pathlib
 import re
-from importlib import metadata
 from typing import Optional
 
 __all__ = ["VERSION"]
@@ -24,6 +23,9 @@ def version_of_sources() -> Optional[str]:
 
 def version_installed() -> str:
     """The version of the package that is installed; 0 where none is."""
+    # (it takes as long as all else at the start)
+    from importlib import metadata
+
     try:
         return metadata.version("btx")
     except metadata.PackageNotFoundError:

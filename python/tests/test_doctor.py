@@ -1,5 +1,7 @@
 """The checks of databases, each on a text where it finds something and on one where it doesn't; what a run would log, beside runs; the command."""
 
+import contextlib
+import io
 import json
 import os
 import pathlib
@@ -12,6 +14,7 @@ import unittest
 import unittest.mock
 
 import btx
+from btx import checkup
 from btx.checkup import Remedies
 from btx.diagnosing import diagnose
 from btx.doctor import CHECKS, NO_TEXTS, ORGANIZATIONS, SAID, Citation, Source, Style, examine, hide_braces
@@ -122,6 +125,33 @@ def calls_of(what):
     finally:
         sys.setprofile(None)
     return calls[0]
+
+
+def steps_of(what):
+    """How many lines of Python are executed, those of generators and of other modules too, and how many functions are called."""
+    steps = [0]
+
+    def trace(frame, event, argument):
+        steps[0] += 1
+        return trace
+
+    before = sys.gettrace()
+    sys.settrace(trace)
+    try:
+        what()
+    finally:
+        sys.settrace(before)
+    return steps[0]
+
+
+@contextlib.contextmanager
+def in_folder(folder):
+    before = os.getcwd()
+    os.chdir(folder)
+    try:
+        yield
+    finally:
+        os.chdir(before)
 
 
 class Checks(unittest.TestCase):
@@ -618,6 +648,24 @@ class Cost(unittest.TestCase):
                 with self.subTest(entry=entry[:40], style=style):
                     steps, more = (calls_of(lambda number=number: found_in(b"".join(entry % it for it in range(number)), style)) for number in (500, 2000))
                     self.assertLess(more, 5 * steps)
+
+    def test_the_steps_of_the_command_grow_with_the_text(self):
+        """With all that is said of each finding: of an item, of its parent, of a key and a string that may be meant, of an entry that was to be hidden."""
+        rows = (b"@article{k%d, title = {T}, author = {A}, year = 1}\n", b"@inbook{k%d, crossref = {p%d}} @book{p%d, note = {N}}\n", b"@misc{k%d, note = stringnumber%d}@string{string%d = {S}}\n", b"% @misc{k, note = {%d}}\n",
+                b"@string{s%d = {S}} @misc{k%d, note = t%d} @string{t%d = {T}} ", b"@misc{k%d, author = {A} and {B}} ", b"@misc{k%d, author 1} ", b"@misc{=%d, author = {A}, author = {B}}\n", b"@online{k%d, page = {1-2}} ")
+        for row in rows:
+            with self.subTest(row=row):
+                steps, more = (self.steps_of_command(b"".join(row.replace(b"%d", b"%d" % it) for it in range(number)), number) for number in (100, 400))
+                self.assertLess(more, 5 * steps)
+
+    def steps_of_command(self, text, number):
+        """Calls and lines of Python that the command takes for a database and a document that cites keys which it doesn't have, but for what is made once."""
+        with tempfile.TemporaryDirectory() as folder:
+            files = {"d.bib": text, "j.aux": b"".join(b"\\citation{cited%d}\n" % it for it in range(number // 10)) + b"\\bibdata{d}\n\\bibstyle{s}\n", "s.bst": STYLE}
+            for name, content in files.items():
+                pathlib.Path(folder, name).write_bytes(content)
+            with in_folder(folder), unittest.mock.patch("sys.stdout", io.StringIO()):
+                return steps_of(lambda: checkup.main(["--job", "j", "d.bib"])) + steps_of(lambda: checkup.main(["d.bib"]))
 
     def test_what_repeated_entries_hide_is_read_about_once_more(self):
         """However many there are, and all of them."""
