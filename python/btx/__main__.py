@@ -11,7 +11,7 @@ from dataclasses import replace
 from typing import List, Optional
 
 from . import asking, checkup, compare, extracting, server
-from .commands import STATUS_REFUSED, Words, broken_pipe, print_all, prints_any_text
+from .commands import STATUS_REFUSED, Words, broken_pipe, print_nowhere, prints_any_text
 from .jobs import run
 from .options import LETTERS, Options
 from .outputs import Inputs, write_outputs
@@ -29,11 +29,11 @@ STATUS_DEVICE = 6
 def main(words: Optional[List[str]] = None) -> int:
     """Does what the words say, and answers the exit status."""
     given = sys.argv[1:] if words is None else words
+    if sys.stdout is None and given[:1] in (["doctor"], ["extract"], ["fields"], ["lsp"]):
+        return complain("standard output is closed", STATUS_DEVICE)
     prints_any_text()
     if given[:1] == ["compare"]:
         return compare.main(given[1:])
-    if sys.stdout is None and given[:1] in (["doctor"], ["extract"], ["fields"], ["lsp"]):
-        return complain("standard output is closed", STATUS_DEVICE)
     if given[:1] == ["doctor"]:
         return checkup.main(given[1:])
     if given[:1] == ["extract"]:
@@ -85,6 +85,7 @@ def run_job(words: argparse.Namespace) -> int:
     except BrokenPipeError:
         raise
     except OSError as error:
+        print_nowhere()
         return complain(f"the log can't be printed: {error}", STATUS_DEVICE)
     return result.report.status
 
@@ -95,7 +96,8 @@ def print_log(log: bytes) -> None:
         raise OSError("standard output is closed")
     if sys.stdout.isatty():
         log = b"".join(shown(line).encode("utf8") + b"\n" for line in log.decode("utf8", "replace").split("\n")[:-1])
-    print_all(log)
+    sys.stdout.buffer.write(log)
+    sys.stdout.flush()
 
 
 def chosen_options(words: argparse.Namespace, options: Options) -> Options:
