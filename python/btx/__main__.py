@@ -11,7 +11,7 @@ import sys
 from dataclasses import replace
 from typing import List, Optional
 
-from .commands import STATUS_REFUSED, Words, broken_pipe, print_all, prints_any_text
+from .commands import STATUS_REFUSED, Words, broken_pipe, print_nowhere, prints_any_text
 from .jobs import run
 from .options import LETTERS, Options
 from .outputs import Inputs, write_outputs
@@ -31,10 +31,10 @@ STATUS_DEVICE = 6
 def main(words: Optional[List[str]] = None) -> int:
     """Does what the words say, and answers the exit status."""
     given = sys.argv[1:] if words is None else words
+    if sys.stdout is None and given and given[0] in COMMANDS and given[0] != "compare":
+        return complain("standard output is closed", STATUS_DEVICE)
     prints_any_text()
     if given and given[0] in COMMANDS:
-        if sys.stdout is None and given[0] != "compare":
-            return complain("standard output is closed", STATUS_DEVICE)
         return int(importlib.import_module(f"btx.{COMMANDS[given[0]]}").main(given[1:]))
     # (an interrupt ends it at once: Python's own handler would wait until the library has answered)
     signal.signal(signal.SIGINT, signal.SIG_DFL)
@@ -79,6 +79,7 @@ def run_job(words: argparse.Namespace) -> int:
     except BrokenPipeError:
         raise
     except OSError as error:
+        print_nowhere()
         return complain(f"the log can't be printed: {error}", STATUS_DEVICE)
     return result.report.status
 
@@ -89,7 +90,8 @@ def print_log(log: bytes) -> None:
         raise OSError("standard output is closed")
     if sys.stdout.isatty():
         log = b"".join(shown(line).encode("utf8") + b"\n" for line in log.decode("utf8", "replace").split("\n")[:-1])
-    print_all(log)
+    sys.stdout.buffer.write(log)
+    sys.stdout.flush()
 
 
 def chosen_options(words: argparse.Namespace, options: Options) -> Options:

@@ -32,6 +32,8 @@ SIZE = RECORD.size
 AN_ENTRY = re.compile(bytes([ENTRY]))
 # What the standard styles of TeX write for the names of months.
 MONTHS: Mapping[str, str] = MappingProxyType({name[:3].lower(): name for name in "January February March April May June July August September October November December".split()})
+# A value of more bytes isn't kept as text beside the library's bytes.
+LONG = 4096
 # The name of a database whose text was handed in.
 NAMELESS = "database.bib"
 
@@ -66,6 +68,32 @@ class LowerNames(Dict[bytes, str]):
         return made
 
 
+class LongFields(Mapping[str, str]):
+    """The fields of an entry of which some are long: a long value is made whenever somebody asks for it, so that no second copy of it is kept.
+
+    values: the fields, in their order. places: of each long one where its text begins, and how many bytes it has."""
+
+    __slots__ = ("_base", "_values", "_places")
+
+    def __init__(self, base: "Bibliography", values: Dict[str, str], places: Dict[str, Tuple[int, int]]) -> None:
+        self._base = base
+        self._values = values
+        self._places = places
+
+    def __getitem__(self, field: str) -> str:
+        place = self._places.get(field)
+        return self._values[field] if place is None else decoded(self._base._texts[place[0] : sum(place)])
+
+    def __contains__(self, field: object) -> bool:
+        return field in self._values
+
+    def __iter__(self) -> Iterator[str]:
+        return iter(self._values)
+
+    def __len__(self) -> int:
+        return len(self._values)
+
+
 class Entry(Mapping[str, str]):
     """An entry: a mapping from the names of its fields, in lower case, to their values. A name may be asked for in any case.
 
@@ -77,7 +105,7 @@ class Entry(Mapping[str, str]):
     def __init__(self, base: "Bibliography", at: int) -> None:
         self._base = base
         self._at = at
-        self._fields: Optional[Dict[str, str]] = None
+        self._fields: Optional[Union[Dict[str, str], LongFields]] = None
 
     @property
     def type(self) -> str:
@@ -94,7 +122,7 @@ class Entry(Mapping[str, str]):
         """Its fields, in their order."""
         if self._fields is None:
             self._fields = self._base._fields(self._at + 1)
-        return MappingProxyType(self._fields)
+        return MappingProxyType(self._fields) if isinstance(self._fields, dict) else self._fields
 
     @property
     def place(self) -> Place:
@@ -285,9 +313,10 @@ class Bibliography:
         start, length = RECORD.unpack_from(self._records, at * SIZE)[7:]
         return self._texts[start : start + length]
 
-    def _fields(self, at: int) -> Dict[str, str]:
+    def _fields(self, at: int) -> Union[Dict[str, str], LongFields]:
         """The fields whose records begin here. One whose first value is too long isn't there, whatever comes after it: a run ignores a second one."""
         values: Dict[str, str] = {}
+        long: Dict[str, Tuple[int, int]] = {}
         left_out: Set[str] = set()
         records, texts, names, unpack, place = self._records, self._texts, self._names, RECORD.unpack_from, at * SIZE
         while place < len(records):
@@ -298,9 +327,12 @@ class Bibliography:
             if not is_whole:
                 left_out.add(name)
             elif name not in values and name not in left_out:
-                values[name] = str(texts[text_at : text_at + text_len], "utf8", "surrogateescape")
+                if text_len > LONG:
+                    values[name], long[name] = "", (text_at, text_len)
+                else:
+                    values[name] = str(texts[text_at : text_at + text_len], "utf8", "surrogateescape")
             place += SIZE
-        return values
+        return LongFields(self, values, long) if long else values
 
     def _last(self, at: int) -> int:
         """The number of the record that ends the item of this one: its end, or a mistake."""

@@ -8,7 +8,7 @@ import tempfile
 import unittest
 
 import btx
-from btx.asking import StyleFaulty, fields_of
+from btx.asking import StyleFaulty, as_json, as_page, as_text, fields_of
 from btx.checkup import named_style
 from btx.searching import found_search
 from tests.jobs import SOURCES
@@ -97,6 +97,9 @@ class Fields(unittest.TestCase):
     def test_what_trying_does_not_show_may_be_read(self):
         misc, book, default, _ = fields_of(CONDITIONS)
         self.assertEqual((misc.type, misc.optional, misc.may_be_read, misc.never_read), ("misc", ("title", "note"), ("edition", "doi", "year", "hidden"), ("unread", "other")))
+        self.assertIn("  may be read  edition, doi, year, hidden\n  never read   unread, other", as_text([misc]))
+        self.assertIn("<dt>may be read</dt><dd>edition, doi, year, hidden</dd>", as_page("s.bst", [misc]))
+        self.assertEqual(json.loads(as_json([misc]))[0]["may_be_read"], ["edition", "doi", "year", "hidden"])
         self.assertEqual((book.type, book.never_read), ("book", ("edition", "doi", "year", "hidden", "unread")))
         self.assertEqual((default.never_read, fields_of(CONDITIONS, ["BOOK"])[0].never_read), (misc.never_read, book.never_read))
         endless = b"ENTRY {a}{}{} FUNCTION {t}{skip$} FUNCTION {l}{{#1} {} while$} READ EXECUTE {l} FUNCTION {u} {a write$} ITERATE {u}"

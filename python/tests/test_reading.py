@@ -9,6 +9,7 @@ import re
 import tempfile
 import threading
 import time
+import tracemalloc
 import unittest
 
 import btx
@@ -238,6 +239,22 @@ class Shapes(unittest.TestCase):
             finally:
                 is_done.set()
                 writer.join()
+
+    def test_long_values_are_kept_once(self):
+        base = btx.read(b"@string{c = {%s\xc3\xa9}}" % (b"x" * 999_000) + b"".join(b"@misc{k%d, Title = {A}, t = c, year = c # {1}}" % number for number in range(60)))
+        tracemalloc.start()
+        try:
+            self.assertEqual(sum(len(value) for entry in base for value in entry.values()), 60 * (2 * 999_001 + 2))
+            kept, most = tracemalloc.get_traced_memory()
+        finally:
+            tracemalloc.stop()
+        self.assertLess(kept, 1_000_000)
+        self.assertLess(most, 10_000_000)
+        entry = base["k7"]
+        self.assertEqual((list(entry), len(entry), entry["TITLE"], entry["year"][-2:], "t" in entry.fields, "u" in entry, entry.get("u")), (["title", "t", "year"], 3, "A", "\xe91", True, False, None))
+        self.assertEqual(dict(pickle.loads(pickle.dumps(entry))), dict(entry))
+        with self.assertRaises(TypeError):
+            entry.fields["t"] = "B"  # type: ignore[index]
 
     def test_it_is_pickled(self):
         again = pickle.loads(pickle.dumps(self.base))
