@@ -15,7 +15,6 @@ ITEM = re.compile(rb"^(?=\\(?:bib|harvard)item|\\entry\{)", re.MULTILINE)
 KEY = re.compile(rb"\\(?:bib|harvard)item\s*(?:\[(?:[^\]{]|\{(?:[^{}]|\{[^{}]*\})*\})*\]\s*)?\{([^}]*)\}|\\entry\{([^}]*)\}")
 WHITE_SPACE = b" \t\r\n"
 LONGEST_SHOWN = 160
-NO_DATABASE = b"Error--I couldn't open database file "
 CUT = re.compile(rb"Warning--string of [0-9]+ bytes cut to [0-9]+ while ")
 
 
@@ -27,7 +26,6 @@ class Cause(enum.Enum):
     CUT = "a string was cut to what a variable keeps"
     LINE_ENDS = "the ends of the lines alone"
     SPACES = "white space alone"
-    DATABASE = "a database wasn't found"
     ORDER = "the order of the items"
     STYLE = "an error of the style was logged"
     ITEMS = "the text of some items"
@@ -94,8 +92,6 @@ def cause_of(result: Result, there: bytes) -> Cause:
         return Cause.LINE_ENDS
     if here.translate(None, WHITE_SPACE) == there.translate(None, WHITE_SPACE):
         return Cause.SPACES
-    if any(event.met is Met.FILES and result.log.startswith(NO_DATABASE, event.offset) for event in result.events.of(Severity.ERROR)):
-        return Cause.DATABASE
     ours, theirs = items_of(here), items_of(there)
     if ours.keys() != theirs.keys():
         return Cause.KEYS

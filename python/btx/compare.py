@@ -27,7 +27,7 @@ from .commands import STATUS_REFUSED, Words, broken_pipe
 from .corpus import Job, found_jobs
 from .depths import enter
 from .events import Met, Severity
-from .jobs import gathered
+from .jobs import gathered, name_bytes, name_text
 from .library import run_over
 from .messages import message_with
 from .options import RANGES, Options
@@ -46,7 +46,9 @@ MOST_BYTES = 64 << 20
 # How many lines of a log are looked at: a hostile one may have millions.
 MOST_EVENTS = 1 << 20
 # What a log says where there is no list to compare.
-NO_LIST = re.compile(rb"Error--(?:I found no \\bib|I couldn't open style file)")
+NO_LIST = re.compile(rb"Error--I found no \\bib")
+# What is said of files without which no list is compared.
+MISSING = {".bst": "I couldn't open style file ", ".bib": "I couldn't open database file "}
 # What ends programs beside an interrupt.
 ENDING = (signal.SIGTERM, signal.SIGHUP, signal.SIGQUIT)
 STATUS_DIFFERENT = 2
@@ -209,7 +211,8 @@ def compare_all(given: argparse.Namespace, program: Optional[str], table: Table)
 def conditions_of(given: argparse.Namespace, program: Optional[str]) -> Dict[str, object]:
     """What the results depend on besides the jobs: those of other conditions aren't taken again."""
     changed = os.stat(program).st_mtime_ns if program else None
-    return {"program": program, "changed": changed, "budget": given.budget}
+    # (earlier versions compared jobs of which a database was missing)
+    return {"program": program, "changed": changed, "budget": given.budget, "missing": "not run"}
 
 
 class Comparers:
@@ -311,15 +314,11 @@ def counted(seconds: float) -> str:
 
 def compared_here(job: Job, here: Search, options: Options, program: Optional[str], seconds: float, room: Optional[str]) -> Compared:
     """What comes of a job in whose folder this process is."""
-    found: Dict[str, bytes] = {}
-
-    def content(name: str) -> Optional[bytes]:
-        bytes_there = here.content(name)
-        if bytes_there is not None:
-            found[name] = bytes_there
-        return bytes_there
-
-    result = run_over(job.name, gathered(job.name, content), options, MOST_EVENTS)
+    finder = Finder(job, here)
+    files = gathered(job.name, finder.content)
+    if finder.missing is not None:
+        return not_run(job, finder.missing)
+    result = run_over(job.name, files, options, MOST_EVENTS)
     reason = why_not_run(result)
     if reason is not None:
         return not_run(job, reason)
@@ -327,11 +326,46 @@ def compared_here(job: Job, here: Search, options: Options, program: Optional[st
         there = content_of(job.name + b".bbl", MOST_BYTES)
     else:
         with tempfile.TemporaryDirectory(dir=room) as copy:
-            there = list_of(program, job, found, seconds, pathlib.Path(copy))
+            there = list_of(program, job, finder.found, seconds, pathlib.Path(copy))
+    above = tuple(finder.above)
     if result.bbl == there:
-        return Compared(job.shown(), "equal", "")
+        return Compared(job.shown(), "equal", "", above=above)
     line, ours, other = first_difference(result.bbl, there)
-    return Compared(job.shown(), "different", cause_of(result, there).value, line, ours, other)
+    return Compared(job.shown(), "different", cause_of(result, there).value, line, ours, other, above)
+
+
+class Finder:
+    """Finds the files of a job in whose folder this process is: where TeX finds them, and styles and databases else in the folders above.
+
+    found: the files by the names that the job calls them by. above: the paths of those from folders above. missing: what is said of the first style or database that is nowhere. No list
+    is compared then, as two that lack the same entries would be equal, and nothing more is looked for."""
+
+    def __init__(self, job: Job, here: Search) -> None:
+        self.job = job
+        self.here = here
+        self.found: Dict[str, bytes] = {}
+        self.above: List[str] = []
+        self.missing: Optional[str] = None
+
+    def content(self, name: str) -> Optional[bytes]:
+        """The bytes of the file of this name, if there is one."""
+        if self.missing is not None:
+            return None
+        content = self.here.content(name)
+        if content is None:
+            content = self.content_above(name)
+        if content is not None:
+            self.found[name] = content
+        elif name[-4:] in MISSING:
+            self.missing = MISSING[name[-4:]] + name
+        return content
+
+    def content_above(self, name: str) -> Optional[bytes]:
+        """The bytes of a style or a database from a folder above."""
+        path, content = self.job.file_above(name_bytes(name)) or (None, None)
+        if path is not None:
+            self.above.append(name_text(path))
+        return content
 
 
 def why_not_run(result: Result) -> Optional[str]:

@@ -9,7 +9,7 @@ import stat
 from dataclasses import dataclass
 from typing import Callable, Dict, FrozenSet, Iterable, List, Optional, Set, Tuple
 
-from .depths import contents_of, files_below, is_file, reached
+from .depths import contents_of, file_above, files_below, is_file, reached
 
 __all__ = ["Job", "found_jobs", "state_of"]
 
@@ -19,6 +19,8 @@ NAMES_A_STYLE = re.compile(rb"^\\bibstyle\{", re.MULTILINE)
 LONGEST = 100_000_000
 # The files of a job that a stranger may have made links.
 ENDINGS = (b".aux", b".bbl", b".blg")
+# The files that LaTeX doesn't write: where its outputs have a folder of their own, these are in the document's.
+OF_DOCUMENT = (b".bst", b".bib")
 
 
 @dataclass(frozen=True)
@@ -50,6 +52,17 @@ class Job:
                 if is_link and (folder is not None or not any(is_below(os.path.realpath(path), it) for it in folders)):
                     return os.fsdecode(os.path.basename(path))
         return None
+
+
+    def file_above(self, name: bytes) -> Optional[Tuple[bytes, bytes]]:
+        """The path and the bytes of a style or a database in the nearest folder above the job's own that has it; that is the present one. No folder is looked in that is
+        outside of those that were searched for jobs."""
+        tops = [folder for folder in self.within if is_below(self.folder, folder)]
+        if not name.endswith(OF_DOCUMENT) or name.startswith(b"/") or b"\0" in name or not tops:
+            return None
+        top = min(tops, key=len)
+        below = os.path.relpath(self.folder, top)
+        return None if below == b"." else file_above(name, top, below.count(b"/") + 1)
 
 
 def is_below(path: bytes, folder: bytes) -> bool:

@@ -8,9 +8,9 @@ import os
 import stat
 from typing import Callable, Iterator, List, Optional, Tuple
 
-from .searching import bytes_of
+from .searching import MOST_BYTES, bytes_of
 
-__all__ = ["contents_of", "enter", "files_below", "is_file", "reached"]
+__all__ = ["contents_of", "enter", "file_above", "files_below", "is_file", "reached"]
 
 # How many bytes of a path are handed to the system at most: Linux takes 4,095.
 MOST_PATH = 4000
@@ -85,6 +85,66 @@ def contents_of(path: bytes, most: int) -> Optional[bytes]:
     """The bytes of a file; None of one that has more than `most`. Raises OSError where it can't be read."""
     with reached(path) as (name, folder), open(os.open(name, os.O_RDONLY | os.O_CLOEXEC, dir_fd=folder), "rb") as file:
         return bytes_of(file, most)
+
+
+def file_above(name: bytes, top: bytes, levels: int) -> Optional[Tuple[bytes, bytes]]:
+    """The path and the bytes of the file of this name in the nearest folder above the present one that has it. The last folder looked in is `top`, which is `levels` above the present one;
+    a name that leads further up by `..` names no file. Raises OSError where the file can't be read, or where a folder was moved meanwhile."""
+    upwards, inner = parted(name)
+    found = None
+    for level, folder in folders_above(levels):
+        if found is None and level > upwards and is_file_in(inner, folder):
+            found = b"../" * level + inner, contents_in(inner, folder)
+        if found is not None and level == levels and number_of(folder) != number_of_path(top):
+            raise OSError(errno.ESTALE, "a folder in it was moved meanwhile", top)
+    return found
+
+
+def parted(name: bytes) -> Tuple[int, bytes]:
+    """How many folders a name leads up at first, and what it is from there on, without another `..`."""
+    parts = os.path.normpath(name).split(b"/")
+    upwards = parts.count(b"..")
+    return upwards, b"/".join(parts[upwards:])
+
+
+def folders_above(levels: int) -> Iterator[Tuple[int, int]]:
+    """The folders above the present one, the nearest first: how many levels each is above it, and its descriptor, which is closed before the next one."""
+    folder: Optional[int] = None
+    try:
+        for level in range(1, levels + 1):
+            outer = os.open(b"..", ONLY_REACHED, dir_fd=folder)
+            if folder is not None:
+                os.close(folder)
+            folder = outer
+            yield level, folder
+    finally:
+        if folder is not None:
+            os.close(folder)
+
+
+def is_file_in(name: bytes, folder: int) -> bool:
+    """Whether a file of this name is in a folder, or a link to one."""
+    try:
+        return stat.S_ISREG(os.stat(name, dir_fd=folder).st_mode)
+    except (OSError, ValueError):
+        return False
+
+
+def contents_in(name: bytes, folder: int) -> bytes:
+    """The bytes of a file in a folder. Raises OSError where it can't be read, or is longer than any that a run reads."""
+    with open(os.open(name, os.O_RDONLY | os.O_CLOEXEC, dir_fd=folder), "rb") as file:
+        content = bytes_of(file, MOST_BYTES)
+    if content is None:
+        raise OSError(errno.EFBIG, f"it has more than {MOST_BYTES:,} bytes", os.fsdecode(name))
+    return content
+
+
+def number_of_path(path: bytes) -> Tuple[int, int]:
+    folder = opened(path, ONLY_REACHED)
+    try:
+        return number_of(folder)
+    finally:
+        os.close(folder)
 
 
 class Level:

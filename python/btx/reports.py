@@ -19,12 +19,14 @@ __all__ = ["Compared", "Progress", "Resumed", "Table"]
 
 # How often a terminal sees how far the work is, in seconds.
 SHOWN_EVERY = 0.2
+# How many files of folders above the table names.
+MOST_FILES = 10
 
 
 @dataclass(frozen=True)
 class Compared:
     """What came of a job. outcome: `equal`, `different` or `not run`; reason: the cause, or why it wasn't run. line, here, there: the first
-    line in which the lists differ, counted from 1, as this run and as the other side has it."""
+    line in which the lists differ, counted from 1, as this run and as the other side has it. above: the paths of styles and databases that were found in folders above the job's own."""
 
     job: str
     outcome: str
@@ -32,13 +34,18 @@ class Compared:
     line: Optional[int] = None
     here: Optional[str] = None
     there: Optional[str] = None
+    above: Tuple[str, ...] = ()
 
     def __str__(self) -> str:
-        if self.outcome == "equal":
-            return f"{shown(self.job)}: equal"
         if self.outcome == "not run":
             return f"{shown(self.job)}: not run: {shown(self.reason)}"
-        return f"{shown(self.job)}: line {self.line} differs ({shown(self.reason)}): {side(self.here)} | {side(self.there)}"
+        if self.outcome == "equal":
+            return f"{shown(self.job)}: equal{self.with_files()}"
+        return f"{shown(self.job)}: line {self.line} differs ({shown(self.reason)}{self.with_files()}): {side(self.here)} | {side(self.there)}"
+
+    def with_files(self) -> str:
+        """Which files were found in folders above, if some were."""
+        return f"; with {shown(', '.join(self.above))}" if self.above else ""
 
 
 def side(line: Optional[str]) -> str:
@@ -99,10 +106,10 @@ def compared_of(value: object) -> Compared:
     """The result that a value of JSON is. Raises TypeError where it is none."""
     if not isinstance(value, dict):
         raise TypeError("a result is an object")
-    result = Compared(**value)
+    result = Compared(**{**value, "above": tuple(value.get("above", ()))})
     if result.outcome not in ("equal", "different", "not run"):
         raise TypeError("a result has another outcome")
-    texts = (result.job, result.reason, result.here or "", result.there or "")
+    texts = (result.job, result.reason, result.here or "", result.there or "", *result.above)
     if not all(isinstance(text, str) for text in texts) or not isinstance(result.line, (int, type(None))):
         raise TypeError("a result has other values")
     return result
@@ -182,7 +189,14 @@ class Table:
             rows.append((outcome, outcomes[outcome]))
             reasons = Counter(result.reason for result in self.results if result.outcome == outcome)
             rows += [(f"    {shown(reason)}", count) for reason, count in reasons.most_common()]
-        return rows
+        return rows + self.counts_of_files()
+
+    def counts_of_files(self) -> List[Tuple[str, int]]:
+        """How many jobs were run with styles or databases of folders above, and with which ones, the commonest first."""
+        with_some = [result.above for result in self.results if result.above]
+        files = Counter(path for above in with_some for path in dict.fromkeys(above))
+        rows = [("with a style or a database of a folder above", len(with_some))] if with_some else []
+        return rows + [(f"    {shown(path)}", count) for path, count in files.most_common(MOST_FILES)]
 
     def sorted(self) -> List[Compared]:
         """The results in the order of the jobs' names."""
@@ -240,7 +254,7 @@ def page_of(results: List[Compared], counts: List[Tuple[str, int]]) -> str:
 
 def article_of(result: Compared) -> str:
     """What the page has of one job."""
-    head = f"<h3>{html.escape(shown(result.job))}</h3><p>{result.outcome}: {html.escape(shown(result.reason))}"
+    head = f"<h3>{html.escape(shown(result.job))}</h3><p>{result.outcome}: {html.escape(shown(result.reason) + result.with_files())}"
     if result.outcome == "not run":
         return f"<article>{head}</p></article>"
     sides = "".join(f'<pre class="{name}">{html.escape(line or "(no such line)")}</pre>' for name, line in (("here", result.here), ("there", result.there)))
