@@ -9,6 +9,29 @@
 
 local btx = {}
 
+-- What library/btx.h declares of it.
+local DECLARED = [[
+    typedef struct { const char *at; size_t len; } btx_text;
+    typedef struct { btx_text name, bytes; bool is_there; } btx_file;
+    typedef struct { uint64_t budget; uint32_t min_crossrefs, line, entry_max, global_max; bool utf8; } btx_options;
+    typedef struct { uint32_t status, end_; uint64_t steps, deepest, warnings, errors; size_t list_len, log_len; } btx_report;
+    uint32_t btx_needs(const char *job, size_t job_len, const btx_file *files, size_t files_len, char *names, size_t room, size_t *len);
+    typedef struct { uint64_t at, len, entry; uint32_t kind, met; } btx_event;
+    uint32_t btx_run_events(const char *job, size_t job_len, const btx_file *files, size_t files_len, const btx_options *options,
+                            char *list, size_t list_room, char *log, size_t log_room, btx_report *report,
+                            btx_event *events, size_t events_room, size_t *events_len);
+    typedef struct { btx_text name, text; } btx_string;
+    typedef struct { uint32_t kind; bool is_whole; size_t start, end_, line, name_at, name_len, text_at, text_len; } btx_record;
+    typedef struct { size_t records, texts; } btx_sizes;
+    uint32_t btx_read(const char *file, size_t file_len, const char *text, size_t text_len, const btx_string *strings, size_t strings_len,
+                      btx_record *records, size_t records_room, char *texts, size_t texts_room, btx_sizes *sizes);
+    uint32_t btx_read_job(const char *job, size_t job_len, const btx_file *files, size_t files_len, const btx_options *options,
+                          btx_record *records, size_t records_room, char *texts, size_t texts_room, btx_sizes *sizes);
+    typedef struct { uint32_t verdict; uint64_t literals, bodies; size_t types_len, notes_len; } btx_verdict;
+    uint32_t btx_check(const char *name, size_t name_len, const char *style, size_t style_len, uint64_t steps,
+                       char *types, size_t types_room, char *notes, size_t notes_room, btx_verdict *verdict);
+]]
+
 -- The library, once it is loaded: LuaJIT takes declarations once.
 local loaded
 
@@ -20,24 +43,7 @@ local function load_library()
     if not is_there or not ffi.cdef then
         error("btx needs LuaTeX's ffi: run lualatex with --shell-escape", 0)
     end
-    ffi.cdef [[
-        typedef struct { const char *at; size_t len; } btx_text;
-        typedef struct { btx_text name, bytes; bool is_there; } btx_file;
-        typedef struct { uint64_t budget; uint32_t min_crossrefs, line, entry_max, global_max; bool utf8; } btx_options;
-        typedef struct { uint32_t status, end_; uint64_t steps, deepest, warnings, errors; size_t list_len, log_len; } btx_report;
-        uint32_t btx_needs(const char *job, size_t job_len, const btx_file *files, size_t files_len, char *names, size_t room, size_t *len);
-        typedef struct { uint64_t at, len, entry; uint32_t kind, met; } btx_event;
-        uint32_t btx_run_events(const char *job, size_t job_len, const btx_file *files, size_t files_len, const btx_options *options,
-                                char *list, size_t list_room, char *log, size_t log_room, btx_report *report,
-                                btx_event *events, size_t events_room, size_t *events_len);
-        typedef struct { btx_text name, text; } btx_string;
-        typedef struct { uint32_t kind; bool is_whole; size_t start, end_, line, name_at, name_len, text_at, text_len; } btx_record;
-        typedef struct { size_t records, texts; } btx_sizes;
-        uint32_t btx_read(const char *file, size_t file_len, const char *text, size_t text_len, const btx_string *strings, size_t strings_len,
-                          btx_record *records, size_t records_room, char *texts, size_t texts_room, btx_sizes *sizes);
-        uint32_t btx_read_job(const char *job, size_t job_len, const btx_file *files, size_t files_len, const btx_options *options,
-                              btx_record *records, size_t records_room, char *texts, size_t texts_room, btx_sizes *sizes);
-    ]]
+    ffi.cdef(DECLARED)
     local is_loaded, library = pcall(ffi.load, os.getenv("BTX_LIBRARY") or "libbtx.so.1")
     if not is_loaded then
         error("btx can't load its library: " .. tostring(library), 0)
@@ -55,6 +61,8 @@ local KINDS = { [0] = "plain", "warning", "error" }
 local MET = { [0] = "files", "style", "databases", "execution", "end" }
 -- What a record of a database is.
 local PREAMBLE, STRING, ENTRY, FIELD, WRONG = 1, 2, 3, 4, 6
+-- What is said of a style.
+local VERDICTS = { [0] = "clean", "warnings", "incomplete" }
 -- What the standard styles write for the months.
 local MONTHS = {}
 for month in ("January February March April May June July August September October November December"):gmatch("%a+") do
@@ -62,6 +70,23 @@ for month in ("January February March April May June July August September Octob
 end
 -- How many bytes an output may have at first and at most.
 local FIRST_ROOM, MOST_ROOM = 65536, 1073741824
+
+-- The room for an output of `wanted` items of so many bytes, if that isn't longer than any may be.
+local function room_for(what, wanted, bytes)
+    if wanted * bytes > MOST_ROOM then
+        error("btx: " .. what .. " are longer than " .. MOST_ROOM .. " bytes", 0)
+    end
+    return wanted
+end
+
+-- The lines of a text whose lines all end.
+local function lines_of(text)
+    local lines = {}
+    for line in text:gmatch("([^\n]*)\n") do
+        lines[#lines + 1] = line
+    end
+    return lines
+end
 
 -- The files as an array for C; ffi keeps Lua's strings as they are, and copies none.
 local function array_of(ffi, files)
@@ -85,13 +110,9 @@ local function needed(ffi, library, job, files)
         if answer ~= DONE and answer ~= ENDS then
             error("btx was refused memory", 0)
         elseif size <= room then
-            local found = {}
-            for name in ffi.string(names, size):gmatch("([^\n]*)\n") do
-                found[#found + 1] = name
-            end
-            return found
+            return lines_of(ffi.string(names, size))
         end
-        room = size
+        room = room_for("the names of files", size, 1)
     end
 end
 
@@ -158,7 +179,7 @@ function btx.run_over(ffi, library, job, files, asked)
                 status = tonumber(report.status), is_finished = tonumber(report.end_) == FINISHED, steps = tonumber(report.steps), warnings = tonumber(report.warnings), errors = tonumber(report.errors),
             }, btx.events_of(ffi.string(log, report.log_len), events, count)
         elseif answer == DONE then
-            events_room = count
+            events_room = room_for("the events", count, ffi.sizeof("btx_event"))
         elseif answer ~= FULL then
             error("btx: the library answered " .. tonumber(answer), 0)
         elseif rooms[full] >= MOST_ROOM then
@@ -244,7 +265,9 @@ end
 
 -- What a call answers that writes the records of databases, in rooms that grow as they need to; and what they are of, if it is done.
 function btx.in_rooms(ffi, length, read)
-    local records_room, texts_room, sizes = math.floor(length / 24) + 64, 2 * length + 64, ffi.new("btx_sizes")
+    local of_record, sizes = ffi.sizeof("btx_record"), ffi.new("btx_sizes")
+    local records_room = math.min(math.floor(length / 24) + 64, math.floor(MOST_ROOM / of_record))
+    local texts_room = math.min(2 * length + 64, MOST_ROOM)
     while true do
         local records, texts = ffi.new("btx_record[?]", records_room), ffi.new("char[?]", texts_room)
         local answer = read(records, records_room, texts, texts_room, sizes)
@@ -253,13 +276,17 @@ function btx.in_rooms(ffi, length, read)
         elseif answer ~= FULL then
             return answer
         end
-        records_room, texts_room = math.max(records_room, tonumber(sizes.records)), math.max(texts_room, tonumber(sizes.texts))
+        records_room = room_for("the records of databases", math.max(records_room, tonumber(sizes.records)), of_record)
+        texts_room = room_for("the texts of databases", math.max(texts_room, tonumber(sizes.texts)), 1)
+        -- (the rooms that were too small are given back first)
+        records, texts = nil, nil
+        collectgarbage()
     end
 end
 
 -- The database that records are of.
 function btx.base_of(ffi, records, count, texts)
-    local base, entry = { entries = {}, by_key = {}, strings = {}, preamble = "", mistakes = {} }, nil
+    local base, entry, seen = { entries = {}, by_key = {}, strings = {}, preamble = "", mistakes = {} }, nil, {}
     for number = 0, count - 1 do
         local its = records[number]
         local kind = tonumber(its.kind)
@@ -267,11 +294,15 @@ function btx.base_of(ffi, records, count, texts)
         local text = ffi.string(texts + its.text_at, its.text_len)
         if kind == ENTRY then
             local line = tonumber(its.line)
-            entry = { type = name, key = text, line = line > 0 and line or nil, fields = {} }
+            entry, seen = { type = name, key = text, line = line > 0 and line or nil, fields = {} }, {}
             base.entries[#base.entries + 1] = entry
             base.by_key[text:lower()] = base.by_key[text:lower()] or entry
-        elseif kind == FIELD and its.is_whole then
-            entry.fields[name] = entry.fields[name] or text
+        elseif kind == FIELD then
+            -- (of fields with one name the first counts, also where its text is too long and left out)
+            if its.is_whole and not seen[name] then
+                entry.fields[name] = text
+            end
+            seen[name] = true
         elseif kind == STRING and its.is_whole then
             base.strings[name] = text
         elseif kind == PREAMBLE then
@@ -281,6 +312,65 @@ function btx.base_of(ffi, records, count, texts)
         end
     end
     return base
+end
+
+-- btx.check(style, name, steps) -> {verdict = .., types = .., bodies = .., literals = .., warnings = .., causes = .., is_partial = ..}
+--
+-- Says of the text of a style, before any run, whether it is clean, in at most `steps` steps of the check: 2,000,000 if nothing is said. `name` is that of its file. verdict is "clean",
+-- "warnings" or "incomplete". Of a clean style no run logs a fault of the stack or of kinds, for entries of `types` and of types that it doesn't know; bodies is how many of functions are
+-- open at once at most, and literals how many the stack has. Each of `warnings` is a place where a run may log a fault: its fault ("stack", "kind", "equal", "variable", "entry" or
+-- "left"), is_first, the line of the style, types, and notes, which are the library's lines of it (library/btx.3). Those of each cause are in causes.
+function btx.check(style, name, steps)
+    local ffi, library = load_library()
+    local file, verdict, types_room, notes_room = name or "style.bst", ffi.new("btx_verdict"), FIRST_ROOM, FIRST_ROOM
+    while true do
+        local types, notes = ffi.new("char[?]", types_room), ffi.new("char[?]", notes_room)
+        local answer = library.btx_check(file, #file, style, #style, steps or 2000000, types, types_room, notes, notes_room, verdict)
+        local types_len, notes_len = tonumber(verdict.types_len), tonumber(verdict.notes_len)
+        if answer == DONE then
+            local said = btx.said_of(ffi.string(notes, notes_len))
+            said.verdict, said.types = VERDICTS[tonumber(verdict.verdict)], lines_of(ffi.string(types, types_len))
+            said.bodies, said.literals = tonumber(verdict.bodies), tonumber(verdict.literals)
+            return said
+        elseif answer == REFUSED then
+            error("btx: a style has at most 2147483647 bytes", 0)
+        elseif answer ~= FULL then
+            error("btx was refused memory", 0)
+        end
+        types_room = room_for("the names of types", math.max(types_room, types_len), 1)
+        notes_room = room_for("the notes on a style", math.max(notes_room, notes_len), 1)
+    end
+end
+
+-- What the notes of a check say: a block of lines for each warning, and then for each cause.
+function btx.said_of(notes)
+    local said, block = { warnings = {}, causes = {}, is_partial = false }, nil
+    for _, note in ipairs(lines_of(notes)) do
+        local word, rest = note:match("^(%S*) ?(.*)$")
+        if word == "warning" then
+            block = { fault = rest:match("^%S+"), is_first = rest:match(" first$") ~= nil, types = {}, notes = {} }
+            said.warnings[#said.warnings + 1] = block
+        elseif word == "cause" then
+            block = { notes = {} }
+            said.causes[#said.causes + 1] = block
+        elseif word == "partial" then
+            said.is_partial, block = true, nil
+        end
+        if block then
+            btx.add_note(block, word, rest, note)
+        end
+    end
+    return said
+end
+
+-- Adds a line to the block of a warning or a cause. Its line in the style is that of the token; of a command, where there is no token.
+function btx.add_note(block, word, rest, note)
+    block.notes[#block.notes + 1] = note
+    if word == "type" and block.types then
+        block.types[#block.types + 1] = rest
+    elseif word == "item" or word == "at" or word == "cause" then
+        block.line = tonumber(rest:match("^%S+ (%d+)"))
+    end
 end
 
 -- Where TeX finds a file. kpse.in_name_ok obeys openin_any.
@@ -343,13 +433,7 @@ function btx.bibliography(wanted)
 end
 
 -- The lines of a text, as tex.print takes them.
-function btx.lines(text)
-    local lines = {}
-    for line in text:gmatch("([^\n]*)\n") do
-        lines[#lines + 1] = line
-    end
-    return lines
-end
+btx.lines = lines_of
 
 -- The \citation lines of an .aux file and of those that it includes, added to `into` where that is given. `seen` has the files that were read.
 function btx.citations(path, seen, into)
