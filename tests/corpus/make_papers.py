@@ -73,14 +73,14 @@ def made_of_entries(folder, papers):
     return made
 
 
-def found_by_tex(stems):
-    """Those of these styles that BibTeX finds by their names: one that is shipped for pBibTeX alone isn't among them."""
-    found = subprocess.run(["kpsewhich", *(f"{stem}.bst" for stem in stems)], stdin=subprocess.DEVNULL, capture_output=True, text=True, check=False)
+def found_by_tex(stems, ending=".bst"):
+    """Those of these styles or databases that BibTeX finds by their names: one that is shipped for pBibTeX alone isn't among them."""
+    found = subprocess.run(["kpsewhich", *(stem + ending for stem in stems)], stdin=subprocess.DEVNULL, capture_output=True, text=True, check=False)
     return {pathlib.Path(line).stem for line in found.stdout.splitlines()}
 
 
 def made_of_documents(folder, by_latex):
-    """Makes a paper of each shipped document that names a shipped style and databases. Answers how many."""
+    """Makes a paper of each shipped document that names a shipped style and shipped databases: no list is compared of which a database is missing. Answers how many."""
     made = 0
     stems = sorted({path.stem for path in shipped(".bst")})
     names = {bytes(path.with_suffix("")) for path in files(DOCUMENTS, ".bst")} | {stem.encode() for stem in found_by_tex(stems)}
@@ -91,9 +91,10 @@ def made_of_documents(folder, by_latex):
             continue
         cited, databases, style = found
         style = beside(path, style, ".bst")
-        if style in names:
+        databases = [beside(path, database, ".bib") for database in databases]
+        if style in names and all(map(is_there, databases)):
             name = "-".join(path.relative_to(DOCUMENTS).with_suffix("").parts)
-            write_paper(folder / f"document-{name}", cited, [beside(path, database, ".bib") for database in databases], style)
+            write_paper(folder / f"document-{name}", cited, databases, style)
             made += 1
     return made
 
@@ -128,6 +129,11 @@ def beside(document, name, ending):
     bare = name[:-4] if name.endswith(ending.encode()) else name
     path = document.parent / (bare.decode("utf8", "surrogateescape") + ending)
     return bytes(path.resolve().with_suffix("")) if path.is_file() else bare
+
+
+def is_there(database):
+    """Whether a database is there that is named by its path or by the name by which TeX finds it."""
+    return database.startswith(b"/") or bool(found_by_tex([database.decode("utf8", "surrogateescape")], ".bib"))
 
 
 def main():
