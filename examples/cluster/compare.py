@@ -4,7 +4,7 @@
     dask-worker 127.0.0.1:8786 --nthreads 1          on each machine, as often as it has processors
     python3 compare.py --scheduler 127.0.0.1:8786 FOLDER..
 
-Each machine needs the package `btx`, TeX, and the folders under the same paths. Jobs share nothing. Those of a worker that is lost are run again by
+Each machine needs the package `btx`, TeX, and the folders under the same paths. One without the package ends the comparison. Jobs share nothing. Those of a worker that is lost are run again by
 another one. What is printed is what `python3 -m btx compare` prints on one machine, in the order of the jobs' names."""
 
 import os
@@ -39,7 +39,10 @@ def main():
     table = Table()
     with Client(given.scheduler) as client:
         # (two pieces with the same jobs are never the same work: a file may have changed)
-        compare_all(jobs, lambda piece: client.submit(compared_piece, piece, given.budget, program, given.time_limit, pure=False), table)
+        try:
+            compare_all(jobs, lambda piece: client.submit(compared_piece, piece, given.budget, program, given.time_limit, pure=False), table)
+        except ImportError as error:
+            status = complain(f"the package btx, or its library, is missing on the workers: {error}")
     for result in table.sorted():
         if result.outcome != "equal":
             print(result)
@@ -48,7 +51,7 @@ def main():
 
 
 def compare_all(jobs, ask, table):
-    """Has all jobs compared in pieces, by what `ask` begins for each; their results go into the table."""
+    """Has all jobs compared in pieces, by what `ask` begins for each; their results go into the table. Raises ImportError where a worker can't load the package: it would answer all pieces so."""
     asked = {ask(piece): piece for piece in (jobs[begin:begin + JOBS_IN_A_PIECE] for begin in range(0, len(jobs), JOBS_IN_A_PIECE))}
     waited_for = as_completed(asked)
     for future in waited_for:
@@ -66,6 +69,8 @@ def results_of(future, piece):
     one job that ends its worker doesn't take the others with it. Such a job wasn't run."""
     try:
         return future.result(), []
+    except ImportError:
+        raise
     except (Exception, CancelledError) as error:
         if len(piece) > 1:
             return [], piece

@@ -58,7 +58,7 @@ class Job:
         """The path and the bytes of a style or a database in the nearest folder above the job's own that has it; that is the present one. No folder is looked in that is
         outside of those that were searched for jobs."""
         tops = [folder for folder in self.within if is_below(self.folder, folder)]
-        if not name.endswith(OF_DOCUMENT) or name.startswith(b"/") or not tops:
+        if not name.endswith(OF_DOCUMENT) or name.startswith(b"/") or b"\0" in name or not tops:
             return None
         top = min(tops, key=len)
         below = os.path.relpath(self.folder, top)
