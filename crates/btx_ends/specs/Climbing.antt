@@ -1,4 +1,6 @@
 -- Loops that count a variable up: they go on as long as a place is below a limit that stays, and each turn raises the place by 1. Read off the tokens.
+-- Where the test is true the place is below the limit, which is below 2^31: so one more isn't too great, and the limit less the place falls at each turn. Nothing is
+-- asked of the least value of the place. A sum below -2^31 is 0, so the place is below it only before the first turn, and there are at most 2^32 turns.
 use Rattle.std.specs.Prelude.{◌≡◌, ◌≢◌, ℕ, ◌+◌, ◌^◌, ◌≤◌, ◌<◌, ℤ, pos, negsuc, ◌-ℤ◌, List, [], ◌∷◌, ◌++◌, if◌then◌else◌, nat_lt, ◌⊎◌}
 use Rattle.btx_text.specs.declared.element_kind.TextMode.{TextMode}
 use Rattle.btx_bst.specs.declared.built_in.BuiltIn.TheVariants as built_in
