@@ -2,7 +2,7 @@
 
     python3 force_ends.py [--styles N] [--real N] [--jobs N] [--seed N] [--processes N] [--folder FOLDER] LIBRARY.so
 
-LIBRARY.so is the library for C (library/out/libbtx.so.1). Half of the styles are made from a seed, with loops that count a variable down or up, make a text shorter or walk along it, and half of these have a token
+LIBRARY.so is the library for C (library/out/libbtx.so.1). Half of the styles are made from a seed, with loops that count a variable down or up or a literal down, make a text shorter or walk along it, and half of these have a token
 changed. With --real N, N are of a folder (TeX Live's, if it is there), of which most have a token changed. Of each the bound is asked for with the number of bytes that the job's variables keep: 0
 to 20,000, where small numbers make it tight. A bound above MOST_STEPS is no budget: such a run gets MOST_STEPS, and may be stopped. The last line is 'N passed, M failed', of the styles that are
 said to end and of which a run had its bound as budget."""
@@ -23,6 +23,8 @@ KEPT = [1, 2, 3, 10, 100, 20_000]
 ENTRIES = 3
 # What is added to a place in a text.
 STRIDES = [b"#1", b"#2", b"i", b"j", b"#2147483647"]
+# Tests that leave an integer on the stack and are true only where it is above 0, or nearly so.
+ASKS = [b"duplicate$ #0 >", b"duplicate$ duplicate$ s swap$ #1 substring$ \"b\" = not and", b"duplicate$ duplicate$ i > not and", b"duplicate$ #-1 >", b"#1"]
 COUNTERS = [b"#3", b"#0", b"#-2", b"s num.names$", b"u num.names$", b"i", b"j #1 -", b"i #2 -"]
 
 
@@ -47,6 +49,7 @@ class LoopMaker(Maker):
             self.pick([b"#1", b"#-9", b"#2147483647"]) + b" '" + size + b" := #1 '" + v + b" := {" + part + b"\"\" = not} {" + inside + b" " + stride + b"} while$",
             b"{" + part + b"\"\" = not} {" + part + b"\"A\" = {u write$ " + stride + b"} {" + other + b"} if$} while$",
             self.pick([b"#0", b"#-9", b"j"]) + b" '" + v + b" := {" + below + b"} {" + self.pick([b"", inside]) + b" " + v + b" #1 + '" + v + b" := " + self.pick([b"", inside]) + b"} while$",
+            self.pick(COUNTERS) + b" {" + self.pick(ASKS) + b"} {" + self.pick([b"", b"swap$ \"x\" * swap$ ", b"swap$ " + inside + b" swap$ "]) + b"#1 -} while$ pop$",
             b"title empty$ {\"\"} 'title if$ '" + t + b" :=",
         ])
 

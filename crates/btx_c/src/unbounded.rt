@@ -23,6 +23,8 @@ fn claims_in<'c>(found: &'c Certificate) -> Claims<'c> {
         moves: found.moves.as_slice(),
         limits: found.limits.as_slice(),
         raises: found.raises.as_slice(),
+        asks: found.asks.as_slice(),
+        lowers: found.lowers.as_slice(),
         integers: found.integers,
         kept: found.kept,
     }

@@ -166,14 +166,14 @@ before_or_past (suc k) (suc n) = elim (before_or_past k n) [ inl m ↦ inl (omeg
 abbrev pub FirstHold : (ℕ → Type 0) → ℕ → Type 0
 FirstHold P n = (k : ℕ) → k < n → P k
 
-first_more : (P : ℕ → Type 0) (n : ℕ) → FirstHold P n → P n → FirstHold P (n + 1)
+pub first_more : (P : ℕ → Type 0) (n : ℕ) → FirstHold P n → P n → FirstHold P (n + 1)
 first_more P n h w k l = by (before_or_at k n l)
   where
     by : (k < n) ⊎ (k ≡ n) → P k
     by (inl m) = h k m
     by (inr e) = subst P (sym e) w
 
-all_hold : (P : ℕ → Type 0) (n : ℕ) → FirstHold P n → ((k : ℕ) → n ≤ k → P k) → (k : ℕ) → P k
+pub all_hold : (P : ℕ → Type 0) (n : ℕ) → FirstHold P n → ((k : ℕ) → n ≤ k → P k) → (k : ℕ) → P k
 all_hold P n h past k = by (before_or_past k n)
   where
     by : (k < n) ⊎ (n ≤ k) → P k

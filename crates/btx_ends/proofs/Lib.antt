@@ -12,6 +12,8 @@ pub mod ShorterLemmas
 pub mod TellLemmas
 pub mod WalkLemmas
 pub mod ClimbLemmas
+pub mod DescendingLemmas
 pub mod RunLemmas
 pub mod StyleLemmas
 pub mod CodeLemmas
+pub mod PileLemmas

@@ -1,5 +1,5 @@
 -- What a certificate claims is so: tokens, bodies, functions and loops end within their bounds, and keep what is claimed of variables.
-use Rattle.std.proofs.Common.{◌≡◌, ℕ, zero, suc, ◌+◌, ◌-◌, ◌*◌, ◌^◌, ◌≤◌, ◌<◌, ℤ, pos, negsuc, Bool, true, false, nat_lt, List, [], ◌∷◌, length, Some}
+use Rattle.std.proofs.Common.{◌≡◌, ℕ, zero, suc, ◌+◌, ◌-◌, ◌*◌, ◌^◌, ◌≤◌, ◌<◌, ◌⊎◌, ℤ, pos, negsuc, Bool, true, false, nat_lt, List, [], ◌∷◌, length, Some}
 use Rattle.std.proofs.Common.{refl, arith, sym, ap, subst, ◌∙◌, inl, inr}
 use Rattle.std.specs.Prelude.{slice_get, slice_index_or, unwrap_or, int_lt, ◌-ℤ◌}
 use Rattle.std.proofs.lemmas.Int.{ints}
@@ -31,7 +31,7 @@ use Rattle.btx_ends.specs.declared.known.Known.{Known}
 use Rattle.btx_ends.specs.declared.known.Known.TheVariants as known
 use Rattle.btx_ends.specs.Costs.{Ended, EndsIn}
 use Rattle.btx_ends.specs.Counters.{value_in, above_zero}
-use Rattle.btx_ends.specs.Certificates.{Claims, CalleeWithin, ChoiceWithin, LoopWithin, CountedWithin, ShortenedWithin, WalkedWithin, ClimbedWithin, TurnsWithin, AssignsWithin, StepWithin, TokensWithin, BodyWithin}
+use Rattle.btx_ends.specs.Certificates.{Claims, CalleeWithin, ChoiceWithin, LoopWithin, CountedWithin, ShortenedWithin, WalkedWithin, ClimbedWithin, LoweredWithin, TurnsWithin, AssignsWithin, StepWithin, TokensWithin, BodyWithin}
 use Rattle.btx_ends.specs.declared.measures.Measure.{Measure}
 use Rattle.btx_ends.specs.declared.measures.Effect.{Effect}
 use Rattle.btx_ends.specs.declared.measures.Effect.TheVariants as effect
@@ -43,6 +43,8 @@ use Rattle.btx_ends.specs.Certificates.{PartHolds, MoveHolds, MovesBy, WalksHold
 use Rattle.btx_ends.specs.declared.measures.Climb.{Climb}
 use Rattle.btx_ends.specs.Climbing.{TellsBelow, climbs_from, limit_in, climbs_in}
 use Rattle.btx_ends.specs.Certificates.{LimitWithin, LimitHolds, RaiseHolds, RaisesBy, ClimbsHold}
+use Rattle.btx_ends.specs.Certificates.{AskHolds, LowerHolds, DescendingHolds}
+use Rattle.btx_ends.specs.Descending.{only_same, Asks, Lowers}
 use Rattle.btx_ends.specs.Certificates.{EndHolds, ShortenHolds, TextsHold, TestsHold, CountsHold, TestHolds, CountHolds, top_after, below_after, known_value, known_names, known_sum, known_difference}
 use Rattle.btx_ends.proofs.EndLemmas.{then_ends, at_most, step_ends, loops_end_in}
 use Rattle.btx_ends.proofs.QuietLemmas.{IsQuiet, IsSingleToken, OneOf, OfType, step_quiet, choice_next, type_next}
@@ -54,6 +56,7 @@ use Rattle.btx_ends.proofs.DoneLemmas.{AnswerSo, one_to}
 use Rattle.btx_ends.proofs.SumLemmas.{Summed, small_at, plus_so, minus_so}
 use Rattle.btx_ends.proofs.ShorterLemmas.{flag_same, text_same, left_same, shortens_done}
 use Rattle.btx_ends.proofs.TellLemmas.{Told, tells_to, left_few}
+use Rattle.btx_ends.proofs.DescendingLemmas.{On, Asked, IsSmall, Lessened, least, turns_on, turns_few_on, small_few, least_less, seen_on, small_done, lowers_done, asks_done}
 use Rattle.btx_ends.proofs.WalkLemmas.{PartTold, part_to, part_turns, part_long, walk_few, same_part, moves_done}
 use Rattle.btx_ends.proofs.ClimbLemmas.{BelowTold, tells_below_to, is_below, below_same, same_limit, same_place, climbs_few, climbs_some, limit_low, limit_apart, raises_done}
 use Rattle.btx_strings.specs.language.Positions.{substring_of}
@@ -160,11 +163,17 @@ record ClimbBefore (job : Job) (claims : Claims) (climb : Climb) (k : ℕ) (t : 
   is : climbs_in job.mode climb (turn_of job t).state ≡ k
   told : (turn_of job t).again ≡ true → is_below job.mode climb (turn_of job t).state ≡ true
 
+-- after the test of a loop that counts an integer down which stands on top of the stack, where so many turns were left before it; nothing is known of the stack
+-- where these are so many as there can be
+record LowerBefore (job : Job) (claims : Claims) (j : ℕ) (t : State) : Type 0 where
+  turned : Fine claims (turn_of job t).state
+  told : (2 ^ 31 ≤ j) ⊎ ((k : ℕ) × ((least k (2 ^ 31) ≡ j) × (On k only_same (turn_of job t).state.store.literals × ((turn_of job t).again ≡ true → 0 < k))))
+
 module _ (job : Job) (claims : Claims)
     (bodies_hold : (number : ℕ) → BodyWithin claims (slice_index_or job.style.bodies number []) (slice_index_or claims.costs number 0))
     (types_hold : (entry number : ℕ) → runner_of job (entry_type (entry_of job entry)) ≡ Some number → CalleeWithin claims claims.types (callee.User number))
     (tests_hold : TestsHold claims.tests job.style) (counts_hold : CountsHold claims.counts job.style) (texts_hold : TextsHold claims job.style) (walks_hold : WalksHold claims job.style)
-    (climbs_hold : ClimbsHold claims job.style) (kept_holds : job.global_max ≤ claims.kept) where
+    (climbs_hold : ClimbsHold claims job.style) (descending_holds : DescendingHolds claims job.style) (kept_holds : job.global_max ≤ claims.kept) where
   -- what is claimed of variables, and what is known of the literals on top of the stack
   abbrev Here : Known → Known → State → Type 0
   Here top below s = Fine claims s × Stands claims top below s.store.literals
@@ -488,13 +497,119 @@ module _ (job : Job) (claims : Claims)
       (slice_index_or claims.costs test 0) (slice_index_or claims.costs body 0) cost (w.1.1.0, omega arith) (w.1.1.1.0, omega arith) w.1.1.0 le lt
       more bodies loops left s h l
 
+  -- ---- loops that count an integer down which stands on top of the stack
+
+  lowered_by : (n : ℕ) → Level n → (test body many : ℕ) (kinds : ℕ → Kind) → many ≡ 2 ^ 31 → KindsHold job.style kinds
+      → Asks kinds (slice_index_or job.style.bodies test []) → Lowers kinds (slice_index_or job.style.bodies body [])
+      → (of_test of_body cost : ℕ) → CalleeWithin claims of_test (callee.User test) → CalleeWithin claims of_body (callee.User body)
+      → 0 < of_test → suc many * (of_test + of_body) ≤ cost → cost < n → (yes : Bool) (bodies loops left : ℕ) (s : State) → Fine claims s → cost ≤ left
+      → Ended cost (Fine claims) left (turns_if job yes n (act job n (Run (callee.User test))) (act job n (Run (callee.User body))) bodies loops left s)
+  lowered_by n p test body many kinds is_many kh ask low ct cb cost wt wb some le lt false bodies loops left s h l = omega arith
+  lowered_by n p test body many kinds is_many kh ask low ct cb cost wt wb some le lt true bodies loops left s h l =
+      at_most (suc many * (ct + cb)) cost left (Fine claims) _ le
+      (loops_end_in job (act job n (Run (callee.User test))) (act job n (Run (callee.User body))) (Fine claims) (Fine claims) After
+      (λ t. turns_on t.store.literals) ct cb tests again
+      (λ j t b no. b.turned) many n bodies (loops + 1) left s h few_left few (omega (arith, le, l)))
+    where
+      After : ℕ → State → Type 0
+      After j t = LowerBefore job claims j t
+
+      few : many < n
+      few = let q = turns_some many (ct + cb) (omega (arith, some)) in omega (arith, q, le, lt)
+
+      few_left : turns_on s.store.literals ≤ many
+      few_left = subst (λ m. turns_on s.store.literals ≤ m) (sym is_many) (turns_few_on s.store.literals)
+
+      cheap : (ct ≤ cost) × (cb ≤ cost)
+      cheap = let q = turn_few many (ct + cb) in (omega (arith, q, le), omega (arith, q, le))
+
+      unknown : (j : ℕ) (t : State) → Fine claims t → 2 ^ 31 ≤ j → (bodies loops left : ℕ) → ct ≤ left
+          → Ended ct (After j) left (act job n (Run (callee.User test)) bodies loops left t)
+      unknown j t g big bodies loops left e =
+          weaker ct left (Fine claims) (After j) _
+          (λ u q. record { turned = fine_same claims u.store (turn_of job u).state (turn_same job u) q; told = inl big })
+          (call_within n p (callee.User test) ct wt (omega (arith, cheap.0, lt)) bodies loops left t g e)
+
+      known_top : (j k : ℕ) (t : State) → Fine claims t → least k (2 ^ 31) ≡ j → On k only_same t.store.literals → (bodies loops left : ℕ) → ct ≤ left
+          → Ended ct (After j) left (act job n (Run (callee.User test)) bodies loops left t)
+      known_top j k t g size st bodies loops left e =
+          weaker ct left (λ u. Fine claims u × Asked job kinds kh k u) (After j) _
+          (λ u q. record { turned = fine_same claims u.store (turn_of job u).state (turn_same job u) q.0; told = inr (k, (size, q.1)) })
+          (both_ended ct left (Fine claims) (Asked job kinds kh k) (act job n (Run (callee.User test)) bodies loops left t)
+          (call_within n p (callee.User test) ct wt (omega (arith, cheap.0, lt)) bodies loops left t g e)
+          (asks_done job kinds kh n test k ask bodies loops left t st))
+
+      tests : (j : ℕ) → EndsIn ct (λ t. Fine claims t × (turns_on t.store.literals ≡ j)) (act job n (Run (callee.User test))) (After j)
+      tests j bodies loops left t g e = by (seen_on t.store.literals j g.1)
+        where
+          by : (2 ^ 31 ≤ j) ⊎ ((k : ℕ) × ((least k (2 ^ 31) ≡ j) × On k only_same t.store.literals))
+              → Ended ct (After j) left (act job n (Run (callee.User test)) bodies loops left t)
+          by (inl big) = unknown j t g.0 big bodies loops left e
+          by (inr w) = known_top j w.0 t g.0 w.1.0 w.1.1 bodies loops left e
+
+      again : (j : ℕ) (t : State) → After j t → (turn_of job t).again ≡ true
+          → EndsIn cb (λ u. u ≡ (turn_of job t).state) (act job n (Run (callee.User body))) (λ u. Fine claims u × (turns_on u.store.literals < j))
+      again j t b goes bodies loops left u eu e = by b.told
+        where
+          fine : Fine claims u
+          fine = subst (Fine claims) (sym eu) b.turned
+
+          within : Ended cb (Fine claims) left (act job n (Run (callee.User body)) bodies loops left u)
+          within = call_within n p (callee.User body) cb wb (omega (arith, cheap.1, lt)) bodies loops left u fine e
+
+          by : (2 ^ 31 ≤ j) ⊎ ((k : ℕ) × ((least k (2 ^ 31) ≡ j) × (On k only_same (turn_of job t).state.store.literals × ((turn_of job t).again ≡ true → 0 < k))))
+              → Ended cb (λ v. Fine claims v × (turns_on v.store.literals < j)) left (act job n (Run (callee.User body)) bodies loops left u)
+          by (inl big) =
+              weaker cb left (λ v. Fine claims v × IsSmall v) (λ v. Fine claims v × (turns_on v.store.literals < j)) _
+              (λ v q. (q.0, (let a = small_few v.store.literals q.1.0 q.1.1 in omega (arith, a, big))))
+              (both_ended cb left (Fine claims) IsSmall (act job n (Run (callee.User body)) bodies loops left u) within
+              (small_done job kinds kh n body low bodies loops left u))
+          by (inr w) =
+              weaker cb left (λ v. Fine claims v × Lessened w.0 v.store.literals) (λ v. Fine claims v × (turns_on v.store.literals < j)) _
+              (λ v q. (q.0, subst (λ m. turns_on v.store.literals < m) w.1.0 (least_less v.store.literals w.0 (w.1.1.1 goes) q.1)))
+              (both_ended cb left (Fine claims) (λ v. Lessened w.0 v.store.literals) (act job n (Run (callee.User body)) bodies loops left u) within
+              (lowers_done job kinds kh n body w.0 low bodies loops left u
+              (subst (λ (v : State). On w.0 only_same v.store.literals) (sym eu) w.1.1.0)))
+
+  lowered_within : (n : ℕ) → Level n → (test body cost : ℕ) → LoweredWithin claims (suc cost) body test → cost < n → (yes : Bool) (bodies loops left : ℕ) (s : State)
+      → Fine claims s → cost ≤ left
+      → Ended cost (Fine claims) left (turns_if job yes n (act job n (Run (callee.User test))) (act job n (Run (callee.User body))) bodies loops left s)
+  lowered_within n p test body cost w lt more bodies loops left s h l =
+      by (2 ^ 31) refl (let q = w.1.1.1.1 in omega (arith, q))
+    where
+      of_test : ℕ
+      of_test = slice_index_or claims.costs test 0
+
+      of_body : ℕ
+      of_body = slice_index_or claims.costs body 0
+
+      a : (k : ℕ) × (slice_index_or claims.asks test 0 ≡ suc k)
+      a = some_more (slice_index_or claims.asks test 0) w.0
+
+      b : (k : ℕ) × (slice_index_or claims.lowers body 0 ≡ suc k)
+      b = some_more (slice_index_or claims.lowers body 0) w.1.0
+
+      ask : AskHolds descending_holds.0 (suc a.0) (slice_index_or job.style.bodies test [])
+      ask = subst (λ c. AskHolds descending_holds.0 c (slice_index_or job.style.bodies test [])) a.1 (descending_holds.1.1.0 test)
+
+      low : LowerHolds descending_holds.0 (suc b.0) (slice_index_or job.style.bodies body [])
+      low = subst (λ c. LowerHolds descending_holds.0 c (slice_index_or job.style.bodies body [])) b.1 (descending_holds.1.1.1 body)
+
+      by : (many : ℕ) → many ≡ 2 ^ 31 → (many + 1) * (of_test + of_body) ≤ cost
+          → Ended cost (Fine claims) left (turns_if job more n (act job n (Run (callee.User test))) (act job n (Run (callee.User body))) bodies loops left s)
+      by many e q =
+          let r : many + 1 ≡ suc many = omega arith in
+          lowered_by n p test body many descending_holds.0 e descending_holds.1.0 ask low of_test of_body cost (w.1.1.0, omega arith) (w.1.1.1.0, omega arith) w.1.1.0
+          (subst (λ j. j * (of_test + of_body) ≤ cost) r q) lt more bodies loops left s h l
+
   either_within : (n : ℕ) → Level n → (test body cost : ℕ) → TurnsWithin claims (suc cost) body test → cost < n → (yes : Bool) (bodies loops left : ℕ) (s : State)
       → Fine claims s → cost ≤ left
       → Ended cost (Fine claims) left (turns_if job yes n (act job n (Run (callee.User test))) (act job n (Run (callee.User body))) bodies loops left s)
   either_within n p test body cost (inl w) lt more bodies loops left s h l = loop_within n p test body cost w lt more bodies loops left s h l
   either_within n p test body cost (inr (inl w)) lt more bodies loops left s h l = shortened_within n p test body cost w lt more bodies loops left s h l
   either_within n p test body cost (inr (inr (inl w))) lt more bodies loops left s h l = walked_within n p test body cost w lt more bodies loops left s h l
-  either_within n p test body cost (inr (inr (inr w))) lt more bodies loops left s h l = climbed_within n p test body cost w lt more bodies loops left s h l
+  either_within n p test body cost (inr (inr (inr (inl w)))) lt more bodies loops left s h l = climbed_within n p test body cost w lt more bodies loops left s h l
+  either_within n p test body cost (inr (inr (inr (inr w)))) lt more bodies loops left s h l = lowered_within n p test body cost w lt more bodies loops left s h l
 
   -- ---- what follows
 
@@ -652,7 +767,8 @@ module _ (job : Job) (claims : Claims)
   turns_some_cost body test (inl w) = absurd (let e = w.1.1.1.1 in omega (arith, e))
   turns_some_cost body test (inr (inl w)) = absurd (let e = w.1.1.1.1 in omega (arith, e))
   turns_some_cost body test (inr (inr (inl w))) = absurd (let e = w.1.1.1.1 in omega (arith, e))
-  turns_some_cost body test (inr (inr (inr w))) = absurd (let e = w.1.1.1.1 in omega (arith, e))
+  turns_some_cost body test (inr (inr (inr (inl w)))) = absurd (let e = w.1.1.1.1 in omega (arith, e))
+  turns_some_cost body test (inr (inr (inr (inr w)))) = absurd (let e = w.1.1.1.1 in omega (arith, e))
 
   counted_ends : (n : ℕ) → Level n → (body test cost : ℕ) → TurnsWithin claims cost body test → cost < suc n → (bodies loops left : ℕ) (s : State)
       → Here (known.Function (callee.User body)) (known.Function (callee.User test)) s → cost ≤ left

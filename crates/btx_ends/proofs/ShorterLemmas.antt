@@ -347,6 +347,7 @@ module _ (job : Job) (m : Measure) (kinds : ℕ → Kind) (effects : ℕ → Eff
 
       by : (k : Kind) → KindHolds job.style k number → IfDone (Q (called_seen k (tops_of top below third fourth))) o
       by kind.Other h = anything o
+      by kind.And h = anything o
       by kind.Not h = negated h (is_number top) refl
       by kind.Or h = either h (is_number top && is_number below) refl
 

@@ -28,6 +28,7 @@ use Rattle.btx_ends.specs.declared.measures.Limit.{Limit}
 use Rattle.btx_ends.specs.declared.measures.Limit.TheVariants as limit
 use Rattle.btx_ends.specs.declared.measures.Climb.{Climb}
 use Rattle.btx_ends.specs.Climbing.{TellsBelow, Raises}
+use Rattle.btx_ends.specs.Descending.{Asks, Lowers}
 
 -- what a certificate claims of a style
 pub record Claims : Type 0 where
@@ -53,6 +54,10 @@ pub record Claims : Type 0 where
   pub limits : List ℕ
   -- of each function, by its number, one more than the number of the climb whose place it raises; 0 claims nothing
   pub raises : List ℕ
+  -- of each function, by its number, whether it is the test of a loop that counts down an integer on top of the stack; 0 claims nothing
+  pub asks : List ℕ
+  -- of each function, by its number, whether it makes such an integer less; 0 claims nothing
+  pub lowers : List ℕ
   -- how many global integer variables there are at least
   pub integers : ℕ
   -- how many bytes a global string variable keeps at most
@@ -161,11 +166,20 @@ ClimbedWithin claims most body test =
     let of_body = slice_index_or claims.costs body 0 in
     (0 < told) × ((slice_index_or claims.raises body 0 ≡ told) × ((0 < of_test) × ((0 < of_body) × ((2 ^ 32 + 1) * (of_test + of_body) < most))))
 
+-- a loop that counts an integer down which stands on top of the stack takes at most `most` steps: its own step, and for each turn, of which there is one more than
+-- 2^31, those of the test and of the body. After the first turn the integer is the result of a difference, and so below 2^31
+abbrev pub LoweredWithin : Claims → ℕ → ℕ → ℕ → Type 0
+LoweredWithin claims most body test =
+    let of_test = slice_index_or claims.costs test 0 in
+    let of_body = slice_index_or claims.costs body 0 in
+    (0 < slice_index_or claims.asks test 0) × ((0 < slice_index_or claims.lowers body 0)
+    × ((0 < of_test) × ((0 < of_body) × ((2 ^ 31 + 1) * (of_test + of_body) < most))))
+
 -- a loop of one of these kinds
 abbrev pub TurnsWithin : Claims → ℕ → ℕ → ℕ → Type 0
 TurnsWithin claims most body test =
     CountedWithin claims most body test
-    ⊎ (ShortenedWithin claims most body test ⊎ (WalkedWithin claims most body test ⊎ ClimbedWithin claims most body test))
+    ⊎ (ShortenedWithin claims most body test ⊎ (WalkedWithin claims most body test ⊎ (ClimbedWithin claims most body test ⊎ LoweredWithin claims most body test)))
 
 -- .. where its body and its test are known to stand on top of the stack
 abbrev pub LoopWithin : Claims → ℕ → Known → Known → Type 0
@@ -366,6 +380,28 @@ climbs_by climbs k = slice_index_or climbs k (record { walk = record { text = 0;
 abbrev pub ClimbsHold : Claims → Style → Type 0
 ClimbsHold claims style = (climbs : ℕ → Climb) × (LimitsHold claims style climbs claims.limits × AllRaise style climbs claims.raises)
 
+-- a function is the test that it is claimed to be of a loop over an integer on top of the stack
+abbrev pub AskHolds : (ℕ → Kind) → ℕ → List Token → Type 0
+AskHolds kinds zero body = Unit {0}
+AskHolds kinds (suc k) body = Asks kinds body
+
+-- a function makes that integer less, if it is claimed to
+abbrev pub LowerHolds : (ℕ → Kind) → ℕ → List Token → Type 0
+LowerHolds kinds zero body = Unit {0}
+LowerHolds kinds (suc k) body = Lowers kinds body
+
+-- .. and so do all
+abbrev pub AsksHold : Style → (ℕ → Kind) → List ℕ → Type 0
+AsksHold style kinds asks = (number : ℕ) → AskHolds kinds (slice_index_or asks number 0) (slice_index_or style.bodies number [])
+
+abbrev pub LowersHold : Style → (ℕ → Kind) → List ℕ → Type 0
+LowersHold style kinds lowers = (number : ℕ) → LowerHolds kinds (slice_index_or lowers number 0) (slice_index_or style.bodies number [])
+
+-- all claims on loops hold that count an integer down which stands on top of the stack
+abbrev pub DescendingHolds : Claims → Style → Type 0
+DescendingHolds claims style =
+    (kinds : ℕ → Kind) × (KindsHold style kinds × (AsksHold style kinds claims.asks × LowersHold style kinds claims.lowers))
+
 -- nothing is claimed of `entry.max$` and `global.max$`, which don't begin with 0
 abbrev pub FirstUnclaimed : List ℕ → Type 0
 FirstUnclaimed bounds = (slice_index_or bounds 0 0 ≡ 0) × (slice_index_or bounds 1 0 ≡ 0)
@@ -378,7 +414,7 @@ FunctionsWithin claims allowed style = BodiesWithin claims style × (OwnWithin c
 abbrev pub LoopsHold : Claims → Style → Type 0
 LoopsHold claims style =
     TestsHold claims.tests style × (CountsHold claims.counts style × (FirstUnclaimed claims.bounds × (TextsHold claims style
-    × (WalksHold claims style × ClimbsHold claims style))))
+    × (WalksHold claims style × (ClimbsHold claims style × DescendingHolds claims style)))))
 
 -- THE LAW: a style of which a certificate's claims hold ends
 abbrev pub ClaimsEnd : Type 0

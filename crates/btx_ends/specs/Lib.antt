@@ -5,5 +5,6 @@ pub mod Keeping
 pub mod Shortening
 pub mod Walking
 pub mod Climbing
+pub mod Descending
 pub mod Certificates
 pub mod Views

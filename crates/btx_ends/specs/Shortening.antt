@@ -154,6 +154,7 @@ abbrev pub KindHolds : Style → Kind → ℕ → Type 0
 KindHolds style kind.Other number = Unit {0}
 KindHolds style kind.Not number = IsNot style number
 KindHolds style kind.Or number = (one : ℕ) × OrOf style number one
+KindHolds style kind.And number = IsAnd style number
 
 abbrev pub KindsHold : Style → (ℕ → Kind) → Type 0
 KindsHold style kinds = (number : ℕ) → KindHolds style (kinds number) number
@@ -229,6 +230,7 @@ abbrev pub called_seen : Kind → Tops → Tops
 called_seen kind.Not tops = if is_number tops.top then tops_of seen.Number tops.below tops.third tops.fourth else nothing_seen
 called_seen kind.Or tops =
     if is_number tops.top && is_number tops.below then tops_of seen.Number tops.third tops.fourth seen.Anything else nothing_seen
+called_seen kind.And tops = nothing_seen
 called_seen kind.Other tops = nothing_seen
 
 -- .. of the value of a global string variable

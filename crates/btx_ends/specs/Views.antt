@@ -15,6 +15,8 @@ claims_of given = record {
   moves = given.moves.now;
   limits = given.limits.now;
   raises = given.raises.now;
+  asks = given.asks.now;
+  lowers = given.lowers.now;
   integers = given.integers;
   kept = given.kept;
 }

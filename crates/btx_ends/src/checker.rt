@@ -10,6 +10,7 @@ ghost use Rattle.btx_ends.specs.Views.{claims_of};
 use crate::claims::{Claims, claim_of};
 use crate::climbs::climbs_hold;
 use crate::costs::{Bound, body_cost, items_cost};
+use crate::descending::descending_holds;
 use crate::keeping::{functions_keep, is_counting, is_test};
 use crate::kinds::kinds_hold;
 use crate::measures::{Climb, Effect, Kind, Measure, Walk};
@@ -51,6 +52,10 @@ pub struct Certificate {
     pub parts: Vec<u32>,
     /// Of each function, by its number, one more than the number of the walk whose place it moves on; 0 claims nothing.
     pub moves: Vec<u32>,
+    /// Of each function, by its number, whether it is the test of a loop that counts down an integer on top of the stack; 0 claims nothing.
+    pub asks: Vec<u32>,
+    /// Of each function, by its number, whether it makes such an integer less; 0 claims nothing.
+    pub lowers: Vec<u32>,
     /// Of each walk, what each function does to its text and its place.
     pub places: Vec<Vec<Effect>>,
     /// Of each walk, what each function does to its text and its size.
@@ -90,6 +95,8 @@ impl Certificate {
             moves: self.moves.as_slice(),
             limits: self.limits.as_slice(),
             raises: self.raises.as_slice(),
+            asks: self.asks.as_slice(),
+            lowers: self.lowers.as_slice(),
             integers: self.integers,
             kept: self.kept,
         }
@@ -369,6 +376,7 @@ fn loops_hold(style: &Style, claims: Claims<'_>, certificate: &Certificate) -> b
         && texts_hold(style, claims, certificate)
         && walks_hold(style, claims, certificate)
         && climbs_hold(style, claims, certificate)
+        && descending_holds(style, claims, certificate.kinds.as_slice())
 }
 
 /// Judges a certificate: answers the bound of a style's runs, for entries of the types that are allowed or that the style doesn't know, where global string

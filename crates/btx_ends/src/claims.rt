@@ -26,6 +26,10 @@ pub struct Claims<'c> {
     pub limits: &'c [u32],
     /// Of each function, by its number, one more than the number of the climb whose place it raises; 0 claims nothing.
     pub raises: &'c [u32],
+    /// Of each function, by its number, whether it is the test of a loop that counts down an integer on top of the stack; 0 claims nothing.
+    pub asks: &'c [u32],
+    /// Of each function, by its number, whether it makes such an integer less; 0 claims nothing.
+    pub lowers: &'c [u32],
     /// How many global integer variables there are at least.
     pub integers: u32,
     /// How many bytes a global string variable keeps at most.

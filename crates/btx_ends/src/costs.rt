@@ -151,19 +151,49 @@ fn climbed_cost(claims: Claims<'_>, body: u32, test: u32) -> Option<u64>
     all.checked_add(1)
 }
 
-// .. that move a place on along a text, or up to a limit
-fn place_cost(claims: Claims<'_>, body: u32, test: u32) -> Option<u64>
-    ensures { IfSome result (λ most. within.WalkedWithin (claims_of claims.entry) most body test ⊎ within.ClimbedWithin (claims_of claims.entry) most body test) }
+// .. whose turns count an integer down that stands on top of the stack: its own step, and those of each turn.
+fn lowered_cost(claims: Claims<'_>, body: u32, test: u32) -> Option<u64>
+    ensures { IfSome result (λ most. within.LoweredWithin (claims_of claims.entry) most body test) }
 {
-    match walked_cost(claims, body, test) {
+    if number_for(claims.asks, test as usize) == 0
+        || number_for(claims.lowers, body as usize) == 0
+    {
+        return None;
+    }
+    let of_test = claim_of(claims.costs, test as usize);
+    let of_body = claim_of(claims.costs, body as usize);
+    if of_test == 0 || of_body == 0 {
+        return None;
+    }
+    let turn = of_test.checked_add(of_body)?;
+    let turns: u64 = (1 << 31) + 1;
+    let all = turns.checked_mul(turn)?;
+    all.checked_add(1)
+}
+
+// .. that raise a place up to a limit, or count such an integer down
+fn integer_cost(claims: Claims<'_>, body: u32, test: u32) -> Option<u64>
+    ensures { IfSome result (λ most. within.ClimbedWithin (claims_of claims.entry) most body test ⊎ within.LoweredWithin (claims_of claims.entry) most body test) }
+{
+    match climbed_cost(claims, body, test) {
         Some(cost) => Some(cost),
-        None => climbed_cost(claims, body, test),
+        None => lowered_cost(claims, body, test),
     }
 }
 
-// .. that make a text shorter or move a place on
+// .. or move a place on along a text
+fn place_cost(claims: Claims<'_>, body: u32, test: u32) -> Option<u64>
+    ensures { IfSome result (λ most. within.WalkedWithin (claims_of claims.entry) most body test ⊎ (within.ClimbedWithin (claims_of claims.entry) most body test ⊎ within.LoweredWithin (claims_of claims.entry) most body test)) }
+{
+    match walked_cost(claims, body, test) {
+        Some(cost) => Some(cost),
+        None => integer_cost(claims, body, test),
+    }
+}
+
+// .. or make a text shorter
 fn text_cost(claims: Claims<'_>, body: u32, test: u32) -> Option<u64>
-    ensures { IfSome result (λ most. within.ShortenedWithin (claims_of claims.entry) most body test ⊎ (within.WalkedWithin (claims_of claims.entry) most body test ⊎ within.ClimbedWithin (claims_of claims.entry) most body test)) }
+    ensures { IfSome result (λ most. within.ShortenedWithin (claims_of claims.entry) most body test ⊎ (within.WalkedWithin (claims_of claims.entry) most body test ⊎ (within.ClimbedWithin (claims_of claims.entry) most body test ⊎ within.LoweredWithin (claims_of claims.entry) most body test))) }
 {
     match shortened_cost(claims, body, test) {
         Some(cost) => Some(cost),

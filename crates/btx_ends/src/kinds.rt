@@ -210,6 +210,7 @@ fn kind_holds(style: &Style, kind: Kind, number: u32) -> bool
         Kind::Other => true,
         Kind::Not => is_not(style, number),
         Kind::Or => is_or(style, number),
+        Kind::And => is_and(style, number),
     }
 }
 

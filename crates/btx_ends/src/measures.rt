@@ -65,6 +65,8 @@ pub enum Kind {
     Not,
     /// It is `or`: it takes two integers and leaves one.
     Or,
+    /// It is `and`: it takes two integers and leaves one.
+    And,
 }
 
 /// What is known of a literal.

@@ -3,8 +3,9 @@ use crate::checker::{Certificate, is_shortening};
 use crate::claims::{Claims, claim_of, number_for};
 use crate::climb_search::{climbs_of, limits_of, raises_of, variables_of};
 use crate::costs::body_cost;
+use crate::descending::{asks_of, lowers_of};
 use crate::keeping::{is_counting, is_test, tokens_keep};
-use crate::kinds::{is_not, is_or};
+use crate::kinds::{is_and, is_not, is_or};
 use crate::known::Known;
 use crate::literals::{below_after, top_after};
 use crate::measures::{Effect, Kind, Measure};
@@ -69,6 +70,8 @@ pub(crate) fn proposed_with(
         &climbs,
         (&kinds, &climb_places, &climb_sizes),
     )?;
+    let asks = asks_of(alloc, style, &kinds)?;
+    let lowers = lowers_of(alloc, style, &kinds)?;
     let mut found = Certificate {
         costs: Vec::new(alloc),
         types: 0,
@@ -84,6 +87,8 @@ pub(crate) fn proposed_with(
         walks,
         parts,
         moves,
+        asks,
+        lowers,
         places,
         sizes,
         movers,
@@ -160,6 +165,8 @@ fn raise_in(body: &[Token], bounds: &mut [u64], kept: u32, may_raise: bool) {
             moves: &[],
             limits: &[],
             raises: &[],
+            asks: &[],
+            lowers: &[],
             integers: 0,
             kept,
         };
@@ -371,6 +378,8 @@ fn kind_for(style: &Style, number: u32) -> Kind {
         Kind::Not
     } else if is_or(style, number) {
         Kind::Or
+    } else if is_and(style, number) {
+        Kind::And
     } else {
         Kind::Other
     }

@@ -193,12 +193,13 @@ fn called_seen(kind: Kind, tops: Tops) -> Tops
                 nothing_seen()
             }
         }
+        Kind::And => nothing_seen(),
         Kind::Other => nothing_seen(),
     }
 }
 
-// Answers of what kind a function is said to be, by its number.
-fn kind_of(kinds: &[Kind], number: usize) -> Kind
+/// Answers of what kind a function is said to be, by its number.
+pub(crate) fn kind_of(kinds: &[Kind], number: usize) -> Kind
     ensures { result ≡ shortening.kinds_by kinds.now number }
 {
     if number < kinds.len() {

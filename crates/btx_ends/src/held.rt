@@ -1,0 +1,41 @@
+//! What is known of literals, where a loop counts an integer down that stands on top of the stack.
+
+/// What is known of a literal, beside the integer that stood on top when a turn began.
+#[derive(Clone, Copy)]
+pub enum Held {
+    /// Nothing: there may be none.
+    Anything,
+    /// It is a string.
+    Text,
+    /// It is an integer.
+    Number,
+    /// It is 0.
+    Zero,
+    /// It is an integer that is no greater than that one, or not above 0.
+    Same,
+    /// The same, if it is an integer; there may be none.
+    Low,
+    /// It is an integer, and above 0 only where that one is.
+    Told,
+}
+
+/// What is known of the eight literals on top of the stack.
+#[derive(Clone, Copy)]
+pub struct Pile {
+    /// Of the one on top.
+    pub first: Held,
+    /// Of the one below it.
+    pub second: Held,
+    /// Of the third one.
+    pub third: Held,
+    /// Of the fourth one.
+    pub fourth: Held,
+    /// Of the fifth one.
+    pub fifth: Held,
+    /// Of the sixth one.
+    pub sixth: Held,
+    /// Of the seventh one.
+    pub seventh: Held,
+    /// Of the eighth one.
+    pub eighth: Held,
+}
