@@ -14,7 +14,7 @@ from typing import FrozenSet, Iterable, List, Set, Tuple
 
 from .bsttext import read_style
 from .checkup import Refused, named_style
-from .commands import STATUS_REFUSED, Words, broken_pipe
+from .commands import STATUS_REFUSED, Words, broken_pipe, in_words
 from .reports import shown
 from .searching import search_from
 from .standard import TYPES
@@ -116,7 +116,7 @@ def main(words: List[str]) -> int:
     except BrokenPipeError:
         return broken_pipe()
     except OSError as error:
-        print(f"btx fields: {shown(str(error))}", file=sys.stderr)
+        print(f"btx fields: {shown(in_words(error))}", file=sys.stderr)
         return STATUS_DEVICE
 
 

@@ -8,7 +8,7 @@ import os
 import sys
 from typing import NoReturn
 
-__all__ = ["STATUS_REFUSED", "Words", "broken_pipe", "print_nowhere", "prints_any_text"]
+__all__ = ["STATUS_REFUSED", "Words", "broken_pipe", "in_words", "print_nowhere", "prints_any_text"]
 
 STATUS_REFUSED = 1
 # What a shell says of a program that SIGPIPE ended.
@@ -28,6 +28,14 @@ def prints_any_text() -> None:
     for stream in (sys.stdout, sys.stderr):
         if isinstance(stream, io.TextIOWrapper):
             stream.reconfigure(errors="backslashreplace")
+
+
+def in_words(error: OSError) -> str:
+    """What is wrong with a file, in words."""
+    if not isinstance(error.filename, (str, bytes)):
+        return str(error)
+    name = os.fsdecode(error.filename)
+    return f"there is no file {name}" if isinstance(error, FileNotFoundError) else f"{name}: {error.strerror}"
 
 
 def print_nowhere() -> None:
