@@ -11,8 +11,8 @@ import sys
 from dataclasses import replace
 from typing import List, Optional
 
-from .commands import STATUS_REFUSED, Words, broken_pipe, print_nowhere, prints_any_text
-from .jobs import run
+from .commands import STATUS_REFUSED, Words, broken_pipe, in_words, print_nowhere, prints_any_text
+from .jobs import run_read
 from .options import LETTERS, Options
 from .outputs import Inputs, write_outputs
 from .refusals import OutputTooLong, Refusal
@@ -50,7 +50,9 @@ def parser() -> argparse.ArgumentParser:
     result.add_argument("--min-crossrefs", type=int, metavar="N", help="how many entries name a parent that is listed without being cited (2)")
     result.add_argument("--budget", type=int, metavar="N", help="how many steps the style may take (1,000,000,000)")
     result.add_argument("--line", type=int, metavar="N", help="the length of a line of the list (79)")
-    result.add_argument("--utf8", action="store_true", help="read text as UTF-8")
+    text = result.add_mutually_exclusive_group()
+    text.add_argument("--utf8", action="store_true", help="read text as UTF-8, and not only where the list would have half a letter")
+    text.add_argument("--bytes", action="store_true", help="read text by bytes in any case")
     result.add_argument("--letters", choices=LETTERS, metavar="LANG", default="no", help="sort letters outside ASCII as a language does, and change their case: sv, de, .. (no)")
     result.add_argument("--version", action="version", version=f"btx {VERSION}")
     result.add_argument("--terse", action="store_true", help="don't print the log")
@@ -62,7 +64,7 @@ def run_job(words: argparse.Namespace) -> int:
     inputs = Inputs(found_search(), words.job)
     try:
         options = chosen_options(words, inputs.search.options(Options()))
-        result = run(words.job, inputs.content, options)
+        result = run_read(words.job, inputs.content, options, "bytes" if words.bytes else "auto")
         if result.report.end is not End.NO_TOP_FILE:
             write_outputs(words.job, result, inputs)
     except OutputTooLong as error:
@@ -70,7 +72,7 @@ def run_job(words: argparse.Namespace) -> int:
     except MemoryError as error:
         return complain(str(error), STATUS_MEMORY)
     except OSError as error:
-        return complain(str(error), STATUS_DEVICE)
+        return complain(in_words(error), STATUS_DEVICE)
     except Refusal as error:
         return complain(str(error), STATUS_REFUSED)
     try:

@@ -14,7 +14,7 @@ from dataclasses import asdict, dataclass
 from typing import FrozenSet, Iterable, List, Set, Tuple
 
 from .checkup import Refused, named_style
-from .commands import STATUS_REFUSED, Words, broken_pipe, print_text
+from .commands import STATUS_REFUSED, Words, broken_pipe, in_words, print_text
 from .events import Met
 from .jobs import run
 from .messages import Kind, Message
@@ -154,7 +154,7 @@ def main(words: List[str]) -> int:
     except BrokenPipeError:
         return broken_pipe()
     except OSError as error:
-        print(f"btx fields: {shown(str(error))}", file=sys.stderr)
+        print(f"btx fields: {shown(in_words(error))}", file=sys.stderr)
         return STATUS_DEVICE
 
 

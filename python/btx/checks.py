@@ -28,7 +28,7 @@ CHECKS = {
         Check("fields-in-text", "warning", "A guess: text between items is ignored by a run, and this looks like fields of an entry."),
         Check("no-at-sign", "warning", "A guess: text between items is ignored by a run, and this looks like an entry without its `@`."),
         Check("repeated-doi", "warning", "Exact that the dois are equal, but for case and a resolver's address."),
-        Check("repeated-title", "info", "A guess: title and year, or the year of `date`, are equal, but for case, TeX's commands and punctuation."),
+        Check("repeated-title", "info", "A guess: title and year, or the year of `date`, are equal, but for case, TeX's commands and punctuation, and no pages, number, volume or doi that both have differ."),
         Check("et-al", "warning", "A guess: a name has the words et al.; BibTeX's word for this is `and others`."),
         Check("others-inside", "warning", "Exact: `others` isn't the last name, so no style takes it for et al."),
         Check("bare-organization", "warning", "A guess: a name has a word such as Institute and isn't in braces of its own, so it is read as a person's."),

@@ -11,10 +11,10 @@ import sys
 from functools import cached_property, partial
 from typing import Callable, Dict, FrozenSet, Iterator, List, NamedTuple, Optional, Set, Tuple
 
-from .bibtext import Lines, read
+from .bibtext import Database, Lines
 from .bsttext import Word, read_style
-from .commands import STATUS_REFUSED, Words, broken_pipe
-from .doctor import CHECKS, Citation, Finding, Source, Style, examine, lines_of
+from .commands import STATUS_REFUSED, Words, broken_pipe, in_words
+from .doctor import CHECKS, Citation, Finding, Source, Style, examine, lines_of, without_unread
 from .doctor_run import findings_of_run, in_order_of_job, stem_of
 from .document_checks import documents_of, findings_of_documents
 from .known import Known
@@ -88,7 +88,7 @@ def main(words: List[str]) -> int:
     except BrokenPipeError:
         return broken_pipe()
     except OSError as error:
-        print(f"btx: {shown(str(error))}", file=sys.stderr)
+        print(f"btx: {shown(in_words(error))}", file=sys.stderr)
         return STATUS_DEVICE
 
 
@@ -121,25 +121,26 @@ def check_up(given: argparse.Namespace) -> int:
     search = found_search()
     sources = [Source(path, content_of(os.fsencode(path), MOST_BYTES)) for path in given.databases or databases_of(given.job, search)]
     in_use = style_file(given.style, search) if given.style is not None else style_of_job(given.job, search)
-    found, sources = findings_of(given.job, sources, in_use, search)
-    found = [finding for finding in found if finding.check not in off]
-    print_findings(found, Remedies(sources, in_use), given)
+    read_ones: Dict[int, Database] = {}
+    found, sources = findings_of(given.job, sources, in_use, search, read_ones)
+    found = without_unread([finding for finding in found if finding.check not in off])
+    print_findings(found, Remedies(sources, in_use, read_ones), given)
     sys.stdout.flush()
     return STATUS_MISTAKES if any(finding.severity == "error" for finding in found) else 0
 
 
-def findings_of(job: Optional[str], sources: List[Source], in_use: Optional[StyleFile], search: Search) -> Tuple[List[Finding], List[Source]]:
-    """All findings, and the databases in the order in which they are read. Of a job the run and the document say more; where its citations aren't all known, nothing is said to be uncited."""
+def findings_of(job: Optional[str], sources: List[Source], in_use: Optional[StyleFile], search: Search, kept: Dict[int, Database]) -> Tuple[List[Finding], List[Source]]:
+    """All findings, and the databases in the order in which they are read; kept: gets what was read of each. Of a job the run and the document say more; where its citations aren't all known, nothing is said to be uncited."""
     style = None if in_use is None else Style(in_use.text, name=in_use.name)
     if job is None:
-        return examine(sources, style), sources
+        return examine(sources, style, kept=kept), sources
     auxes = list(aux_files(job))
     citations = [citation for aux in auxes for citation in citations_of_file(aux)]
     sources = in_order_of_job(sources, auxes)
     printing = None if style is None else style.printing
     named = None if in_use is None or in_use.is_of_job else style
-    found = [finding for finding in examine(sources, named, citations, printing=printing) if finding.check not in SAID_BY_RUN]
-    entries = {item.key.lower(): item.key for source in sources for item in read(source.text).items if item.is_entry and item.key is not None}
+    found = [finding for finding in examine(sources, named, citations, printing=printing, kept=kept) if finding.check not in SAID_BY_RUN]
+    entries = {item.key.lower(): item.key for source in sources for item in kept[id(source)].items if item.is_entry and item.key is not None}
     of_document, newer = findings_of_documents(documents_of(job), citations, entries)
     own_style = in_use.path if in_use is not None and in_use.is_of_job and in_use.is_own else None
     logged = findings_of_run(job, sources, auxes, citations, search, own_style)
@@ -161,12 +162,12 @@ def without_consequences(found: List[Finding], is_whole: bool) -> List[Finding]:
 
 
 class Remedies:
-    """What to do about findings. Databases are read once more where a finding asks for it. What findings share is found once."""
+    """What to do about findings. What findings share is found once."""
 
-    def __init__(self, sources: List[Source], style: Optional[StyleFile] = None) -> None:
+    def __init__(self, sources: List[Source], style: Optional[StyleFile] = None, databases: Optional[Dict[int, Database]] = None) -> None:
         self.sources = sources
         self.style = style
-        self.known = Known(sources)
+        self.known = Known(sources, databases)
         self.of_places: Dict[int, Dict[int, str]] = {}
         self.kept: Dict[Tuple[object, ...], Optional[str]] = {}
 

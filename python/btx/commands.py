@@ -8,7 +8,7 @@ import os
 import sys
 from typing import NoReturn
 
-__all__ = ["STATUS_REFUSED", "Words", "broken_pipe", "print_all", "print_nowhere", "print_text", "prints_any_text"]
+__all__ = ["STATUS_REFUSED", "Words", "broken_pipe", "in_words", "print_all", "print_nowhere", "print_text", "prints_any_text"]
 
 STATUS_REFUSED = 1
 # What a shell says of a program that SIGPIPE ended.
@@ -50,6 +50,14 @@ def print_all(content: bytes) -> None:
 def print_text(text: str) -> None:
     """Prints a text, as `print_all` does. Characters that the terminal's encoding lacks are escapes."""
     print_all(text.encode("utf8" if sys.stdout is None else sys.stdout.encoding, "backslashreplace"))
+
+
+def in_words(error: OSError) -> str:
+    """What is wrong with a file, in words."""
+    if not isinstance(error.filename, (str, bytes)):
+        return str(error)
+    name = os.fsdecode(error.filename)
+    return f"there is no file {name}" if isinstance(error, FileNotFoundError) else f"{name}: {error.strerror}"
 
 
 def print_nowhere() -> None:

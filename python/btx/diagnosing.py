@@ -14,7 +14,7 @@ from .bibtext import REPEATED
 from .bsttext import COMMANDS, StyleText, Word, uses_between
 from .builtins import BUILT_IN
 from .checking import Fault, StyleWarning, warnings_of
-from .doctor import JOURNALS, MONTHS, Finding
+from .doctor import JOURNALS, MONTHS, Finding, without_unread
 from .documents import Document
 from .jobs import run
 from .mending import Mending, mend
@@ -23,6 +23,7 @@ from .options import Options
 from .pieces import Examination
 from .spelling import nearest
 from .standard import TYPES
+from .tex_text import is_read, read_by_tex
 from .workspace import MOST_BYTES, StyleInUse, Workspace, path_of
 
 __all__ = ["Diagnosis", "Diagnostic", "Mending", "diagnose", "types_of"]
@@ -115,7 +116,7 @@ class Diagnosis:
             self.go_on()
 
     def of_findings(self, findings: List[Finding]) -> List[Diagnostic]:
-        return first_of(of_finding(it, self.document, self.workspace, self.used) for it in findings)
+        return first_of(of_finding(it, self.document, self.workspace, self.used) for it in without_unread(findings))
 
 
 def diagnose(document: Document, workspace: Workspace) -> List[Diagnostic]:
@@ -282,6 +283,8 @@ def mending_of(document: Document, workspace: Workspace, finding: Finding, used:
     word, place = shown(document.text[finding.start : finding.end]), (finding.start, finding.end)
     if finding.check == "undefined-string":
         return written(place, nearest(word, strings_before(document, workspace, finding.start, used)))
+    if finding.check == "misspelt-field":
+        return written(place, re.findall("is it `(.*?)`", finding.text)[-1])
     if finding.check == "unread-field" and used is not None:
         had = {field.name for item in workspace.base(document).items if item.start < finding.start < item.end for field in item.fields}
         return written(place, nearest(word, map(shown, used[1].fields - had)))
@@ -366,6 +369,9 @@ def unknown_citations(document: Document, workspace: Workspace) -> Iterator[Diag
     databases = workspace.databases(document)
     keys = frozenset([b"*"]).union(*(workspace.outline(database).keys for database in databases))
     for start, end in workspace.citations(document).without(keys) if databases else ():
+        # (what an .aux file cites is all read)
+        if not document.uri.endswith(".aux") and not is_read(document.text, start, workspace.made("read by TeX", document, read_by_tex)):
+            continue
         said = f'I didn\'t find a database entry for "{document.text[start:end].decode("utf8", "replace")}"'
         yield Diagnostic(start, end, WARNING, "no-entry", said, partial(known_key, document, workspace, databases, (start, end)))
 

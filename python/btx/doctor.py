@@ -10,7 +10,7 @@ from __future__ import annotations
 import itertools
 import re
 from operator import itemgetter
-from typing import Dict, FrozenSet, Iterable, Iterator, List, NamedTuple, Optional, Set, Tuple, Union
+from typing import Any, Dict, FrozenSet, Iterable, Iterator, List, NamedTuple, Optional, Set, Tuple, Union
 
 from .accents import accents_in, has_accents
 from .bibtext import ENDS_TEXT, Database, Field, Item, Lines, field_of, read, undefined_strings
@@ -23,7 +23,7 @@ from .trying import Printing
 from .usual import ALONE, EITHER, FIELDS, REQUIRED, missing_fields, near_field
 from .values import BRACE
 
-__all__ = ["CHECKS", "Check", "Citation", "Finding", "Source", "Style", "examine"]
+__all__ = ["CHECKS", "Check", "Citation", "Finding", "Source", "Style", "examine", "without_unread"]
 
 
 MONTHS = b"jan feb mar apr may jun jul aug sep oct nov dec".split()
@@ -58,6 +58,9 @@ PARTS_NAMES = re.compile(rb"[ \t\r\n]and(?=[ \t\r\n])", re.IGNORECASE)
 NAME_PARTS = re.compile(rb"[ \t\r\n~]+")
 NAME_WORD = re.compile(rb"[^ \t\r\n~,-]+")
 LEAST_TITLE = 12
+# The fields that tell works with one title from each other; with how many of these a work is compared.
+PARTING = (b"pages", b"number", b"volume", b"doi")
+MOST_OF_TITLE = 20
 # The year of a date.
 OF_DATE = re.compile(rb"[0-9]{4}")
 # The types whose titles styles such as plain write in small letters; how many words that lose them are named.
@@ -121,8 +124,8 @@ def shown(text: bytes) -> str:
 Found = Tuple[int, int, int, str, Tuple[Union[bytes, str], ...], Optional[bytes], Source]
 # The same without a source.
 Local = Tuple[int, int, str, Tuple[Union[bytes, str], ...], Optional[bytes]]
-# What tells the work of an entry: the check that compares it, what is compared, the key of the entry and where that ends.
-Work = Tuple[str, object, bytes, int]
+# What tells the work of an entry: the check that compares it, what is compared, the key of the entry and where that ends; what tells works with one title from each other, of the fields `PARTING`.
+Work = Tuple[str, object, bytes, int, Tuple[Optional[bytes], ...]]
 
 
 def examine(
@@ -132,9 +135,10 @@ def examine(
     off: FrozenSet[str] = frozenset(),
     most: Optional[int] = None,
     printing: Optional[Printing] = None,
+    kept: Optional[Dict[int, Database]] = None,
 ) -> List[Finding]:
     """All findings of these databases, as those of one job in this order; by file and place. off: the names of checks that are left out. most: how many are wanted at most. printing: what the
-    style of a job prints, where no style is named."""
+    style of a job prints, where no style is named. kept: gets what was read of each source, by its `id`."""
     examiner = Examiner(style, printing)
     with without_collection():
         for number, source in enumerate(sources):
@@ -143,6 +147,8 @@ def examine(
         examiner.compare_parents()
         if citations is not None:
             examiner.compare_citations(citations)
+    if kept is not None:
+        kept.update((id(source), database) for _, source, database in examiner.databases)
     found = examiner.found if not off else [it for it in examiner.found if it[3] not in off]
     found.sort(key=itemgetter(0, 1, 2))
     return [finding_of((start, end, check, what, key), source) for _, start, end, check, what, key, source in found[:most]]
@@ -158,7 +164,7 @@ class Examiner:
     """Examines databases one after another, and keeps what later ones are compared with.
 
     near_fields: of each unusual name of a field the one that may be meant. of_persons, children: the lists of names, and the entries with a parent, which are looked at when all databases are read.
-    works: what tells the works of the entries that aren't compared with others yet. firsts: of each doi, and of each title with its year, the key of the first entry. plain_names:
+    works: what tells the works of the entries that aren't compared with others yet. firsts: of each doi the key of the first entry, and of each title with its year what tells its works from each other. plain_names:
     lists of names of which nothing is said. found: in any order."""
 
     def __init__(self, style: Optional[Style], printing: Optional[Printing] = None) -> None:
@@ -169,7 +175,7 @@ class Examiner:
         self.stored: Set[bytes] = set()
         self.databases: List[Tuple[int, Source, Database]] = []
         self.works: List[Work] = []
-        self.firsts: Dict[object, bytes] = {}
+        self.firsts: Dict[object, Any] = {}
         self.plain_names: Set[bytes] = set()
         self.near_fields: Dict[bytes, Optional[bytes]] = {}
         self.of_persons: List[Tuple[int, Source, Database, Item, int, bytes]] = []
@@ -389,13 +395,14 @@ class Examiner:
         """Keeps what tells the work of an entry: its doi, and its title and year."""
         records, key = item.records, item.key or b""
         if b"doi" in numbers:
-            self.works.append(("repeated-doi", RESOLVER.sub(b"", records.value(numbers[b"doi"]).lower()), key, item.key_end))
+            self.works.append(("repeated-doi", RESOLVER.sub(b"", records.value(numbers[b"doi"]).lower()), key, item.key_end, ()))
         if b"title" in numbers:
             value = records.value(numbers[b"title"])
             title = (TEX_COMMAND.sub(b"", value) if b"\\" in value else value).lower().translate(None, NOT_TITLE)
             year = self.year_of_work(item, numbers)
             if year and len(title) >= LEAST_TITLE:
-                self.works.append(("repeated-title", (title, year), key, item.key_end))
+                parting = tuple([records.value(numbers[name]) if name in numbers else None for name in PARTING])
+                self.works.append(("repeated-title", (title, year), key, item.key_end, parting))
 
     def year_of_work(self, item: Item, numbers: Dict[bytes, int]) -> bytes:
         """Its year, or that of its date; empty where it has neither."""
@@ -631,12 +638,41 @@ EXAMINED = (
 )
 
 
-def repeated_works(works: List[Work], firsts: Dict[object, bytes]) -> Iterator[Local]:
-    """The works that earlier entries have. firsts: of each work the key of the first entry; those of these entries are added."""
-    for check, work, key, end in works:
-        first = firsts.setdefault(work, key)
+def repeated_works(works: List[Work], firsts: Dict[object, Any]) -> Iterator[Local]:
+    """The works that earlier entries have. firsts: of each doi the key of the first entry, and of each title what tells its works from each other; those of these entries are added."""
+    for check, work, key, end, parting in works:
+        first = firsts.setdefault(work, key) if check == "repeated-doi" else first_of_title(work, key, parting, firsts)
         if first != key:
             yield end - len(key), end, check, (first,), key
+
+
+def first_of_title(work: object, key: bytes, parting: Tuple[Optional[bytes], ...], firsts: Dict[object, Any]) -> bytes:
+    """The key of an earlier entry with this title and year, where nothing tells the two from each other, or else the key of this one."""
+    known: List[Tuple[Tuple[Optional[bytes], ...], bytes]] = firsts.setdefault(work, [])
+    first = next((its for other, its in known if other == parting or not are_parted(other, parting)), None) or firsts.get((work, parting))
+    if first is not None:
+        return bytes(first)
+    # (a column that each issue has would be compared with all others)
+    if len(known) < MOST_OF_TITLE:
+        known.append((parting, key))
+    firsts[work, parting] = key
+    return key
+
+
+def are_parted(one: Tuple[Optional[bytes], ...], other: Tuple[Optional[bytes], ...]) -> bool:
+    """Whether a field that both have tells two works from each other."""
+    return any(left and right and bare(left) != bare(right) for left, right in zip(one, other))
+
+
+def bare(value: bytes) -> bytes:
+    """A value without what only writes it in another way."""
+    return RESOLVER.sub(b"", value.lower()).translate(None, b" \t\r\n{}~-\xe2\x80\x93")
+
+
+def without_unread(findings: List[Finding]) -> List[Finding]:
+    """The findings without those of fields that the style doesn't read where another field may be meant."""
+    misspelt = {(id(it.source), it.start) for it in findings if it.check == "misspelt-field"}
+    return [it for it in findings if it.check != "unread-field" or (id(it.source), it.start) not in misspelt] if misspelt else findings
 
 
 def key_of(item: Item) -> Optional[bytes]:

@@ -4,23 +4,18 @@ from __future__ import annotations
 
 import os
 import re
-from typing import Dict, FrozenSet, Iterator, List, NamedTuple, Optional, Set, Tuple
+from typing import Dict, FrozenSet, List, NamedTuple, Optional, Set, Tuple
 
 from .bibtext import Lines
-from .citing import CITES, KEY
 from .doctor import Citation, Finding, Source
 from .searching import MOST_BYTES, content_of
+from .tex_text import cites_in, read_by_tex
 
 __all__ = ["Documents", "documents_of", "findings_of_documents"]
 
 MOST_FILES = 200
-# Commands that have `cite` in their names and cite nothing.
-CITE_NOTHING = re.compile(rb"\\(?:set|bib|new|def|Declare)[A-Za-z]*[cC]ite|\\[cC]ite(?:style|text|reset)")
 READS = re.compile(rb"\\(?:input|include|subfile)\{([^{}\r\n]*)\}")
-# Comments, and what TeX passes over or prints as it stands.
-NOT_READ = re.compile(rb"(?<!\\)%[^\n]*|\\begin\{(comment|verbatim)\}.*?\\end\{\1\}|\\iffalse\b.*?\\fi\b", re.DOTALL)
 NOCITE_ALL = re.compile(rb"\\nocite\{\s*\*\s*\}")
-AFTER_END = re.compile(rb"\\end\{document\}")
 
 
 class TexFile(NamedTuple):
@@ -61,9 +56,7 @@ def tex_file(path: str) -> Optional[TexFile]:
         content, time = content_of(os.fsencode(path), MOST_BYTES), os.stat(path).st_mtime_ns
     except (OSError, ValueError):
         return None
-    end = AFTER_END.search(content)
-    text = NOT_READ.sub(lambda it: re.sub(rb"[^\n]", b" ", it[0]), content[: end.start() if end else None])
-    return TexFile(Source(path, content), text, time)
+    return TexFile(Source(path, content), read_by_tex(content), time)
 
 
 def findings_of_documents(documents: Documents, citations: List[Citation], entries: Dict[bytes, bytes]) -> Tuple[List[Finding], FrozenSet[str]]:
@@ -111,9 +104,3 @@ def keys_in(text: bytes) -> Dict[bytes, int]:
     for key, place in cites_in(text):
         found.setdefault(key, place)
     return found
-
-
-def cites_in(text: bytes) -> Iterator[Tuple[bytes, int]]:
-    for cite in CITES.finditer(text):
-        if CITE_NOTHING.match(cite[0]) is None:
-            yield from ((key[0], key.start()) for key in KEY.finditer(text, *cite.span(1)))

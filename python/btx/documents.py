@@ -7,7 +7,7 @@ import itertools
 import re
 from typing import Any, Dict, List, Optional, Union
 
-__all__ = ["Document", "LineEnds", "Position", "Range", "units"]
+__all__ = ["Document", "LineEnds", "Position", "Range", "Walk", "units"]
 
 Position = Dict[str, int]
 Range = Dict[str, Position]
@@ -123,6 +123,28 @@ class LineEnds:
         return found + 1 if found >= 0 else self.after(self.before(start))
 
 
+class Walk:
+    """Finds positions of a text one after another: what is between two places is counted once. A place before the last one, or in a text with returns, is looked for by itself."""
+
+    def __init__(self, document: Document) -> None:
+        self.document, self.text = document, document.text
+        self.is_of_feeds = not document.ends.has_returns
+        self.place = self.line = self.column = 0
+
+    def at(self, place: int) -> Position:
+        if place < self.place or not self.is_of_feeds:
+            return self.document.position(place)
+        begin, lines = self.place, self.text.count(b"\n", self.place, place)
+        if lines:
+            begin = self.text.rfind(b"\n", begin, place) + 1
+            self.line += lines
+            self.column = 0
+        between = self.text[begin:place]
+        self.column += len(between) if between.isascii() else units(between)
+        self.place = place
+        return {"line": self.line, "character": self.column}
+
+
 class Document:
     """A text in an editor. text: its bytes, in UTF-8."""
 
@@ -200,6 +222,10 @@ class Document:
         if b"\n" in self.text[start:end] or b"\r" in self.text[start:end]:
             return {"start": first, "end": self.position(end)}
         return {"start": first, "end": {"line": first["line"], "character": first["character"] + units(self.text[start:end])}}
+
+    def walk(self) -> Walk:
+        """Finds the positions of many places, in their order."""
+        return Walk(self)
 
     def line_range(self, line: int) -> "tuple[int, int]":
         """The bytes of a line as a log counts it, from 1: lines end at line feeds alone. One past the last line is the last."""

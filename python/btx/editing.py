@@ -3,7 +3,7 @@
 from __future__ import annotations
 
 import re
-from typing import Any, Dict, Iterator, List, NamedTuple, Optional, Tuple
+from typing import Any, Dict, FrozenSet, Iterator, List, NamedTuple, Optional, Tuple
 
 from .bibtext import Item
 from .bsttext import COMMANDS, LIST_WORD, Word
@@ -13,7 +13,7 @@ from .doctor import JOURNALS, MONTHS
 from .documents import Document
 from .outline import Placed
 from .standard import FIELDS, TYPES
-from .workspace import Workspace
+from .workspace import MOST_BYTES, Workspace
 
 __all__ = ["Named", "Place", "RenameRefused", "completions", "definition", "hover", "name_at", "references", "rename", "symbols"]
 
@@ -50,6 +50,11 @@ class Named(NamedTuple):
 
 def shown(text: bytes) -> str:
     return text.decode("utf8", "replace")
+
+
+def is_too_long(document: Document) -> bool:
+    """Whether a text is so long that nothing is asked of it while you type."""
+    return len(document.text) > MOST_BYTES
 
 
 # ---- the names of a text ----
@@ -92,6 +97,8 @@ def names_of_item(document: Document, placed: Placed) -> Iterator[Tuple[Named, b
 
 def name_at(document: Document, workspace: Workspace, place: int) -> Optional[Named]:
     """The name at a place of a text, or directly before it."""
+    if is_too_long(document):
+        return None
     found = [named for named in names_near(document, workspace, place) if named.place.start <= place <= named.place.end]
     return min(found, key=lambda named: named.place.end == place) if found else None
 
@@ -171,15 +178,25 @@ def rename(named: Named, workspace: Workspace, new: str) -> List[Place]:
     is_key = named.kind == "key"
     if is_key and (not wanted or re.search(rb"[,\s{}\"#%~\\]", wanted)):
         raise RenameRefused(f"{new} can't be a key")
+    if is_key and new == "*":
+        raise RenameRefused("* can't be a key: a citation of it cites all entries")
     if not is_key and (LIST_WORD.fullmatch(wanted) is None or wanted[:1].isdigit()):
         raise RenameRefused(f"{new} can't be a name: it has no whitespace and none of \" # % ' ( ) , = {{ }}, and doesn't begin with a digit")
     same = Named(named.kind, new.lower(), named.place)
     if new.lower() != named.name and (any(True for _ in uses(same, workspace)) or (named.kind == "function" and (new.lower() in BUILT_IN or new.lower() in PREDEFINED))):
         raise RenameRefused(f"{new} is a name already")
+    if named.kind == "string" and new.lower() != named.name and wanted.lower() in strings_of_style(named.place.document, workspace):
+        raise RenameRefused(f"{new} is a string of the style already")
     found = [place for place, _ in uses(named, workspace) if not place.document.uri.endswith(".aux")]
     if not any(is_definition for _, is_definition in uses(named, workspace)):
         raise RenameRefused(f"{named.name} isn't defined here")
     return found
+
+
+def strings_of_style(document: Document, workspace: Workspace) -> FrozenSet[bytes]:
+    """The strings of the style in use, and those of TeX's standard styles."""
+    used = workspace.style_in_use(document)
+    return frozenset((*MONTHS, *JOURNALS, *(() if used is None else used[1].strings)))
 
 
 # ---- what is there ----
@@ -222,7 +239,9 @@ def hover_of_entry(workspace: Workspace, named: Named) -> Optional[str]:
 
 
 def symbols(document: Document, workspace: Workspace) -> Iterator[Tuple[str, str, int, Place, Place]]:
-    """The parts of a text: name, detail, kind, the whole and the name's place."""
+    """The parts of a text: name, detail, kind, the whole and the name's place. Of a text that is too long there are none."""
+    if is_too_long(document):
+        return
     if document.uri.endswith(".bst"):
         for command in workspace.style(document).commands:
             name = command.name or Word(command.word, command.start, command.start + len(command.word))
@@ -242,6 +261,8 @@ def symbols(document: Document, workspace: Workspace) -> Iterator[Tuple[str, str
 
 def completions(document: Document, workspace: Workspace, place: int) -> List[Dict[str, Any]]:
     """What may be written at a place."""
+    if is_too_long(document):
+        return []
     text = document.text
     before = text[max(text.rfind(b"\n", 0, place) + 1, place - 2000) : place]
     if document.uri.endswith(".bst"):

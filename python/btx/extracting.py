@@ -11,7 +11,7 @@ from typing import Dict, Iterator, List, Mapping, NamedTuple, Optional, Set
 
 from . import library
 from .causes import first_difference
-from .commands import STATUS_REFUSED, Words, broken_pipe, print_all, print_text
+from .commands import STATUS_REFUSED, Words, broken_pipe, in_words, print_all, print_text
 from .jobs import Content, gathered, job_name
 from .messages import Kind, Message, decoded
 from .mistakes import values_of
@@ -148,7 +148,7 @@ def main(words: List[str]) -> int:
     except OutputTooLong as error:
         return complain(str(error), STATUS_NO_LIST)
     except OSError as error:
-        return complain(str(error), STATUS_DEVICE)
+        return complain(in_words(error), STATUS_DEVICE)
     except Refusal as error:
         return complain(str(error), STATUS_REFUSED)
 

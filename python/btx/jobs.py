@@ -19,6 +19,8 @@ from .searching import content_of as bytes_at
 
 __all__ = ["Content", "Files", "Finder", "Name", "in_folder", "needs", "run", "run_in", "run_paper"]
 
+# How text may be read where the options don't say it.
+READINGS = ("auto", "bytes")
 LOG = logging.getLogger("btx")
 LOG.addHandler(logging.NullHandler())
 # A name of a job or a file: bytes, or text or a path whose bytes are UTF-8 (`surrogateescape` for those that aren't, as in Python's file names).
@@ -39,12 +41,19 @@ def run(job: Name, files: Files, options: Optional[Options] = None) -> Result:
 
     A run that is stopped or that meets a limit has a result. Raises TypeError where `options` are none, and a Refusal: OptionRefused, NameRefused, FinderRefused, MemoryRefused,
     OutputTooLong. What `files` raises is passed on. Calls in several threads run side by side; nothing is kept between calls."""
+    return run_read(job, files, options, "bytes")
+
+
+def run_read(job: Name, files: Files, options: Optional[Options], reading: str) -> Result:
+    """The same. reading: how text is read where `utf8` of the options doesn't say it: `bytes`, or `auto`, which is by letters of UTF-8 where bytes would leave half a letter in the list; then
+    the result's notes say so."""
     chosen = Options() if options is None else options
     if not isinstance(chosen, Options):
         raise TypeError(f"options are Options, and not {chosen!r}")
     name = job_name(job)
     known = gathered(name, files)
-    result = library.run_over(name, known, chosen) if chosen.letters == "no" else run_with_letters(name, known, chosen)
+    is_plain = chosen.letters == "no" and (chosen.utf8 or reading == "bytes")
+    result = library.run_over(name, known, chosen) if is_plain else run_with_letters(name, known, chosen)
     LOG.debug("%s ended: %s, warnings %d, errors %d", name_text(name), result.report.end.word, result.report.warnings, result.report.errors)
     return result
 
@@ -69,18 +78,25 @@ def run_in(folder: Name, job: Name, options: Optional[Options] = None) -> Result
     return run(job, in_folder(folder), options)
 
 
+<<<<<<< HEAD
 def run_paper(path: Name, options: Optional[Options] = None, *, folder: Optional[Name] = None, write: bool = False) -> Result:
+=======
+def run_paper(path: Name, options: Optional[Options] = None, *, folder: Union[None, str, "os.PathLike[str]"] = None, write: bool = False, text: str = "auto") -> Result:
+>>>>>>> 14e31853c52f6f576d38d92f6aab13c1ae336691
     """Does what `bibtex PATH` does on this machine: styles and databases are found where TeX finds them, and variables keep as many bytes as TeX's set-up says.
 
     path: the `.aux` file of a document, with or without `.aux`. folder: where BibTeX would be called; the present folder, if nothing else is said. write: whether the list and the log are
-    written beside the `.aux` file, with the care of `python3 -m btx`. options: those of TeX's set-up, if nothing else is said.
+    written beside the `.aux` file, with the care of `python3 -m btx`. options: those of TeX's set-up, if nothing else is said. text: `bytes`, or `auto`, as with `bibtex-search`: where a list would have
+    half a letter of UTF-8, text is read by letters, and the result's notes say so.
 
     Raises FileNotFoundError where there is no such `.aux` file, OSError where a file can't be read or written, and a Refusal as `run` does."""
     called_in = None if folder is None else existing_folder(folder)
     name = name_text(job_name(path))
     inputs = Inputs(search_from(called_in), name)
     chosen = inputs.search.options(Options()) if options is None else options
-    result = run(name, inputs.content, chosen)
+    if text not in READINGS:
+        raise ValueError(f"text is auto or bytes, and not {text!r}")
+    result = run_read(name, inputs.content, chosen, text)
     if result.report.end is End.NO_TOP_FILE:
         raise not_there(name)
     if write:

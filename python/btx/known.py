@@ -9,7 +9,7 @@ from collections import Counter
 from functools import cached_property
 from typing import Dict, Iterable, List, Optional, Tuple, Union
 
-from .bibtext import Item, Lines, read
+from .bibtext import Database, Item, Lines, read
 from .doctor import JOURNALS, MONTHS, Source, lines_of
 from .doubts import ENTRY_IN_TEXT
 
@@ -102,10 +102,11 @@ def pairs_of(name: str) -> Iterable[str]:
 
 
 class Known:
-    """The items of databases. A database is read when somebody asks for one of its items. keys, names: those of all entries, and of all strings with those of the usual styles."""
+    """The items of databases. A database is read when somebody asks for one of its items, if it isn't among those that were read. keys, names: those of all entries, and of all strings with those of the usual styles."""
 
-    def __init__(self, sources: List[Source]) -> None:
+    def __init__(self, sources: List[Source], databases: Optional[Dict[int, Database]] = None) -> None:
         self.sources = sources
+        self.databases = {} if databases is None else databases
         self.read: Dict[int, Tuple[List[Item], List[int]]] = {}
         self.lines: Dict[int, Lines] = {}
         self.of_keys: Dict[int, Dict[bytes, List[Item]]] = {}
@@ -123,7 +124,8 @@ class Known:
 
     def items_and_starts(self, source: Source) -> Tuple[List[Item], List[int]]:
         if id(source) not in self.read:
-            items = read(source.text).items
+            known = self.databases.get(id(source))
+            items = (read(source.text) if known is None else known).items
             self.read[id(source)] = items, [item.start for item in items]
         return self.read[id(source)]
 

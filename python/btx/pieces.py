@@ -6,7 +6,7 @@ A text is read first, which takes less time than its examination: then its mista
 from __future__ import annotations
 
 from operator import itemgetter
-from typing import Dict, List, Optional, Set
+from typing import Any, Dict, List, Optional, Set
 
 from .bibtext import MOST_AGAIN, Item
 from .doctor import Examiner, Finding, Local, Source, Style, Work, finding_of, repeated_works
@@ -49,7 +49,7 @@ class Examined(Piece):
         if not begin:
             examiner.text_between(0, items[0].start if items else end)
         examiner.examine_items(items, end, set(self.before.names))
-        self.works = [(check, work, key, place - begin) for check, work, key, place in examiner.works]
+        self.works = [(check, work, key, place - begin, parting) for check, work, key, place, parting in examiner.works]
         self.found = local(examiner, begin)
         self.is_examined = True
 
@@ -138,7 +138,7 @@ class Examination:
     def findings(self) -> List[Finding]:
         """What is found, by place: the findings of a piece come after those of the pieces before it."""
         found: List[Local] = []
-        firsts: Dict[object, bytes] = {}
+        firsts: Dict[object, Any] = {}
         at = 0
         for piece in self.pieces:
             if self.most is not None and len(found) >= self.most:

@@ -51,7 +51,7 @@ class Result:
     """What a job gives: the bytes of the reference list (`.bbl`), those of the log (`.blg`), and the report.
 
     events: what the library says of each line of the log.
-    notes: what is to be said of the list's letters, where the letters of a language were asked for: why it was made without them, and a line with half a letter.
+    notes: what is to be said of the list's letters: that text was read by letters where bytes would have left half of one, a line with half a letter, and why the letters of a language aren't there.
 
     Of a run that was stopped or that met a limit these are what it wrote until then."""
 

@@ -296,11 +296,12 @@ class Server:
 
     def symbols(self, params: Dict[str, Any]) -> List[Dict[str, Any]]:
         document = self.document(params)
-        return [
-            {"name": name, "detail": detail, "kind": kind, "range": document.range(*whole[1:]), "selectionRange": document.range(*place[1:])}
-            for name, detail, kind, whole, place in editing.symbols(document, self.workspace)
-        ]
-
+        at, found = document.walk().at, []
+        for name, detail, kind, whole, place in editing.symbols(document, self.workspace):
+            # (in the order of their places)
+            start, first, last, end = at(whole.start), at(place.start), at(place.end), at(whole.end)
+            found.append({"name": name, "detail": detail, "kind": kind, "range": {"start": start, "end": end}, "selectionRange": {"start": first, "end": last}})
+        return found
 
     def tokens(self, params: Dict[str, Any]) -> Dict[str, Any]:
         """The tokens of a style, or those that touch a range of it; of any other text none."""

@@ -64,10 +64,10 @@ class Workspace:
         self.search: Optional[Search] = None
 
     def document(self, path: str) -> Optional[Document]:
-        """The text of a file: as it is in the editor, or else as it is on disk."""
+        """The text of a file: as it is in the editor, or else as it is on disk. One that is too long isn't read."""
         uri = uri_of(path)
         if uri in self.open:
-            return self.open[uri]
+            return self.open[uri] if len(self.open[uri].text) <= MOST_BYTES else None
         try:
             state = os.stat(path)
             if not stat.S_ISREG(state.st_mode):

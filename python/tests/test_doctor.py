@@ -259,6 +259,18 @@ class Checks(unittest.TestCase):
         for one, two in ((b"", b""), (b", date = {2001-02}", b", date = {2002-02}"), (b", date = {2001}", b""), (b", date = {}", b", year = {}"), (b", date = {undated}", b", date = {unknown}")):
             self.assertEqual(said(one, two), [], (one, two))
 
+    def test_works_with_one_title_may_be_told_from_each_other(self):
+        """As a column that each issue has: by fields that both have. However many there are, each is compared with few."""
+        work = b"@misc{k%d, title = {A Title That Is Long}, year = 2001, %s}\n"
+        said = lambda *fields: [it.key for it in found_in(b"".join(work % it for it in enumerate(fields))) if it.check == "repeated-title"]
+        for one, other in ((b"pages = {1-2}", b"pages = {3-4}"), (b"volume = 1", b"volume = 2, pages = 1"), (b"number = 1", b"number = {2}"), (b"doi = {10.1/a}", b"doi = {10.1/b}")):
+            self.assertEqual(said(one, other), [], (one, other))
+        for one, other in ((b"pages = {1-2}", b"pages = \"1--2\""), (b"volume = 1", b"pages = 1"), (b"number = 1", b"number = {}"), (b"doi = {10.1/a}", b"doi = {https://doi.org/10.1/A}"), (b"", b"")):
+            self.assertEqual(said(one, other), ["k1"], (one, other))
+        self.assertEqual(said(b"pages = 1", b"pages = 2", b"pages = 2", b"pages = 1, volume = 1"), ["k2", "k3"])
+        steps, more = (calls_of(lambda number=number: said(*(b"pages = %d" % it for it in range(number)))) for number in (250, 1000))
+        self.assertLess(more, 5 * steps)
+
     def test_of_two_exchanged_names_neither_tells(self):
         said = lambda text: [it.check for it in found_in(text) if it.check == "names-exchanged"]
         self.assertEqual(said(b"@misc{k, author = {Wei Zhang and Zhang Wei}}"), [])
@@ -408,7 +420,7 @@ class Command(unittest.TestCase):
         for words in ([], ["--off", "nothing", "d.bib"], ["--style", "nosuch", "d.bib"], ["--wrong"]):
             with self.subTest(words=words):
                 self.assertEqual(self.run_doctor(*words)[:2], (1, ""))
-        self.assertEqual(self.run_doctor("nosuch.bib")[:2], (6, ""))
+        self.assertEqual(self.run_doctor("nosuch.bib"), (6, "", "btx: there is no file nosuch.bib\n"))
         self.assertEqual(self.run_doctor("--job", "nosuch", "d.bib")[:2], (6, ""))
 
     def test_it_changes_no_file(self):
@@ -515,7 +527,7 @@ ITERATE {call.type$}
     def test_an_aux_file_that_is_older_than_the_document(self):
         """What LaTeX doesn't read cites nothing, and a citation has an entry."""
         database = {"d.bib": b"@misc{k, author = {A. B}} @misc{Late, author = {A. B}} @misc{other, author = {A. B}} @misc{no, author = {A. B}}\n"}
-        text = b"\\cite{k} % \\cite{no}\n\\iffalse\n\\cite{no}\n\\fi\\citestyle{no}\n\\citep[see][p. 1]{k, late,nosuch}\\Citet{other}\n\\end{document}\\cite{no}\n"
+        text = b"\\cite{k} % \\cite{no}\n\\iffalse\n\\cite{no}\n\\fi\\citestyle{no}\\verb|\\cite{no}|\n\\citep[see][p. 1]{k, late,nosuch}\\Citet{other}\n\\end{document}\\cite{no}\n"
         said_of = ["j.tex:5:22: warning: `late` and another key are cited here and not in j.aux, which is older [older-aux]", "    what to do: run LaTeX, then BibTeX"]
         self.assertEqual(self.said({**database, "j.tex": text}), (0, [*said_of, "1 entry is cited by nothing: no (--each prints a line for each) [uncited]"]))
         self.assertEqual(self.said({**database, "j.tex": text}, older="j.tex")[1], ["3 entries are cited by nothing: Late, other, no (--each prints a line for each) [uncited]"])

@@ -317,6 +317,15 @@ class Kept(unittest.TestCase):
         for number in range(len(wanted) + 3):
             self.assertEqual(ends.after(number), [0, *wanted][number] if number <= len(wanted) else len(text), (text, number))
 
+    def test_symbols_count_each_byte_once(self):
+        """However long a line is."""
+        counted = []
+        server = Server(unittest.mock.Mock())
+        server.workspace.open["u.bib"] = Document("u.bib", "@misc{é%d, title = {A}} " * 2000)
+        with unittest.mock.patch("btx.documents.units", lambda text: counted.append(len(text)) or len(text.decode())):
+            self.assertEqual(len(server.symbols({"textDocument": {"uri": "u.bib"}})), 2000)
+        self.assertLessEqual(sum(counted), len(server.workspace.open["u.bib"].text))
+
     def test_positions_of_edited_texts(self):
         maker = random.Random(9)
         document = Document("u", "")
@@ -325,6 +334,8 @@ class Kept(unittest.TestCase):
             document.edit(dict(zip(("start", "end"), places)), "".join(maker.choice(["x", "\n", "\r", "\r\n", "é😀", ""]) for _ in range(maker.randrange(4))))
             fresh, place = Document("u", document.text.decode()), maker.randrange(len(document.text) + 1)
             self.assertEqual((document.position(place), document.line_range(2)), (fresh.position(place), fresh.line_range(2)))
+            walk, at = fresh.walk(), sorted(maker.randrange(len(document.text) + 1) for _ in range(4))
+            self.assertEqual([walk.at(it) for it in (*at, at[0])], [fresh.position(it) for it in (*at, at[0])])
             if len(document.text) > 60:
                 document.replace(document.text.decode()[5:].encode() if maker.randrange(2) else b"")
 

@@ -186,7 +186,7 @@ class Databases(WithEditor):
         found = self.said("d.bib", BASE)
         self.assertIn(("1", "mistake", 1), found)
         self.assertIn(("tgu", "undefined-string", 2), found)
-        self.assertIn(("yaer", "unread-field", 4), found)
+        self.assertEqual([it for it in found if it[0] == "yaer"], [("yaer", "misspelt-field", 2)])
         self.assertIn(("@misc", "unknown-type", 2), found)
         self.assertIn(("{1-2}", "one-hyphen", 3), found)
 
@@ -213,9 +213,9 @@ class Databases(WithEditor):
         self.assertEqual(sorted(uri.rpartition("/")[2] for uri in changes), ["d.bib", "paper.tex"])
         where = self.editor.at("d.bib", *spot(BASE, "tug"))
         self.assertEqual(len(self.editor.result("textDocument/rename", **where, newName="tb")["changes"]), 1)
-        for name in ("a b", "k2", "", "a,b", "a}"):
-            with self.subTest(name=name):
-                self.assertEqual(self.editor.ask("textDocument/rename", {**self.editor.at("d.bib", *spot(BASE, "kay")), "newName": name})["error"]["code"], -32803)
+        for word, name in [*(("kay", it) for it in ("a b", "k2", "", "a,b", "a}", "*")), ("tug", "Jan"), ("tug", "acm"), ("tug", "tods")]:
+            with self.subTest(word=word, name=name):
+                self.assertEqual(self.editor.ask("textDocument/rename", {**self.editor.at("d.bib", *spot(BASE, word)), "newName": name})["error"]["code"], -32803)
 
     def test_completion(self):
         text = BASE + "@\n@book{x,\n  t\n  title = a\n  crossref = {B\n"
@@ -265,6 +265,16 @@ class Documents(WithEditor):
         place = self.editor.at("paper.tex", *spot(PAPER, "bok1"))
         (found,) = self.editor.result("textDocument/codeAction", textDocument=place["textDocument"], range={"start": place["position"], "end": place["position"]}, context={"diagnostics": []})
         self.assertEqual(found["title"], "Change to `Book1`")
+
+    def test_what_tex_does_not_read_is_not_cited(self):
+        """What the doctor's reader of documents leaves out."""
+        unread = ("% \\cite{no}", "\\iffalse \\cite{no}\n\\fi", "\\verb|\\cite{no}|", "\\verb*+\\cite{no}+", "\\begin{verbatim}\n\\cite{no}\\end{verbatim}", "\\begin{comment}\\cite{no}\\end{comment}",
+                  "\\citestyle{no}", "\\cite{kay,% no\n}", "\\end{document}\n\\cite{no}")
+        for text in unread:
+            with self.subTest(text=text):
+                self.assertEqual(self.said("paper.tex", PAPER + text), [("bok1", "no-entry", 2)])
+        read = "\\% \\cite{no1} \\\\% \\cite{not}\n\\verb \\cite{no2} \\verbatim|\\cite{no3}| \\iffalsey \\cite{no4}\\fi \\iffalse \\verb| \\cite{no5} \\begin{verbatim}\\cite{no6}"
+        self.assertEqual([word for word, *_ in self.said("paper.tex", PAPER + read)], ["bok1", *(f"no{it}" for it in range(1, 7))])
 
     def test_a_name_that_only_latex_knows_is_taken_from_the_aux_file(self):
         paper = PAPER.replace("{d}", "{\\jobname}").replace("{s}", "{\\mystyle}")
@@ -337,6 +347,10 @@ class Hostile(WithEditor):
         for number in range(20):
             self.editor.change("big.bib", edit((number, 0), (number, 1), "@"))
         self.assertEqual([it["code"] for it in self.editor.diagnostics("big.bib")], ["too-long"])
+        where = self.editor.at("big.bib", 500_000, 8)
+        answers = [self.editor.result(f"textDocument/{method}", **where) for method in ("documentSymbol", "hover", "completion", "definition", "prepareRename")]
+        self.assertEqual(answers, [[], None, [], [], None])
+        self.assertEqual(self.said("paper.tex", PAPER.replace("{d}", "{d,big}")), [("bok1", "no-entry", 2)])
         self.assertLess(time.monotonic() - begin, 120)
 
     def test_what_nobody_should_send(self):

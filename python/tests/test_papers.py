@@ -56,6 +56,26 @@ class Papers(Folder):
         result = btx.run_paper("job", folder="deep", write=True)
         self.assertEqual([pathlib.Path("deep/job" + ending).read_bytes() for ending in (".bbl", ".blg")], [result.bbl, result.log])
 
+    def test_no_list_has_half_a_letter_in_silence(self):
+        """A call and the command do what `bibtex-search` does, where style and databases are UTF-8; `run` does what its options say."""
+        style = b"ENTRY {title} {} {} FUNCTION {misc} {title #1 text.prefix$ write$ newline$} READ ITERATE {call.type$}"
+        files = {"job.aux": b"\\citation{k}\n\\bibdata{d}\n\\bibstyle{s}\n", "s.bst": style, "d.bib": "@misc{k, title = {Émile}}\n".encode()}
+        note = "The list is made with -text=utf8: read by bytes, it would have half a letter, which LaTeX refuses."
+        self.write(files)
+        result = btx.run_paper("job")
+        self.assertEqual((result.bbl, result.notes), ("É\n".encode(), (note,)))
+        for result in (btx.run_paper("job", text="bytes"), btx.run("job", files)):
+            self.assertEqual((result.bbl, result.notes), (b"\xc3\n", ()))
+        self.assertEqual(btx.run_paper("job", btx.Options(utf8=True)).notes, ())
+        with self.assertRaises(ValueError):
+            btx.run_paper("job", text="letters")
+        for words, wanted, begin in (((), "É\n".encode(), note.encode()), (("--bytes",), b"\xc3\n", b"")):
+            done = run_module("job", *words, cwd=self.folder)
+            log = pathlib.Path("job.blg").read_bytes()
+            self.assertEqual((done.returncode, pathlib.Path("job.bbl").read_bytes(), log.startswith(begin), note.encode() in log), (0, wanted, True, bool(begin)))
+        self.write({"d.bib": "@misc{k, title = {Émile}, note = {\xe9}}\n".encode("latin1"), "s.bst": style})
+        self.assertEqual(btx.run_paper("job").notes, ())
+
     def test_included_files(self):
         """They are looked for from the present folder, and then beside the job's."""
         self.write({"job.aux": b"\\@input{one.aux}\n\\@input{sub/two.aux}\n\\bibdata{d}\n\\bibstyle{s}\n", "one.aux": b"\\citation{k}\n"}, "build")
