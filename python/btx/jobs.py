@@ -78,11 +78,7 @@ def run_in(folder: Name, job: Name, options: Optional[Options] = None) -> Result
     return run(job, in_folder(folder), options)
 
 
-<<<<<<< HEAD
-def run_paper(path: Name, options: Optional[Options] = None, *, folder: Optional[Name] = None, write: bool = False) -> Result:
-=======
-def run_paper(path: Name, options: Optional[Options] = None, *, folder: Union[None, str, "os.PathLike[str]"] = None, write: bool = False, text: str = "auto") -> Result:
->>>>>>> 14e31853c52f6f576d38d92f6aab13c1ae336691
+def run_paper(path: Name, options: Optional[Options] = None, *, folder: Optional[Name] = None, write: bool = False, text: str = "auto") -> Result:
     """Does what `bibtex PATH` does on this machine: styles and databases are found where TeX finds them, and variables keep as many bytes as TeX's set-up says.
 
     path: the `.aux` file of a document, with or without `.aux`. folder: where BibTeX would be called; the present folder, if nothing else is said. write: whether the list and the log are
