@@ -214,7 +214,7 @@ impl Reason {
                 match &next[..] {
                     b"while$" => {
                         format!(
-                            "{place}: its body isn't known to count towards its test, to make a text shorter or to walk along it"
+                            "{place}: its body isn't known to count towards its end, to make a text shorter or to walk along it"
                         )
                     }
                     b"if$" => format!("{place}: its functions don't stand quoted just before it"),
@@ -272,7 +272,7 @@ mod tests {
 
     #[test]
     fn reasons_are_said() {
-        let place = "`while$` in line 3, in f: its body isn't known to count towards its test, to make a text shorter or to walk along it";
+        let place = "`while$` in line 3, in f: its body isn't known to count towards its end, to make a text shorter or to walk along it";
         assert_eq!(said("FUNCTION {f} {{#1} 'skip$ while$} READ EXECUTE {f}"), place);
         assert_eq!(
             said("FUNCTION {g} {#1 'skip$ 'skip$}\nFUNCTION {f} {g if$} READ EXECUTE {f}"),
