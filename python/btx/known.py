@@ -7,7 +7,7 @@ import difflib
 import unicodedata
 from collections import Counter
 from functools import cached_property
-from typing import Dict, Iterable, List, Optional, Tuple, Union
+from typing import Dict, Iterable, List, Optional, Set, Tuple, Union
 
 from .bibtext import Database, Item, Lines, read
 from .doctor import JOURNALS, MONTHS, Source, lines_of
@@ -96,7 +96,7 @@ def names_of(names: Union[Names, Iterable[str]]) -> Names:
     return names if isinstance(names, Names) else Names(names)
 
 
-def pairs_of(name: str) -> Iterable[str]:
+def pairs_of(name: str) -> Set[str]:
     """Each pair of letters that stand side by side in a name, with its ends, once."""
     return {first + second for first, second in zip("\0" + name, name + "\0")}
 
@@ -142,7 +142,8 @@ class Known:
     def of_key(self, source: Source, key: bytes) -> List[Item]:
         """The entries of a database that have this key, in lower case."""
         if id(source) not in self.of_keys:
-            found = self.of_keys[id(source)] = {}  # type: Dict[bytes, List[Item]]
+            found: Dict[bytes, List[Item]] = {}
+            self.of_keys[id(source)] = found
             for item in self.items_of(source):
                 if item.is_entry and item.key is not None:
                     found.setdefault(item.key.lower(), []).append(item)

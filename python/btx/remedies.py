@@ -3,6 +3,7 @@
 from __future__ import annotations
 
 import re
+from functools import lru_cache
 from typing import Dict, Iterable, List, Optional, Tuple, Union
 
 from .bibtext import REPEATED, Item, Lines
@@ -102,6 +103,7 @@ GENERAL = {
     'Name ~ in "~" has a comma at the end': "remove the comma in the database",
 }
 
+VARIES = re.compile(r"([*~])")
 NAME = re.compile(rb"[^\x00-\x20\"#%'(),={}]*")
 # A line with a field after its `%`.
 COMMENTED_FIELD = re.compile(rb"[% \t]*[^\s%={}\"#',()]+[ \t]*=")
@@ -138,19 +140,20 @@ def said(words: str, *names: str) -> str:
     return words
 
 
-def pattern_of(row: str) -> Tuple[str, "re.Pattern[str]"]:
-    """The beginning of the texts that a row of `GENERAL` stands for, and their pattern."""
-    parts = re.split(r"([*~])", row)
-    return parts[0], re.compile("".join({"*": "(.*?)", "~": ".*?"}.get(part) or re.escape(part) for part in parts), re.DOTALL)
+@lru_cache(maxsize=None)
+def pattern_of(row: str) -> "re.Pattern[str]":
+    """The pattern of the texts that a row of `GENERAL` stands for."""
+    return re.compile("".join({"*": "(.*?)", "~": ".*?"}.get(part) or re.escape(part) for part in VARIES.split(row)), re.DOTALL)
 
 
-PATTERNS = [(*pattern_of(row), words) for row, words in GENERAL.items()]
+# How the texts of each row begin.
+BEGINNINGS = [(VARIES.split(row)[0], row, words) for row, words in GENERAL.items()]
 
 
 def general(text: str) -> Optional[str]:
     """What to do about a message by its text alone."""
-    for begin, pattern, words in PATTERNS:
-        found = pattern.fullmatch(text) if text.startswith(begin) else None
+    for begin, row, words in BEGINNINGS:
+        found = pattern_of(row).fullmatch(text) if text.startswith(begin) else None
         if found is not None:
             return said(words, *found.groups())
     return None
