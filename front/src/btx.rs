@@ -1,9 +1,9 @@
 //! The calls of the proved library, made safe. `library/btx.h` says what each call does; `crates/btx_c` has their contracts.
 
 use crate::event_places::{EventPlace, LogPlaces, Placed};
-use crate::job::File;
+use crate::half_letters::{HalfLetter, half_letter};
+use crate::job::{File, Files};
 use crate::letter_run::Letters;
-use crate::letters::line_of_half_letter;
 use crate::log::{Log, looks_like_message};
 use crate::system::trying;
 use crate::text::find_last;
@@ -343,10 +343,10 @@ impl Ran {
         Log::new(&self.log).with_printed(&self.printed).with_places(&self.places)
     }
 
-    /// The first line of the list that has half a letter of UTF-8; None where the run broke off.
-    pub fn line_of_half_letter(&self) -> Option<usize> {
+    /// The first half letter of UTF-8 that the list of a job with these files has; None where the run broke off.
+    pub fn half_letter(&self, files: &Files) -> Option<HalfLetter<'_>> {
         match self.answer {
-            Answer::Done(report) if !self.is_utf8 => line_of_half_letter(&self.list, report.is_stopped()),
+            Answer::Done(report) if !self.is_utf8 => half_letter(&self.list, report.is_stopped(), files),
             _ => None,
         }
     }

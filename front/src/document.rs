@@ -30,7 +30,23 @@ pub struct Document {
     /// Its words, where all that it cites stands in it.
     words: Option<HashSet<Vec<u8>>>,
     /// Where each key, database and style stands first in it.
-    named: HashMap<(Named, Vec<u8>), Spot>,
+    named: Names,
+    /// For each character that LaTeX takes for a key, since no brace follows a `\\cite`, that citation.
+    unbraced: HashMap<Vec<u8>, Unbraced>,
+}
+
+/// Where each name of a kind stands first.
+type Names = HashMap<(Named, Vec<u8>), Spot>;
+
+/// A citation whose key has no braces.
+#[derive(Debug, Clone, PartialEq, Eq)]
+pub struct Unbraced {
+    /// The command, without its backslash.
+    pub command: Vec<u8>,
+    /// What may be meant as the key: the option that stands after it, or the word.
+    pub word: Vec<u8>,
+    /// The number of its line.
+    pub number: usize,
 }
 
 /// A place of the document: its line, from its beginning to its end, the line's number, and the place in it.
@@ -57,6 +73,75 @@ impl Spot {
     }
 }
 
+/// Keys that are typed in a document where a citation may be meant.
+#[derive(Debug, Clone, PartialEq, Eq)]
+pub struct Typed<'d> {
+    pub keys: Vec<&'d [u8]>,
+    /// All that is typed, with its brackets.
+    pub text: &'d [u8],
+    pub line: &'d [u8],
+    pub number: usize,
+    pub place: usize,
+}
+
+/// Where the text of a document begins, and how long its keys in brackets may be.
+const BEGIN_DOCUMENT: &[u8] = b"\\begin{document}";
+const LONGEST_TYPED: usize = 200;
+
+/// Adds the keys that are typed in a line, from a place on.
+fn typed_in<'d>(
+    line: &'d [u8],
+    from: usize,
+    number: usize,
+    is_key: &impl Fn(&[u8]) -> bool,
+    found: &mut Vec<Typed<'d>>,
+) {
+    let mut at = from;
+    while let Some(before) = line[at..].iter().position(|byte| b"[(@".contains(byte)) {
+        let place = at + before;
+        let typed = text_typed_at(line, place).map(|text| (text, keys_typed(text)));
+        let typed = typed.filter(|(_, keys)| keys.iter().all(|key| may_be_typed(key) && is_key(key)));
+        at = place + typed.as_ref().map_or(1, |(text, _)| text.len());
+        found.extend(typed.map(|(text, keys)| Typed { keys, text, line, number, place }));
+    }
+}
+
+/// What is typed from a bracket or an `@` on; None where the sign is of a command, a formula or an address.
+fn text_typed_at(line: &[u8], place: usize) -> Option<&[u8]> {
+    let before = &line[..place];
+    // (an option follows its command, or that and its star or another argument, also after spaces)
+    let is_of_command = |before: &[u8]| {
+        let letters = before.iter().rev().take_while(|byte| byte.is_ascii_alphabetic()).count();
+        before[..before.len() - letters].ends_with(b"\\") || before.ends_with(b"*")
+    };
+    let is_free = before.last().is_none_or(|byte| byte.is_ascii_whitespace() || b"~-\"'`(".contains(byte));
+    if !is_free || is_of_command(before.trim_ascii_end()) {
+        return None;
+    }
+    let rest = &line[place..line.len().min(place + LONGEST_TYPED)];
+    let is_of_key = |byte: &&u8| byte.is_ascii_alphanumeric() || b"-_:/.+".contains(byte) || !byte.is_ascii();
+    let end = match rest[0] {
+        b'[' => rest.iter().position(|byte| *byte == b']')? + 1,
+        b'(' => rest.iter().position(|byte| *byte == b')')? + 1,
+        _ => 1 + rest[1..].iter().take_while(is_of_key).count(),
+    };
+    let text = &rest[..end];
+    Some(text.strip_suffix(b".").filter(|_| rest[0] == b'@').unwrap_or(text))
+}
+
+/// The keys in what is typed, without brackets and `@`.
+fn keys_typed(text: &[u8]) -> Vec<&[u8]> {
+    let is_bracket = |byte: &u8| b"[]()".contains(byte);
+    let inside = if text.first().is_some_and(is_bracket) { &text[1..text.len() - 1] } else { text };
+    let keys = inside.split(|byte| matches!(byte, b',' | b';')).map(<[u8]>::trim_ascii);
+    keys.map(|key| key.strip_prefix(b"@").unwrap_or(key)).collect()
+}
+
+/// Whether a key is more than a number, such as one of a formula or of a list.
+fn may_be_typed(key: &[u8]) -> bool {
+    key.len() > 1 && key.iter().any(u8::is_ascii_alphabetic)
+}
+
 /// How much is read of each `.aux` file that may include another one, and of how many of them.
 const MOST_OF_AUX: u64 = 1 << 20;
 const MOST_FILES: usize = 100;
@@ -70,9 +155,9 @@ fn named_by(command: &[u8]) -> Option<Named> {
     }
 }
 
-/// Where the keys, databases and styles of a text of TeX stand that has no comments.
-fn names_in(text: &[u8]) -> HashMap<(Named, Vec<u8>), Spot> {
-    let (lines, mut found, mut at) = (Text::new(text), HashMap::new(), 0);
+/// Where the keys, databases and styles of a text of TeX stand that has no comments; and its citations without braces.
+fn names_in(text: &[u8]) -> (Names, HashMap<Vec<u8>, Unbraced>) {
+    let (lines, mut found, mut unbraced, mut at) = (Text::new(text), HashMap::new(), HashMap::new(), 0);
     while let Some(before) = text[at..].iter().position(|byte| *byte == b'\\') {
         let start = at + before + 1;
         let length = text[start..].iter().take_while(|byte| byte.is_ascii_alphabetic()).count();
@@ -81,9 +166,34 @@ fn names_in(text: &[u8]) -> HashMap<(Named, Vec<u8>), Spot> {
             for (piece, place) in pieces_of_argument(text, at) {
                 found.entry((named, piece.to_vec())).or_insert_with(|| Spot::new(&lines, place));
             }
+            if let Some((key, word)) = unbraced_key(text, at).filter(|_| named == Named::Key) {
+                let place = key.as_ptr() as usize - text.as_ptr() as usize;
+                let (command, number) = (text[start..at].to_vec(), lines.line_of(place));
+                found.entry((named, key.to_vec())).or_insert_with(|| Spot::new(&lines, place));
+                unbraced.entry(key.to_vec()).or_insert(Unbraced { command, word: word.to_vec(), number });
+            }
         }
     }
-    found
+    (found, unbraced)
+}
+
+/// The character that LaTeX takes for the key of a citation whose command ends here and has no brace after it, and what may be meant as the key.
+fn unbraced_key(text: &[u8], from: usize) -> Option<(&[u8], &[u8])> {
+    let (mut rest, mut option) = (&text[from..], None);
+    rest = rest.strip_prefix(b"*").unwrap_or(rest).trim_ascii_start();
+    while let Some(inside) = rest.strip_prefix(b"[") {
+        let end = inside.iter().position(|byte| *byte == b']')?;
+        option = Some(inside[..end].trim_ascii());
+        rest = inside[end + 1..].trim_ascii_start();
+    }
+    let first = rest.first().filter(|byte| !b"{}\\#$%&~".contains(byte))?;
+    // (a letter of UTF-8 is one character as LaTeX reads it)
+    let length = 1 + rest[1..].iter().take_while(|byte| !first.is_ascii() && **byte & 0xC0 == 0x80).count();
+    let is_of_word = |byte: &&u8| !byte.is_ascii_whitespace() && !b"\\{}[](),;~".contains(byte);
+    let inside = rest.strip_prefix(b"(").unwrap_or(rest);
+    let word = &inside[..inside.iter().take_while(is_of_word).count()];
+    let word = word.strip_suffix(b".").unwrap_or(word);
+    Some((&rest[..length], option.unwrap_or(word)))
 }
 
 /// The pieces of the argument after a command that ends here, with the place of each; options in brackets are passed over.
@@ -129,8 +239,8 @@ impl Document {
         let words = || bytes.split(parts).filter(|word| !word.is_empty()).map(<[u8]>::to_vec).collect();
         let words = is_whole.then(words);
         let text: Vec<u8> = bytes.split_inclusive(|byte| *byte == b'\n').flat_map(blank_comment).collect();
-        let named = names_in(&text);
-        Document { file, words, named }
+        let (named, unbraced) = names_in(&text);
+        Document { file, words, named, unbraced }
     }
 
     /// Where it names a key, a database or a style first: the line, its number, and the place in it.
@@ -161,6 +271,35 @@ impl Document {
         typed.filter(|(keys, _)| are_keys(keys)).collect()
     }
 
+    /// The keys that are typed where a citation may be meant: as `[knuth84]`, `[@knuth84]`, `(knuth84)` or `@knuth84`. A key without a digit is one only where it is no word of the text.
+    pub fn typed(&self, is_key: impl Fn(&[u8]) -> bool) -> Vec<Typed<'_>> {
+        let text = self.bytes();
+        let begin = find(text, BEGIN_DOCUMENT).map_or(0, |at| at + BEGIN_DOCUMENT.len());
+        let (mut found, mut start) = (Vec::new(), 0);
+        for (index, line) in text.split_inclusive(|byte| *byte == b'\n').enumerate() {
+            let whole = without_comment(line).trim_ascii_end();
+            let from = begin.saturating_sub(start).min(whole.len());
+            typed_in(whole, from, index + 1, &is_key, &mut found);
+            start += line.len();
+        }
+        let is_sure = |typed: &Typed<'_>| typed.keys.iter().all(|key| key.iter().any(u8::is_ascii_digit));
+        if !found.iter().all(is_sure) {
+            let words = self.plain_words();
+            let is_no_word = |key: &&[u8]| !words.contains(&key.to_ascii_lowercase());
+            let is_bare = |typed: &Typed<'_>| typed.text.starts_with(b"(");
+            found.retain(|typed| is_sure(typed) || !is_bare(typed) && typed.keys.iter().all(is_no_word));
+        }
+        found
+    }
+
+    /// The words that stand between whitespace and signs of a sentence, in small letters.
+    fn plain_words(&self) -> HashSet<Vec<u8>> {
+        let lines = self.lines().flat_map(|(_, line)| line.split(u8::is_ascii_whitespace));
+        let words = lines.map(|word| word.trim_ascii_end());
+        let bare = words.map(|word| word.strip_suffix(b".").or(word.strip_suffix(b",")).unwrap_or(word));
+        bare.filter(|word| word.first().is_some_and(u8::is_ascii_alphabetic)).map(<[u8]>::to_ascii_lowercase).collect()
+    }
+
     /// The line that reads this part of the document, and its number.
     pub fn line_of_part(&self, stem: &[u8]) -> Option<(usize, &[u8])> {
         let reads = |line: &[u8]| {
@@ -184,6 +323,16 @@ impl Document {
     /// Whether a key is neither cited in it nor named in another way. It may be in a file that it reads, or be one by which a class steers its style: then it isn't said to be missing.
     pub fn lacks(&self, key: &[u8]) -> bool {
         self.words.as_ref().is_some_and(|words| !words.contains(key)) && find(key, b"ontrol").is_none()
+    }
+
+    /// The citation without braces of which LaTeX takes this character for the key.
+    pub fn unbraced(&self, key: &[u8]) -> Option<&Unbraced> {
+        self.unbraced.get(key)
+    }
+
+    /// Whether it has a citation whose key is made of the argument of a macro, so that the key needn't stand in it.
+    pub fn has_macro_of_keys(&self) -> bool {
+        self.named.keys().any(|(named, name)| *named == Named::Key && name.contains(&b'#'))
     }
 
     /// Whether it was changed after the file at this path.
@@ -269,6 +418,21 @@ mod tests {
         assert_eq!([known(b"kl"), known(b"k3"), known(b"m")], [vec![(&b"k, l"[..], 2)], vec![(&b"3"[..], 2)], vec![]]);
         assert_eq!(document.line_of_part(b"part").map(|(number, _)| number), Some(4));
         assert_eq!(document.line_of_part(b"par"), None);
+    }
+
+    #[test]
+    fn citations_without_braces_are_found() {
+        let found = |text: &str, key: &str| {
+            let document = document(text);
+            document.unbraced(key.as_bytes()).map(|it| String::from_utf8_lossy(&it.word).into_owned())
+        };
+        let word = |word: &str| Some(word.to_string());
+        assert_eq!([found("\\cite ray01.", "r"), found("\\citep[ray01] a", "a")], [word("ray01"), word("ray01")]);
+        assert_eq!([found("\\cite(ray01)", "("), found("\\cite*é1 x", "é")], [word("ray01"), word("é1")]);
+        for text in ["\\cite {ray01}", "\\cite[r]{r}", "\\let\\my\\cite\\relax", "\\cite", "\\cite[r", "\\cite#1"] {
+            assert_eq!(document(text).unbraced, HashMap::new(), "{text}");
+        }
+        assert!(document("\\def\\a#1{\\cite{x#1}}").has_macro_of_keys() && !document("\\cite{x}").has_macro_of_keys());
     }
 
     #[test]

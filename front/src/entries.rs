@@ -399,6 +399,12 @@ impl<'a> Entries<'a> {
         found.map(|(database, item)| Stored { database, item })
     }
 
+    /// The items that are no entries and have a text: strings and preambles.
+    pub fn texts(&self) -> impl Iterator<Item = Stored<'_, 'a>> {
+        let texts = self.all().filter(|(_, item)| !item.is_entry() && !item.kind.eq_ignore_ascii_case(b"comment"));
+        texts.map(|((index, _), item)| Stored { database: &self.databases[index], item })
+    }
+
     /// The names of all strings that the databases define.
     pub fn strings(&self) -> impl Iterator<Item = &'a [u8]> {
         let strings = self.all().filter(|(_, item)| item.kind.eq_ignore_ascii_case(b"string"));

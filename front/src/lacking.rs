@@ -10,7 +10,7 @@ use crate::terminal::plain;
 use crate::text::{find, split_first};
 
 /// How the warnings of usual styles begin that miss a field, before the names of fields.
-const BEGINNINGS: [&[u8]; 4] = [b"empty ", b"missing ", b"to sort, need ", b"there's a "];
+const BEGINNINGS: [&[u8]; 5] = [b"empty ", b"missing ", b"to sort, need ", b"there's a ", b"need "];
 
 /// The fields that an entry has, with their values.
 fn fields<'a>(stored: Stored<'_, 'a>) -> Vec<(&'a [u8], &'a [u8])> {
@@ -34,7 +34,10 @@ fn missed<'w>(style: &StyleNames<'_>, warning: &'w [u8]) -> Vec<&'w [u8]> {
     } else {
         rest
     };
-    let names = find(rest, b" in ").map_or(&b""[..], |end| &rest[..end]);
+    // (`need key or journal for a to crossref p`: what the child can't take from its parent)
+    let is_of_parent = warning.starts_with(b"need ") && find(rest, b" to crossref ").is_some();
+    let before_entry = if is_of_parent { &b" for "[..] } else { b" in " };
+    let names = find(rest, before_entry).map_or(&b""[..], |end| &rest[..end]);
     let words = names.split(|byte| !byte.is_ascii_alphanumeric() && !b"-_.".contains(byte));
     words.filter(|word| !word.is_empty() && style.has_field(word)).collect()
 }
@@ -99,6 +102,9 @@ mod tests {
         assert_eq!(advice("@misc{k}", "to sort, need author or key in k"), "add `author` or `key` to the entry");
         let part = Seen::AddPart.with(&["`chapter` or `pages`"]);
         assert_eq!(advice("@inbook{k}", "empty chapter and pages in k"), part);
+        let of_parent = "need author, key, or booktitle for a to crossref k";
+        assert_eq!(advice("@misc{k}", of_parent), "add `author` or `key` or `booktitle` to the entry");
+        assert_eq!(advice("@misc{k, key = {K}}", "need key in k"), "");
         for warning in ["can't use both author and key in k", "year in k", "empty in k", "empty year"] {
             assert_eq!(advice("@misc{k}", warning), "", "{warning}");
         }

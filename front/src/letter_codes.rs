@@ -96,7 +96,8 @@ struct Letter {
 impl Letter {
     /// A letter in a text of a language; `is_foreign` where the text has no letter outside ASCII, so that its `I` may be one of another language.
     fn new(itself: char, language: &Language, is_foreign: bool) -> Letter {
-        let is_capital = itself.is_uppercase();
+        // (also a letter of a capital and a small one, such as `ǅ`)
+        let is_capital = itself.is_uppercase() || !itself.to_lowercase().eq([itself]);
         let one = |letter: char| Short::of_letters(std::iter::once(letter));
         let other = match itself {
             'I' if language.is_dotless() && !is_foreign => one('ı'),
@@ -457,6 +458,10 @@ mod tests {
         assert_eq!((lower("de", "ÄßÉœ"), upper("de", "äßéœ")), ("äßéœ".into(), "ÄSSÉŒ".into()));
         assert_eq!((lower("tr", "IŞIK İnan"), upper("tr", "ışık inan")), ("ışık inan".into(), "IŞIK İNAN".into()));
         assert_eq!(lower("tr", "In it"), "in it");
+        for name in crate::languages::names().split(", ") {
+            let lowered = there_and_back(name, "ǅ ǈ ǋ ǲ Ǆ Ǳ", <[u8]>::make_ascii_lowercase);
+            assert_eq!(lowered, "ǆ ǉ ǌ ǳ ǆ ǳ", "{name}");
+        }
         assert_eq!((lower("cs", "Chvátal"), upper("cs", "chvátal")), ("chvátal".into(), "CHVÁTAL".into()));
     }
 

@@ -29,7 +29,7 @@
 //! | [`document`], [`alike`], [`composed`] | the document beside the `.aux` file; characters that look like one of the keyboard; letters in two forms |
 //! | [`missing_entry`], [`nearest`] | where an entry may be that wasn't found, and which name may be meant by one that isn't known |
 //! | [`lacking`] | which field an entry lacks that a style asks for |
-//! | [`letters`], [`languages`], [`letter_places`], [`plain_entries`], [`letter_values`], [`letter_codes`], [`style_keys`], [`keyed_hash`], [`letter_run`] | letters outside ASCII: half letters in a list, and the order of a language |
+//! | [`letters`], [`half_letters`], [`languages`], [`letter_places`], [`plain_entries`], [`letter_values`], [`letter_codes`], [`style_keys`], [`keyed_hash`], [`letter_run`] | letters outside ASCII: half letters in a list, and the order of a language |
 //! | [`run_log`] | the log of a run as it is written and printed |
 //! | [`run_json`], [`message_places`], [`kinds`] | what a run says as lines of JSON: where each message stands, and a name for its kind |
 //! | [`terminal`] | what is safe to print on a terminal, and how wide it is |
@@ -72,6 +72,7 @@ pub mod entries;
 pub mod event_places;
 pub mod exit;
 pub mod explain;
+pub mod half_letters;
 pub mod hints;
 pub mod interrupt;
 pub mod job;

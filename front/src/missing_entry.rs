@@ -43,9 +43,21 @@ pub fn clue(entries: &Entries<'_>, files: &Files, document: Option<&Document>, k
     }
     let of_text = in_record(entries, key).or_else(|| without_comma(entries, key));
     of_text.or_else(|| clue_of_unreached(entries, key)).or_else(|| lost(entries, files).cloned()).unwrap_or_else(|| {
-        let alike = clue_of_form(entries, key).or_else(|| clue_of_alike(entries, key));
-        alike.or_else(|| clue_of_older(entries, document, key)).unwrap_or_else(|| clue_of_nearest(entries, key))
+        let unbraced = clue_of_unbraced(entries, document, key);
+        let alike = unbraced.or_else(|| clue_of_form(entries, key)).or_else(|| clue_of_alike(entries, key));
+        let older = || clue_of_older(entries, files, document, key);
+        alike.or_else(older).unwrap_or_else(|| clue_of_nearest(entries, key))
     })
+}
+
+/// What is said of a character that LaTeX takes for a key, since a `\cite` in the document has no braces.
+fn clue_of_unbraced(entries: &Entries<'_>, document: Option<&Document>, key: &[u8]) -> Option<Clue> {
+    let document = document?;
+    let unbraced = document.unbraced(key)?;
+    let at = format!("{}:{}", plain(shown_path(&document.file)), unbraced.number);
+    let meant = entries.entry(&unbraced.word).map_or("KEY".into(), |_| plain(&unbraced.word));
+    let advice = Seen::NoBraceAfterCite.with(&[&plain(&unbraced.command), &meant, &at, &plain(key)]);
+    Some(Clue { place: None, advice: Some(advice) })
 }
 
 /// What is said of a key that stands in a record of RIS between the items of a database.
@@ -117,9 +129,13 @@ fn clue_of_form(entries: &Entries<'_>, key: &[u8]) -> Option<Clue> {
     Some(Clue { place: Some(place), advice: Some(seen.with(&[&name])) })
 }
 
-/// What is said of a key that the document doesn't have any more, and that no entry names as its parent.
-fn clue_of_older(entries: &Entries<'_>, document: Option<&Document>, key: &[u8]) -> Option<Clue> {
+/// What is said of a key that the document doesn't have any more, and that no entry names as its parent. A key that a macro makes needn't stand in the document.
+fn clue_of_older(entries: &Entries<'_>, files: &Files, document: Option<&Document>, key: &[u8]) -> Option<Clue> {
     let document = document.filter(|document| document.lacks(key) && entries.parent(key).is_none())?;
+    let top = files.with_ending(".aux").next()?;
+    if document.has_macro_of_keys() || !document.is_newer_than(&top.path) {
+        return None;
+    }
     let advice = Seen::KeyNotInDocument.with(&[&plain(key), &plain(shown_path(&document.file))]);
     Some(Clue { place: None, advice: Some(advice) })
 }
@@ -160,6 +176,9 @@ pub fn lost<'b>(entries: &'b Entries<'_>, files: &Files) -> Option<&'b Clue> {
 
 /// The same, looked for in the files.
 fn lost_in(entries: &Entries<'_>, files: &Files) -> Option<Clue> {
+    if let Some(advice) = empty_name(files) {
+        return Some(Clue { place: Some("a name of a database is empty".into()), advice: Some(advice) });
+    }
     if let Some(lost) = lost_database(files) {
         let name = plain(&lost.name);
         let place = format!("it may stand in {name}, which wasn't found");
@@ -194,6 +213,17 @@ pub fn is_lost(entries: &Entries<'_>, files: &Files, key: &[u8]) -> bool {
             && without_comma(entries, key).is_none()
     };
     !key.is_empty() && is_nowhere() && lost(entries, files).is_some()
+}
+
+/// What to do about an empty name of a database.
+pub fn empty_name(files: &Files) -> Option<String> {
+    files.all.iter().find(|file| file.name == b".bib" && file.bytes.is_none())?;
+    let stem = |file: &File| file.name.strip_suffix(b".bib").filter(|stem| !stem.is_empty()).map(<[u8]>::to_vec);
+    let others: Vec<Vec<u8>> = files.with_ending(".bib").filter_map(stem).collect();
+    Some(match others.is_empty() {
+        true => Seen::EmptyBibliography.with(&[]),
+        false => Seen::EmptyNameOfDatabase.with(&[&plain(&others.join(&b","[..]))]),
+    })
 }
 
 /// A database that wasn't found, if there is one.

@@ -127,6 +127,13 @@ pub fn with_field_named(code: &Code<'_>, place: usize, error: &[u8], function: &
     Some([b"`", field?, b"' is a missing field, not ", wanted].concat())
 }
 
+/// The same, by what was called and on the stack at the error.
+pub fn with_field_of_scene(code: &Code<'_>, scene: &Scene, error: &[u8], function: &[u8]) -> Option<Vec<u8>> {
+    let wanted = error.strip_prefix(IS_MISSING)?;
+    let MissingField::Is(field, _) = missing_field_of(code, scene, error, function)? else { return None };
+    Some([b"`", field, b"' is a missing field, not ", wanted].concat())
+}
+
 /// The token that pushes the operand with `position` literals above it that is taken at this token, in its function or in the only one that calls this.
 fn pushed_before(code: &Code<'_>, token: usize, position: usize) -> Option<usize> {
     let (mut token, mut above) = (token, position);

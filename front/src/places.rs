@@ -3,15 +3,18 @@
 //! job is the same on every machine.
 
 use crate::btx::{self, Answer, Options, Ran, Report, Rooms};
+use crate::code_places::Code;
 use crate::event_places::Placed;
 use crate::job::Files;
 use crate::letter_codes::Codes;
 use crate::letter_run::Letters;
 use crate::log::{Content, Line, Log, Message, Place, Severity};
 use crate::notes::{self, Note, Spot, Token, What};
+use crate::origins::{IS_MISSING, with_field_named};
 use crate::scene::{Call, End, Held, IN_BRACES, Scene, Scenes};
 use crate::style_text::{Kind, Tokens, commands};
-use std::collections::{BTreeMap, HashMap};
+use memchr::memmem;
+use std::collections::{BTreeMap, HashMap, HashSet};
 
 /// Of how many events that log errors the place is found at most, where a variable keeps strings as long as this: each costs a run up to its event, and the longer strings are the longer a
 /// step may take. After a signal it is found of one alone, since the program is to end soon.
@@ -152,7 +155,8 @@ fn events_within(steps: u64, length: u32) -> u64 {
 impl Search<'_> {
     /// The scenes of a run that was done.
     fn scenes_of_run(&self, ran: &Ran, report: &Report, with_calls: bool) -> Scenes {
-        let errors = if report.errors > 0 && with_calls { Errors::of(&ran.lines_of_log()) } else { Errors::default() };
+        let is_asked = report.errors > 0 && (with_calls || self.has_unnamed_field(ran));
+        let errors = if is_asked { Errors::of(&ran.lines_of_log()) } else { Errors::default() };
         // Of a log with very many lines it isn't known of each whether the style printed it; then no error's number may be certain.
         let errors = if errors.count as u64 == report.errors { errors.of_execution } else { HashMap::new() };
         let mut scenes = match report.has_finished() && errors.is_empty() {
@@ -163,6 +167,24 @@ impl Search<'_> {
             scenes.by_token = self.scenes_of_tokens(&ran.places.known, &scenes);
         }
         scenes
+    }
+
+    /// Whether the log has an error on a missing field of which the style's text doesn't show which one it is: then what was called may show it.
+    fn has_unnamed_field(&self, ran: &Ran) -> bool {
+        if memmem::find(&ran.log, IS_MISSING).is_none() {
+            return false;
+        }
+        let (code, log) = (Code::new(self.text), ran.lines_of_log());
+        let mut seen = HashSet::new();
+        log.lines().any(|line| {
+            let Content::Message(Message { text, met: Some(met), place: Place::Execution { function, .. }, .. }) =
+                line.content
+            else {
+                return false;
+            };
+            let is_new = text.starts_with(IS_MISSING) && seen.insert((met.start, text));
+            is_new && with_field_named(&code, met.start, text, function).is_none()
+        })
     }
 
     /// What is looked at of a run that was done. One that was ended by a signal has another budget than the one that was asked for. It is to end soon, so only the first part of it

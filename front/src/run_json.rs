@@ -141,7 +141,9 @@ pub fn write(run: &RunLog<'_>, places: &[Range<usize>], kept: &Kept, out: &mut i
         Reader { run, places: places.iter(), long: run.ran.long.iter(), found, columns: Columns::default() };
     let mut report = ReportJson { object: "report", end: early_end(run.ran.answer).0.into(), ..ReportJson::default() };
     let most = if run.ran.answer == Answer::LogFull { MOST_PRINTED } else { usize::MAX };
-    for (number, line) in log.lines().filter(|line| !went_well(line)).enumerate() {
+    // (the line by which a log ends well is no message, and has what the report says)
+    let is_said = |line: &Line<'_>| matches!(line.content, Content::Ended(_)) || !went_well(line);
+    for (number, line) in log.lines().filter(is_said).enumerate() {
         let message = match &line.content {
             Content::Message(_) if number >= most => {
                 report.left_out += 1;

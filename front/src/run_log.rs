@@ -3,9 +3,10 @@
 use crate::btx::{Answer, Ran};
 use crate::exit::Status;
 use crate::explain;
+use crate::half_letters::HalfLetter;
 use crate::job::Files;
 use crate::letter_run::Letters;
-use crate::letters::{TextMode, databases_are_whole, style_is_whole};
+use crate::letters::{TextMode, style_is_whole};
 use crate::log::{Content, Line, Log};
 use crate::run_json;
 use crate::scene::{End, Scenes};
@@ -14,6 +15,7 @@ use crate::system::Signal;
 use crate::terminal::{Patient, Terminal, plain};
 use crate::words::Words;
 use std::borrow::Cow;
+use std::cell::OnceCell;
 use std::io::{self, Write};
 use std::ops::Range;
 
@@ -58,6 +60,8 @@ pub struct RunLog<'a> {
     pub interrupted: Option<Interrupted>,
     /// Where the style stood at its errors.
     pub scenes: Scenes,
+    /// What is to be said of half a letter in the list, once it was looked for.
+    pub half_letter: OnceCell<Option<String>>,
 }
 
 impl RunLog<'_> {
@@ -92,32 +96,33 @@ impl RunLog<'_> {
             notes.push_str(&format!("The list is made without -letters: {}.\n", why.reason()));
         }
         let is_coded = matches!(self.ran.letters, Letters::Coded(_));
-        let half = self.ran.line_of_half_letter().filter(|_| databases_are_whole(self.files));
+        let note = || self.ran.half_letter(self.files).map(|half| self.half_letter_note(half));
+        let half = self.half_letter.get_or_init(note);
         // (a list that has half a letter is no better for that)
         if self.ran.utf8 && self.words.text == TextMode::Auto && !is_coded && half.is_none() {
             notes.push_str(
                 "The list is made with -text=utf8: read by bytes, it would have half a letter, which LaTeX refuses.\n",
             );
         }
-        if let Some(line) = half {
-            notes.push_str(&self.half_letter_note(line));
+        if let Some(note) = half {
+            notes.push_str(note);
         }
         notes.into_bytes()
     }
 
-    /// What is to be said of half a letter in this line of the list: why it is there, and what to do, a line each.
-    fn half_letter_note(&self, line: usize) -> String {
+    /// What is to be said of half a letter in the list: why it is there, and what to do, a line each.
+    fn half_letter_note(&self, half: HalfLetter<'_>) -> String {
         let (why, advice) = match (self.ran.utf8, style_is_whole(self.files)) {
             (_, false) => ("the style isn't UTF-8", String::new()),
             (false, true) => ("try -text=utf8", String::new()),
             (true, true) => {
-                let key = key_above(&self.ran.list, line);
-                let entry = key.map_or(String::new(), |key| format!(" of the entry `{}`", plain(key)));
+                let entry = half.key.map_or(String::new(), |key| format!(" of the entry `{}`", plain(key)));
                 let advice =
                     format!("Write the letter{entry} as a command of TeX, such as {{\\'e}}, or take another style.\n");
                 ("the style cuts text by bytes", advice)
             }
         };
+        let line = half.line;
         format!("Line {line} of the list has half a letter, which LaTeX refuses: {why}.\n{advice}")
     }
 
@@ -196,17 +201,6 @@ impl RunLog<'_> {
     }
 }
 
-/// The key of the last `\\bibitem` in the first `lines` lines of a list; None where it isn't plain.
-fn key_above(list: &[u8], lines: usize) -> Option<&[u8]> {
-    const ITEM: &[u8] = b"\\bibitem";
-    let end = list.iter().enumerate().filter(|(_, byte)| **byte == b'\n').nth(lines.checked_sub(1)?);
-    let above = &list[..end.map_or(list.len(), |(at, _)| at)];
-    let item = &above[above.windows(ITEM.len()).rposition(|bytes| bytes == ITEM)? + ITEM.len()..];
-    let start = if item.starts_with(b"{") { 0 } else { item.windows(2).position(|bytes| bytes == b"]{")? + 1 };
-    let key = &item[start + 1..];
-    Some(&key[..key.iter().position(|byte| *byte == b'}')?]).filter(|key| !key.is_empty())
-}
-
 /// The first lines of a text.
 fn first_lines(text: &[u8], most: usize) -> &[u8] {
     let mut ends = text.iter().enumerate().filter(|(_, byte)| **byte == b'\n');
@@ -224,18 +218,4 @@ fn shown<'a>(text: &'a [u8], terminal: &Terminal) -> Cow<'a, [u8]> {
         None => plain(line),
     });
     lines.collect::<String>().into_bytes().into()
-}
-
-#[cfg(test)]
-mod tests {
-    use super::*;
-
-    #[test]
-    fn the_entry_of_a_line_is_known() {
-        let list = b"\\begin{thebibliography}{1}\n\n\\bibitem{a}\nA.\n\n\\bibitem[{B(2000)}]{b}\nB.\n";
-        let key = |line| key_above(list, line).map(|key| String::from_utf8_lossy(key).into_owned());
-        assert_eq!([key(1), key(2)], [None, None]);
-        assert_eq!([key(3), key(4)], [Some("a".into()), Some("a".into())]);
-        assert_eq!([key(6), key(7), key(99)], [Some("b".into()), Some("b".into()), Some("b".into())]);
-    }
 }

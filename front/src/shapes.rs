@@ -5,7 +5,7 @@ use crate::code_places::Code;
 use crate::job::Files;
 use crate::log::{Content, Ended, Line, Log, Message, Place, Severity};
 use crate::notes::Token;
-use crate::origins::{IS_MISSING, with_field_named};
+use crate::origins::{IS_MISSING, with_field_named, with_field_of_scene};
 use crate::scene::{Call, End};
 use crate::sources::{Sources, Spot};
 use crate::style_text;
@@ -208,7 +208,8 @@ impl<'a> Shapes<'a, '_> {
         let bytes = self.sources.file(self.sources.name(place.file))?.bytes.as_deref()?;
         let code = self.code.get_or_insert_with(|| Code::new(bytes));
         let named = || with_field_named(code, place.start, message.text, function);
-        self.named.entry((place.token?, message.text)).or_insert_with(named).clone()
+        let by_text = self.named.entry((place.token?, message.text)).or_insert_with(named).clone();
+        by_text.or_else(|| with_field_of_scene(code, message.scene?, message.text, function))
     }
 
     /// Says of how many errors of the style's execution the place isn't known, if there are any.

@@ -5,7 +5,7 @@ use crate::exit::{Failure, Name, Status};
 use crate::interrupt::{Tries, Watch};
 use crate::job::Files;
 use crate::letter_run::{self, Letters};
-use crate::letters::{TextMode, databases_are_whole, style_is_whole};
+use crate::letters::{TextMode, style_is_whole};
 use crate::outputs::Outputs;
 use crate::places;
 use crate::run_log::{Interrupted, Kept, RunLog, Whole};
@@ -116,14 +116,13 @@ impl Task {
         }
     }
 
-    /// A run by bytes, or in its place the one by letters where its list has half a letter of a database in UTF-8. A style in another encoding may write bytes of its own, which
-    /// no way of reading makes whole.
+    /// A run by bytes, or in its place the one by letters where its list has half a letter. A style in another encoding may write bytes of its own, which no way of reading makes whole.
     fn without_half_letters(&self, by_bytes: Ran, run: impl Fn(bool) -> Ran) -> Ran {
-        if by_bytes.line_of_half_letter().is_none() || !databases_are_whole(&self.files) {
+        if by_bytes.half_letter(&self.files).is_none() {
             return by_bytes;
         }
         let by_letters = run(true);
-        let is_better = style_is_whole(&self.files) || by_letters.line_of_half_letter().is_none();
+        let is_better = style_is_whole(&self.files) || by_letters.half_letter(&self.files).is_none();
         if is_better { by_letters } else { by_bytes }
     }
 
@@ -138,7 +137,15 @@ impl Task {
     }
 
     fn run_log<'a>(&'a self, ran: &'a Ran, interrupted: Option<Interrupted>, scenes: Scenes) -> RunLog<'a> {
-        RunLog { words: &self.words, files: &self.files, name: &self.log, ran, interrupted, scenes }
+        RunLog {
+            words: &self.words,
+            files: &self.files,
+            name: &self.log,
+            ran,
+            interrupted,
+            scenes,
+            half_letter: OnceCell::new(),
+        }
     }
 
     fn say_that_it_takes_long(&self) {

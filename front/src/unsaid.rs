@@ -421,9 +421,9 @@ fn seen_in_names(names: &[u8]) -> Option<(usize, Seen)> {
         words.get(number).is_some_and(|(_, word)| all.iter().any(|it| word.eq_ignore_ascii_case(it)))
     };
     let last = words.len().checked_sub(1)?;
-    if is(0, &[b"and"]) || is(last, &[b"and"]) {
-        let at = if is(0, &[b"and"]) { 0 } else { last };
-        return Some((words[at].0, Seen::AndAtEnd));
+    let at_end = [(0, Seen::AndAtBegin), (last, Seen::AndAtEnd)];
+    if let Some((at, seen)) = at_end.into_iter().find(|(at, _)| is(*at, &[b"and"])) {
+        return Some((words[at].0, seen));
     }
     for (number, (place, word)) in words.iter().enumerate() {
         if number > 0 && is(number, &[b"and"]) && is(number - 1, &[b"and"]) {
@@ -518,7 +518,7 @@ mod tests {
     fn names_are_parted_by_and() {
         let seen = |names: &str| seen_in_names(names.as_bytes());
         assert_eq!(seen("A. B and C. D and"), Some((14, Seen::AndAtEnd)));
-        assert_eq!(seen("and A. B"), Some((0, Seen::AndAtEnd)));
+        assert_eq!(seen("and A. B"), Some((0, Seen::AndAtBegin)));
         assert_eq!(seen("A. B and\nAnd C. D"), Some((9, Seen::AndTwice)));
         assert_eq!(seen("A. B et al."), Some((5, Seen::EtAl)));
         assert_eq!(seen("A. B and others and C. D"), Some((9, Seen::OthersInside)));

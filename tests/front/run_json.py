@@ -30,6 +30,9 @@ ADVICE = pathlib.Path(__file__).resolve().parents[2] / "front/src/advice.rs"
 AS_CALLED = dict(zip(SECTIONS, ("Aux", "Run", "Style", "Execution", "Database", "Entries")))
 # What the front end says by itself, and what a style says: no table of messages has these.
 OWN_KINDS = {"style-warning": ("warning", ".*"), "log-full": ("error", "Ended: the messages fill .*"), "list-full": ("error", "Ended: the list fills .*")}
+# Ends of jobs that give no log with a last line (of none here memory is refused); and the last line of a log.
+EARLY_ENDS = ("no top file", "refused", "device error", "log full", "list full")
+LAST_LINE = re.compile(rb"(?m)^Ended: (.*), warnings (\d+), errors (\d+), steps (\d+)\n\Z")
 ENDS = re.compile(r"budget-spent|limit-.*|top-file-missing|(log|list)-full")
 
 
@@ -274,11 +277,16 @@ class Checked:
         """What the proved program's log and the written one have of the messages."""
         counted = [message for message in self.messages if not ENDS.fullmatch(message["kind"])]
         numbers = [sum(message["severity"] == severity for message in counted) for severity in ("warning", "error")]
-        if self.report["warnings"] is not None and numbers != [self.report["warnings"], self.report["errors"]]:
-            yield f"there are {numbers} warnings and errors, and the run has {self.report['warnings']} and {self.report['errors']}"
+        counts = [self.report[name] for name in ("warnings", "errors", "steps")]
+        is_early = self.report["end"] in EARLY_ENDS
+        if is_early != (None in counts) or not is_early and numbers != counts[:2]:
+            yield f"there are {numbers} warnings and errors, and the report on a run that is {self.report['end']} has {counts}"
         log, at = b"\n" + self.log, 0
         # (the program finds no file whose name isn't UTF-8)
         is_read = all(is_utf8(name) for name in self.job.files)
+        last = LAST_LINE.search(self.log) if is_read else None
+        if last and not is_early and [self.report["end"], *map(str, counts)] != [group.decode() for group in last.groups()]:
+            yield f"the run is {self.report['end']} with {counts}, and the log ends by {last[0]}"
         for message in counted if is_read else ():
             line = b"\n" + logged(message) + b"\n"
             found = log.find(line, at)

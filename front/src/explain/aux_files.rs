@@ -2,8 +2,8 @@
 
 use super::{Explainer, MOST_OF_SCENE, between, shown_path};
 use crate::advice::{Section, Seen};
-use crate::aux_text::{broken_off, not_taken};
-use crate::document::{Document, Named, job_that_includes};
+use crate::aux_text::{broken_off, cited_keys, not_taken};
+use crate::document::{Document, Named, Typed, job_that_includes};
 use crate::log::Message;
 use crate::shown_line::ShownLine;
 use crate::terminal::plain;
@@ -78,14 +78,28 @@ impl<'a, W: Write> Explainer<'a, W> {
         let typed = document.typed_keys(|key| entries.entry(key).is_some());
         let ((keys, number), more) = typed.split_first()?;
         let (keys, at) = (plain(keys), format!("{}:{number}", plain(shown_path(&document.file))));
-        let shown =
-            more.iter().take(MOST_OF_SCENE).map(|(keys, number)| format!("`[{}]` in line {number}", plain(keys)));
-        let dots = if more.len() > MOST_OF_SCENE { ", .." } else { "" };
-        let more = match more.len() {
-            0 => String::new(),
-            count => format!(", and {count} more so: {}{dots}", shown.collect::<Vec<_>>().join(", ")),
-        };
-        (error == b"I found no \\citation commands").then(|| Seen::TypedCitation.with(&[&keys, &at, &more]))
+        let shown = more.iter().map(|(keys, number)| format!("`[{}]` in line {number}", plain(keys)));
+        let (typed, more) = (format!("[{keys}]"), more_typed(shown));
+        (error == b"I found no \\citation commands").then(|| Seen::TypedCitation.with(&[&keys, &typed, &at, &more]))
+    }
+
+    /// Says of keys that are typed in the document, of entries that are there, that they are no citations.
+    pub(super) fn typed_beside_citations(&mut self, document: &Document) -> io::Result<()> {
+        let is_nothing_cited = cited_keys(self.files).next().is_none();
+        let entries = self.entries();
+        let typed = document.typed(|key| entries.entry(key).is_some());
+        // (of a document without a citation that was said at the error)
+        let Some((first, more)) = typed.split_first().filter(|_| !is_nothing_cited) else { return Ok(()) };
+        let names = first.keys.iter().filter_map(|key| Some(entries.entry(key)?.item.key?.name));
+        let keys = plain(&names.collect::<Vec<_>>().join(&b","[..]));
+        let name = plain(shown_path(&document.file));
+        writeln!(self.page.out, "No message is about this, but a citation may be meant:")?;
+        let Typed { line, number, place, .. } = *first;
+        let lines = ShownLine { name: &name, number, line, mark: Some(place) }.lines(self.page.terminal);
+        self.page.put_lines(&lines)?;
+        let more = more_typed(more.iter().map(|typed| format!("`{}` in line {}", plain(typed.text), typed.number)));
+        let at = format!("{name}:{number}");
+        self.page.put_advice_once(&Seen::TypedCitation.with(&[&keys, &plain(first.text), &at, &more]))
     }
 
     /// Shows the line of the document that reads a part whose `.aux` file isn't there.
@@ -138,6 +152,14 @@ impl<'a, W: Write> Explainer<'a, W> {
         let top = self.files.with_ending(".aux").next().and_then(|file| file.bytes.as_deref());
         top.is_some_and(|bytes| find(bytes, b"\\abx@aux@").is_some())
     }
+}
+
+/// More typed citations, in words.
+fn more_typed(all: impl ExactSizeIterator<Item = String>) -> String {
+    let count = all.len();
+    let dots = if count > MOST_OF_SCENE { ", .." } else { "" };
+    let shown: Vec<String> = all.take(MOST_OF_SCENE).collect();
+    if count == 0 { String::new() } else { format!(", and {count} more so: {}{dots}", shown.join(", ")) }
 }
 
 /// The command that a line of an `.aux` file begins with.

@@ -111,6 +111,7 @@ impl<'a, W: Write> Explainer<'a, W> {
         }
         self.named_with_ending(document)?;
         self.cited_since(document)?;
+        self.typed_beside_citations(document)?;
         let (mut seen, files) = (HashSet::new(), self.files);
         let new = cited_keys(files).filter(|key| *key != b"*" && seen.insert(Folded(key)));
         let lacked: Vec<&[u8]> = new.filter(|key| document.lacks(key)).collect();

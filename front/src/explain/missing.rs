@@ -60,6 +60,7 @@ impl<'a, W: Write> Explainer<'a, W> {
             let meant = beside::meant(text, self.files);
             meant.map_or(Ok(()), |meant| self.page.put_place(&meant))?;
             let advice = self.folder_of_job(text).or_else(|| self.older_names(text));
+            let advice = advice.or_else(|| missing_entry::empty_name(self.files).filter(|_| text.ends_with(b" .bib")));
             let advice = advice.or_else(|| self.other_database(text, spot.line));
             self.missing.is_renamed |= advice.is_some();
             return advice.map_or(Ok(false), |advice| self.page.put_advice_once(&advice).map(|()| true));

@@ -69,6 +69,37 @@ wants_text job.bbl $'plain\n\xC9\n'
 ! grep -q 'half a letter' "$folder/stdout" job.blg || complaints+=('something is said of letters')
 end
 
+# A value that isn't UTF-8 explains its own bytes in the list, and no half letter beside them.
+begin half_letter_beside_values_in_another_encoding
+letters_job 'Émile Zola' "$prefix"
+printf '@misc{other, author = {Ren\xE9}}\n' >>d.bib
+run_search -no-explain job
+wants_text job.bbl $'plain\nÉ\n'
+says_of_letters "$read_anew"
+run_search -no-explain -text=bytes job
+wants_text job.bbl $'plain\n\xC3\n'
+says_of_letters 'Line 2 of the list has half a letter, which LaTeX refuses: try -text=utf8.'
+run_search -no-explain -letters=de job
+wants_text job.bbl $'plain\nÉ\n'
+sed -i 's/{k}/{k,other}/' job.aux
+run_search -no-explain -letters=de job
+wants_text job.bbl $'plain\nÉ\nplain\nR\n'
+says_of_letters "The list is made without -letters: an entry or a string isn't UTF-8." "$read_anew"
+letters_job 'Émile Zola' 'author #1 #4 substring$'
+printf '@misc{other, author = {Ren\xE9}}\n' >>d.bib
+sed -i 's/{k}/{other,k}/' job.aux
+run_search -no-explain job
+wants_text job.bbl $'plain\nRen\xE9\nplain\nÉmi\n'
+says_of_letters
+letters_job 'Zoé' 'author #1 #3 substring$'
+printf '@misc{other, author = {\xE9}, note = {\xC3\xA9}}\n' >>d.bib
+sed -i 's/{k}/{other,k}/' job.aux
+run_search -no-explain job
+wants_text job.bbl $'plain\n\xE9\nplain\nZo\xC3\n'
+says_of_letters 'Line 4 of the list has half a letter, which LaTeX refuses: the style cuts text by bytes.' \
+    "Write the letter as a command of TeX, such as {\\'e}, or take another style."
+end
+
 begin half_letter_at_the_end_of_a_stopped_run
 letters_job 'Émile Zola' "$piece write\$ author #2 #1 substring\$"
 run_search -no-explain -budget=20 job

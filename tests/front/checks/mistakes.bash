@@ -277,6 +277,7 @@ write_author_style
 cite k,gone
 printf '@misc{k, author = {A. B}}\n' >d.bib
 printf '%s\n' '\cite{k}' '\bibliography{d}' >job.tex
+touch -d '1 hour ago' job.aux
 run_search -explain -terse job
 wants_words "$folder/stdout" 'run LaTeX again, then BibTeX: `gone` isn'"'"'t in job.tex, so the `.aux` file is older'
 printf '\\input{more}\n' >>job.tex
@@ -422,6 +423,80 @@ run_search -explain job
 wants_words "$folder/stdout" 'write `\cite{one}` in the place of `[one]` (job.tex:1), and 2 more so: `[two]` in line 1, `[one,two]` in line 2, and run LaTeX'
 end
 
+# typed_job LINE: a document with this line and a citation, and its job.
+typed_job() {
+    write_author_style
+    printf '%s\n' '\documentclass[a4paper]{article}' '\usepackage[latin1]{inputenc}' '\begin{document}' "$1" '\cite{zeta9}' '\end{document}' >job.tex
+    printf '@misc{%s, author = {A. B}}\n' zeta9 latin1 a4paper ray-2001 sic x2 see 7 lee:sets >d.bib
+    printf '%s\n' '\citation{zeta9}' '\bibdata{d}' '\bibstyle{s}' >job.aux
+}
+
+begin mistakes_typed_beside_citations
+while IFS='|' read -r line typed key; do
+    typed_job "$line"
+    run_search -explain job
+    wants_status 0
+    wants_words "$folder/stdout" "what to do: write \`\\cite{$key}\` in the place of \`$typed\` (job.tex:4), and run LaTeX"
+done <<'END'
+as in [ray-2001] and more|[ray-2001]|ray-2001
+As (Ray-2001), it is|(Ray-2001)|ray-2001
+so [@x2; @ray-2001] says|[@x2; @ray-2001]|x2,ray-2001
+by @ray-2001.|@ray-2001|ray-2001
+then~[lee:sets] says|[lee:sets]|lee:sets
+END
+for line in 'quoted [sic] and sic' 'and (see) that, see there' '\item[x2] is' '\item [x2] is' 'f(x2) and $f(x2)$ or me@ray-2001.org' '[7] and [3], [nosuch1]' '% [ray-2001]' '\section*[x2]{X} \cite[x2]{zeta9}' 'the (sic)'; do
+    typed_job "$line"
+    run_search -explain job
+    wants_status 0
+    ! grep -q 'a citation may be meant' "$folder/stdout" || complaints+=("of '$line' is said: $(cat "$folder/stdout")")
+done
+end
+
+# What LaTeX takes for a key where no brace follows the command; and keys of macros, which needn't stand in the document.
+begin mistakes_of_citations_without_braces
+while IFS='|' read -r line key said; do
+    write_author_style
+    printf '@misc{ray2001, author = {A. B}}\n' >d.bib
+    printf '\\citation{%s,ray2001}\n\\bibdata{d}\n\\bibstyle{s}\n' "$key" >job.aux
+    printf '%s\n' "$line" '\cite{ray2001}' >job.tex
+    run_search -explain -terse job
+    wants_words "$folder/stdout" "job.tex:1: ${line%% *}"
+    wants_words "$folder/stdout" "what to do: write \`$said\` (job.tex:1), with braces round the key, and run LaTeX: without them LaTeX takes \`$key\` for it"
+    ! grep -q 'is older' "$folder/stdout" || complaints+=("of '$line' is said: $(cat "$folder/stdout")")
+done <<'END'
+\citep ray2001, and|r|\citep{ray2001}
+\citet[ray2001] X|X|\citet{ray2001}
+\cite*(ray2001)|(|\cite{ray2001}
+\cite nosuch|n|\cite{KEY}
+END
+printf '%s\n' '\newcommand{\byray}[1]{\citep{ray#1}}' '\byray{1999}' >job.tex
+printf '%s\n' '\citation{ray1999}' '\bibdata{d}' '\bibstyle{s}' >job.aux
+touch -d '1 hour ago' job.aux
+run_search -explain -terse job
+! grep -q 'is older' "$folder/stdout" || complaints+=("a macro makes the key: $(cat "$folder/stdout")")
+printf '%s\n' '\byray' >job.tex
+run_search -explain -terse job
+wants_words "$folder/stdout" '`ray1999` isn'"'"'t in job.tex, so the `.aux` file is older'
+touch -d '1 hour ago' job.tex
+touch job.aux
+run_search -explain -terse job
+! grep -q 'is older' "$folder/stdout" || complaints+=("the .aux file is newer: $(cat "$folder/stdout")")
+end
+
+begin mistakes_of_an_empty_name_of_a_database
+write_author_style
+cite k
+sed -i 's/bibdata{d}/bibdata{}/' job.aux
+run_search -explain job
+wants_words "$folder/stdout" 'what to do: write the name of your database into `\bibliography{}`, which is empty, and run LaTeX'
+wants_words "$folder/stdout" 'a name of a database is empty'
+! grep -qE 'look for|correct the name' "$folder/stdout" || complaints+=("printed is $(cat "$folder/stdout")")
+printf '@misc{j, author = {A. B}}\n' >d.bib
+sed -i 's/bibdata{}/bibdata{d,}/' job.aux
+run_search -explain job
+wants_words "$folder/stdout" 'what to do: write `\bibliography{d}`, without the comma beside which no name stands, and run LaTeX'
+end
+
 begin mistakes_renamed_database
 write_author_style
 mv d.bib refs.bib
@@ -446,7 +521,7 @@ printf '%s\n' '@misc{a, author = {A. B}, month = {jan}, url = {u}, abstract = {x
     '@misc{g, author = {Lee, Jr, A. B. and Ray, C.}, month = jan}' '@misc{h, month = {jan}}' >d.bib
 run_search -explain job
 wants_status 0
-for words in 'BibTeX has no message on these, but they may not be meant so:' 'd.bib:1: @misc{a, author = {A. B}, month = {jan}' 'write `month = jan`, without braces or quotes: then it is the string of this name' 'take out this `and`' \
+for words in 'BibTeX has no message on these, but they may not be meant so:' 'd.bib:1: @misc{a, author = {A. B}, month = {jan}' 'write `month = jan`, without braces or quotes: then it is the string of this name' 'take out this `and`: no name stands after it' \
     'write `and others`, of which the style makes et al.' 'write ` and ` between two names' 'with two commas this is one' 'put `and others` after the last name' 'this style never prints `url`' \
     "(Of the cited entries the style doesn't read: \`tilte\`, is it \`title\`?; \`url\` (2 times))" 'in @misc{d}, which begins at d.bib:4' 'what to do: write `title` for `tilte`'; do
     wants_words "$folder/stdout" "$words"

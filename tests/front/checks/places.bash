@@ -229,3 +229,33 @@ if [ -z "$few" ] && there_is valgrind 'the same log on a machine fifty times as 
     seconds=60
 fi
 end
+
+# A function that two others call takes what these push: only what was called shows which field it is.
+begin missing_fields_of_callers
+cat >s.bst <<'END'
+ENTRY {author editor note}{}{}
+FUNCTION {names} { num.names$ pop$ }
+FUNCTION {text} { #1 { note } { "" } if$ }
+FUNCTION {misc} { author names  editor names  text write$ }
+READ
+ITERATE {call.type$}
+END
+cite k
+printf '@misc{k, year = 1999}\n' >d.bib
+run_search -explain job
+cp job.blg explained.blg
+for words in -no-explain -terse -json; do
+    run_search $words job
+    wants_status 2
+    cmp -s job.blg explained.blg || complaints+=("with $words the log is $(cat job.blg)")
+done
+[ "$(grep -A1 'missing field' job.blg)" = "\`author' is a missing field, not a string (num.names\$) for entry k
+while executing---line 2 of file s.bst
+\`editor' is a missing field, not a string (num.names\$) for entry k
+while executing---line 2 of file s.bst
+missing field is not a string (write\$) for entry k
+while executing---line 4 of file s.bst" ] || complaints+=("the log is $(cat job.blg)")
+run_search -no-explain job
+cmp -s <(log_of "$folder/stdout") <(log_of job.blg) || complaints+=('what was printed is not the log')
+wants_messages job.blg "$(messages explained.blg)"
+end
