@@ -77,7 +77,7 @@ wants_line_of_output 'clean.bst: ends: at most 0 steps, and 24 + 16*N for each e
 sed -i 's/rest #2/rest #1/' clean.bst
 run_lint clean.bst
 wants_status 0
-wants_line_of_output 'clean.bst: not known to end: `while$` in line 11, in default.type: its body isn'"'"'t known to count a variable down, to make a text shorter or to walk along it'
+wants_line_of_output 'clean.bst: not known to end: `while$` in line 11, in default.type: its body isn'"'"'t known to count towards its end, to make a text shorter or to walk along it'
 wants_line_of_output "    it is clean all the same (status 0): a run that doesn't end is stopped at its budget, and logs no such fault before that"
 sed -i -e 's/rest #1/rest #2/' -e 's/title empty.*/title write$ }/' clean.bst
 run_lint clean.bst
@@ -101,7 +101,7 @@ END
 run_lint types.bst
 wants_status 0
 wants_line_of_output 'types.bst: ends: at most 0 steps, and 4 for each entry, where a string variable keeps at most 20,000 bytes'
-wants_line_of_output '    not known to end for entries of the type book: `while$` in line 2, in book: its body isn'"'"'t known to count a variable down, to make a text shorter or to walk along it'
+wants_line_of_output '    not known to end for entries of the type book: `while$` in line 2, in book: its body isn'"'"'t known to count towards its end, to make a text shorter or to walk along it'
 run_lint --json types.bst
 grep -qF '"ends": {"once": 0, "each": 4, "kept": 20000, "types": ["article"]}' "$folder/stdout" || complaints+=("the types of the bound aren't named: $(cat "$folder/stdout")")
 end

@@ -61,5 +61,5 @@ wants_words "$folder/stdout" 'up.bst: no bound is known: `while$` in line 4, in 
 ! grep -q 'known to end' "$folder/stdout" || complaints+=("a loop that counts on is said not to be known to end: $(cat "$folder/stdout")")
 sed -i "s/{ i #1 + 'i := }/{ cite\$ empty\$ 'skip\$ { i #1 + 'i := } if\$ }/" up.bst
 lints_list up.bst
-wants_words "$folder/stdout" 'up.bst: not known to end: `while$` in line 4, in misc: its body isn'"'"'t known to count a variable down, to make a text shorter or to walk along it'
+wants_words "$folder/stdout" 'up.bst: not known to end: `while$` in line 4, in misc: its body isn'"'"'t known to count towards its end, to make a text shorter or to walk along it'
 end

@@ -364,7 +364,7 @@ for called in bibtex-search bibtex-explain bibtex-lint bibtex-confined; do
     bibtex-explain) words=("$room/bibtex-explain" job) ;;
     *) words=("$programs/$called" job) ;;
     esac
-    for kilobytes in $(seq 2600 150 6050) $(seq 3000 20 3400); do
+    for kilobytes in $(seq 2600 150 7100) $(seq 3000 20 3400); do
         status=0
         (
             ulimit -v "$kilobytes"
