@@ -9,7 +9,7 @@ from typing import Dict, Iterator, List, Mapping, NamedTuple, Optional, Pattern,
 
 from .languages import FIXED, OF_VALUES, REASONS
 
-__all__ = ["DIGIT", "LeftOut", "Span", "is_whole", "parts_of", "values_of"]
+__all__ = ["DIGIT", "Item", "LeftOut", "Span", "Wanted", "is_entry", "is_whole", "items_of", "parent_in", "parts_of", "values_of"]
 
 # Where something stands in a database: its first byte, and the one after its last.
 Span = Tuple[int, int]
@@ -19,6 +19,8 @@ DIGIT = re.compile(rb"[\x01-\x08\x0e-\x1f]")
 OPEN, CLOSE, QUOTE, HASH, COMMA, EQUALS, ROUND_OPEN, ROUND_CLOSE = b'{}"#,=()'
 DELIMITER, BEGINNING = re.compile(rb'[{}"]'), re.compile(rb'[{"]')
 WHITE, DECIMALS, OF_NAME = re.compile(rb"[ \t\r\n]*"), re.compile(rb"[0-9]*"), re.compile(rb'[^\x00-\x20"#%\'(),={}]*')
+# A field that is written as most are, `name = {text},`, with no brace in the text.
+PLAIN_FIELD = re.compile(rb'[ \t\r\n]*([A-Za-z][^\x00-\x20"#%\'(),={}]*)[ \t\r\n]*=[ \t\r\n]*(\{[^{}]*\}),')
 # The name of a string outside of texts, or a number there.
 OF_VALUE = re.compile(rb'[^\x00-\x20"#{}]+')
 # The key of an item, by what closes it and by whether it is a string or a preamble, of which a `=` ends the name.
@@ -96,9 +98,11 @@ def names_in(content: bytes, value: Span) -> List[bytes]:
 
 @dataclass
 class Item:
-    """An item of a database, as far as it can be read. name, value: those of a string; of a preamble the value."""
+    """An item of a database, as far as it can be read. is_whole: whether that is to its end. key: that of an entry. name, value: those of a string; of a preamble the value."""
 
     type: bytes = b""
+    is_whole: bool = False
+    key: Optional[bytes] = None
     fields: List[Tuple[bytes, Span]] = field(default_factory=list)
     name: Optional[bytes] = None
     value: Optional[Span] = None
@@ -157,35 +161,45 @@ class Reader:
             return item
         item.type = kind
         closing = None if kind == b"comment" else self.closing()
-        if closing and is_entry(kind):
-            self.read_entry(item, closing)
-        elif closing:
-            self.read_text(item, closing)
+        if closing:
+            item.is_whole = self.read_entry(item, closing) if is_entry(kind) else self.read_text(item, closing)
         return item
 
-    def read_text(self, item: Item, closing: int) -> None:
-        """Reads a string or a preamble."""
+    def read_text(self, item: Item, closing: int) -> bool:
+        """Reads a string or a preamble; whether to its end."""
         if item.type == b"string":
             item.name = self.name()
             if item.name is None or not self.expect(EQUALS):
-                return
+                return False
         item.value = self.value()
-        if item.value:
-            self.expect(closing)
+        return item.value is not None and self.expect(closing) is not None
 
-    def read_entry(self, item: Item, closing: int) -> None:
+    def read_entry(self, item: Item, closing: int) -> bool:
+        """Reads what follows an entry's opening brace; whether to its end."""
         if self.next() is None:
-            return
-        self.take(KEYS[closing, False])
-        while self.expect(COMMA, closing) == COMMA:
+            return False
+        item.key = self.take(KEYS[closing, False]).lower()
+        while True:
+            byte = self.expect(COMMA, closing)
+            if byte != COMMA:
+                return byte == closing
+            self.take_plain_fields(item)
             if self.next() == closing:
                 self.at += 1
-                return
+                return True
             name = self.name()
             value = self.value() if name is not None and self.expect(EQUALS) else None
             if name is None or value is None:
-                return
+                return False
             item.fields.append((name, value))
+
+    def take_plain_fields(self, item: Item) -> None:
+        """Takes the fields from here on that are written as most are, each with the comma after it."""
+        found = PLAIN_FIELD.match(self.content, self.at, self.end)
+        while found:
+            item.fields.append((found[1].lower(), found.span(2)))
+            self.at = found.end()
+            found = PLAIN_FIELD.match(self.content, self.at, self.end)
 
     def value(self) -> Optional[Span]:
         """Takes a value; where it stands."""
@@ -212,6 +226,21 @@ class Reader:
             return False
         self.at += 1
         return True
+
+
+def items_of(content: bytes) -> Iterator[Tuple[Span, Item]]:
+    """The items of a text one after the other, each with where it stands."""
+    start = content.find(b"@")
+    while start >= 0:
+        reader = Reader(content, start + 1)
+        item = reader.item()
+        yield (start, reader.at), item
+        start = content.find(b"@", reader.at)
+
+
+def parent_in(content: bytes, value: Span) -> bytes:
+    """The key that a `crossref` names, as far as it stands there as such."""
+    return content[slice(*value)].strip(b'{}" \t\r\n').lower()
 
 
 class Head(NamedTuple):
@@ -309,7 +338,7 @@ class Database:
             else:
                 self.values.append(value)
             if name == b"crossref":
-                wanted.add(self.content[slice(*value)].strip(b'{}" \t\r\n').lower())
+                wanted.add(parent_in(self.content, value))
                 # (what a parent is that strings say isn't known here)
                 wanted.are_all = wanted.are_all or len(names_in(self.content, value)) > 0
         if item.name is not None and item.value:

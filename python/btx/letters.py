@@ -8,10 +8,12 @@ from __future__ import annotations
 
 import re
 from dataclasses import dataclass, replace
+from functools import cached_property
 from typing import Dict, List, Mapping, Match, NamedTuple, Optional, Sequence, Tuple
 
 from . import library
 from .events import EVENT, NO_ENTRY, NO_FILE, PLACE, Events
+from .half_letters import OtherBytes, line_of_half_letter
 from .languages import LANGUAGES, LONGER, ROOT
 from .letter_values import DIGIT, LeftOut, Span, is_whole, parts_of, values_of
 from .options import Options
@@ -19,7 +21,7 @@ from .refusals import MemoryRefused, OutputTooLong
 from .results import End, Result
 from .style_keys import may_print_keys
 
-__all__ = ["line_of_half_letter", "run_with_letters"]
+__all__ = ["run_with_letters"]
 
 # What is said of each file: its bytes, or None where there is no such file.
 Known = Mapping[bytes, Optional[bytes]]
@@ -41,17 +43,6 @@ SMALL = {capital: small for small, capital in CAPITALS.items()}
 # Braces, and the letters that may have codes: in a language with rules for letters of ASCII these, too.
 # (a class that names what isn't in it is made in less time)
 OUTSIDE_ASCII, ANY_LETTER = re.compile("[^\x00-z|~\x7f]"), re.compile(r"[^\x00-@\[-`|~\x7f]")
-
-
-def line_of_half_letter(text: bytes, is_stopped: bool) -> int:
-    """The first line of a list, from 1, that has half a letter of UTF-8; 0 where none has. The list of a run that was stopped may end inside a letter."""
-    try:
-        text.decode("utf8")
-    except UnicodeDecodeError as error:
-        if is_stopped and error.reason == "unexpected end of data":
-            return 0
-        return 1 + text.count(b"\n", 0, error.start)
-    return 0
 
 
 def key_of(written: str) -> bytes:
@@ -105,7 +96,8 @@ class Language:
         return self.keys.get(lower(letter)[0])
 
     def letter(self, itself: str, is_foreign: bool) -> Letter:
-        is_capital = itself.isupper() or itself in SMALL
+        # (also a letter of a capital and a small one, such as `ǅ`)
+        is_capital = itself.isupper() or lower(itself) != itself
         other = lower(itself) if is_capital else CAPITALS.get(itself) or itself.upper()
         if self.is_dotless and itself == "I" and not is_foreign:
             other = "ı"
@@ -227,10 +219,6 @@ def turned_offsets(coded: Coded, name: bytes, offsets: List[int]) -> Dict[int, i
     return found
 
 
-def half_of(made: Result) -> int:
-    return line_of_half_letter(made.bbl, made.report.end is End.STOPPED)
-
-
 @dataclass(frozen=True)
 class Coded:
     """A job's files with their letters coded."""
@@ -245,8 +233,15 @@ class Task:
     def __init__(self, job: bytes, files: Known, options: Options, reading: str) -> None:
         self.job, self.files, self.options, self.reading = job, files, options, reading
         self.databases, self.styles = ([content for name, content in files.items() if content is not None and name.endswith(ending)] for ending in (b".bib", b".bst"))
-        self.are_databases_whole = all(map(is_whole, self.databases))
         self.is_style_whole = all(map(is_whole, self.styles))
+
+    @cached_property
+    def other(self) -> OtherBytes:
+        return OtherBytes(self.files)
+
+    def half_of(self, made: Result) -> int:
+        """The first line of a list that has half a letter; 0 where none has."""
+        return 0 if is_whole(made.bbl) else line_of_half_letter(made.bbl, made.report.end is End.STOPPED, self.other)
 
     def run(self, options: Options, files: Optional[Known] = None) -> Result:
         """The run over these files in place of the job's."""
@@ -255,10 +250,10 @@ class Task:
     def run_as_it_is(self) -> Tuple[Result, bool]:
         """By its files as they are: what it gives, and whether text was read by letters."""
         first = self.run(replace(self.options, utf8=self.reading == "utf8"))
-        if self.reading != "auto" or not half_of(first) or not self.are_databases_whole:
+        if self.reading != "auto" or not self.half_of(first):
             return first, self.reading == "utf8"
         by_letters = self.run(replace(self.options, utf8=True))
-        return (by_letters, True) if self.is_style_whole or not half_of(by_letters) else (first, False)
+        return (by_letters, True) if self.is_style_whole or not self.half_of(by_letters) else (first, False)
 
     def run_with(self, name: str) -> Optional[Result]:
         """With the letters of a language; None where no entry that counts has such letters. Raises LeftOut."""
@@ -320,7 +315,7 @@ class Task:
 
     def notes_of(self, made: Result, by_letters: bool, is_asked: bool) -> List[str]:
         """What is to be said of the letters of a list, a line each, as `bibtex-search` has it in its log. is_asked: whether text was to be read so."""
-        line = half_of(made) if self.are_databases_whole else 0
+        line = self.half_of(made)
         # (a list that has half a letter is no better for that)
         notes = [] if is_asked or line else ["The list is made with -text=utf8: read by bytes, it would have half a letter, which LaTeX refuses."]
         if line:

@@ -10,8 +10,9 @@ import unittest
 from unittest import mock
 
 import btx
+from btx.half_letters import OtherBytes, line_of_half_letter
 from btx.jobs import gathered
-from btx.letters import line_of_half_letter, run_with_letters
+from btx.letters import run_with_letters
 from btx.style_keys import may_print_keys
 from tests.jobs import SOURCES
 
@@ -50,7 +51,7 @@ class Letters(unittest.TestCase):
     def test_case_and_abbreviation(self):
         rows = [
             ('author "u" change.case$', "straße {é}é", "de", "STRASSE {é}É\n"), ('author "l" change.case$', "IŞIK İnan", "tr", "ışık inan\n"),
-            ('author #1 "{f.} {ll}" format.name$', "Émile Zola", "fr", "É. Zola\n"), ('author "u" change.case$', "ƛ", "en", "\ua7dc\n"), ('author "l" change.case$', "\ua7dc", "en", "ƛ\n"),
+            ('author "l" change.case$', "ǅ ǈ ǋ ǲ", "de", "ǆ ǉ ǌ ǳ\n"), ('author #1 "{f.} {ll}" format.name$', "Émile Zola", "fr", "É. Zola\n"), ('author "u" change.case$', "ƛ", "en", "\ua7dc\n"), ('author "l" change.case$', "\ua7dc", "en", "ƛ\n"),
         ]
         for body, author, letters, wanted in rows:
             with self.subTest(body=body, author=author):
@@ -106,7 +107,23 @@ class Letters(unittest.TestCase):
         rows = [("C389", False, 0), ("C3", False, 1), ("610AC3", True, 0), ("610AC30A", True, 2), ("EDA080", False, 1), ("F48FBFBF", False, 0), ("F4908080", False, 1), ("0A0A89", False, 3), ("C080", False, 1)]
         for digits, is_stopped, line in rows:
             with self.subTest(digits=digits):
-                self.assertEqual(line_of_half_letter(bytes.fromhex(digits), is_stopped), line)
+                self.assertEqual(line_of_half_letter(bytes.fromhex(digits), is_stopped, OtherBytes({})), line)
+
+    def test_bytes_of_values_in_another_encoding_are_no_half_letters(self):
+        entries = b"@misc{a, author = {\xc3\x89}} @misc{b, crossref = {P}, title = {\xe9}, note = {\xc3\x84}} @misc{p, note = {\xfc}} @misc{b, note = {\xe8}}"
+        rows = [
+            (b"a", entries, b"", b"\xe9", 1), (b"B", entries, b"", b"\xe9\xfc\n\xc3", 2), (b"b", entries, b"", b"\xe8", 1), (b"*", entries, b"", b"\xe8\n\xc3", 2),
+            # (each part of a list is that of one entry)
+            (b"a,b", entries, b"", b"\\bibitem{b}\n\xe9\n\\bibitem{a}\n\xe9", 4), (b"a", entries, b"", b"\\bibitem{a}\n\\bibitem[{A]Z}]{B}\n\xe9", 0), (b"a,b", entries, b"", b"\\bibitem{a}\\bibitemize\xe9", 1),
+            (b"a,b", entries, b"", b"\\bibitem{a}\\bibitem b\xe9", 0), (b"a", entries, b"", b"\\bibitem\n [A]{b}\xe9\n\\bibitem [A]{a}\xe9", 3),
+            (b"a", b"@string{s = {\xe9}} @misc{a}", b"", b"\\bibitem{a}\xe9", 0), (b"a", b"@preamble{{\xe9}} @misc{a}", b"", b"\\bibitem{a}\xe9", 0), (b"a", b"@comment{\xe9} @misc{a}", b"", b"\\bibitem{a}\xe9", 1),
+            (b"a", b"@misc{a, title = {\xe8}}", b"% \xe9", b"\xe9", 0), (b"a", b"@misc{a, title = {t}}", b"% \xe9", b"\xe9", 1), (b"a\xe9", b"@misc{a}", b"", b"\xe9", 0),
+            (b"a", b"@misc{a, title = {\xc3\xa9}, note = {\xe9", b"", b"\xc3", 0), (b"a", b"@misc{a, title = {\xc3\xa9}, note = {\xe9}}", b"", b"\xc3", 1),
+        ]
+        for keys, database, style, text, line in rows:
+            files = {b"a.aux": b"\\citation{" + keys + b"}\n", b"s.bst": style, b"d.bib": database}
+            with self.subTest(keys=keys, database=database, text=text):
+                self.assertEqual(line_of_half_letter(text, False, OtherBytes(files)), line)
 
     def test_styles_that_are_nested_deeply(self):
         for depth, may in ((190, False), (300, True), (20_000, True)):
