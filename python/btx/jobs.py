@@ -85,7 +85,7 @@ def run_paper(path: Name, options: Optional[Options] = None, *, folder: Optional
     written beside the `.aux` file, with the care of `python3 -m btx`. options: those of TeX's set-up, if nothing else is said. text: `bytes`, or `auto`, as with `bibtex-search`: where a list would have
     half a letter of UTF-8, text is read by letters, and the result's notes say so.
 
-    Raises FileNotFoundError where there is no such `.aux` file, OSError where a file can't be read or written, and a Refusal as `run` does."""
+    Raises ValueError where `text` is another word, FileNotFoundError where there is no such `.aux` file, OSError where a file can't be read or written, and a Refusal as `run` does."""
     called_in = None if folder is None else existing_folder(folder)
     name = name_text(job_name(path))
     inputs = Inputs(search_from(called_in), name)

@@ -11,7 +11,7 @@ import time
 from collections import Counter
 from dataclasses import asdict, dataclass
 from types import TracebackType
-from typing import Dict, List, Optional, TextIO, Tuple, Type
+from typing import Any, Dict, List, Optional, TextIO, Tuple, Type
 
 from .corpus import Job, state_of
 
@@ -108,7 +108,8 @@ def compared_of(value: object) -> Compared:
     """The result that a value of JSON is. Raises TypeError where it is none."""
     if not isinstance(value, dict):
         raise TypeError("a result is an object")
-    result = Compared(**{**value, "above": tuple(value.get("above", ()))})
+    given: Dict[str, Any] = {**value, "above": tuple(value.get("above", ()))}
+    result = Compared(**given)
     if result.outcome not in ("equal", "different", "not run"):
         raise TypeError("a result has another outcome")
     texts = (result.job, result.reason, result.here or "", result.there or "", *result.above)
