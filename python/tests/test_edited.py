@@ -1,5 +1,7 @@
 """A server whose texts are edited, beside one that has opened them so: what it keeps from one text to the next makes no difference."""
 
+import contextlib
+import io
 import json
 import pathlib
 import random
@@ -129,8 +131,10 @@ class Steps(unittest.TestCase):
 
     def test_a_nonsense_change_loses_nothing(self):
         change = changed(self.URI, 2, {"range": 3, "text": "x"})
-        sent = published(served(opened(self.URI, self.TEXT), None, None, change, *self.WAITS))
+        with contextlib.redirect_stderr(io.StringIO()) as complaints:
+            sent = published(served(opened(self.URI, self.TEXT), None, None, change, *self.WAITS))
         self.assertEqual(sent[-1], (1, {*MISTAKES, "one-hyphen"}))
+        self.assertRegex(complaints.getvalue(), r"^btx lsp: textDocument/didChange: TypeError: .*\n$")
 
     def test_a_large_style(self):
         uri, text = "untitled:large.bst", "ENTRY {a}{}{}\nFUNCTION {f} { x }\nFUNCTION {book} { a write$ }\n" + "% a comment\n" * 6000 + "READ\nITERATE {call.type$}\n"
