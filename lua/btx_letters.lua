@@ -18,16 +18,21 @@ for byte = 1, 31 do
     end
 end
 local DIGIT = "[\1-\8\14-\31]"
+-- A byte of a value that is neither a delimiter nor whitespace.
+local BARE = '[^{}" \t\r\n]'
 local CODE, REST = "{\\(" .. DIGIT .. ")(" .. DIGIT .. "){([A-Za-z\254\255]*)}}", "[\1-\8\14-\31\254\255]"
 -- A letter of a text, and the braces and letters that may matter: in a language with rules for letters of ASCII these, too.
 local LETTER, OUTSIDE_ASCII, ANY_LETTER = "[^\128-\191][\128-\191]*", "()([{}\194-\244][\128-\191]*)()", "()([A-Za-z{}\194-\244][\128-\191]*)()"
 local MOST_LONGER = 1000000
--- What a letter of UTF-8 is, by its first byte, and what may be missing of one that the end cuts.
+-- What a letter of UTF-8 is, by its first byte, and what more than that byte may be there of one that is cut.
 local WHOLE = {
     "^[\194-\223][\128-\191]()", "^\224[\160-\191][\128-\191]()", "^[\225-\236\238\239][\128-\191][\128-\191]()", "^\237[\128-\159][\128-\191]()", "^\240[\144-\191][\128-\191][\128-\191]()",
     "^[\241-\243][\128-\191][\128-\191][\128-\191]()", "^\244[\128-\143][\128-\191][\128-\191]()",
 }
-local TAILS = { "\128", "\128\128", "\160\128", "\128\128\128", "\144\128\128" }
+local BEGUN = {
+    "^\224[\160-\191]()", "^[\225-\236\238\239][\128-\191]()", "^\237[\128-\159]()", "^\240[\144-\191][\128-\191]?()", "^[\241-\243][\128-\191][\128-\191]?()",
+    "^\244[\128-\143][\128-\191]?()",
+}
 
 -- Why letters are left out: an error that is thrown.
 local function leave_out(why)
@@ -38,9 +43,9 @@ local function is_ascii(text)
     return not text:find("[\128-\255]")
 end
 
--- Where the first byte stands that is no part of a letter of UTF-8, if there is one.
-local function fault_of(text)
-    local at = text:find("[\128-\255]")
+-- Where the first byte from a place on stands that is no part of a letter of UTF-8, if there is one.
+local function fault_of(text, from)
+    local at = text:find("[\128-\255]", from)
     while at do
         local after
         for _, pattern in ipairs(WHOLE) do
@@ -51,17 +56,6 @@ local function fault_of(text)
         end
         at = text:find("[\128-\255]", after)
     end
-end
-
--- letters.line_of_half_letter(list, is_stopped): the first line of a list, from 1, that has half a letter of UTF-8; nil where none has. The list of a run that was stopped may end inside a letter.
-function letters.line_of_half_letter(list, is_stopped)
-    local at = fault_of(list)
-    for _, tail in ipairs(at and is_stopped and #list - at < 3 and TAILS or {}) do
-        if not fault_of(list:sub(at) .. tail) then
-            return nil
-        end
-    end
-    return at and 1 + select(2, list:sub(1, at - 1):gsub("\n", ""))
 end
 
 -- A language.
@@ -305,52 +299,59 @@ local function is_entry(kind)
     return kind ~= "comment" and kind ~= "preamble" and kind ~= "string"
 end
 
--- Reads the fields of an entry.
+-- Reads the key and the fields of an entry; whether it could be read to its end.
 function Reader:entry(item, closing)
     if not self:next() then
-        return
+        return false
     end
-    self:key(closing, false)
-    while self:expect(",", closing) == "," do
+    item.key = self:key(closing, false):lower()
+    local byte = self:expect(",", closing)
+    while byte == "," do
         if self:next() == closing then
             self.at = self.at + 1
-            return
+            return true
         end
         local name = self:name()
         local value = name and self:expect("=") and self:value()
         if not value then
-            return
+            return false
         end
         item.fields[#item.fields + 1] = { name, value }
+        byte = self:expect(",", closing)
     end
+    return byte == closing
 end
 
--- Reads a string or a preamble.
+-- Reads a string or a preamble; whether it could be read to its end.
 function Reader:string(item, closing)
     local name
     if item.type == "string" then
         name = self:name()
         if not name or not self:expect("=") then
-            return
+            return false
         end
     end
-    local value = self:value()
-    if value then
-        item.name, item.value = name, value
-        self:expect(closing)
-    end
+    item.value = self:value()
+    item.name = item.value and name
+    return item.value and self:expect(closing) == closing
 end
 
--- An item after its `@`: its type and fields; of a string its name and value.
+-- An item after its `@`: its type, its key and its fields; of a string its name and value; and whether it could be read to its end.
 function Reader:item()
     local item = { type = self:name() or "", fields = {} }
     local closing = item.type ~= "" and item.type ~= "comment" and self:closing()
     if closing and is_entry(item.type) then
-        self:entry(item, closing)
+        item.is_read = self:entry(item, closing)
     elseif closing then
-        self:string(item, closing)
+        item.is_read = self:string(item, closing)
     end
     return item
+end
+
+-- The key that the value of a crossref field names: the value without its delimiters and the whitespace round it.
+local function parent_in(value)
+    local start = value:find(BARE)
+    return start and value:sub(start, -value:reverse():find(BARE)):lower() or ""
 end
 
 -- The heads of all items of a text but comments, and of what looks like one in the text of an item: where the `@` stands, the type, and the key, which is nil where it may go on after what was read.
@@ -410,7 +411,7 @@ local function read_item(database, start, wanted)
             database.values[#database.values + 1] = field[2]
         end
         if name == "crossref" then
-            wanted:add((value:gsub('^[{}" \t\r\n]+', ""):gsub('[{}" \t\r\n]+$', "")):lower())
+            wanted:add(parent_in(value))
             -- (what a parent is that strings say isn't known here)
             wanted.are_all = wanted.are_all or #add_names({}, value) > 0
         end
@@ -518,6 +519,137 @@ local function coded_database(database, codes)
     return table.concat(parts) .. database.text:sub(copied)
 end
 
+-- Half letters, as the front end has them (front/src/half_letters.rs): bytes outside of letters of UTF-8 that a style made when it cut a text. A byte of a value that isn't UTF-8 itself stands in the
+-- list as it is, and is no half letter. In a set of bytes each of them is "".
+
+-- The bytes of the files whose names end so.
+local function texts_of(files, ending)
+    local texts = {}
+    for _, file in ipairs(files) do
+        if file.bytes and file.name:sub(-#ending) == ending then
+            texts[#texts + 1] = file.bytes
+        end
+    end
+    return texts
+end
+
+-- Adds the bytes from 128 on of a text that isn't UTF-8 to a set; none of one that is.
+local function add_others(others, text)
+    for byte in (fault_of(text) and text or ""):gmatch("[\128-\255]") do
+        others[byte] = ""
+    end
+end
+
+local function add_all(others, more)
+    for byte in pairs(more) do
+        others[byte] = ""
+    end
+end
+
+-- The bytes of the values of an item that aren't UTF-8, from its `@` to the place after it. What can't be read as values counts as one.
+local function others_of_item(text, item, start, after)
+    local others, values = {}, { item.value }
+    for number, field in ipairs(item.fields) do
+        values[number] = field[2]
+    end
+    for _, value in ipairs(item.is_read and #values > 0 and values or { { start, after } }) do
+        add_others(others, text:sub(value[1], value[2] - 1))
+    end
+    return others
+end
+
+-- Reads a database: its entries, of each key the first one, and the bytes of what isn't UTF-8.
+local function read_others(found, text, are_all)
+    local start = text:find("@", 1, true)
+    while start do
+        local reader = setmetatable({ text = text, at = start + 1 }, Reader)
+        local item = reader:item()
+        local others = item.type == "comment" and {} or others_of_item(text, item, start, reader.at)
+        add_all(not is_entry(item.type) and found.shared or are_all and found.all or {}, others)
+        if item.key then
+            found.entries[item.key] = found.entries[item.key] or { text = text, fields = item.fields, others = others }
+        end
+        start = text:find("@", reader.at, true)
+    end
+end
+
+-- The bytes of the entry of a key and of its parents that aren't UTF-8; nil where there is none.
+local function others_of_entry(found, key)
+    local entry = key and found.entries[key]
+    if entry and not entry.all then
+        entry.all = {}
+        add_all(entry.all, entry.others)
+        for _, field in ipairs(entry.fields) do
+            local parent = field[1] == "crossref" and found.entries[parent_in(entry.text:sub(field[2][1], field[2][2] - 1))]
+            add_all(entry.all, parent and parent.others or {})
+        end
+    end
+    return entry and entry.all
+end
+
+-- The bytes that lists of a job have from what isn't UTF-8: `shared` are those of keys, strings, preambles and of the style, which any part of a list may have, and `all` those of the entries that
+-- it may have.
+local function others_of_job(files)
+    local found, wanted = { shared = {}, all = {}, entries = {} }, setmetatable({ keys = {}, count = 0, are_all = false }, Wanted)
+    for _, text in ipairs(texts_of(files, ".aux")) do
+        wanted:cite(text)
+    end
+    for _, text in ipairs(texts_of(files, ".bib")) do
+        read_others(found, text, wanted.are_all)
+    end
+    for key in pairs(wanted.keys) do
+        add_others(found.shared, key)
+        add_all(found.all, not wanted.are_all and others_of_entry(found, key) or {})
+    end
+    -- (a style in another encoding is of a job in that one, where a value has it too)
+    for _, text in ipairs((next(found.shared) or next(found.all)) and texts_of(files, ".bst") or {}) do
+        add_others(found.shared, text)
+    end
+    return found
+end
+
+-- The key of a part of a list, without its `\bibitem`; nil where it isn't plain.
+local function key_of_part(part)
+    local from = part:match("^[ \t\n\f\r]*()")
+    local start = part:sub(from, from) == "[" and (part:find("]{", from, true) or #part) + 1 or from
+    local key = part:match("^{([^}]+)}", start)
+    return key and key:lower()
+end
+
+-- What gives the key of the part of a list that has a place; nil where it isn't plain. A part begins with `\bibitem`. Places are asked for in their order.
+local function keys_of(list)
+    local parts, key = list:gmatch("()\\bibitem%f[^A-Za-z]()"), nil
+    local start, after = parts()
+    return function(place)
+        local last
+        while start and start < place do
+            last, start, after = after, parts()
+        end
+        if last then
+            key = key_of_part(list:sub(last, (start or 0) - 1))
+        end
+        return key
+    end
+end
+
+-- The first line of a list, from 1, that has half a letter of UTF-8; nil where none has. The list of a run that was stopped may end inside a letter.
+local function line_of_half_letter(list, is_stopped, found)
+    local key_at, line, counted, at = keys_of(list), 1, 1, fault_of(list)
+    while at do
+        local after = at + 1
+        for _, pattern in ipairs(BEGUN) do
+            after = list:match(pattern, at) or after
+        end
+        line, counted = line + select(2, list:sub(counted, at - 1):gsub("\n", "")), at
+        local of_entry = others_of_entry(found, key_at(at)) or found.all
+        local is_of_end = is_stopped and after > #list and list:find("^[\194-\244]", at)
+        if not is_of_end and list:sub(at, after - 1):gsub(".", found.shared):gsub(".", of_entry) ~= "" then
+            return line
+        end
+        at = fault_of(list, after)
+    end
+end
+
 -- Runs.
 
 -- How many braces are open at the end of a text, and at least anywhere in it.
@@ -528,24 +660,6 @@ local function depths_of(text)
         least = math.min(least, depth)
     end
     return depth .. " " .. least
-end
-
--- The bytes of the first file whose name ends so, if there is one.
-local function first_of(files, ending)
-    for _, file in ipairs(files) do
-        if file.bytes and file.name:sub(-#ending) == ending then
-            return file.bytes
-        end
-    end
-end
-
-local function are_whole(files, ending)
-    for _, file in ipairs(files) do
-        if file.bytes and file.name:sub(-#ending) == ending and fault_of(file.bytes) then
-            return false
-        end
-    end
-    return true
 end
 
 -- The files of a job with coded letters, and their codes. `are_in_braces` is whether letters in braces are coded too: a style may cut a text in braces after any byte, and a code with it.
@@ -604,7 +718,7 @@ local function run_with(task, name)
     if count == 0 then
         return nil
     end
-    local style = first_of(task.files, ".bst") or ""
+    local style = texts_of(task.files, ".bst")[1] or ""
     if style:find(DIGIT) then
         leave_out("ControlCharacters")
     elseif may_print_keys(style, types) and prints_keys(task) then
@@ -619,20 +733,24 @@ local function run_with(task, name)
     return made
 end
 
-local function half_of(made)
-    return letters.line_of_half_letter(made.list, made.report.status == 4)
+-- The first line of a list that has half a letter; nil where none has.
+local function half_of(task, made)
+    if fault_of(made.list) then
+        task.others = task.others or others_of_job(task.files)
+        return line_of_half_letter(made.list, made.report.status == 4, task.others)
+    end
 end
 
 -- What is to be said of the letters of a list, a line each, as `bibtex-search` has it in its log, added to a list of lines. `is_asked` is whether text was to be read so.
 local function add_notes(notes, task, made, is_by_letters, is_asked)
-    local line = are_whole(task.files, ".bib") and half_of(made) or nil
+    local line = half_of(task, made)
     -- (a list that has half a letter is no better for that)
     if not is_asked and not line then
         notes[#notes + 1] = "The list is made with -text=utf8: read by bytes, it would have half a letter, which LaTeX refuses."
     end
     if line then
         local remedy = is_by_letters and "the style cuts text by bytes" or "try -text=utf8"
-        remedy = are_whole(task.files, ".bst") and remedy or "the style isn't UTF-8"
+        remedy = task.is_style_whole and remedy or "the style isn't UTF-8"
         notes[#notes + 1] = "Line " .. line .. " of the list has half a letter, which LaTeX refuses: " .. remedy .. "."
     end
     return notes
@@ -641,23 +759,14 @@ end
 -- By its files as they are: what it gives, and whether text was read by letters. `auto` reads by bytes, as the original does, and once more by letters where that would leave half a letter.
 local function run_as_it_is(task)
     local first = task.run(task.files, { utf8 = task.text == "utf8" })
-    if task.text ~= "auto" or not half_of(first) or not are_whole(task.files, ".bib") then
+    if task.text ~= "auto" or not half_of(task, first) then
         return first, task.text == "utf8"
     end
     local by_letters = task.run(task.files, { utf8 = true })
-    if are_whole(task.files, ".bst") or not half_of(by_letters) then
+    if task.is_style_whole or not half_of(task, by_letters) then
         return by_letters, true
     end
     return first, false
-end
-
-local function has_letters(files)
-    for _, file in ipairs(files) do
-        if file.bytes and file.name:find("%.bib$") and not is_ascii(file.bytes) then
-            return true
-        end
-    end
-    return false
 end
 
 -- letters.run(name, files, text, limits, run) -> made, notes
@@ -672,8 +781,9 @@ function letters.run(name, files, text, limits, run)
         return math.min(most * tables.LONGER, MOST_LONGER)
     end
     local task = { files = files, text = text, run = run, longer = { utf8 = text ~= "bytes", entry_max = longer(limits.entry_max), global_max = longer(limits.global_max) } }
+    task.is_style_whole = not fault_of(table.concat(texts_of(files, ".bst"), "\n"))
     local notes = {}
-    if name ~= "no" and has_letters(files) then
+    if name ~= "no" and not is_ascii(table.concat(texts_of(files, ".bib"))) then
         local is_made, made = pcall(run_with, task, name)
         if is_made and made then
             return made, add_notes(notes, task, made, text ~= "bytes", true)

@@ -181,7 +181,8 @@ def cases(texts):
     for letter in map(chr, range(0x80, 0x20000)):
         lower = smaller.get(letter) or letter.lower()
         if lower[0] in small:
-            is_capital = letter.isupper() or letter in smaller
+            # (also a letter of a capital and a small one, such as `ǅ`)
+            is_capital = letter.isupper() or lower != letter
             yield letter, lower[0], lower if is_capital else CAPITALS.get(letter) or letter.upper(), is_capital
 
 

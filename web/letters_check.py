@@ -125,6 +125,28 @@ def chosen_jobs():
     yield from (Job({**plain, "job.aux": text + plain["job.aux"]}, "fr") for text in (b"\\citation{q,,p}\r\n", b"\\citation {q}\n", b"\\citation{q\n", b"\\Citation{q}\n"))
 
 
+def half_letter_jobs():
+    """Half a letter, the first byte of `Ü`, beside values, keys and styles that have the same byte in another encoding."""
+    plain = files_of("title #1 #1 substring$")
+    others = [b"@misc{other, note = {\xC3}}", b"@misc{other, note = {\xE9}, year = {\xC3\xA9}}", b"@misc{k, note = {\xC3}}", b"@misc{P, note = {\xC3}}", b"@misc{p, crossref = {other}} @misc{other, note = {\xC3}}",
+              b"@misc{other, note = {\xC3} year}", b"@misc{other, note = {\xC3\x9C}, year = {\xC3\x9C} \xC3}", b"@string{u = {\xC3}}", b"@string{u = {\xC3} x}", b"@preamble{\"\xC3\"}", b"@comment{\xC3}", b"@\xC3"]
+    item = b'"\\bibitem{" cite$ * "}" *'
+    for other in others:
+        database = "@misc{k, title = {Über}, crossref = { p }}\n".encode() + other
+        forms = ((["k"], item), (["other", "K"], b"cite$"), (["*"], b"cite$"))
+        yield from (Job({"job.aux": aux(keys, "s").encode(), "s.bst": plain["s.bst"].replace(item, form), "d.bib": database}, "no") for keys, form in forms)
+    yield from (Job({**plain, "job.aux": aux(["k", key], "s").encode("latin1")}, "no") for key in ("\xC3", "\xE9"))
+    both = {**plain, "job.aux": aux(["k", "other"], "s").encode()}
+    # (the bytes of a style count where a value isn't UTF-8)
+    yield from (Job({**both, "s.bst": plain["s.bst"] + b"% \xC3\n", "d.bib": plain["d.bib"] + other}, "no") for other in (b"", b"@misc{other, note = {\xE9}}"))
+    # (whose part of the list it is)
+    label = '"\\bibitem%s" title #1 #1 substring$ * "%s" * cite$ * "}" *'
+    items = [label % ends for ends in (("[", "]{"), ("  [[", "]{"), ("[", "] {"), ("s[", "]{"), ("{", "]{"), ("[]{", "}"))]
+    items += ['"\\bibitem{}"', '"\\bibitem" newline$ "{" cite$ * "} \\bibitem{other}" *']
+    database = "@misc{k, title = {Über}}\n@misc{other, title = {U}, note = {".encode() + b"\xC3}}"
+    yield from (Job({**both, "s.bst": plain["s.bst"].replace(item, other.encode()), "d.bib": database}, "no") for other in items)
+
+
 def spoilt(chance, text):
     """A text in which a few signs are left out, put in or changed."""
     text = bytearray(text)
@@ -175,7 +197,7 @@ def random_jobs(count, seed):
 
 def all_jobs(count, seed):
     """The jobs that are compared; of those that are made by chance the first `count`."""
-    return [*named_jobs(), *special_jobs(), *chosen_jobs(), *random_jobs(count, seed)]
+    return [*named_jobs(), *special_jobs(), *chosen_jobs(), *half_letter_jobs(), *random_jobs(count, seed)]
 
 
 def by_search(search, room, job):

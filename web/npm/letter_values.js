@@ -15,10 +15,8 @@ export class LeftOut extends Error {
 const latin = new TextDecoder('latin1');
 const strict = new TextDecoder('utf-8', { fatal: true, ignoreBOM: true });
 
-const lower = (text) => text.replace(/[A-Z]+/g, (letters) => letters.toLowerCase());
-
 /** A key or a name of which the case of `A-Z` doesn't matter, as a text; each byte is a letter of it. */
-export const folded = (bytes) => lower(latin.decode(bytes));
+export const folded = (bytes) => latin.decode(bytes).replace(/[A-Z]+/g, (letters) => letters.toLowerCase());
 
 /** Whether bytes are ASCII. */
 export const isAscii = (bytes) => bytes.every((byte) => byte < 0x80);
@@ -81,8 +79,8 @@ function namesIn(bytes, [from, to]) {
   return names;
 }
 
-// A value without its delimiters and the whitespace round it.
-function bare(bytes, [from, to]) {
+/** A value without its delimiters and the whitespace round it. */
+export function bare(bytes, [from, to]) {
   const isBare = (byte) => ![OPEN, CLOSE, QUOTE].includes(byte) && !isWhite(byte);
   let [start, end] = [from, to];
   while (start < end && !isBare(bytes[start])) start++;
@@ -90,7 +88,8 @@ function bare(bytes, [from, to]) {
   return bytes.subarray(start, end);
 }
 
-const isEntry = (type) => type !== 'comment' && type !== 'preamble' && type !== 'string';
+/** Whether items of a type are entries. */
+export const isEntry = (type) => type !== 'comment' && type !== 'preamble' && type !== 'string';
 
 // Reads what stands in a database. What can't go on is undefined, or false.
 class Reader {
@@ -141,45 +140,46 @@ class Reader {
     return { type, key: this.#take((byte) => byte !== COMMA && !isWhite(byte) && (closing === ROUND_CLOSE || byte !== CLOSE) && !(isText && byte === EQUALS)) };
   }
 
-  // An item after its `@`, as far as it can be read.
+  // An item after its `@`, as far as it can be read, and whether that is all of it.
   item() {
     const item = { type: '', fields: [] };
-    this.#readInto(item);
-    return { ...item, end: this.at };
+    const isRead = this.#readInto(item);
+    return { ...item, isRead, end: this.at };
   }
 
   #readInto(item) {
     const type = this.#name();
-    if (type === undefined) return;
+    if (type === undefined) return false;
     item.type = type;
-    const closing = type === 'comment' ? undefined : this.#closing();
-    if (!closing) return;
-    if (isEntry(type)) this.#readEntry(item, closing);
-    else this.#readText(item, closing);
+    if (type === 'comment') return true;
+    const closing = this.#closing();
+    if (!closing) return false;
+    return isEntry(type) ? this.#readEntry(item, closing) : this.#readText(item, closing);
   }
 
   // A string or a preamble.
   #readText(item, closing) {
     if (item.type === 'string') {
       item.name = this.#name();
-      if (item.name === undefined || !this.#expect(EQUALS)) return;
+      if (item.name === undefined || !this.#expect(EQUALS)) return false;
     }
     item.value = this.#value();
-    if (item.value) this.#expect(closing);
+    return item.value !== undefined && this.#expect(closing) === closing;
   }
 
   #readEntry(item, closing) {
-    if (this.#next() === undefined) return;
-    this.#take((byte) => byte !== COMMA && !isWhite(byte) && (closing === ROUND_CLOSE || byte !== CLOSE));
+    if (this.#next() === undefined) return false;
+    item.key = folded(this.#take((byte) => byte !== COMMA && !isWhite(byte) && (closing === ROUND_CLOSE || byte !== CLOSE)));
     for (;;) {
-      if (this.#expect(COMMA, closing) !== COMMA) return;
+      const after = this.#expect(COMMA, closing);
+      if (after !== COMMA) return after === closing;
       if (this.#next() === closing) {
         this.at++;
-        return;
+        return true;
       }
       const name = this.#name();
       const value = name !== undefined && this.#expect(EQUALS) && this.#value();
-      if (!value) return;
+      if (!value) return false;
       item.fields.push({ name, value });
     }
   }
@@ -211,6 +211,15 @@ class Reader {
   }
 }
 
+/** The items of a database, one after the other, each with where it begins. */
+export function* itemsOf(bytes) {
+  for (let start = bytes.indexOf(AT); start >= 0;) {
+    const item = new Reader(bytes, start + 1).item();
+    yield { ...item, start };
+    start = bytes.indexOf(AT, item.end);
+  }
+}
+
 // The head that begins at this `@`: its type and its key, which is undefined where it may go on after what was read; undefined where no item can begin.
 function headAt(bytes, start) {
   const reader = new Reader(bytes, start + 1, Math.min(bytes.length, start + OF_VALUES.LONGEST_HEAD));
@@ -238,15 +247,19 @@ function withoutWhiteAtEnd(line) {
   return line.subarray(0, end);
 }
 
-// The keys that a text of an .aux file cites.
-function* citedIn(bytes) {
+/** The keys that a text of an .aux file cites. */
+export function* citedIn(bytes) {
   for (let [from, to] = [0, 0]; from < bytes.length; from = to + 1) {
     to = bytes.indexOf(LINE_FEED, from);
     if (to < 0) to = bytes.length;
     if (bytes[from] !== BACKSLASH) continue;
-    const line = latin.decode(withoutWhiteAtEnd(bytes.subarray(from, to)));
-    if (!line.startsWith('\\citation{')) continue;
-    yield* line.slice('\\citation{'.length).split('}')[0].split(',');
+    const line = withoutWhiteAtEnd(bytes.subarray(from, to));
+    const [, list] = /^\\citation\{([^}]*)/.exec(latin.decode(line)) ?? [];
+    let at = '\\citation{'.length;
+    for (const { length } of list?.split(',') ?? []) {
+      yield line.subarray(at, at + length);
+      at += length + 1;
+    }
   }
 }
 
@@ -257,7 +270,7 @@ class Wanted {
 
   constructor(files) {
     for (const { name, bytes } of files) {
-      if (bytes && name.endsWith('.aux')) for (const key of citedIn(bytes)) this.add(lower(key));
+      if (bytes && name.endsWith('.aux')) for (const key of citedIn(bytes)) this.add(folded(key));
     }
   }
 

@@ -11,5 +11,5 @@ export interface LettersOptions extends Omit<Options, 'text'> {
 export const LETTERS: readonly string[];
 /** Runs a job of a library with these options. `notes` is what is to be said of the list's letters: why it was made without those of the language, how text was read, and where half a letter is left. */
 export function runWithLetters(library: Library, job: Content, find: Files, options?: LettersOptions): Result & { notes: string[] };
-/** The first line of a list, from 1, that has half a letter of UTF-8; 0 where none has. */
+/** The first line of a list, from 1, that has half a letter of UTF-8; 0 where none has. Each byte outside of letters is one here, also one that a database in another encoding has. */
 export function lineOfHalfLetter(list: Uint8Array, isStopped: boolean): number;

@@ -1,6 +1,7 @@
 // Letters of a language in lists of references, as `bibtex-search -letters=LANG` has them: the job runs over databases in which each such letter of a value is a
 // special character, and what it writes is turned back. For BibTeX `{\xy{key}}` is one letter: `purify$` keeps the key alone, which is what the letter sorts as,
 // `change.case$` changes the key's case, and names and prefixes keep it whole. `x` and `y` are control characters that say which letter it is.
+import { OtherBytes, lineOfHalfLetter } from './half_letters.js';
 import { LANGUAGES, LONGER, ROOT } from './languages.js';
 import { LeftOut, isAscii, isDigit, isWhole, partsOf, valuesOf } from './letter_values.js';
 import { MemoryRefused, OptionRefused, OutputTooLong, TEX_LIVE, bytesOf, messagesOf, optionsOf } from './library.js';
@@ -16,7 +17,9 @@ const MOST_LONGER = 1_000_000;
 // A letter of the tables of which Node knows no capital before Unicode 16.
 const CAPITALS = new Map([['ƛ', '\ua7dc']]);
 const SMALL = new Map([...CAPITALS].map(([small, capital]) => [capital, small]));
-const [LINE_FEED, BACKSLASH, OPEN, CLOSE] = [...'\n\\{}'].map((sign) => sign.charCodeAt(0));
+const [BACKSLASH, OPEN, CLOSE] = [...'\\{}'].map((sign) => sign.charCodeAt(0));
+
+export { lineOfHalfLetter };
 
 /** The names of the languages; `no` is none. */
 export const LETTERS = Object.freeze(LANGUAGES.map(([name]) => name));
@@ -29,30 +32,6 @@ const isCapitalByte = (byte) => byte >= 0x41 && byte <= 0x5a;
 const isAsciiText = (text) => /^[\x00-\x7f]*$/.test(text);
 const lengthOf = (letters) => [...letters].length;
 const lower = (letter) => SMALL.get(letter) ?? letter.toLowerCase();
-
-// How many of these bytes are UTF-8, up to the first that is no part of a letter; `isCut` where a letter has begun that the end cuts.
-function wholePart(bytes) {
-  for (let at = 0; at < bytes.length;) {
-    const first = bytes[at];
-    const count = first < 0x80 ? 1 : first >= 0xc2 && first < 0xe0 ? 2 : first >= 0xe0 && first < 0xf0 ? 3 : first >= 0xf0 && first < 0xf5 ? 4 : 0;
-    if (count === 0) return { length: at, isCut: false };
-    for (let next = 1; next < count; next++) {
-      const least = next > 1 ? 0x80 : { 0xe0: 0xa0, 0xf0: 0x90 }[first] ?? 0x80;
-      const most = next > 1 ? 0xbf : { 0xed: 0x9f, 0xf4: 0x8f }[first] ?? 0xbf;
-      if (at + next >= bytes.length) return { length: at, isCut: true };
-      if (bytes[at + next] < least || bytes[at + next] > most) return { length: at, isCut: false };
-    }
-    at += count;
-  }
-  return { length: bytes.length, isCut: false };
-}
-
-/** The first line of a list, from 1, that has half a letter of UTF-8; 0 where none has. The list of a run that was stopped may end inside a letter. */
-export function lineOfHalfLetter(list, isStopped) {
-  const { length, isCut } = wholePart(list);
-  if (length === list.length || (isStopped && isCut)) return 0;
-  return 1 + list.subarray(0, length).reduce((sum, byte) => sum + (byte === LINE_FEED ? 1 : 0), 0);
-}
 
 // Bytes that are put together.
 class Writer {
@@ -115,7 +94,8 @@ class Language {
 
   // A letter that gets a code: itself, it in the other case, and whether it is a capital.
   letter(itself, isForeign) {
-    const isCapital = SMALL.has(itself) || /\p{Uppercase}/u.test(itself);
+    // (also a letter of a capital and a small one, such as `ǅ`)
+    const isCapital = lower(itself) !== itself || /\p{Uppercase}/u.test(itself);
     let other = isCapital ? lower(itself) : CAPITALS.get(itself) ?? itself.toUpperCase();
     if (itself === 'I' && this.isDotless && !isForeign) other = 'ı';
     if (itself === 'i' && this.isDotless) other = 'İ';
@@ -249,12 +229,15 @@ class Job {
     return this.files.filter(({ name, bytes }) => bytes && name.endsWith(ending)).map(({ bytes }) => bytes);
   }
 
-  get areDatabasesWhole() {
-    return this.databases.every(isWhole);
-  }
-
   get isStyleWhole() {
     return this.styles.every(isWhole);
+  }
+
+  // The first line of a list that has half a letter; 0 where none has.
+  halfOf({ list, report }) {
+    if (isWhole(list)) return 0;
+    this.other ??= new OtherBytes(this.files);
+    return lineOfHalfLetter(list, report.end === 'stopped', this.other);
   }
 
   // The run over these files in place of the job's, with options of its own.
@@ -267,9 +250,9 @@ class Job {
   runAsItIs(text) {
     const read = (how) => ({ made: this.run({ text: how }), read: how });
     const first = read(text === 'utf8' ? 'utf8' : 'bytes');
-    if (text !== 'auto' || !halfOf(first.made) || !this.areDatabasesWhole) return first;
+    if (text !== 'auto' || !this.halfOf(first.made)) return first;
     const byLetters = read('utf8');
-    return this.isStyleWhole || !halfOf(byLetters.made) ? byLetters : first;
+    return this.isStyleWhole || !this.halfOf(byLetters.made) ? byLetters : first;
   }
 
   // With the letters of a language; undefined where no entry that counts has such letters, or a LeftOut.
@@ -330,7 +313,6 @@ class Job {
 }
 
 const isOfRoom = (error) => error instanceof MemoryRefused || error instanceof OutputTooLong;
-const halfOf = ({ list, report }) => lineOfHalfLetter(list, report.end === 'stopped');
 
 // Where the lines of a log are once it is turned back. No code has an end of a line in it.
 function moved(codes, { log, events }) {
@@ -349,7 +331,7 @@ function moved(codes, { log, events }) {
 // What is to be said of the letters of a list, a line each, as `bibtex-search` has it in its log. `isAsked` is whether text was to be read so.
 function notesOf(job, made, read, isAsked) {
   const notes = [];
-  const line = job.areDatabasesWhole ? halfOf(made) : 0;
+  const line = job.halfOf(made);
   // (a list that has half a letter is no better for that)
   if (!isAsked && !line) notes.push('The list is made with -text=utf8: read by bytes, it would have half a letter, which LaTeX refuses.');
   if (line) {

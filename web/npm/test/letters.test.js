@@ -29,6 +29,7 @@ test('letters have a case, and are abbreviated', () => {
   assert.equal(listOf(job('author #1 "{f.} {ll}" format.name$'), { letters: 'fr' }), 'É. Zola\n');
   assert.equal(listOf(job('author "u" change.case$', 'ƛ'), { letters: 'en' }), '\ua7dc\n');
   assert.equal(listOf(job('author "l" change.case$', '\ua7dc'), { letters: 'en' }), 'ƛ\n');
+  assert.equal(listOf(job('author "t" change.case$', 'A ǅ ǈ ǋ ǲ'), { letters: 'hr' }), 'A ǆ ǉ ǌ ǳ\n');
 });
 
 test('messages have the letters, and their places in the log', () => {
@@ -108,6 +109,15 @@ test('a list has no half letter in silence', () => {
   assert.deepEqual([listOf(files, { text: 'auto' }), run('a', files, { text: 'auto' }).notes], ['É\n', ['The list is made with -text=utf8: read by bytes, it would have half a letter, which LaTeX refuses.']]);
   assert.deepEqual(runWithLetters(library(), 'a', files, { text: 'bytes' }).notes, ['Line 1 of the list has half a letter, which LaTeX refuses: try -text=utf8.']);
   assert.equal(run('a', files).notes, undefined);
+});
+
+test('a byte of a value in another encoding is no half letter, and hides none of another entry', () => {
+  const style = job('"\\bibitem{" cite$ * "}" * write$ newline$ author #1 text.prefix$')['s.bst'];
+  const files = { 'a.aux': AUX.replace('{k}', '{k,other}'), 's.bst': style, 'd.bib': Buffer.from('@misc{k, author = {\xC3\x89mile}}\n@misc{other, author = {\xE9, \xC3}}\n', 'latin1') };
+  const { list, notes } = run('a', files, { text: 'auto' });
+  assert.deepEqual([Buffer.from(list).toString('latin1'), notes.length], ['\\bibitem{k}\n\xC3\x89\n\\bibitem{other}\n\xE9\n', 1]);
+  assert.deepEqual(run('a', { ...files, 'a.aux': AUX.replace('{k}', '{other}') }, { text: 'auto' }).notes, []);
+  assert.deepEqual(runWithLetters(library(), 'a', files, { text: 'bytes' }).notes, ['Line 2 of the list has half a letter, which LaTeX refuses: try -text=utf8.']);
 });
 
 test('half letters have their lines', () => {

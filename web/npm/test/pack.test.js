@@ -24,7 +24,7 @@ test('npm packs it, installs it and runs it without a network', { skip: !isThere
   assert.equal(packed.status, 0, packed.stderr);
   const [{ filename, files, size }] = JSON.parse(packed.stdout);
   const names = files.map(({ path: name }) => name).sort();
-  assert.deepEqual(names, ['README.md', 'bin/btx.js', 'btx.wasm', 'index.d.ts', 'index.js', 'languages.js', 'letter_values.js', 'letters.d.ts', 'letters.js', 'library.d.ts', 'library.js', 'messages.d.ts', 'messages.js', 'package.json', 'search.js', 'style_keys.js']);
+  assert.deepEqual(names, ['README.md', 'bin/btx.js', 'btx.wasm', 'half_letters.js', 'index.d.ts', 'index.js', 'languages.js', 'letter_values.js', 'letters.d.ts', 'letters.js', 'library.d.ts', 'library.js', 'messages.d.ts', 'messages.js', 'package.json', 'search.js', 'style_keys.js']);
   assert.ok(size < 400_000, `${size} bytes`);
   const installed = npm(room, {}, 'install', `./${filename}`);
   assert.equal(installed.status, 0, installed.stderr);
