@@ -558,13 +558,13 @@ local function others_of_item(text, item, start, after)
     return others
 end
 
--- Reads a database: its entries, of each key the first one, and the bytes of what isn't UTF-8.
+-- Reads a database: its entries, of each key the first one, and the bytes of what isn't UTF-8. Of a comment the type alone is an item.
 local function read_others(found, text, are_all)
     local start = text:find("@", 1, true)
     while start do
         local reader = setmetatable({ text = text, at = start + 1 }, Reader)
         local item = reader:item()
-        local others = item.type == "comment" and {} or others_of_item(text, item, start, reader.at)
+        local others = others_of_item(text, item, start, reader.at)
         add_all(not is_entry(item.type) and found.shared or are_all and found.all or {}, others)
         if item.key then
             found.entries[item.key] = found.entries[item.key] or { text = text, fields = item.fields, others = others }

@@ -129,7 +129,7 @@ def half_letter_jobs():
     """Half a letter, the first byte of `Ü`, beside values, keys and styles that have the same byte in another encoding."""
     plain = files_of("title #1 #1 substring$")
     others = [b"@misc{other, note = {\xC3}}", b"@misc{other, note = {\xE9}, year = {\xC3\xA9}}", b"@misc{k, note = {\xC3}}", b"@misc{P, note = {\xC3}}", b"@misc{p, crossref = {other}} @misc{other, note = {\xC3}}",
-              b"@misc{other, note = {\xC3} year}", b"@misc{other, note = {\xC3\x9C}, year = {\xC3\x9C} \xC3}", b"@string{u = {\xC3}}", b"@string{u = {\xC3} x}", b"@preamble{\"\xC3\"}", b"@comment{\xC3}", b"@\xC3"]
+              b"@misc{other, note = {\xC3} year}", b"@misc{other, note = {U}, \xC3 year}", b"@misc{\xC3}", b"@string{u = {\xC3}}", b"@string{\xC3 = {u}}", b"@preamble{\"\xC3\"}", b"@comment{\xC3}", b"@\xC3"]
     item = b'"\\bibitem{" cite$ * "}" *'
     for other in others:
         database = "@misc{k, title = {Über}, crossref = { p }}\n".encode() + other
@@ -139,11 +139,15 @@ def half_letter_jobs():
     both = {**plain, "job.aux": aux(["k", "other"], "s").encode()}
     # (the bytes of a style count where a value isn't UTF-8)
     yield from (Job({**both, "s.bst": plain["s.bst"] + b"% \xC3\n", "d.bib": plain["d.bib"] + other}, "no") for other in (b"", b"@misc{other, note = {\xE9}}"))
+    prefix = files_of("title #1 text.prefix$")
+    yield Job({**prefix, "s.bst": prefix["s.bst"] + b"% \xC3\n"}, "no")
+    # (each byte of it has to be of a value)
+    yield Job({**files_of("title #1 #2 substring$"), "d.bib": "@misc{k, title = {漢}, note = {".encode() + b"\xE6}}"}, "no")
     # (whose part of the list it is)
     label = '"\\bibitem%s" title #1 #1 substring$ * "%s" * cite$ * "}" *'
-    items = [label % ends for ends in (("[", "]{"), ("  [[", "]{"), ("[", "] {"), ("s[", "]{"), ("{", "]{"), ("[]{", "}"))]
-    items += ['"\\bibitem{}"', '"\\bibitem" newline$ "{" cite$ * "} \\bibitem{other}" *']
-    database = "@misc{k, title = {Über}}\n@misc{other, title = {U}, note = {".encode() + b"\xC3}}"
+    items = [label % ends for ends in (("[", "]{"), ("  [[", "]{"), ("[", "] {"), ("{", "]{"), ("[]{", "}"))]
+    items += ['"\\bibitem{}"', '"\\bibitem{" cite$ * "} \\bibitems" *', '"\\bibitem" newline$ "{" cite$ * "} \\bibitem{other}" *']
+    database = "@misc{k, title = {Über}}\n@misc{other, title = {Ý}, note = {".encode() + b"\xC3}}"
     yield from (Job({**both, "s.bst": plain["s.bst"].replace(item, other.encode()), "d.bib": database}, "no") for other in items)
 
 

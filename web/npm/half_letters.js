@@ -43,11 +43,11 @@ export class OtherBytes {
     if (this.#shared.size + this.#all.size > 0) this.#shared = union([this.#shared, ...textsOf('.bst').map(othersIn)]);
   }
 
-  // Reads a database; the bytes of each of its entries.
+  // Reads a database; the bytes of each of its entries. Of a comment the type alone is an item.
   #read(bytes) {
     const ofEntries = [];
     for (const item of itemsOf(bytes)) {
-      const own = item.type === 'comment' ? NONE : othersOf(bytes, item);
+      const own = othersOf(bytes, item);
       if (!isEntry(item.type)) {
         for (const byte of own) this.#shared.add(byte);
         continue;
