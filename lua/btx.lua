@@ -71,7 +71,7 @@ end
 -- How many bytes an output may have at first and at most.
 local FIRST_ROOM, MOST_ROOM = 65536, 1073741824
 
--- The room for an output of `wanted` items of so many bytes, if that isn't longer than any may be.
+-- The room for an output of `wanted` items of `bytes` bytes, if that isn't longer than any may be.
 local function room_for(what, wanted, bytes)
     if wanted * bytes > MOST_ROOM then
         error("btx: " .. what .. " are longer than " .. MOST_ROOM .. " bytes", 0)

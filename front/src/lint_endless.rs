@@ -8,7 +8,7 @@ use crate::places::scenes;
 use crate::scene::Call;
 use crate::style_read::StyleRead;
 
-/// An entry with which a run isn't at its end after so many steps.
+/// An entry with which a run isn't at its end after `steps` steps.
 #[derive(Debug, Clone, PartialEq, Eq)]
 pub struct Endless {
     pub database: Vec<u8>,
@@ -89,7 +89,7 @@ impl Search<'_> {
         Some(self.least_staying(found))
     }
 
-    /// What is shown of a case with which a run isn't at its end after so many steps as are shown.
+    /// What is shown of a case with which a run isn't at its end after `STEPS_SHOWN` steps.
     fn shown_case(&self, case: &Case) -> Option<Endless> {
         let database = case.text("key");
         let (files, options, ran) = self.stopped(database.clone(), STEPS_SHOWN)?;
