@@ -48,4 +48,5 @@ pub mod NotebookLemmas
 pub mod HandLemmas
 pub mod MeetLemmas
 pub mod VisitMeets
+pub mod ItemMeets
 pub mod CountingLemmas

@@ -10,6 +10,7 @@ ghost use Rattle.btx_machine.specs.laws.Noting.{AddsLines};
 ghost use Rattle.btx_machine.specs.laws.Reports.{log_counts};
 ghost use Rattle.btx_machine.specs.refinement.Counting.{CountsNoted};
 ghost use Rattle.btx_machine.specs.refinement.Met.{AddsMet, met};
+ghost use Rattle.btx_machine.specs.refinement.Outputs.{with_item};
 ghost use Rattle.btx_machine.specs.refinement.Wholeness.{WholeUnlessCutOff};
 
 use crate::counted_since::CountedSince;
@@ -27,6 +28,8 @@ pub struct Journal<'s, L: LogSink> {
     sink: &'s mut L,
     warnings: u64,
     errors: u64,
+    // The number of the style's item that is done: what is logged says of which item it is.
+    item: usize,
     since: CountedSince,
 }
 
@@ -41,6 +44,7 @@ impl<'s, L: LogSink> Model for Journal<'s, L> {
       sink = record { name = journal.sink.ghost_name; received = L.received journal.sink.now; failures = L.failures journal.sink.now };
       warnings = journal.warnings;
       errors = journal.errors;
+      item = journal.item;
       joined = record { log = L.joined journal.sink.now; since = journal.since.at };
       noted = L.noted journal.sink.now;
       handed = L.handed journal.sink.now;
@@ -70,6 +74,7 @@ impl<'s, L: LogSink> Journal<'s, L> {
             sink,
             warnings: counts.warnings,
             errors: counts.errors,
+            item: 0,
             since,
         }
     }
@@ -85,6 +90,20 @@ impl<'s, L: LogSink> Journal<'s, L> {
         }
     }
 
+    /// Notes that the style's item of this number is done from now on.
+    pub fn begin_item(&mut self, number: usize)
+        ensures { self.new ≡ with_item number self.old }
+    {
+        self.item = number;
+    }
+
+    /// Answers the number of the style's item that is done.
+    pub fn item(&self) -> usize
+        ensures { result ≡ self.now.item }
+    {
+        self.item
+    }
+
     /// Notes a line, writes it, and counts it. The only fault is the device's; the log then received a prefix of the line.
     pub fn log_one(&mut self, line: &LogLine, about: About<'_>) -> Result<(), Fault>
         ensures ok { OnOk result (Appends self.old.sink.received self.new.sink.received (ended_line line.now.text)) }
@@ -93,6 +112,7 @@ impl<'s, L: LogSink> Journal<'s, L> {
         ensures warnings { self.new.warnings ≡ counted_if (is_warning line.now.kind) self.old.warnings }
         ensures errors { self.new.errors ≡ counted_if (is_error line.now.kind) self.old.errors }
         ensures sink { self.new.sink.name ≡ self.old.sink.name }
+        ensures item { self.new.item ≡ self.old.item }
         ensures joined { self.new.joined ≡ self.old.joined }
         ensures noted { AddsLines self.old.noted self.new.noted (line.now ∷ []) }
         ensures handed { AddsMet self.old.handed self.new.handed (met line.now about.entry ∷ []) }

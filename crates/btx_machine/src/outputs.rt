@@ -2,13 +2,13 @@
 ghost use Rattle.std.specs.Prelude.{◌≡◌, ◌∷◌, [], IfOk, IsSome, OnErr, OnOk, map};
 ghost use Rattle.std.specs.Io.KnownBytes.{Appends};
 ghost use Rattle.btx_out.specs.language.Pieces.{AppendsPrefix};
-ghost use Rattle.btx_bib.specs.language.MessageTexts.{message_line};
+ghost use Rattle.btx_bib.specs.language.MessageTexts.{message_line, position_of};
 ghost use Rattle.btx_machine.specs.declared.ending.Ending.TheVariants.{Finished};
 ghost use Rattle.btx_machine.specs.language.Reports.{last_line};
 ghost use Rattle.btx_machine.specs.language.Saying.{ended_line, lines_logged, said_on};
 ghost use Rattle.btx_machine.specs.laws.Noting.{AddsLines};
 ghost use Rattle.btx_machine.specs.refinement.Met.{AddsMet, met};
-ghost use Rattle.btx_machine.specs.refinement.Places.{Hands, MetWhile, lines_said};
+ghost use Rattle.btx_machine.specs.refinement.Places.{HandsInItem, MetOfMessages, MetWhile, lines_said};
 ghost use Rattle.btx_machine.specs.refinement.Saying.{current_key, wrote, pending_ended, line_logged, note_lines};
 
 use crate::journal::Journal;
@@ -29,8 +29,6 @@ pub struct Outputs<'s, W: Sink, L: LogSink> {
     bbl: &'s mut W,
     breaker: Breaker,
     log: Journal<'s, L>,
-    // How many items of the style were done: what is logged says of which item it is.
-    items_done: usize,
 }
 
 impl<'s, W: Sink, L: LogSink> Model for Outputs<'s, W, L> {
@@ -53,6 +51,7 @@ impl<'s, W: Sink, L: LogSink> Outputs<'s, W, L> {
     ghost use Rattle.btx_machine.specs.refinement.Closing.{FinishedAt, FinishedPart};
     ghost use Rattle.btx_machine.specs.refinement.Counting.{CountsNoted};
     ghost use Rattle.btx_machine.specs.refinement.Faults.{CountsOfBoth, Writes};
+    ghost use Rattle.btx_machine.specs.refinement.Outputs.{with_item};
     ghost use Rattle.btx_machine.specs.refinement.Written.{Becomes, Stops};
 
     /// Makes outputs with nothing pending: `bbl` for the list, in lines of at most `line` bytes, and `log`, which goes on.
@@ -69,7 +68,6 @@ impl<'s, W: Sink, L: LogSink> Outputs<'s, W, L> {
             bbl,
             breaker: Breaker::new(line),
             log,
-            items_done: 0,
         }
     }
 
@@ -90,11 +88,11 @@ impl<'s, W: Sink, L: LogSink> Outputs<'s, W, L> {
         (self.bbl, self.log.into_sink())
     }
 
-    /// Counts that an item of the style is done.
-    pub fn end_item(&mut self)
-        ensures { self.new ≡ self.old }
+    /// Notes that the style's item of this number is done from now on.
+    pub fn begin_item(&mut self, number: usize)
+        ensures { self.new ≡ record self.old { log = with_item number self.old.log } }
     {
-        self.items_done = self.items_done.saturating_add(1);
+        self.log.begin_item(number);
     }
 
     /// Answers how many warnings and errors the log has.
@@ -119,7 +117,7 @@ impl<'s, W: Sink, L: LogSink> Outputs<'s, W, L> {
         ensures ok { OnOk result (Becomes self.old self.new (λ out. said_on job.now executed.now current said.entry out)) }
         ensures err { OnErr result (Stops self.old self.new (λ out. said_on job.now executed.now current said.entry out)) }
         ensures writes { OnOk result (Writes self.new) }
-        ensures handed { Hands self.old.log self.new.log (MetWhile executed.now current standing.entry (lines_said job.now executed.now current said.entry)) }
+        ensures handed { HandsInItem self.old.log self.new.log (MetWhile job.now executed.now current standing.entry (lines_said job.now executed.now current said.entry)) }
         ensures counts { CountsOfBoth result self.old self.new }
     {
         match said {
@@ -173,7 +171,7 @@ impl<'s, W: Sink, L: LogSink> Outputs<'s, W, L> {
     ) -> Result<(), Fault>
         ensures ok { OnOk result (Becomes self.old self.new (λ out. lines_logged (note_lines job.now executed.now current notes.now) out)) }
         ensures err { OnErr result (Stops self.old self.new (λ out. lines_logged (note_lines job.now executed.now current notes.now) out)) }
-        ensures handed { Hands self.old.log self.new.log (MetWhile executed.now current standing.entry (note_lines job.now executed.now current notes.now)) }
+        ensures handed { HandsInItem self.old.log self.new.log (MetWhile job.now executed.now current standing.entry (note_lines job.now executed.now current notes.now)) }
         ensures breaker { self.new.breaker ≡ self.old.breaker }
         ensures counts { CountsOfBoth result self.old self.new }
     {
@@ -181,7 +179,7 @@ impl<'s, W: Sink, L: LogSink> Outputs<'s, W, L> {
         let style = job.style();
         let about = About::Execution(Executed {
             style,
-            item: self.items_done,
+            item: self.log.item(),
             name: executed,
             entry: current,
             key,
@@ -198,6 +196,7 @@ impl<'s, W: Sink, L: LogSink> Outputs<'s, W, L> {
     pub fn log_messages(&mut self, alloc: Global, messages: &[Message<'_>]) -> Result<(), Fault>
         ensures ok { OnOk result (Becomes self.old self.new (λ out. lines_logged (map message_line messages.now) out)) }
         ensures err { OnErr result (Stops self.old self.new (λ out. lines_logged (map message_line messages.now) out)) }
+        ensures handed { HandsInItem self.old.log self.new.log (MetOfMessages messages.now) }
         ensures breaker { self.new.breaker ≡ self.old.breaker }
         ensures counts { CountsOfBoth result self.old self.new }
     {
@@ -214,6 +213,7 @@ impl<'s, W: Sink, L: LogSink> Outputs<'s, W, L> {
         ensures err { OnErr result (Stops self.old self.new (λ out. line_logged line.now out)) }
         ensures noted { AddsLines self.old.log.noted self.new.log.noted (line.now ∷ []) }
         ensures handed { AddsMet self.old.log.handed self.new.log.handed (met line.now about.entry ∷ []) }
+        ensures item { self.new.log.item ≡ self.old.log.item }
         ensures breaker { self.new.breaker ≡ self.old.breaker }
         ensures counts { CountsOfBoth result self.old self.new }
     {
@@ -258,7 +258,9 @@ fn key_at<'a>(job: &Job<'a>, current: Option<usize>) -> Option<&'a [u8]>
 }
 
 // The place of a database that a message is about, if it is about one.
-fn position_of<'m>(message: &'m Message<'m>) -> Option<&'m SourcePosition<'m>> {
+fn position_of<'m>(message: &'m Message<'m>) -> Option<&'m SourcePosition<'m>>
+    ensures { option_copied result ≡ position_of message.now }
+{
     match message {
         Message::Wrong(_, position)
         | Message::UnknownKind(_, position)
