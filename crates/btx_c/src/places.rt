@@ -4,13 +4,18 @@ use crate::cause::Cause;
 use crate::handed::{BtxFile, CallerFiles};
 use crate::index::Index;
 use crate::kept::Kept;
+use crate::noted::{Notes, Wanted};
 use btx_run::Options;
-use btx_where::locate;
+use btx_where::{Scratch, locate};
 use std::alloc::Global;
 
-// How many bytes of the list and of the log a run may write that nobody reads. (Outputs of another type would bring the machine's loop into the library once
-// more, and make that of `btx_run` slower.)
+// How many bytes of the list and of the log a run may write that nobody reads.
 const MOST_WRITTEN: usize = 128_000_000;
+// What is kept of the lines of such a run.
+const NOTHING: Wanted = Wanted {
+    events: 0,
+    places: 0,
+};
 
 /// Answers the notes of the job `name` over `files`: of the first `most` events that log errors, and of its end; or why there are none.
 pub fn places(
@@ -26,6 +31,12 @@ pub fn places(
     let mut finder = CallerFiles::new(alloc, &index);
     let mut list = Kept::new(alloc, MOST_WRITTEN);
     let mut log = Kept::new(alloc, MOST_WRITTEN);
+    let mut notebook = Notes::new(alloc, &*files, NOTHING);
+    let mut scratch = Scratch {
+        list: &mut list,
+        log: &mut log,
+        notebook: &mut notebook,
+    };
     let mut notes = Vec::new(alloc);
     let answer = locate(
         alloc,
@@ -33,8 +44,7 @@ pub fn places(
         name,
         options,
         most,
-        &mut list,
-        &mut log,
+        &mut scratch,
         &mut notes,
     );
     match answer {

@@ -8,7 +8,7 @@ use crate::items::do_items;
 use crate::machine::beginning;
 use crate::notes::{Known, note_event};
 use crate::scene::StoppedState;
-use crate::scratch::ResettableSink;
+use crate::scratch::{ResettableSink, Scratch};
 use crate::stand::ExecutionEnd;
 use crate::stops::scene_after;
 use btx_bst::{BuiltIn, Callee, Item, Style, StylePlaces};
@@ -18,7 +18,7 @@ use btx_machine::outputs::Outputs;
 use btx_machine::program::Program;
 use btx_machine::report::report_of;
 use btx_machine::work::Work;
-use btx_machine::{End, Journal, LogCounts, NotedLog, Report, Unnoted};
+use btx_machine::{End, Journal, LogCounts, Notebook, NotedLog, Report};
 use btx_run::Options;
 use btx_step::{Job, Store};
 use btx_text::Fault;
@@ -35,13 +35,12 @@ pub struct Explainer<'j, 'a, 'o> {
 
 impl<'j, 'a, 'o> Explainer<'j, 'a, 'o> {
     /// Notes the places of the first `most` events that log errors, and of the end; answers the report of the run. `places` says where the style's tokens and
-    /// items stand. What the runs write goes to `list` and `log`, and is forgotten.
-    pub fn explain<W: ResettableSink, L: ResettableSink>(
+    /// items stand. What the runs write goes to `scratch`.
+    pub fn explain<W: ResettableSink, L: ResettableSink, N: Notebook>(
         &self,
         places: &StylePlaces,
         most: usize,
-        list: &mut W,
-        log: &mut L,
+        scratch: &mut Scratch<'_, W, L, N>,
         notes: &mut Vec<u8>,
     ) -> Result<Report, Fault>
         ensures bound { IfOk result (λ report. report.steps ≤ self.now.options.now.budget) }
@@ -59,7 +58,7 @@ impl<'j, 'a, 'o> Explainer<'j, 'a, 'o> {
             Vec::new(self.alloc),
             most,
         );
-        let report = self.pass(program, &mut first, list, log)?;
+        let report = self.pass(program, &mut first, scratch)?;
         if is_quiet(&first, &report) {
             return Ok(report);
         }
@@ -68,28 +67,25 @@ impl<'j, 'a, 'o> Explainer<'j, 'a, 'o> {
             code: &code,
             places,
         };
-        let events = self.events(program, &first, &report, most, list, log)?;
-        self.note_all(&known, events.as_slice(), list, log, notes)?;
+        let events = self.events(program, &first, &report, most, scratch)?;
+        self.note_all(&known, events.as_slice(), scratch, notes)?;
         Ok(report)
     }
 
     // Runs the style, notes in `course` what is to be noted on the way, and answers the report.
-    fn pass<W: ResettableSink, L: ResettableSink>(
+    fn pass<W: ResettableSink, L: ResettableSink, N: Notebook>(
         &self,
         program: Program<'_, 'a>,
         course: &mut RunTrace,
-        list: &mut W,
-        log: &mut L,
+        scratch: &mut Scratch<'_, W, L, N>,
     ) -> Result<Report, Fault>
         ensures bound { IfOk result (λ report. report.steps ≤ self.now.options.now.budget) }
     {
-        list.forget();
-        log.forget();
+        scratch.forget();
         let store = Store::new(self.alloc, program.job)?;
-        let mut unnoted = Unnoted {};
-        let mut noted = NotedLog::new(log, &mut unnoted);
+        let mut noted = NotedLog::new(scratch.log, scratch.notebook);
         let outputs = Outputs::new(
-            list,
+            scratch.list,
             self.options.line,
             Journal::new(&mut noted, self.counts),
         );
@@ -119,16 +115,15 @@ impl<'j, 'a, 'o> Explainer<'j, 'a, 'o> {
     }
 
     // The events of a run: those that log errors, in the visits that `first` found to do so, and that at its end.
-    fn events<W: ResettableSink, L: ResettableSink>(
+    fn events<W: ResettableSink, L: ResettableSink, N: Notebook>(
         &self,
         program: Program<'_, 'a>,
         first: &RunTrace,
         report: &Report,
         most: usize,
-        list: &mut W,
-        log: &mut L,
+        scratch: &mut Scratch<'_, W, L, N>,
     ) -> Result<Vec<Event>, Fault> {
-        let mut events = self.faults(program, first.faulty.as_slice(), most, list, log)?;
+        let mut events = self.faults(program, first.faulty.as_slice(), most, scratch)?;
         if let Some(end) = end_event(self.alloc, program.job.style(), first, report) {
             events.push(end)?;
         }
@@ -136,51 +131,48 @@ impl<'j, 'a, 'o> Explainer<'j, 'a, 'o> {
     }
 
     // The events in these visits that log errors.
-    fn faults<W: ResettableSink, L: ResettableSink>(
+    fn faults<W: ResettableSink, L: ResettableSink, N: Notebook>(
         &self,
         program: Program<'_, 'a>,
         faulty: &[u64],
         most: usize,
-        list: &mut W,
-        log: &mut L,
+        scratch: &mut Scratch<'_, W, L, N>,
     ) -> Result<Vec<Event>, Fault> {
         let followed = Vec::from_slice(self.alloc, faulty)?;
         let mut second = RunTrace::following(self.alloc, self.options.budget, followed, most);
         if !faulty.is_empty() {
-            self.pass(program, &mut second, list, log)?;
+            self.pass(program, &mut second, scratch)?;
         }
         Ok(second.events)
     }
 
     // Notes these events, one after another.
-    fn note_all<W: ResettableSink, L: ResettableSink>(
+    fn note_all<W: ResettableSink, L: ResettableSink, N: Notebook>(
         &self,
         known: &Known<'_>,
         events: &[Event],
-        list: &mut W,
-        log: &mut L,
+        scratch: &mut Scratch<'_, W, L, N>,
         notes: &mut Vec<u8>,
     ) -> Result<(), Fault>
         ensures { OnOk result (GrowsBy (AreNotesOf known.now.style.now self.now.job.now self.now.counts known.now.places.now events.now) notes.old.items notes.new.items) }
     {
         for event in events {
-            self.note_one(known, event, list, log, notes)?;
+            self.note_one(known, event, scratch, notes)?;
         }
         Ok(())
     }
 
     // Notes an event, and where the run stood before its step, or where it was stopped.
-    fn note_one<W: ResettableSink, L: ResettableSink>(
+    fn note_one<W: ResettableSink, L: ResettableSink, N: Notebook>(
         &self,
         known: &Known<'_>,
         event: &Event,
-        list: &mut W,
-        log: &mut L,
+        scratch: &mut Scratch<'_, W, L, N>,
         notes: &mut Vec<u8>,
     ) -> Result<(), Fault>
         ensures { OnOk result (GrowsBy (IsNoteOf known.now.style.now self.now.job.now self.now.counts known.now.places.now event.now) notes.old.items notes.new.items) }
     {
-        let found = self.scene_of(event, list, log)?;
+        let found = self.scene_of(event, scratch)?;
         let since = known.tokens_since(self.alloc, event)?;
         let began = known.began(event);
         note_head(known, event, notes)?;
@@ -190,11 +182,10 @@ impl<'j, 'a, 'o> Explainer<'j, 'a, 'o> {
     }
 
     // The scene of an event, in its item: where the run stands before its step, or where it was stopped. Of literals that were left there is none.
-    fn scene_of<W: ResettableSink, L: ResettableSink>(
+    fn scene_of<W: ResettableSink, L: ResettableSink, N: Notebook>(
         &self,
         event: &Event,
-        list: &mut W,
-        log: &mut L,
+        scratch: &mut Scratch<'_, W, L, N>,
     ) -> Result<Option<StoppedState<'a>>, Fault>
         ensures run { IfOk result (λ found. IfSome found (λ scene. IsScene self.now.job.now self.now.counts (steps_before event.now.word event.now.moment.steps) scene)) }
         ensures item { IfOk result (λ found. IfSome found (λ scene. scene.item ≡ event.now.item)) }
@@ -202,8 +193,8 @@ impl<'j, 'a, 'o> Explainer<'j, 'a, 'o> {
         if event.word == Word::Left {
             return Ok(None);
         }
-        list.forget();
-        log.forget();
+        scratch.forget();
+        let mut noted = NotedLog::new(scratch.log, scratch.notebook);
         let found = scene_after(
             self.alloc,
             self.job,
@@ -211,8 +202,8 @@ impl<'j, 'a, 'o> Explainer<'j, 'a, 'o> {
             self.options.line,
             event.word.steps_before(event.moment.steps),
             event.visit,
-            list,
-            log,
+            scratch.list,
+            &mut noted,
         )?;
         Ok(in_item(found, event.item))
     }

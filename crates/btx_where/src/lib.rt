@@ -20,5 +20,5 @@ pub mod visits;
 pub use place::Place;
 pub use runner::locate;
 pub use scene::{Level, StoppedState};
-pub use scratch::{DiscardingSink, ResettableSink};
+pub use scratch::{DiscardingSink, ResettableSink, Scratch};
 pub use stops::scene_after;

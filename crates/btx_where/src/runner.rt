@@ -7,11 +7,11 @@ ghost use Rattle.btx_run.specs.refinement.Product.{work_in};
 ghost use Rattle.btx_where.specs.Events.{Explains, ExplainsFiles, ExplainsJob, ExplainsReading};
 
 use crate::explainer::Explainer;
-use crate::scratch::ResettableSink;
+use crate::scratch::{ResettableSink, Scratch};
 use btx_aux::{AuxJob, Finder};
 use btx_bst::read_placed_style;
 use btx_machine::report::report_of;
-use btx_machine::{Journal, LogCounts, NotedLog, Report, Unnoted};
+use btx_machine::{Journal, LogCounts, Notebook, NotedLog, Report};
 use btx_run::Options;
 use btx_run::contents::read_library;
 use btx_run::files::{FilesRead, JobFiles, read_files, read_job};
@@ -20,15 +20,14 @@ use btx_text::Fault;
 use std::alloc::Global;
 
 // Explains a style that was found: its text and the databases are read first.
-fn explain_found<'a, W: ResettableSink, L: ResettableSink>(
+fn explain_found<'a, W: ResettableSink, L: ResettableSink, N: Notebook>(
     alloc: Global,
     job: &'a AuxJob,
     found: &'a JobFiles<'a>,
     options: &Options,
     counts: LogCounts,
     most: usize,
-    list: &mut W,
-    log: &mut L,
+    scratch: &mut Scratch<'_, W, L, N>,
     notes: &mut Vec<u8>,
 ) -> Result<Report, Fault>
     requires { length found.now.style.bytes ≤ greatest_file }
@@ -51,19 +50,18 @@ fn explain_found<'a, W: ResettableSink, L: ResettableSink>(
         options,
         counts,
     };
-    explainer.explain(&placed.places, most, list, log, notes)
+    explainer.explain(&placed.places, most, scratch, notes)
 }
 
 // Goes on from the files of a job.
-fn after_files<'a, W: ResettableSink, L: ResettableSink>(
+fn after_files<'a, W: ResettableSink, L: ResettableSink, N: Notebook>(
     alloc: Global,
     job: &'a AuxJob,
     read: FilesRead<'a>,
     options: &Options,
     counts: LogCounts,
     most: usize,
-    list: &mut W,
-    log: &mut L,
+    scratch: &mut Scratch<'_, W, L, N>,
     notes: &mut Vec<u8>,
 ) -> Result<Report, Fault>
     requires { StyleFits read }
@@ -73,50 +71,46 @@ fn after_files<'a, W: ResettableSink, L: ResettableSink>(
     match read {
         FilesRead::Ends(end) => Ok(report_of(end, 0, 0, counts)),
         FilesRead::Found(found) => {
-            explain_found(alloc, job, &found, options, counts, most, list, log, notes)
+            explain_found(alloc, job, &found, options, counts, most, scratch, notes)
         }
     }
 }
 
 // Explains a job whose `.aux` files are read.
-fn explain_job<F: Finder, W: ResettableSink, L: ResettableSink>(
+fn explain_job<F: Finder, W: ResettableSink, L: ResettableSink, N: Notebook>(
     alloc: Global,
     finder: &mut F,
     job: &AuxJob,
     options: &Options,
     most: usize,
-    list: &mut W,
-    log: &mut L,
+    scratch: &mut Scratch<'_, W, L, N>,
     notes: &mut Vec<u8>,
 ) -> Result<Report, Fault>
     ensures bound { IfOk result (λ report. report.steps ≤ options.now.budget) }
     ensures notes { OnOk result (IfSome (F.content finder.old) (λ files. ExplainsReading job.now (files_read files job.now) options.now notes.old.items notes.new.items)) }
 {
-    log.forget();
-    let mut unnoted = Unnoted {};
-    let mut noted = NotedLog::new(log, &mut unnoted);
+    scratch.log.forget();
+    let mut noted = NotedLog::new(scratch.log, scratch.notebook);
     let mut journal = Journal::new(&mut noted, LogCounts::NONE);
     let read = read_files(alloc, finder, job, &mut journal);
     let counts = journal.counts();
-    let (log, _) = noted.into_parts();
-    after_files(alloc, job, read?, options, counts, most, list, log, notes)
+    after_files(alloc, job, read?, options, counts, most, scratch, notes)
 }
 
 /// Runs the job of this name again, and notes where its style stands: at each of the first `most` events that log errors in its execution, and where the run is stopped or
-/// met a limit. What the runs write goes to `list` and `log`, and is forgotten. The contract speaks of the finder's files where these don't change.
-pub fn locate<F: Finder, W: ResettableSink, L: ResettableSink>(
+/// met a limit. What the runs write goes to `scratch`. The contract speaks of the finder's files where these don't change.
+pub fn locate<F: Finder, W: ResettableSink, L: ResettableSink, N: Notebook>(
     alloc: Global,
     finder: &mut F,
     name: &[u8],
     options: &Options,
     most: usize,
-    list: &mut W,
-    log: &mut L,
+    scratch: &mut Scratch<'_, W, L, N>,
     notes: &mut Vec<u8>,
 ) -> Result<Report, Fault>
     ensures bound { IfOk result (λ report. report.steps ≤ options.now.budget) }
     ensures notes { OnOk result (IfSome (F.content finder.old) (λ files. ExplainsJob files name.now options.now notes.old.items notes.new.items)) }
 {
     let job = read_job(alloc, finder, name)?;
-    explain_job(alloc, finder, &job, options, most, list, log, notes)
+    explain_job(alloc, finder, &job, options, most, scratch, notes)
 }

@@ -25,7 +25,7 @@ use btx_machine::marks::Marks;
 use btx_machine::outputs::Outputs;
 use btx_machine::program::Program;
 use btx_machine::work::Work;
-use btx_machine::{Journal, LogCounts, LogSink, NotedLog, Unnoted};
+use btx_machine::{Journal, LogCounts, LogSink};
 use btx_out::{LineLength, Sink};
 use btx_stack::Literal;
 use btx_step::{Job, Store};
@@ -136,7 +136,7 @@ fn stop<'a, W: Sink, L: LogSink>(
 
 /// Runs a job's style for `budget` steps, and shows where it stands then: at which token, what is open, and which literals are on the stack. `visit` is the number of the
 /// visit in which it is stopped; if it isn't stopped in that one, nothing is shown. What it writes on the way goes to `list` and `log`.
-pub fn scene_after<'a, W: Sink, L: Sink>(
+pub fn scene_after<'a, W: Sink, L: LogSink>(
     alloc: Global,
     job: &Job<'a>,
     counts: LogCounts,
@@ -149,9 +149,7 @@ pub fn scene_after<'a, W: Sink, L: Sink>(
     ensures { IfOk result (λ found. IfSome found (λ scene. IsScene job.now counts budget scene)) }
 {
     let store = Store::new(alloc, job)?;
-    let mut unnoted = Unnoted {};
-    let mut noted = NotedLog::new(log, &mut unnoted);
-    let outputs = Outputs::new(list, line, Journal::new(&mut noted, counts));
+    let outputs = Outputs::new(list, line, Journal::new(log, counts));
     let mut work = Work {
         alloc,
         store,
