@@ -3,11 +3,12 @@ ghost use Rattle.std.specs.Prelude.{◌≡◌, ◌≤◌, ◌⊎◌, IfOk, fold,
 ghost use Rattle.std.specs.List.{flat_map};
 ghost use Rattle.btx_text.specs.language.Limits.{is_too_long};
 ghost use Rattle.btx_read.specs.Rows.{rows_along, texts_of};
+ghost use Rattle.btx_read.specs.ShortRows.{bytes_of_all, rows_from};
 ghost use Rattle.btx_c.specs.Outcomes.{filled};
 ghost use Rattle.btx_c.specs.Read.{AreRead, Fits, IsFull, filled_rows, handed_strings, records_read, with_handed};
 
 use crate::exports::{DONE, FULL, MEMORY, REFUSED};
-use btx_read::{Row, Rows, StringTable, add_string, read_rows};
+use btx_read::{Row, ShortRows, StringTable, add_string, put_rows, read_short_rows};
 use btx_text::GREATEST_FILE;
 use std::alloc::{AllocError, Global};
 
@@ -54,18 +55,21 @@ fn known<'a>(alloc: Global, strings: &[BtxString<'a>]) -> Result<StringTable<'a>
     Ok(known)
 }
 
-// The rows of a database, before which these strings were handed in.
+// The short rows of a database, before which these strings were handed in.
 fn rows_read<'a>(
     alloc: Global,
     file: &[u8],
     text: &'a [u8],
     strings: &[BtxString<'a>],
-) -> Result<Rows, AllocError>
-    ensures rows { IfOk result (λ made. made.rows.items ≡ rows_along file.now 0 (records_read strings.now text.now)) }
+) -> Result<ShortRows, AllocError>
+    ensures rows { IfOk result (λ made. rows_from 0 made.rows.items ≡ rows_along file.now 0 (records_read strings.now text.now)) }
+    ensures count { IfOk result (λ made. length made.rows.items ≡ length (rows_along file.now 0 (records_read strings.now text.now))) }
+    ensures bytes { IfOk result (λ made. bytes_of_all made.rows.items ≡ length made.texts.items) }
     ensures texts { IfOk result (λ made. made.texts.items ≡ flat_map (texts_of file.now) (records_read strings.now text.now)) }
 {
     let strings = known(alloc, strings)?;
-    read_rows(alloc, file, strings, text)
+    let made = read_short_rows(alloc, file, strings, text)?;
+    Ok(made)
 }
 
 /// Reads the database `text`, which is the file `file`, before which these strings are known. Writes its records, as many as there is room for, with their
@@ -99,7 +103,7 @@ pub extern "C" fn btx_read<'a>(
     let Ok(made) = rows_read(alloc, file, text, strings) else {
         return MEMORY;
     };
-    copy_rows(made.rows.as_slice(), records);
+    put_rows(&made, records);
     copy_texts(made.texts.as_slice(), texts);
     *sizes = BtxSizes {
         records: made.rows.len(),

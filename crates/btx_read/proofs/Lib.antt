@@ -1,6 +1,7 @@
 pub mod LibraryRecordLemmas
 pub mod RecordLemmas
 pub mod RowLemmas
+pub mod ShortRowLemmas
 pub mod FieldFirstLemmas
 pub mod WalkLemmas
 pub mod LibraryLemmas

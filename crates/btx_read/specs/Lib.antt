@@ -3,6 +3,8 @@ pub mod Records
 pub mod Rows
 pub mod RowLaws
 pub mod Readings
+pub mod ShortRows
+pub mod RowReadings
 pub mod Libraries
 pub mod Errors
 pub mod LibraryLaws

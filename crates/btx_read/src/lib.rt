@@ -11,6 +11,7 @@ pub mod reading;
 pub mod record;
 pub mod row;
 pub mod rows;
+pub mod short_rows;
 mod texts;
 
 pub use btx_bib::strings::StringTable;
@@ -21,3 +22,4 @@ pub use reading::{RecordReader, read_records};
 pub use record::Record;
 pub use row::Row;
 pub use rows::{Rows, read_rows};
+pub use short_rows::{ShortRow, ShortRows, put_rows, read_short_rows};

@@ -75,7 +75,10 @@ impl<'a> RecordReader<'a> {
 
     // The record of a field in its plainest form, if one stands at the next place and its text needn't be made; else the reader stays where it is.
     #[inline(always)]
-    fn read_plain_field(&mut self, alloc: Global) -> Result<Option<Record<'a>>, AllocError>
+    pub(crate) fn read_plain_field(
+        &mut self,
+        alloc: Global,
+    ) -> Result<Option<Record<'a>>, AllocError>
         ensures { IfOk result (λ read. IsNextIfAny self.old read self.new) }
     {
         let Some(field) = self.reader.plain_field() else {
@@ -109,7 +112,7 @@ impl<'a> RecordReader<'a> {
     }
 
     // The next record, if one is left, whatever it is.
-    fn read_event(&mut self, alloc: Global) -> Result<Option<Record<'a>>, AllocError>
+    pub(crate) fn read_event(&mut self, alloc: Global) -> Result<Option<Record<'a>>, AllocError>
         ensures { IfOk result (λ read. IsNext self.old read self.new) }
     {
         let Some(placed) = self.reader.read(alloc, &NoKeys)? else {

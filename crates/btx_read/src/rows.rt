@@ -24,7 +24,8 @@ pub struct Rows {
 }
 
 // The number of what a record is.
-fn kind_of(content: &Content<'_>) -> u32
+#[inline(always)]
+pub(crate) fn kind_of(content: &Content<'_>) -> u32
     ensures { result ≡ spec.kind_of content.now }
 {
     match content {
@@ -39,7 +40,8 @@ fn kind_of(content: &Content<'_>) -> u32
 }
 
 // The name of a record.
-fn name_of<'c>(content: &'c Content<'_>) -> &'c [u8]
+#[inline(always)]
+pub(crate) fn name_of<'c>(content: &'c Content<'_>) -> &'c [u8]
     ensures { result.now ≡ spec.name_of content.now }
 {
     match content {
@@ -50,7 +52,8 @@ fn name_of<'c>(content: &'c Content<'_>) -> &'c [u8]
 }
 
 // Whether the text of a record is there.
-fn is_whole(content: &Content<'_>) -> bool
+#[inline(always)]
+pub(crate) fn is_whole(content: &Content<'_>) -> bool
     ensures { result ≡ spec.is_whole content.now }
 {
     match content {
@@ -62,6 +65,7 @@ fn is_whole(content: &Content<'_>) -> bool
 }
 
 // Appends a text, if it is there.
+#[inline(always)]
 fn push_given(texts: &mut Vec<u8>, text: &Option<Text<'_>>) -> Result<(), AllocError>
     ensures { OnOk result (texts.new.items ≡ texts.old.items ++ spec.given text.now) }
 {
@@ -72,6 +76,7 @@ fn push_given(texts: &mut Vec<u8>, text: &Option<Text<'_>>) -> Result<(), AllocE
 }
 
 // Appends the line that a run logs of what is wrong at a place of a file.
+#[inline(never)]
 fn push_wrong(
     alloc: Global,
     texts: &mut Vec<u8>,
@@ -85,7 +90,8 @@ fn push_wrong(
 }
 
 // Appends the text of a record of a file.
-fn push_text(
+#[inline(always)]
+pub(crate) fn push_text(
     alloc: Global,
     texts: &mut Vec<u8>,
     file: &[u8],

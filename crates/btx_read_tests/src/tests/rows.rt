@@ -1,5 +1,5 @@
 //! Short databases, and their records, worked by hand.
-use btx_read::{Row, Rows, StringTable, add_string, read_rows};
+use btx_read::{Row, Rows, StringTable, add_string, put_rows, read_rows, read_short_rows};
 use btx_text::log_texts::push_number;
 use std::alloc::{AllocError, Global};
 
@@ -37,6 +37,69 @@ fn listed(alloc: Global, text: &[u8]) -> Result<Vec<u8>, AllocError> {
         push_row(&mut listed, &made, row)?;
     }
     Ok(listed)
+}
+
+// A row that no record has.
+const NO_ROW: Row = Row {
+    kind: 7,
+    is_whole: false,
+    start: 0,
+    end: 0,
+    line: 0,
+    name_at: 0,
+    name_len: 0,
+    text_at: 0,
+    text_len: 0,
+};
+
+// The records of a database, of which this number has room, listed one after another: those that have none are `?`.
+fn listed_in(alloc: Global, text: &[u8], room: usize, rows: usize) -> Result<Vec<u8>, AllocError> {
+    let made = read_short_rows(alloc, b"d.bib", StringTable::new(alloc), text)?;
+    let mut put = vec![in alloc; NO_ROW; rows]?;
+    put_rows(&made, &mut put.as_mut_slice()[..room.min(rows)]);
+    let all = Rows {
+        rows: put,
+        texts: made.texts,
+    };
+    let mut listed = Vec::new(alloc);
+    for row in all.rows.as_slice() {
+        push_row(&mut listed, &all, row)?;
+    }
+    Ok(listed)
+}
+
+// Whether these are the records of a database where `room` of this number of rows may be written.
+fn has_in(alloc: Global, text: &[u8], room: usize, rows: usize, expected: &[u8]) -> bool {
+    match listed_in(alloc, text, room, rows) {
+        Ok(listed) => listed.as_slice() == expected,
+        Err(_) => false,
+    }
+}
+
+// Short rows are put where there is room for them, and no others are touched.
+#[test]
+fn short_rows_are_put_where_there_is_room(rt: HostRuntime) {
+    let alloc = rt.alloc();
+    let text = b"@a{k, b = {cd}, e = 1}";
+    assert!(rt; has_in(alloc, text, 0, 1, b"?0-0:0 = too long;"));
+    assert!(rt;
+        has_in(
+            alloc,
+            text,
+            2,
+            3,
+            b"e0-4:1 a=k;f6-14:1 b=cd;?0-0:0 = too long;"
+        )
+    );
+    assert!(rt;
+        has_in(
+            alloc,
+            text,
+            9,
+            5,
+            b"e0-4:1 a=k;f6-14:1 b=cd;f16-21:1 e=1;.21-22:1 =;?0-0:0 = too long;"
+        )
+    );
 }
 
 // Whether a database has these records.
