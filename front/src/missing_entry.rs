@@ -391,6 +391,17 @@ const MONTHS: [&str; 12] = [
     "december",
 ];
 
+/// Whether a string is the name of a month, as styles define them.
+pub fn is_month(name: &[u8]) -> bool {
+    MONTHS.iter().any(|month| name.eq_ignore_ascii_case(&month.as_bytes()[..3]))
+}
+
+/// Whether a name is a month's, or more than three letters of one.
+pub fn begins_month(name: &[u8]) -> bool {
+    let lowered = name.to_ascii_lowercase();
+    lowered.len() > 3 && MONTHS.iter().any(|month| month.as_bytes().starts_with(&lowered))
+}
+
 /// The name among these that may be meant by this one of a string, also by more letters of a month.
 pub fn meant_string<'a>(name: &[u8], known: &[&'a [u8]]) -> Option<&'a [u8]> {
     let lowered = name.to_ascii_lowercase();

@@ -57,14 +57,14 @@ enum Walk {
     Pushed(usize),
     /// To their beginning: the operand was on the stack before, with this many literals above it.
     Begin(usize),
-    /// To a token of which the text doesn't show what it leaves.
-    Unknown(usize),
+    /// To a token of which the text doesn't show what it leaves, with this many literals above the operand.
+    Unknown(usize, usize),
 }
 
 /// How far a walk back comes over all callers: to the token that pushes the operand, or at most to one of which that isn't known.
 enum Way {
     Pushed(usize),
-    Unknown(Option<usize>),
+    Unknown(Option<(usize, usize)>),
 }
 
 /// How many tokens are walked over.
@@ -93,7 +93,12 @@ pub fn missing_field<'a>(
         },
         Way::Unknown(token) => token,
     };
-    let left = left_by.and_then(|token| {
+    if let Some((name, line)) =
+        left_by.filter(|(_, above)| *above == 0).and_then(|(token, _)| only_field_left(code, token))
+    {
+        return Some(MissingField::Is(name, line));
+    }
+    let left = left_by.and_then(|(token, _)| {
         let fields = code.fields_read(&operands_of(code, token));
         (!fields.is_empty()).then(|| MissingField::LeftBy(code.of(token), code.line(token), fields))
     });
@@ -141,7 +146,7 @@ fn pushed_before(code: &Code<'_>, token: usize, position: usize) -> Option<usize
         match walk(code, token, above) {
             Walk::Pushed(pushed) => return Some(pushed),
             Walk::Begin(left) => (token, above) = (code.only_call_of(token)?, left),
-            Walk::Unknown(_) => return None,
+            Walk::Unknown(..) => return None,
         }
     }
     None
@@ -178,7 +183,7 @@ fn way_back(code: &Code<'_>, next: &[u8], frames: &[Frame<'_>], position: usize)
         above = match walk(code, index, above) {
             Walk::Pushed(token) => return Way::Pushed(token),
             Walk::Begin(above) => above,
-            Walk::Unknown(token) => return Way::Unknown(Some(token)),
+            Walk::Unknown(token, above) => return Way::Unknown(Some((token, above))),
         };
         let Some([callee, caller]) = callers else { break };
         let [called, chosen, turned] = [callee.owner, b"if$", b"while$"].map(|text| index_of(code, caller, text));
@@ -216,7 +221,7 @@ fn walk(code: &Code<'_>, mut index: usize, mut above: usize) -> Walk {
         let (takes, leaves) = match effect(code, first) {
             _ if is_function => (0, 1),
             Some(effect) => effect,
-            None => return Walk::Unknown(first),
+            None => return Walk::Unknown(first, above),
         };
         above = match (code.of(first), above) {
             (b"duplicate$", 0 | 1) => 0,
@@ -225,7 +230,140 @@ fn walk(code: &Code<'_>, mut index: usize, mut above: usize) -> Walk {
             _ => above - leaves + takes,
         };
     }
-    Walk::Unknown(index)
+    Walk::Unknown(index, above)
+}
+
+/// For how many tokens it counts to look for all fields that a function reads.
+const COST_OF_FIELDS: usize = 100;
+
+/// What is known of the literal that tokens leave on top, if that is a missing field.
+#[derive(Debug, Clone, Copy, PartialEq, Eq)]
+enum Left {
+    /// It is one of the fields that were noted.
+    Noted,
+    /// It may also be a field that is pushed before these tokens.
+    OrEarlier,
+}
+
+/// Looks for the fields that a function may leave where they are missing.
+struct Leavers<'c, 'a> {
+    code: &'c Code<'a>,
+    /// The fields of which an `empty$` or `missing$` around the place says that they are there.
+    present: Vec<&'a [u8]>,
+    /// The fields that may be left, each with the line in which it is pushed.
+    found: Vec<(&'a [u8], usize)>,
+    /// How many tokens may still be looked at.
+    turns: usize,
+}
+
+/// The only field that a token may leave as a missing field, and the line in which that is pushed.
+fn only_field_left<'a>(code: &Code<'a>, token: usize) -> Option<(&'a [u8], usize)> {
+    let mut leavers = Leavers { code, present: Vec::new(), found: Vec::new(), turns: MOST_TOKENS };
+    if leavers.by_token(token)? == Left::OrEarlier {
+        return None;
+    }
+    let (name, line) = *leavers.found.first()?;
+    leavers.found.iter().all(|(other, _)| other.eq_ignore_ascii_case(name)).then_some((name, line))
+}
+
+impl<'a> Leavers<'_, 'a> {
+    /// Notes the fields that a token leaves on top. None where the text doesn't show them.
+    fn by_token(&mut self, token: usize) -> Option<Left> {
+        self.turns = self.turns.checked_sub(1)?;
+        let name = self.code.of(token);
+        match self.code.declared(name) {
+            Some(Declared::Function { .. }) => self.by_body(name),
+            None if name.eq_ignore_ascii_case(b"if$") => self.by_choice(token),
+            None if name.eq_ignore_ascii_case(b"while$") => Some(Left::OrEarlier),
+            _ => None,
+        }
+    }
+
+    /// The same of a function of the style.
+    fn by_body(&mut self, name: &[u8]) -> Option<Left> {
+        let (_, braced) = self.code.function(name)?;
+        self.by_tokens(braced.start + 1..braced.end.checked_sub(1)?)
+    }
+
+    /// The same of an `if$`: in the second of its functions the field is there of which it asked.
+    fn by_choice(&mut self, token: usize) -> Option<Left> {
+        let no = self.code.operand_before(token)?;
+        let yes = self.code.operand_before(no.0)?;
+        let first = self.by_operand(yes)?;
+        let asked = self.asked_before(yes.0);
+        let known = self.present.len();
+        self.present.extend(asked);
+        let left = self.by_operand(no);
+        self.present.truncate(known);
+        left.map(|left| if first == Left::OrEarlier { first } else { left })
+    }
+
+    /// The field of which a token before this one asks whether it is there.
+    fn asked_before(&self, token: usize) -> Option<&'a [u8]> {
+        let (test, field) = (token.checked_sub(1)?, token.checked_sub(2)?);
+        let is_test = [&b"empty$"[..], b"missing$"].iter().any(|name| self.code.of(test).eq_ignore_ascii_case(name));
+        match pushed_by(self.code, field) {
+            Origin::Field(name, _) if is_test => Some(name),
+            _ => None,
+        }
+    }
+
+    /// Notes the fields that a function in braces or a quoted one leaves on top.
+    fn by_operand(&mut self, (first, last): (usize, usize)) -> Option<Left> {
+        if first < last {
+            return self.by_tokens(first + 1..last);
+        }
+        let name = self.code.of(first).strip_prefix(b"'")?;
+        if name.eq_ignore_ascii_case(b"skip$") {
+            return Some(Left::OrEarlier);
+        }
+        match self.code.declared(name)? {
+            Declared::Function { .. } => self.by_body(name),
+            Declared::Field => Some(self.note(name, self.code.line(first))),
+            _ => Some(Left::Noted),
+        }
+    }
+
+    /// Notes the fields that tokens leave on top. Where what is left may have been pushed before a part of them, these are all that they read.
+    fn by_tokens(&mut self, tokens: Range<usize>) -> Option<Left> {
+        let (left, call) = match walk(self.code, tokens.end, 0) {
+            Walk::Pushed(token) => {
+                return Some(match pushed_by(self.code, token) {
+                    Origin::Field(name, line) => self.note(name, line),
+                    Origin::Other => Left::Noted,
+                });
+            }
+            Walk::Unknown(token, 0) => (self.by_token(token)?, Some(token)),
+            Walk::Unknown(..) | Walk::Begin(_) => (Left::OrEarlier, None),
+        };
+        if left == Left::OrEarlier {
+            self.note_all(tokens)?;
+        }
+        // (a function takes what stands before its call)
+        let has_operand = |token: usize| !matches!(walk(self.code, token, 0), Walk::Begin(_));
+        let is_call =
+            |token: &usize| matches!(self.code.declared(self.code.of(*token)), Some(Declared::Function { .. }));
+        let takes_own = call.filter(is_call).is_some_and(has_operand);
+        Some(if takes_own { Left::Noted } else { left })
+    }
+
+    /// Notes all fields that tokens read.
+    fn note_all(&mut self, tokens: Range<usize>) -> Option<()> {
+        self.turns = self.turns.checked_sub(COST_OF_FIELDS)?;
+        let line = self.code.line(tokens.start);
+        for name in self.code.fields_read(&[tokens]) {
+            self.note(name, line);
+        }
+        Some(())
+    }
+
+    /// Notes a field, if it isn't known to be there.
+    fn note(&mut self, name: &'a [u8], line: usize) -> Left {
+        if !self.present.iter().any(|there| there.eq_ignore_ascii_case(name)) {
+            self.found.push((name, line));
+        }
+        Left::Noted
+    }
 }
 
 /// How many literals a token takes and leaves; None where that isn't known.
@@ -300,6 +438,32 @@ mod tests {
         assert_eq!(named("{out} { ", "write$"), is_missing("note"));
         // (either of two fields, or a function that is called twice)
         assert_eq!([named("title note ", "*"), named("{twice} { ", "write$")], [None, None]);
+    }
+
+    #[test]
+    fn the_only_field_that_a_function_may_leave_is_named() {
+        let style = "ENTRY {booktitle editor key title}{}{}\nSTRINGS {s t}\n\
+            FUNCTION {all} { 's := { s } { t \"x\" * } while$ }\n\
+            FUNCTION {half} { title empty$ { \"\" } { booktitle } if$ }\n\
+            FUNCTION {names} { editor empty$ { key missing$ { cite$ } 'key if$ } { editor all } if$ }\n\
+            FUNCTION {text} { duplicate$ empty$ { pop$ \"\" } 'skip$ if$ }\n\
+            FUNCTION {last} { #1 { title text } { #1 'names { editor empty$ { key } { editor text } if$ } if$ } if$ }\n\
+            FUNCTION {keys} { #1 { #1 'names { editor empty$ { key } { editor text } if$ } if$ } 'names if$ }\n\
+            FUNCTION {two} { #1 'names { #2 'title { \"z\" } if$ } if$ }\n\
+            FUNCTION {both} { #1 'title { booktitle } if$ }\n\
+            FUNCTION {below} { #1 'skip$ 'title if$ }\n";
+        let code = Code::new(style.as_bytes());
+        let left = |name: &str| {
+            let (_, tokens) = code.function(name.as_bytes()).unwrap();
+            only_field_left(&code, tokens.end - 2)
+                .map(|(field, line)| (String::from_utf8_lossy(field).into_owned(), line))
+        };
+        assert_eq!(left("half"), Some(("booktitle".into(), 4)));
+        assert_eq!(left("two"), Some(("title".into(), 9)));
+        assert_eq!(left("keys"), Some(("key".into(), 8)));
+        // (none, either of two, or what was pushed before)
+        assert_eq!(left("last"), None);
+        assert_eq!([left("names"), left("both"), left("below"), left("all")], [const { None }; 4]);
     }
 
     #[test]

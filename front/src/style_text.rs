@@ -377,7 +377,10 @@ fn command_of(text: &[u8], start: usize, is_open: bool) -> Option<Command<'_>> {
     if is_inside && !begins_line(text, start) { None } else { command_at(text, start, word, is_inside) }
 }
 
-/// The command of this word, which begins here. Inside of braces it has an argument, or stands alone in its line.
+/// The commands that have no argument.
+const ALONE: [&str; 2] = ["read", "sort"];
+
+/// The command of this word, which begins here. Inside of braces it has an argument, or stands alone in its line if it takes none: a field may have such a name, too.
 fn command_at<'a>(text: &'a [u8], start: usize, word: &'a [u8], is_inside: bool) -> Option<Command<'a>> {
     let behind = &text[start + word.len()..];
     if !behind.first().is_none_or(|byte| ends_name(*byte) || *byte == b'{') {
@@ -385,7 +388,10 @@ fn command_at<'a>(text: &'a [u8], start: usize, word: &'a [u8], is_inside: bool)
     }
     // (of the line no more is looked at than these need: a line may have many commands)
     let argument = &behind[behind.iter().position(|byte| !is_white(*byte)).unwrap_or(behind.len())..];
-    if is_inside && !matches!(argument.first(), None | Some(b'\n' | b'{')) {
+    let is_alone = matches!(argument.first(), None | Some(b'\n'));
+    let takes_none = ALONE.iter().any(|command| word.eq_ignore_ascii_case(command.as_bytes()));
+    let is_one = if is_alone && !takes_none { argument.trim_ascii_start() } else { argument };
+    if is_inside && !(is_one.starts_with(b"{") || is_alone && (takes_none || is_one.is_empty())) {
         return None;
     }
     let name = argument.strip_prefix(b"{").and_then(|argument| {
@@ -485,6 +491,14 @@ mod tests {
         let text = b"FUNCTION {f} { #1 {skip$} { if$ }\n\nFUNCTION {g} {}}\n  sort.key$\nREAD\n";
         let wanted = [command("FUNCTION", Some("f"), 1), command("FUNCTION", Some("g"), -1), command("READ", None, 0)];
         assert_eq!(shown(text), wanted);
+    }
+
+    #[test]
+    fn a_field_may_have_the_name_of_a_command() {
+        let words = |text: &'static [u8]| commands(text).iter().map(|command| command.word).collect::<Vec<_>>();
+        assert_eq!(words(b"ENTRY {\n    execute\n    title\n  }\n  {}\n  {}\nREAD\n"), [&b"ENTRY"[..], b"READ"]);
+        // (a body that isn't closed hides no command)
+        assert_eq!(words(b"FUNCTION {f} { skip$\nEXECUTE\n {f}\nREAD\n"), [&b"FUNCTION"[..], b"EXECUTE", b"READ"]);
     }
 
     #[test]

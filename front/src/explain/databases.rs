@@ -8,7 +8,7 @@ use crate::hints::is_usual_type;
 use crate::job::{File, Files};
 use crate::letter_values::texts;
 use crate::log::{Message, Place};
-use crate::missing_entry::meant_string;
+use crate::missing_entry::{begins_month, is_month, meant_string};
 use crate::mistakes::{begun_value, number_meant, what_hides, what_to_do};
 use crate::nearest::nearest;
 use crate::repeats::Strings;
@@ -94,7 +94,7 @@ impl<'a, W: Write> Explainer<'a, W> {
         if seen.is_some() {
             return Ok(seen);
         }
-        let Some(meant) = self.meant_by(message.text, &item) else { return Ok(None) };
+        let Some(meant) = self.meant_by(message.text, text.bytes, &item) else { return Ok(None) };
         let below = self.seen_below(&meant, message.text, spot.file, &item);
         let meant = plain(&meant);
         self.page.put_place(&format!("is it `{meant}`?"))?;
@@ -259,14 +259,18 @@ impl<'a, W: Write> Explainer<'a, W> {
         self.macros().iter().any(|known| known.eq_ignore_ascii_case(name))
     }
 
-    /// The name that may be meant by a type or a string that isn't known.
-    fn meant_by(&mut self, text: &[u8], item: &Item<'a>) -> Option<Vec<u8>> {
+    /// The name that may be meant by a type or a string that isn't known. A month is meant in the field `month` alone, or by more of its letters.
+    fn meant_by(&mut self, text: &[u8], bytes: &[u8], item: &Item<'a>) -> Option<Vec<u8>> {
         if text.starts_with(b"entry type for ") {
             let style = self.sources.style_names();
             return nearest(item.kind, style.functions_above_read()).map(|name| [b"@", name].concat());
         }
         let name = between(text, b"string name \"", b"\" is undefined")?;
-        meant_string(name, &self.known_strings()).map(<[u8]>::to_vec)
+        let mut known = self.known_strings();
+        if !is_in_month(name, bytes, item) && !begins_month(name) {
+            known.retain(|string| !is_month(string));
+        }
+        meant_string(name, &known).map(<[u8]>::to_vec)
     }
 
     /// The item that a message is about, and the part of the text that the message names.
@@ -282,6 +286,13 @@ fn in_order(files: &Files, moved: &File, before: &File) -> String {
     let all = all.flat_map(|file| if file.name == before.name { vec![moved, file] } else { vec![file] });
     let names: Vec<String> = all.map(|file| plain(file.name.strip_suffix(b".bib").unwrap_or(&file.name))).collect();
     names.join(",")
+}
+
+/// Whether a name stands in the field `month` of an entry.
+fn is_in_month(name: &[u8], bytes: &[u8], item: &Item<'_>) -> bool {
+    let inside = Inside::of(bytes, item);
+    let months = inside.fields.iter().zip(&inside.values).filter(|(field, _)| field.eq_ignore_ascii_case(b"month"));
+    months.map(|(_, value)| &bytes[value.clone()]).any(|value| find(value, name).is_some())
 }
 
 /// The letters and digits of an entry's title, in lower case.

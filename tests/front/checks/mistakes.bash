@@ -72,6 +72,7 @@ mistake letter_for_a_digit '@misc{k, author = {A. B},\n year = 2O12}\n' 'write `
 mistake letter_before_digits '@misc{k, author = {A. B}, year = l998}\n' 'write `1998`: the `l` is a letter in the place of a digit'
 mistake months_in_one '@misc{k,\n author = {A. B}, month = jan-feb}\n' 'join two names by `#`: `jan # "--" # feb`'
 mistake string_below '@misc{k, author = {A. B}, title = s}\n\n@string{s = {T}}\n' 'move the `@string` of `s` (d.bib:3) above its first use'
+mistake no_month_for_a_journal '@article{k, author = {A. B}, journal = jna}\n' 'define `jna` by `@string` above its use, or put braces or quotes round a text'
 mistake near_string_below '@misc{k, author = {A. B}, title = acmm}\n\n@string{acm = {T}}\n' 'is it `acm`?' 'write `acm` for `acmm`, and move the `@string` of `acm` (d.bib:3) above its first use'
 mistake bare_string '@string{s = A title}\n@misc{k, author = {A. B}}' 'put the value of `s` into braces'
 mistake bare_preamble '@preamble{\\\\newcommand{\\\\x}{y}}\n@misc{k, author = {A. B}}' 'put the text of the `@preamble` into braces or quotes'

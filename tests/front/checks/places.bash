@@ -230,13 +230,14 @@ if [ -z "$few" ] && there_is valgrind 'the same log on a machine fifty times as 
 fi
 end
 
-# A function that two others call takes what these push: only what was called shows which field it is.
+# A function that two others call takes what these push: only what was called shows which field it is. Of a function that may leave one field alone it is that one.
 begin missing_fields_of_callers
 cat >s.bst <<'END'
 ENTRY {author editor note}{}{}
 FUNCTION {names} { num.names$ pop$ }
 FUNCTION {text} { #1 { note } { "" } if$ }
-FUNCTION {misc} { author names  editor names  text write$ }
+FUNCTION {either} { #1 { note } { editor } if$ }
+FUNCTION {misc} { author names  editor names  text write$  either write$ }
 READ
 ITERATE {call.type$}
 END
@@ -253,8 +254,10 @@ done
 while executing---line 2 of file s.bst
 \`editor' is a missing field, not a string (num.names\$) for entry k
 while executing---line 2 of file s.bst
+\`note' is a missing field, not a string (write\$) for entry k
+while executing---line 5 of file s.bst
 missing field is not a string (write\$) for entry k
-while executing---line 4 of file s.bst" ] || complaints+=("the log is $(cat job.blg)")
+while executing---line 5 of file s.bst" ] || complaints+=("the log is $(cat job.blg)")
 run_search -no-explain job
 cmp -s <(log_of "$folder/stdout") <(log_of job.blg) || complaints+=('what was printed is not the log')
 wants_messages job.blg "$(messages explained.blg)"
